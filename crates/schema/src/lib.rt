@@ -1,0 +1,9 @@
+//! Metadata of types, and schemas made of it (GraphQL, October 2021, section 3).
+#![tactic(auto)]
+
+pub mod check;
+pub mod default_check;
+pub mod error;
+pub mod meta;
+pub mod named;
+mod texts;

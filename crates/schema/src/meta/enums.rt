@@ -1,0 +1,136 @@
+//! Enums and their values.
+ghost use Rattle.std.specs.Prelude.{◌≡◌, IfOk, None, Some, true, option_map, string_bytes};
+ghost use Rattle.schema.specs.Answers.{SameAnswer};
+ghost use Rattle.schema.specs.Deprecation.{is_deprecated_status, reason_of};
+ghost use Rattle.schema.specs.Kept.{enum_check};
+
+use crate::check::CheckedScalar;
+use crate::default_check::{DefaultCheck, InputValueParseFn};
+use crate::meta::deprecation::DeprecationStatus;
+use crate::meta::kinds::MetaTypeOf;
+use crate::texts::copy_text;
+use language::error::OutOfMemory;
+use std::alloc::Global;
+
+/// A value of an enum.
+#[derive(Clone, Debug, Drop)]
+pub struct EnumValue {
+    pub name: String,
+    pub description: Option<String>,
+    pub deprecation_status: DeprecationStatus,
+}
+
+impl EnumValue {
+    /// A value of this name, with no description, and not deprecated.
+    pub fn new(alloc: Global, name: &str) -> Result<Self, OutOfMemory>
+        ensures name { IfOk result (λ v. string_bytes v.name ≡ name.now) }
+        ensures description { IfOk result (λ v. v.description ≡ None) }
+        ensures current { IfOk result (λ v. v.deprecation_status ≡ DeprecationStatus.Current) }
+    {
+        Ok(EnumValue {
+            name: String::from_str(alloc, name)?,
+            description: None,
+            deprecation_status: DeprecationStatus::Current,
+        })
+    }
+
+    /// Replaces the description.
+    pub fn description(mut self, text: &str) -> Result<Self, OutOfMemory>
+        ensures text { IfOk result (λ v. option_map string_bytes v.description ≡ Some text.now) }
+        ensures others { IfOk result (λ v. v ≡ record self { description = v.description }) }
+    {
+        self.description = Some(String::from_str(*self.name.allocator(), text)?);
+        Ok(self)
+    }
+
+    /// Says that the value is deprecated, with the reason, if one is given.
+    pub fn deprecated(mut self, reason: Option<&str>) -> Result<Self, OutOfMemory>
+        ensures deprecated { IfOk result (λ v. is_deprecated_status v.deprecation_status ≡ true) }
+        ensures reason { IfOk result (λ v. reason_of v.deprecation_status ≡ option_map (λ t. t.now) reason.entry) }
+        ensures others { IfOk result (λ v. v ≡ record self { deprecation_status = v.deprecation_status }) }
+    {
+        let reason = copy_text(*self.name.allocator(), reason)?;
+        self.deprecation_status = DeprecationStatus::Deprecated(reason);
+        Ok(self)
+    }
+}
+
+/// Metadata of an enum (section 3.9), whose values the check tells.
+#[derive(Drop)]
+pub struct EnumMetaOf<C> {
+    pub name: String,
+    pub description: Option<String>,
+    pub values: Vec<EnumValue>,
+    check: C,
+}
+
+/// Metadata of an enum, with the checks that its kind of scalars has.
+pub type EnumMeta<S> = EnumMetaOf<<S as CheckedScalar>::Check>;
+
+impl EnumMetaOf<DefaultCheck> {
+    /// An enum of this name with these values, and no description.
+    ///
+    /// The check may be called on every value, and any two answers to one value are the same, the
+    /// text of a refusal included, unless memory was wanting.
+    pub fn new(
+        alloc: Global,
+        name: &str,
+        values: Vec<EnumValue>,
+        check: InputValueParseFn,
+    ) -> Result<Self, OutOfMemory>
+        requires callable { (a : _) (v : _) → InputValueParseFn.pre check a v }
+        requires one_answer { (a b : _) (v w : _) (r s : _) → v.now ≡ w.now → InputValueParseFn.post check a v r → InputValueParseFn.post check b w s → SameAnswer r s }
+        ensures name { IfOk result (λ m. string_bytes m.name ≡ name.now) }
+        ensures description { IfOk result (λ m. m.description ≡ None) }
+        ensures values { IfOk result (λ m. m.values ≡ values) }
+        ensures check { IfOk result (λ m. (enum_check m).run ≡ check) }
+    {
+        EnumMetaOf::with_check(alloc, name, values, DefaultCheck::new(check))
+    }
+}
+
+impl<C: Drop> EnumMetaOf<C> {
+    /// An enum of this name with these values that keeps this check, and no description.
+    pub fn with_check(
+        alloc: Global,
+        name: &str,
+        values: Vec<EnumValue>,
+        check: C,
+    ) -> Result<Self, OutOfMemory>
+        ensures name { IfOk result (λ m. string_bytes m.name ≡ name.now) }
+        ensures description { IfOk result (λ m. m.description ≡ None) }
+        ensures values { IfOk result (λ m. m.values ≡ values) }
+        ensures check { IfOk result (λ m. enum_check m ≡ check) }
+    {
+        Ok(EnumMetaOf {
+            name: String::from_str(alloc, name)?,
+            description: None,
+            values,
+            check,
+        })
+    }
+
+    /// Replaces the description.
+    pub fn description(mut self, text: &str) -> Result<Self, OutOfMemory>
+        ensures text { IfOk result (λ m. option_map string_bytes m.description ≡ Some text.now) }
+        ensures others { IfOk result (λ m. m ≡ record self { description = m.description }) }
+    {
+        self.description = Some(String::from_str(*self.name.allocator(), text)?);
+        Ok(self)
+    }
+}
+
+impl<C> EnumMetaOf<C> {
+    pub fn into_meta<S>(self) -> MetaTypeOf<S, C>
+        ensures { result ≡ MetaTypeOf.Enum self }
+    {
+        MetaTypeOf::Enum(self)
+    }
+
+    /// The check of the enum.
+    pub fn input_value_parse_fn(&self) -> &C
+        ensures { result.now ≡ enum_check self.now }
+    {
+        &self.check
+    }
+}
