@@ -5,5 +5,6 @@ pub mod check;
 pub mod default_check;
 pub mod error;
 pub mod meta;
+pub mod build;
 pub mod named;
 mod texts;
