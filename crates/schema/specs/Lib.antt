@@ -6,3 +6,5 @@ pub mod Kept
 pub mod Kinds
 pub mod Named
 pub mod Names
+pub mod Repeated
+pub mod RootNames

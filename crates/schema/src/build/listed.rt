@@ -49,6 +49,7 @@ pub trait NameTest {
 }
 
 /// No type of the list has the name.
+#[derive_where(Clone, Copy)]
 pub struct Unlisted<'t, S, C>(pub &'t [MetaTypeOf<S, C>]);
 
 impl<S, C> NameTest for Unlisted<'_, S, C> {
@@ -60,6 +61,7 @@ impl<S, C> NameTest for Unlisted<'_, S, C> {
 }
 
 /// No object of the list has the name.
+#[derive_where(Clone, Copy)]
 pub struct NotObject<'t, S, C>(pub &'t [MetaTypeOf<S, C>]);
 
 impl<S, C> NameTest for NotObject<'_, S, C> {
@@ -71,6 +73,7 @@ impl<S, C> NameTest for NotObject<'_, S, C> {
 }
 
 /// No input type of the list has the name.
+#[derive_where(Clone, Copy)]
 pub struct NotInput<'t, S, C>(pub &'t [MetaTypeOf<S, C>]);
 
 impl<S, C> NameTest for NotInput<'_, S, C> {
