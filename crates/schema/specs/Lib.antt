@@ -1,9 +1,13 @@
 pub mod Accepted
 pub mod Answers
 pub mod Arguments
+pub mod Catalog
+pub mod Codes
 pub mod Deprecation
+pub mod Directives
 pub mod Kept
 pub mod Kinds
+pub mod Locations
 pub mod Named
 pub mod Names
 pub mod Repeated

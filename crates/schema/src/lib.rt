@@ -5,6 +5,7 @@ pub mod check;
 pub mod default_check;
 pub mod error;
 pub mod meta;
+pub mod model;
 pub mod build;
 pub mod named;
 mod texts;
