@@ -23,7 +23,7 @@ module _ {A : Type 0} (p : A → Bool) where
   find-append-None (z ∷ zs) ys h = none_step (p z) z (find p zs) (find p (zs ++ ys)) (find p ys) h (find-append-None zs ys)
 
 -- the rest of a list from an index on begins with the element there
-rest_at : {X : Type 0} (xs : List X) (i : ℕ) (x : X) → i < length xs → x ≡ get_or xs i x → drop i xs ≡ x ∷ drop (i + 1) xs
+pub rest_at : {X : Type 0} (xs : List X) (i : ℕ) (x : X) → i < length xs → x ≡ get_or xs i x → drop i xs ≡ x ∷ drop (i + 1) xs
 rest_at xs i x h e = drop-cons xs i x h ∙ ap (λ y. y ∷ drop (suc i) xs) (sym e) ∙ ap (λ k. x ∷ drop k xs) (sym (add-one i))
 
 -- a step of a loop that looks through the names of each element in turn

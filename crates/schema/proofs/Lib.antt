@@ -1,2 +1,5 @@
+pub mod ExtendLemmas
 pub mod Finds
+pub mod KeyedLemmas
 pub mod Refusals
+pub mod SwapLemmas

@@ -1,6 +1,8 @@
 pub mod Accepted
+pub mod Added
 pub mod Answers
 pub mod Arguments
+pub mod Built
 pub mod Catalog
 pub mod Codes
 pub mod Deprecation
