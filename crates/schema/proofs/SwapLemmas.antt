@@ -33,11 +33,11 @@ flat-swap p f a b step [] ys h = all-joined p (f b) (flat_map f ys) (step (all-f
 flat-swap p f a b step (x ∷ xs) ys h = all-joined p (f x) (flat_map f (xs ++ b ∷ ys)) (all-front p (f x) (flat_map f (xs ++ a ∷ ys)) h) (flat-swap p f a b step xs ys (all-back p (f x) (flat_map f (xs ++ a ∷ ys)) h))
 
 -- the types of arguments, read from what they say
-shape_types : List ArgumentShape → List (List ℕ)
+pub shape_types : List ArgumentShape → List (List ℕ)
 shape_types [] = []
 shape_types (a ∷ rest) = a.arg_type.name ∷ shape_types rest
 
-types-shape : {S : Type 0} (xs : List (Argument S)) → map argument_type xs ≡ shape_types (map argument_shape xs)
+pub types-shape : {S : Type 0} (xs : List (Argument S)) → map argument_type xs ≡ shape_types (map argument_shape xs)
 unfolding shape_types
 types-shape [] = refl
 types-shape (a ∷ rest) = ap (λ l. argument_type a ∷ l) (types-shape rest)

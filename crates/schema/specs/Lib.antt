@@ -5,6 +5,7 @@ pub mod Arguments
 pub mod Built
 pub mod Catalog
 pub mod Codes
+pub mod Concrete
 pub mod Deprecation
 pub mod Directives
 pub mod Kept

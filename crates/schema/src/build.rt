@@ -2,6 +2,7 @@
 
 pub mod accept;
 pub mod added;
+pub mod directives;
 pub mod extend;
 pub mod first;
 pub mod keyed;

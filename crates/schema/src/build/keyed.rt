@@ -1,9 +1,13 @@
 //! Maps by name, in the order of a list.
 ghost use Rattle.std.specs.Prelude.{◌≡◌, ℕ, List, Option, IfErr, IfOk, IfSome, IsSome, OnOk, None, true, [], ◌∷◌, ◌++◌, option_map, string_bytes};
 ghost use Rattle.indexmap.specs.IndexMap.{values, get_by_text};
+ghost use Rattle.schema.specs.Directives.{directive_name};
+ghost use Rattle.schema.specs.Kinds.{name_of_meta};
 ghost use Rattle.schema.specs.Named.{is_called, are_named, are_distinct, are_keyed};
 
 use crate::error::SchemaError;
+use crate::meta::kinds::MetaTypeOf;
+use crate::model::directives::DirectiveType;
 use indexmap::IndexMap;
 use std::alloc::Global;
 
@@ -68,4 +72,20 @@ pub fn map_by_name<T: Keyed + Drop>(
         add_entry(&mut map, key, entry)?;
     }
     Ok(map)
+}
+
+impl<S, C> Keyed for MetaTypeOf<S, C> {
+    ghost key_of = { name_of_meta };
+
+    fn key(&self) -> Option<&str> {
+        self.name()
+    }
+}
+
+impl<S> Keyed for DirectiveType<S> {
+    ghost key_of = { directive_name };
+
+    fn key(&self) -> Option<&str> {
+        Some(self.name.as_str())
+    }
 }
