@@ -1,6 +1,6 @@
 -- What an accepted list of types has.
 use Rattle.std.proofs.Common.{◌≡◌, ℕ, ◌+◌, ◌<◌, ◌≤◌, List, [], ◌∷◌, ◌++◌, Bool, true, false, cond, not, ◌&&◌, ◌||◌, Option, Some, None, is_some, lit≤, string_bytes, map, refl, ap, subst, sym, ◌∙◌, arith}
-use Rattle.std.specs.Prelude.{find, count_by}
+use Rattle.std.specs.Prelude.{find, count_by, Result, Ok, Err, IfErr, IsOkUnless}
 use Rattle.std.specs.List.{flat_map, list_any, list_all}
 use Rattle.std.specs.Option.{option_map_or}
 use Rattle.std.specs.Str.{bytes_eq}
@@ -108,3 +108,7 @@ accepted-memory roots ts a (e.RepeatedType n) h = let once : count_by (is_named 
 accepted-memory roots ts a (e.UnknownType n) h = let listed : is_listed ts (string_bytes n) ≡ true = all-at (is_listed ts) (all_names ts) (string_bytes n) a.names_listed h.0 in let not_listed : is_listed ts (string_bytes n) ≡ false = h.1 in cc
 accepted-memory roots ts a (e.UnionMemberNotObject n) h = let object : is_object_listed ts (string_bytes n) ≡ true = all-at (is_object_listed ts) (all_members ts) (string_bytes n) a.members_objects h.0 in let none : is_object_listed ts (string_bytes n) ≡ false = h.2 in cc
 accepted-memory roots ts a (e.NotInputType n) h = let input : is_input_listed ts (string_bytes n) ≡ true = all-at (is_input_listed ts) (all_inputs ts) (string_bytes n) a.inputs_input h.0 in let none : is_input_listed ts (string_bytes n) ≡ false = h.2 in cc
+
+pub refused-memory : {T S C : Type 0} (roots : Roots) (ts : List (MetaTypeOf S C)) (r : Result T SchemaError) → IfErr r (IsTrueRefusal roots ts) → IsAccepted roots ts → IsOkUnless r e.OutOfMemory
+refused-memory roots ts (Ok x) h a = tt
+refused-memory roots ts (Err x) h a = accepted-memory roots ts a x h

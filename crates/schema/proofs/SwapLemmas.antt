@@ -33,7 +33,7 @@ flat-swap p f a b step [] ys h = all-joined p (f b) (flat_map f ys) (step (all-f
 flat-swap p f a b step (x ∷ xs) ys h = all-joined p (f x) (flat_map f (xs ++ b ∷ ys)) (all-front p (f x) (flat_map f (xs ++ a ∷ ys)) h) (flat-swap p f a b step xs ys (all-back p (f x) (flat_map f (xs ++ a ∷ ys)) h))
 
 -- the types of arguments, read from what they say
-pub shape_types : List ArgumentShape → List (List ℕ)
+unfoldable pub shape_types : List ArgumentShape → List (List ℕ)
 shape_types [] = []
 shape_types (a ∷ rest) = a.arg_type.name ∷ shape_types rest
 
