@@ -15,3 +15,4 @@ pub mod Named
 pub mod Names
 pub mod Repeated
 pub mod RootNames
+pub mod SampleChecks
