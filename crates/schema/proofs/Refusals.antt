@@ -9,7 +9,7 @@ use Rattle.std.proofs.lemmas.List.Folds.{list_all-append}
 use Rattle.std.proofs.lemmas.List.Sums.{sum_by-cons}
 use Rattle.std.proofs.lemmas.Slice.Eq.{bytes_eq-Decides}
 use Rattle.language.specs.Types.{shape}
-use Rattle.schema.specs.declared.meta.fields.Argument.{Argument}
+use Rattle.schema.specs.declared.meta.arguments.Argument.{Argument}
 use Rattle.schema.specs.declared.meta.fields.Field.{Field}
 use Rattle.schema.specs.declared.meta.kinds.MetaTypeOf.{MetaTypeOf}
 use Rattle.schema.specs.Accepted.{is_named, is_listed}

@@ -5,7 +5,7 @@ use Rattle.std.specs.Option.{option_map_or}
 use Rattle.std.proofs.lemmas.Bool.{and_parts, and_from}
 use Rattle.std.proofs.lemmas.Grind.{flat_map-append}
 use Rattle.language.specs.Types.{shape}
-use Rattle.schema.specs.declared.meta.fields.Argument.{Argument}
+use Rattle.schema.specs.declared.meta.arguments.Argument.{Argument}
 use Rattle.schema.specs.declared.meta.fields.Field.{Field}
 use Rattle.schema.specs.declared.meta.objects.ObjectMeta.{ObjectMeta}
 use Rattle.schema.specs.declared.meta.kinds.MetaTypeOf.{MetaTypeOf}

@@ -5,7 +5,8 @@ ghost use Rattle.schema.specs.Names.{argument_type, field_inputs, field_names, i
 ghost use Rattle.schema.specs.Kinds.{fields_of, input_fields_of};
 
 use crate::build::listed::NameTest;
-use crate::meta::fields::{Argument, Field};
+use crate::meta::arguments::Argument;
+use crate::meta::fields::Field;
 use crate::meta::kinds::MetaTypeOf;
 
 fn first_text<'t, T: NameTest>(test: &T, texts: &'t [String]) -> Option<&'t str>

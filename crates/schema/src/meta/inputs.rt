@@ -5,7 +5,7 @@ ghost use Rattle.schema.specs.Kept.{input_object_check};
 
 use crate::check::CheckedScalar;
 use crate::default_check::{DefaultCheck, InputValueParseFn};
-use crate::meta::fields::Argument;
+use crate::meta::arguments::Argument;
 use crate::meta::kinds::MetaTypeOf;
 use language::error::OutOfMemory;
 use language::value::DefaultScalarValue;

@@ -5,7 +5,8 @@ ghost use Rattle.schema.specs.Kinds.{name_of_meta, description_of_meta, url_of_m
 
 use crate::check::CheckedScalar;
 use crate::meta::enums::EnumMetaOf;
-use crate::meta::fields::{Argument, Field};
+use crate::meta::arguments::Argument;
+use crate::meta::fields::Field;
 use crate::meta::inputs::InputObjectMetaOf;
 use crate::meta::interfaces::InterfaceMeta;
 use crate::meta::objects::ObjectMeta;
