@@ -12,18 +12,12 @@ use language::value::{DefaultScalarValue, InputValue};
 use std::alloc::Global;
 
 /// Accepts a string.
-pub fn check_text(
-    alloc: Global,
-    value: &InputValue<DefaultScalarValue>,
-) -> Result<(), CheckError>
+pub fn check_text(alloc: Global, value: &InputValue<DefaultScalarValue>) -> Result<(), CheckError>
     ensures { AnswersBy is_text (codes "not a value of String") value.now result }
 {
     match value {
         InputValue::Scalar(DefaultScalarValue::String(_)) => Ok(()),
-        _ => Err(CheckError::Refused(String::from_str(
-            alloc,
-            "not a value of String",
-        )?)),
+        _ => Err(CheckError::Refused(String::from_str(alloc, "not a value of String")?)),
     }
 }
 
@@ -57,11 +51,7 @@ pub fn object(
     own: Field<DefaultScalarValue>,
 ) -> Result<MetaType, SchemaError> {
     let mut fields = Vec::new(alloc);
-    fields.push(Field::new(
-        alloc,
-        "__typename",
-        Type::non_null(alloc, "String")?,
-    )?)?;
+    fields.push(Field::new(alloc, "__typename", Type::non_null(alloc, "String")?)?)?;
     fields.push(own)?;
     Ok(ObjectMeta::new(alloc, name, fields)?.into_meta())
 }

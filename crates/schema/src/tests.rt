@@ -20,8 +20,7 @@ fn refusal(alloc: Global, types: Vec<MetaType>, query: &str) -> Option<SchemaErr
         query,
         "_EmptyMutation",
         "_EmptySubscription",
-    )
-    .err()
+    ).err()
 }
 
 #[test]
@@ -49,11 +48,18 @@ fn demo_is_accepted(rt: HostRuntime) -> Result<(), Fail> {
 #[test]
 fn roots_are_kept(rt: HostRuntime) -> Result<(), Fail> {
     let alloc = rt.alloc();
-    let schema =
-        SchemaType::<DefaultScalarValue>::new(alloc, demo(alloc)?, "QueryRoot", "Dog", "__Type")?;
+    let schema = SchemaType::<DefaultScalarValue>::new(
+        alloc,
+        demo(alloc)?,
+        "QueryRoot",
+        "Dog",
+        "__Type",
+    )?;
     let mutation = schema.concrete_mutation_type().and_then(|meta| meta.name());
     assert_eq!(rt; mutation, Some("Dog"));
-    let subscription = schema.concrete_subscription_type().and_then(|meta| meta.name());
+    let subscription = schema
+        .concrete_subscription_type()
+        .and_then(|meta| meta.name());
     assert_eq!(rt; subscription, Some("__Type"));
     Ok(())
 }
@@ -63,9 +69,18 @@ fn names_are_refused(rt: HostRuntime) -> Result<(), Fail> {
     let alloc = rt.alloc();
     let mut types = demo(alloc)?;
     types.retain(|meta| meta.name() != Some("__Type"));
-    assert_eq!(rt; refusal(alloc, types, "QueryRoot"), Some(SchemaError::UnknownType(String::from_str(alloc, "__Type")?)));
-    assert_eq!(rt; refusal(alloc, demo(alloc)?, "Nope"), Some(SchemaError::MissingRoot(String::from_str(alloc, "Nope")?)));
-    assert_eq!(rt; refusal(alloc, demo(alloc)?, "String"), Some(SchemaError::QueryNotObject));
+    assert_eq!(rt;
+        refusal(alloc, types, "QueryRoot"),
+        Some(SchemaError::UnknownType(String::from_str(alloc, "__Type")?))
+    );
+    assert_eq!(rt;
+        refusal(alloc, demo(alloc)?, "Nope"),
+        Some(SchemaError::MissingRoot(String::from_str(alloc, "Nope")?))
+    );
+    assert_eq!(rt;
+        refusal(alloc, demo(alloc)?, "String"),
+        Some(SchemaError::QueryNotObject)
+    );
     Ok(())
 }
 
@@ -74,10 +89,16 @@ fn entries_are_refused(rt: HostRuntime) -> Result<(), Fail> {
     let alloc = rt.alloc();
     let mut twice = demo(alloc)?;
     twice.push(object(alloc, "Dog", field(alloc, "name", "String")?)?)?;
-    assert_eq!(rt; refusal(alloc, twice, "QueryRoot"), Some(SchemaError::RepeatedType(String::from_str(alloc, "Dog")?)));
+    assert_eq!(rt;
+        refusal(alloc, twice, "QueryRoot"),
+        Some(SchemaError::RepeatedType(String::from_str(alloc, "Dog")?))
+    );
     let mut unnamed = demo(alloc)?;
     unnamed.push(ListMeta::new(Type::non_null(alloc, "String")?, None).into_meta())?;
-    assert_eq!(rt; refusal(alloc, unnamed, "QueryRoot"), Some(SchemaError::UnnamedType));
+    assert_eq!(rt;
+        refusal(alloc, unnamed, "QueryRoot"),
+        Some(SchemaError::UnnamedType)
+    );
     Ok(())
 }
 
@@ -85,22 +106,32 @@ fn entries_are_refused(rt: HostRuntime) -> Result<(), Fail> {
 fn kinds_are_refused(rt: HostRuntime) -> Result<(), Fail> {
     let alloc = rt.alloc();
     let types = demo_with(alloc, name_with_argument(alloc, "Dog")?)?;
-    assert_eq!(rt; refusal(alloc, types, "QueryRoot"), Some(SchemaError::NotInputType(String::from_str(alloc, "Dog")?)));
+    assert_eq!(rt;
+        refusal(alloc, types, "QueryRoot"),
+        Some(SchemaError::NotInputType(String::from_str(alloc, "Dog")?))
+    );
     let mut types = demo(alloc)?;
     types.push(InterfaceMeta::new(alloc, "Pet", Vec::new(alloc))?.into_meta())?;
     let mut members = Vec::new(alloc);
     members.push(Type::nullable(alloc, "Pet")?)?;
     types.push(UnionMeta::new(alloc, "Pets", members)?.into_meta())?;
-    assert_eq!(rt; refusal(alloc, types, "QueryRoot"), Some(SchemaError::UnionMemberNotObject(String::from_str(alloc, "Pet")?)));
+    assert_eq!(rt;
+        refusal(alloc, types, "QueryRoot"),
+        Some(SchemaError::UnionMemberNotObject(String::from_str(alloc, "Pet")?))
+    );
     Ok(())
 }
 
 #[test]
 fn setters_replace(rt: HostRuntime) -> Result<(), Fail> {
     let alloc = rt.alloc();
-    let made: Field<DefaultScalarValue> =
-        field(alloc, "name", "String")?.description("first")?.description("second")?;
-    assert_eq!(rt; made.description.as_ref().map(|text| text.as_str()), Some("second"));
+    let made: Field<DefaultScalarValue> = field(alloc, "name", "String")?
+        .description("first")?
+        .description("second")?;
+    assert_eq!(rt;
+        made.description.as_ref().map(|text| text.as_str()),
+        Some("second")
+    );
     let twice = name_with_argument(alloc, "String")?
         .argument(Argument::new(alloc, "x", Type::nullable(alloc, "Int")?)?)?
         .deprecated(Some("old"))?;
@@ -115,12 +146,16 @@ fn setters_replace(rt: HostRuntime) -> Result<(), Fail> {
 #[test]
 fn types_are_printed(rt: HostRuntime) -> Result<(), Fail> {
     let alloc = rt.alloc();
-    let list: MetaType = ListMeta::new(Type::non_null(alloc, "Int")?, Some(2)).into_meta();
-    let printed = list.as_type(alloc)?.to_string(alloc)?;
-    assert_eq!(rt; printed.as_str(), "[Int!]!");
-    let nullable: MetaType = NullableMeta::new(Type::non_null(alloc, "Int")?).into_meta();
-    let printed = nullable.as_type(alloc)?.to_string(alloc)?;
-    assert_eq!(rt; printed.as_str(), "Int");
+    let mut metas: Vec<MetaType> = Vec::new(alloc);
+    metas.push(ListMeta::new(Type::non_null(alloc, "Int")?, Some(2)).into_meta())?;
+    metas.push(NullableMeta::new(Type::non_null(alloc, "Int")?).into_meta())?;
+    let mut printed = String::new(alloc);
+    for meta in &metas {
+        let text = meta.as_type(alloc)?.to_string(alloc)?;
+        printed.push_str(text.as_str())?;
+        printed.push_str(" ")?;
+    }
+    assert_eq!(rt; printed.as_str(), "[Int!]! Int ");
     let place = DirectiveLocation::FragmentDefinition.to_string(alloc)?;
     assert_eq!(rt; place.as_str(), "fragment definition");
     Ok(())
@@ -135,7 +170,9 @@ fn every_kind_is_made(rt: HostRuntime) -> Result<(), Fail> {
         .into_meta();
     assert_eq!(rt; scalar.specified_by_url(), Some("https://example.com"));
     assert!(rt; scalar.is_builtin());
-    let value = EnumValue::new(alloc, "SIT")?.description("down")?.deprecated(None)?;
+    let value = EnumValue::new(alloc, "SIT")?
+        .description("down")?
+        .deprecated(None)?;
     let mut values = Vec::new(alloc);
     values.push(value.clone()?)?;
     values.push(value)?;
@@ -171,7 +208,10 @@ fn checks_are_run(rt: HostRuntime) -> Result<(), Fail> {
     };
     let answer = <DefaultScalarValue as CheckedScalar>::run_check(check, alloc, &InputValue::Null);
     let text = answer.err();
-    assert_eq!(rt; text.as_ref().and_then(|e| e.message()), Some("not a value of String"));
+    assert_eq!(rt;
+        text.as_ref().and_then(|e| e.message()),
+        Some("not a value of String")
+    );
     Ok(())
 }
 
@@ -180,9 +220,17 @@ fn a_directive_is_made(rt: HostRuntime) -> Result<(), Fail> {
     let alloc = rt.alloc();
     let mut locations = Vec::new(alloc);
     locations.push(DirectiveLocation::Query)?;
-    let made: DirectiveType<DefaultScalarValue> =
-        DirectiveType::new(alloc, "flag", locations, Vec::new(alloc), true)?.description("marks")?;
+    let made: DirectiveType<DefaultScalarValue> = DirectiveType::new(
+        alloc,
+        "flag",
+        locations,
+        Vec::new(alloc),
+        true,
+    )?.description("marks")?;
     assert!(rt; made.is_repeatable);
-    assert_eq!(rt; made.description.as_ref().map(|text| text.as_str()), Some("marks"));
+    assert_eq!(rt;
+        made.description.as_ref().map(|text| text.as_str()),
+        Some("marks")
+    );
     Ok(())
 }

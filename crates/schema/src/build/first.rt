@@ -20,10 +20,7 @@ fn first_text<'t, T: NameTest>(test: &T, texts: &'t [String]) -> Option<&'t str>
     None
 }
 
-pub fn first_argument<'t, T: NameTest, S>(
-    test: &T,
-    arguments: &'t [Argument<S>],
-) -> Option<&'t str>
+pub fn first_argument<'t, T: NameTest, S>(test: &T, arguments: &'t [Argument<S>]) -> Option<&'t str>
     ensures { option_map (λ s. s.now) result ≡ find (T.fails_at test.now) (map argument_type arguments.now) }
 {
     for argument in arguments {

@@ -25,8 +25,8 @@ pub type EnumMeta<S> = EnumMetaOf<<S as CheckedScalar>::Check>;
 impl EnumMetaOf<DefaultCheck> {
     /// An enum of this name with these values, and no description.
     ///
-    /// The check may be called on every value, and any two answers to one value are the same, the
-    /// text of a refusal included, unless memory was wanting.
+    /// The caller's check has to work on any value. It has to answer a value the same each time, with
+    /// the same text where it refuses, unless it runs out of memory.
     pub fn new(
         alloc: Global,
         name: &str,
