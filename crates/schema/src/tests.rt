@@ -143,19 +143,26 @@ fn setters_replace(rt: HostRuntime) -> Result<(), Fail> {
     Ok(())
 }
 
+/// What the type of the metadata prints.
+fn printed(alloc: Global, meta: &MetaType) -> Result<String, SchemaError> {
+    Ok(meta.as_type(alloc)?.to_string(alloc)?)
+}
+
 #[test]
 fn types_are_printed(rt: HostRuntime) -> Result<(), Fail> {
     let alloc = rt.alloc();
-    let mut metas: Vec<MetaType> = Vec::new(alloc);
-    metas.push(ListMeta::new(Type::non_null(alloc, "Int")?, Some(2)).into_meta())?;
-    metas.push(NullableMeta::new(Type::non_null(alloc, "Int")?).into_meta())?;
-    let mut printed = String::new(alloc);
-    for meta in &metas {
-        let text = meta.as_type(alloc)?.to_string(alloc)?;
-        printed.push_str(text.as_str())?;
-        printed.push_str(" ")?;
-    }
-    assert_eq!(rt; printed.as_str(), "[Int!]! Int ");
+    let list = ListMeta::new(Type::non_null(alloc, "Int")?, Some(2));
+    let text = printed(alloc, &MetaType::List(list))?;
+    assert_eq!(rt; text.as_str(), "[Int!]!");
+    let nullable = NullableMeta::new(Type::non_null(alloc, "Int")?);
+    let text = printed(alloc, &MetaType::Nullable(nullable))?;
+    assert_eq!(rt; text.as_str(), "Int");
+    Ok(())
+}
+
+#[test]
+fn places_are_printed(rt: HostRuntime) -> Result<(), Fail> {
+    let alloc = rt.alloc();
     let place = DirectiveLocation::FragmentDefinition.to_string(alloc)?;
     assert_eq!(rt; place.as_str(), "fragment definition");
     Ok(())
