@@ -1,5 +1,6 @@
-use Rattle.std.proofs.Common.{◌∙◌}
+use Rattle.std.proofs.Common.{◌∙◌, ap}
 use Rattle.schema.specs.Directives.{directive_name}
+use Rattle.schema.specs.Catalog.{type_in, directive_in}
 use Rattle.schema.proofs.KeyedLemmas.{lookup-find}
 use Rattle.schema.proofs.model.schemas.SchemaTypeOf.directive_by_name.Goals as goal
 
