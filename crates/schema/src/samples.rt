@@ -1,9 +1,9 @@
 //! Lists of types for the tests.
-ghost use Rattle.std.specs.Prelude.{codes};
-ghost use Rattle.schema.specs.Answers.{AnswersBy};
+ghost use Rattle.std.specs.Prelude.{◌≡◌, codes};
+ghost use Rattle.schema.specs.Answers.{AnswersBy, SameAnswer};
 ghost use Rattle.schema.specs.SampleChecks.{is_text};
 
-use crate::default_check::ScalarTokenKind;
+use crate::default_check::{InputValueParseFn, ScalarTokenKind, ScalarTokenParseFn};
 use crate::error::SchemaError;
 use crate::meta::{Argument, Field, MetaType, ObjectMeta, ScalarMetaOf};
 use language::error::{CheckError, ParseError};
@@ -31,8 +31,16 @@ pub fn no_token(
 }
 
 /// A scalar of this name whose values are strings.
-pub fn scalar(alloc: Global, name: &str) -> Result<MetaType, SchemaError> {
-    Ok(ScalarMetaOf::new(alloc, name, check_text, no_token)?.into_meta())
+pub fn scalar(
+    alloc: Global,
+    name: &str,
+    check: InputValueParseFn,
+    token: ScalarTokenParseFn,
+) -> Result<MetaType, SchemaError>
+    requires callable { (a : _) (v : _) → InputValueParseFn.pre check a v }
+    requires one_answer { (a b : _) (v w : _) (r s : _) → v.now ≡ w.now → InputValueParseFn.post check a v r → InputValueParseFn.post check b w s → SameAnswer r s }
+{
+    Ok(ScalarMetaOf::new(alloc, name, check, token)?.into_meta())
 }
 
 /// A field of this name and this nullable type.
@@ -69,10 +77,15 @@ pub fn name_with_argument(
 pub fn demo_with(
     alloc: Global,
     dog: Field<DefaultScalarValue>,
-) -> Result<Vec<MetaType>, SchemaError> {
+    check: InputValueParseFn,
+    token: ScalarTokenParseFn,
+) -> Result<Vec<MetaType>, SchemaError>
+    requires callable { (a : _) (v : _) → InputValueParseFn.pre check a v }
+    requires one_answer { (a b : _) (v w : _) (r s : _) → v.now ≡ w.now → InputValueParseFn.post check a v r → InputValueParseFn.post check b w s → SameAnswer r s }
+{
     let mut types = Vec::new(alloc);
-    types.push(scalar(alloc, "String")?)?;
-    types.push(scalar(alloc, "Boolean")?)?;
+    types.push(scalar(alloc, "String", check, token)?)?;
+    types.push(scalar(alloc, "Boolean", check, token)?)?;
     let query_type = Field::new(alloc, "queryType", Type::non_null(alloc, "__Type")?)?;
     types.push(object(alloc, "__Schema", query_type)?)?;
     types.push(object(alloc, "__Type", field(alloc, "name", "String")?)?)?;
@@ -82,6 +95,13 @@ pub fn demo_with(
 }
 
 /// The `demo` list.
-pub fn demo(alloc: Global) -> Result<Vec<MetaType>, SchemaError> {
-    demo_with(alloc, field(alloc, "name", "String")?)
+pub fn demo(
+    alloc: Global,
+    check: InputValueParseFn,
+    token: ScalarTokenParseFn,
+) -> Result<Vec<MetaType>, SchemaError>
+    requires callable { (a : _) (v : _) → InputValueParseFn.pre check a v }
+    requires one_answer { (a b : _) (v w : _) (r s : _) → v.now ≡ w.now → InputValueParseFn.post check a v r → InputValueParseFn.post check b w s → SameAnswer r s }
+{
+    demo_with(alloc, field(alloc, "name", "String")?, check, token)
 }

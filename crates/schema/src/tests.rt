@@ -28,7 +28,7 @@ fn demo_is_accepted(rt: HostRuntime) -> Result<(), Fail> {
     let alloc = rt.alloc();
     let schema = SchemaType::<DefaultScalarValue>::new(
         alloc,
-        demo(alloc)?,
+        demo(alloc, check_text, no_token)?,
         "QueryRoot",
         "_EmptyMutation",
         "_EmptySubscription",
@@ -50,7 +50,7 @@ fn roots_are_kept(rt: HostRuntime) -> Result<(), Fail> {
     let alloc = rt.alloc();
     let schema = SchemaType::<DefaultScalarValue>::new(
         alloc,
-        demo(alloc)?,
+        demo(alloc, check_text, no_token)?,
         "QueryRoot",
         "Dog",
         "__Type",
@@ -67,18 +67,18 @@ fn roots_are_kept(rt: HostRuntime) -> Result<(), Fail> {
 #[test]
 fn names_are_refused(rt: HostRuntime) -> Result<(), Fail> {
     let alloc = rt.alloc();
-    let mut types = demo(alloc)?;
+    let mut types = demo(alloc, check_text, no_token)?;
     types.retain(|meta| meta.name() != Some("__Type"));
     assert_eq!(rt;
         refusal(alloc, types, "QueryRoot"),
         Some(SchemaError::UnknownType(String::from_str(alloc, "__Type")?))
     );
     assert_eq!(rt;
-        refusal(alloc, demo(alloc)?, "Nope"),
+        refusal(alloc, demo(alloc, check_text, no_token)?, "Nope"),
         Some(SchemaError::MissingRoot(String::from_str(alloc, "Nope")?))
     );
     assert_eq!(rt;
-        refusal(alloc, demo(alloc)?, "String"),
+        refusal(alloc, demo(alloc, check_text, no_token)?, "String"),
         Some(SchemaError::QueryNotObject)
     );
     Ok(())
@@ -87,13 +87,13 @@ fn names_are_refused(rt: HostRuntime) -> Result<(), Fail> {
 #[test]
 fn entries_are_refused(rt: HostRuntime) -> Result<(), Fail> {
     let alloc = rt.alloc();
-    let mut twice = demo(alloc)?;
+    let mut twice = demo(alloc, check_text, no_token)?;
     twice.push(object(alloc, "Dog", field(alloc, "name", "String")?)?)?;
     assert_eq!(rt;
         refusal(alloc, twice, "QueryRoot"),
         Some(SchemaError::RepeatedType(String::from_str(alloc, "Dog")?))
     );
-    let mut unnamed = demo(alloc)?;
+    let mut unnamed = demo(alloc, check_text, no_token)?;
     unnamed.push(ListMeta::new(Type::non_null(alloc, "String")?, None).into_meta())?;
     assert_eq!(rt;
         refusal(alloc, unnamed, "QueryRoot"),
@@ -105,12 +105,17 @@ fn entries_are_refused(rt: HostRuntime) -> Result<(), Fail> {
 #[test]
 fn kinds_are_refused(rt: HostRuntime) -> Result<(), Fail> {
     let alloc = rt.alloc();
-    let types = demo_with(alloc, name_with_argument(alloc, "Dog")?)?;
+    let types = demo_with(
+        alloc,
+        name_with_argument(alloc, "Dog")?,
+        check_text,
+        no_token,
+    )?;
     assert_eq!(rt;
         refusal(alloc, types, "QueryRoot"),
         Some(SchemaError::NotInputType(String::from_str(alloc, "Dog")?))
     );
-    let mut types = demo(alloc)?;
+    let mut types = demo(alloc, check_text, no_token)?;
     types.push(InterfaceMeta::new(alloc, "Pet", Vec::new(alloc))?.into_meta())?;
     let mut members = Vec::new(alloc);
     members.push(Type::nullable(alloc, "Pet")?)?;
