@@ -1,7 +1,6 @@
 -- The four directives that every schema has.
-use Rattle.std.proofs.Common.{◌≡◌, ℕ, List, [], ◌∷◌, ◌++◌, Bool, true, false, not, ◌&&◌, ◌||◌, Option, Some, None, codes, map, option_map, refl, ap, subst, sym, ◌∙◌}
-use Rattle.std.specs.List.{flat_map, list_any, list_all}
-use Rattle.std.specs.Option.{option_map_or}
+use Rattle.std.proofs.Common.{◌≡◌, ℕ, List, [], ◌∷◌, ◌++◌, true, not, ◌&&◌, ◌||◌, Option, Some, codes, map, refl, ap, subst, sym, ◌∙◌}
+use Rattle.std.specs.List.{flat_map, list_all}
 use Rattle.std.proofs.lemmas.Bool.{and_parts, and_from}
 use Rattle.schema.specs.declared.meta.kinds.MetaTypeOf.{MetaTypeOf}
 use Rattle.schema.specs.declared.model.directives.DirectiveType.{DirectiveType}
@@ -9,7 +8,7 @@ use Rattle.schema.specs.Accepted.{Roots, IsAccepted, is_input_listed}
 use Rattle.schema.specs.Added.{DirectiveShape, argument_shape, directive_shape, standard_directives}
 use Rattle.schema.specs.Directives.{directive_name, directive_inputs}
 use Rattle.schema.specs.Named.{is_called, is_any_called, are_named, are_distinct}
-use Rattle.schema.specs.Names.{argument_type, inputs_in, added_inputs}
+use Rattle.schema.specs.Names.{inputs_in, added_inputs}
 use Rattle.schema.proofs.Refusals.{all-back}
 use Rattle.schema.proofs.SwapLemmas.{shape_types, types-shape}
 

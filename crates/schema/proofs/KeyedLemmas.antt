@@ -1,5 +1,5 @@
 -- Lists whose entries have names, and maps of them: a look-up by key finds the first entry of the name.
-use Rattle.std.proofs.Common.{◌≡◌, ℕ, List, [], ◌∷◌, Bool, true, false, cond, not, Option, Some, None, ◌&&◌, ◌||◌, ◌++◌, string_bytes, refl, ap, sym, subst, ◌∙◌, map}
+use Rattle.std.proofs.Common.{◌≡◌, ℕ, List, [], ◌∷◌, Bool, true, false, cond, not, Option, Some, None, ◌++◌, string_bytes, refl, ap, sym, ◌∙◌, map}
 use Rattle.std.specs.Prelude.{String, find, IfSome}
 use Rattle.std.specs.declared.alloc.Global.{Global}
 use Rattle.std.specs.List.{list_any, list_all}

@@ -1,22 +1,21 @@
 -- What a name that is found says of a list of types, and what it says where none is found.
-use Rattle.std.proofs.Common.{◌≡◌, ℕ, ◌+◌, ◌≤◌, List, [], ◌∷◌, ◌++◌, Bool, true, false, not, ◌&&◌, ◌||◌, cond, codes, Option, Some, None, string_bytes, map, refl, ap, subst, sym, ◌∙◌, arith}
+use Rattle.std.proofs.Common.{◌≡◌, ℕ, ◌+◌, ◌≤◌, List, [], ◌∷◌, ◌++◌, Bool, true, false, not, ◌||◌, cond, codes, Option, Some, None, map, refl, ap, subst, sym, ◌∙◌, arith}
 use Rattle.std.specs.Prelude.{find, Contains, count_by}
 use Rattle.std.specs.List.{flat_map, list_any, list_all}
 use Rattle.std.specs.Option.{option_map_or}
 use Rattle.std.specs.Str.{bytes_eq}
-use Rattle.std.proofs.lemmas.Bool.{and_parts, and_from, or_parts}
+use Rattle.std.proofs.lemmas.Bool.{and_parts, and_from}
 use Rattle.std.proofs.lemmas.List.Folds.{list_all-append}
 use Rattle.std.proofs.lemmas.List.Sums.{sum_by-cons}
 use Rattle.std.proofs.lemmas.Slice.Eq.{bytes_eq-Decides}
 use Rattle.language.specs.Types.{shape}
-use Rattle.schema.specs.declared.meta.arguments.Argument.{Argument}
 use Rattle.schema.specs.declared.meta.fields.Field.{Field}
 use Rattle.schema.specs.declared.meta.kinds.MetaTypeOf.{MetaTypeOf}
 use Rattle.schema.specs.Accepted.{is_named, is_listed}
 use Rattle.schema.specs.Kinds.{name_of_meta, fields_of, input_fields_of}
 use Rattle.schema.specs.Names.{argument_type, field_inputs, field_names, inputs_in, names_in, members_of, interfaces_of, added_inputs, added_names, all_names, all_inputs, all_members}
 use Rattle.schema.specs.Repeated.{listed_again, repeated_name}
-use Rattle.schema.proofs.Finds.{found-passes, found-among, not-true, all-at}
+use Rattle.schema.proofs.Finds.{found-passes, found-among, not-true}
 
 -- a name that is found to fail a test, at another spelling of it
 pub failing-among : (test : List ℕ → Bool) (names : List (List ℕ)) (n k : List ℕ) → k ≡ n → Some n ≡ find (λ x. not (test x)) names → Contains names k

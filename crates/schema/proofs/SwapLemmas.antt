@@ -1,5 +1,5 @@
 -- An accepted list stays accepted when the two fields are added to the root of queries.
-use Rattle.std.proofs.Common.{◌≡◌, ℕ, List, [], ◌∷◌, ◌++◌, Bool, true, false, not, ◌&&◌, ◌||◌, Option, Some, None, codes, string_bytes, map, option_map, is_some, refl, ap, subst, sym, ◌∙◌}
+use Rattle.std.proofs.Common.{◌≡◌, ℕ, List, [], ◌∷◌, ◌++◌, Bool, true, false, not, ◌&&◌, ◌||◌, Some, None, codes, string_bytes, map, option_map, is_some, refl, ap, subst, sym, ◌∙◌}
 use Rattle.std.specs.List.{flat_map, list_any, list_all}
 use Rattle.std.specs.Option.{option_map_or}
 use Rattle.std.proofs.lemmas.Bool.{and_parts, and_from}
@@ -12,10 +12,9 @@ use Rattle.schema.specs.declared.meta.kinds.MetaTypeOf.{MetaTypeOf}
 use Rattle.schema.specs.declared.meta.kinds.MetaTypeOf.TheVariants as m
 use Rattle.schema.specs.Accepted.{Roots, root_names, IsAccepted, is_named, is_listed, is_object_listed, is_input_listed}
 use Rattle.schema.specs.Added.{ArgumentShape, FieldShape, argument_shape, field_shape, schema_field, type_field, HasAddedFields, IsExtended}
-use Rattle.schema.specs.Arguments.{arguments_of}
 use Rattle.schema.specs.Kinds.{name_of_meta, is_object_meta, is_input_meta}
-use Rattle.schema.specs.Named.{is_called, is_any_called, are_named, are_distinct}
-use Rattle.schema.specs.Names.{argument_type, field_inputs, field_names, inputs_in, names_in, members_of, interfaces_of, added_inputs, added_names, all_names, all_inputs, all_members}
+use Rattle.schema.specs.Named.{is_any_called, are_distinct}
+use Rattle.schema.specs.Names.{argument_type, field_inputs, field_names, inputs_in, names_in, members_of, added_inputs, added_names, all_names, all_inputs, all_members}
 use Rattle.schema.proofs.Refusals.{all-front, all-back, all-joined}
 
 module _ {A : Type 0} (p : A → Bool) (a b : A) (same : p a ≡ p b) where

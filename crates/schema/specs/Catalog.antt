@@ -1,5 +1,5 @@
 -- What callers see of a schema: lists, with no map.
-use Rattle.std.specs.Prelude.{◌≡◌, ℕ, List, Bool, true, Option, find, option_and_then}
+use Rattle.std.specs.Prelude.{◌≡◌, ℕ, List, true, Option, find, option_and_then}
 use Rattle.std.specs.List.{list_all}
 use Rattle.schema.specs.declared.meta.kinds.MetaTypeOf.{MetaTypeOf}
 use Rattle.schema.specs.declared.model.directives.DirectiveType.{DirectiveType}

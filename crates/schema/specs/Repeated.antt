@@ -1,5 +1,5 @@
 -- A name that stands again further on.
-use Rattle.std.specs.Prelude.{ℕ, List, Bool, true, false, Option, Some, None, if◌then◌else◌}
+use Rattle.std.specs.Prelude.{ℕ, List, Option, Some, None, if◌then◌else◌}
 use Rattle.schema.specs.declared.meta.kinds.MetaTypeOf.{MetaTypeOf}
 use Rattle.schema.specs.Accepted.{is_listed}
 use Rattle.schema.specs.Kinds.{name_of_meta}

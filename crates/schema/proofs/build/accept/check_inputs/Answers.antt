@@ -1,8 +1,8 @@
 use Rattle.std.proofs.Common.{◌≡◌, string_bytes}
-use Rattle.schema.specs.Accepted.{is_listed, is_object_listed, is_input_listed}
-use Rattle.schema.specs.Names.{all_names, all_inputs, all_members}
+use Rattle.schema.specs.Accepted.{is_listed, is_input_listed}
+use Rattle.schema.specs.Names.{all_inputs}
 use Rattle.schema.proofs.Finds.{all-if_none, all-at}
-use Rattle.schema.proofs.Refusals.{failing-among, failing-test, all-inputs, all-members}
+use Rattle.schema.proofs.Refusals.{failing-among, failing-test, all-inputs}
 use Rattle.schema.proofs.build.accept.check_inputs.Goals as goal
 
 pub returns-in_ok-from_str-in-Some-clause-err : goal.returns-in_ok-from_str-in-Some-clause-err

@@ -1,6 +1,5 @@
-use Rattle.std.proofs.Common.{◌≡◌, drop, map, string_bytes}
+use Rattle.std.proofs.Common.{◌≡◌, drop, map}
 use Rattle.std.specs.Prelude.{find}
-use Rattle.std.specs.List.{flat_map}
 use Rattle.schema.specs.Names.{argument_type}
 use Rattle.schema.proofs.build.first.first_argument.Given as goal
 

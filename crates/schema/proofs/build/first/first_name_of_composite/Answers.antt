@@ -1,4 +1,4 @@
-use Rattle.std.proofs.Common.{◌≡◌, ◌∙◌, sym, map, string_bytes}
+use Rattle.std.proofs.Common.{◌∙◌, sym, map, string_bytes}
 use Rattle.std.specs.List.{flat_map}
 use Rattle.schema.specs.Names.{field_names}
 use Rattle.schema.proofs.Finds.{find-append-Some, find-append-None}

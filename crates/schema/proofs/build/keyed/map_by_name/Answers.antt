@@ -1,5 +1,4 @@
-use Rattle.std.proofs.Common.{◌≡◌, true, ◌++◌, ◌∷◌, ap, sym, ◌∙◌, refl}
-use Rattle.std.specs.List.{list_all}
+use Rattle.std.proofs.Common.{◌≡◌, ◌++◌, ◌∷◌, ap, sym, ◌∙◌, refl}
 use Rattle.std.specs.Prelude.{is_some}
 use Rattle.schema.specs.Named.{are_named, are_distinct}
 use Rattle.schema.proofs.KeyedLemmas.{list_all-middle, lookup-distinct}

@@ -1,4 +1,4 @@
-use Rattle.std.proofs.Common.{◌≡◌, ◌≤◌, ◌∷◌, ◌&&◌, ◌∙◌, ap, sym, subst, arith}
+use Rattle.std.proofs.Common.{◌≤◌, ◌&&◌, ◌∙◌, ap, sym, subst, arith}
 use Rattle.std.specs.Prelude.{count_by}
 use Rattle.schema.specs.Accepted.{is_named}
 use Rattle.schema.specs.Kinds.{name_of_meta}

@@ -1,6 +1,5 @@
-use Rattle.std.proofs.Common.{◌∙◌, ap}
+use Rattle.std.proofs.Common.{◌∙◌}
 use Rattle.schema.specs.Directives.{directive_name}
-use Rattle.schema.specs.Catalog.{type_in, directive_in}
 use Rattle.schema.proofs.KeyedLemmas.{lookup-find}
 use Rattle.schema.proofs.model.schemas.SchemaTypeOf.directive_by_name.Goals as goal
 

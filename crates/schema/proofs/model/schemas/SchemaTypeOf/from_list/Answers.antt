@@ -1,4 +1,4 @@
-use Rattle.std.proofs.Common.{◌≡◌, subst}
+use Rattle.std.proofs.Common.{subst}
 use Rattle.schema.specs.Accepted.{IsAccepted}
 use Rattle.schema.specs.RootNames.{roots_asked}
 use Rattle.schema.proofs.SwapLemmas.{accepted-extended}

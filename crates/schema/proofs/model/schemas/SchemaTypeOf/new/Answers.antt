@@ -1,4 +1,4 @@
-use Rattle.std.proofs.Common.{◌≡◌, subst, rules}
+use Rattle.std.proofs.Common.{subst}
 use Rattle.std.specs.Prelude.{OnOk, IfOk, IfErr}
 use Rattle.schema.specs.Accepted.{IsAccepted, IsTrueRefusal, roots_of}
 use Rattle.schema.proofs.AcceptedLemmas.{refused-memory}
