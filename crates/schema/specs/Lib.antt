@@ -4,6 +4,7 @@ pub mod Answers
 pub mod Arguments
 pub mod Built
 pub mod Catalog
+pub mod Changes
 pub mod Codes
 pub mod Concrete
 pub mod Deprecation
@@ -13,5 +14,9 @@ pub mod Kinds
 pub mod Locations
 pub mod Named
 pub mod Names
+pub mod Ordered
+pub mod Possible
 pub mod Repeated
 pub mod RootNames
+pub mod Subtype
+pub mod Wrapped
