@@ -51,7 +51,7 @@ module _ {T : Type 0} (name_of : T → Option (List ℕ)) where
   at-most-one (t ∷ ts) n h =
       let more : count_by (is_called name_of n) (t ∷ ts) ≡ cond (is_called name_of n t) 1 0 + count_by (is_called name_of n) ts = sum_by-cons (λ y. cond (is_called name_of n y) 1 0) t ts in
       let few : cond (is_called name_of n t) 1 0 + count_by (is_called name_of n) ts ≤ 1 =
-            one_step (is_called name_of n t) (count_by (is_called name_of n) ts) (λ k. none-count (is_called name_of n) ts (first-alone t ts n h k)) (at-most-one ts n (rest-distinct t ts h)) in
+      one_step (is_called name_of n t) (count_by (is_called name_of n) ts) (λ k. none-count (is_called name_of n) ts (first-alone t ts n h k)) (at-most-one ts n (rest-distinct t ts h)) in
       omega (arith, more, few)
 
   -- what is found by a name, where an entry of the name and the kind is there

@@ -60,7 +60,7 @@ directives-input roots ts ds a e =
     let tail : list_all p (codes "String" ∷ codes "String" ∷ []) ≡ true = and_from (p (codes "String")) (list_all p (codes "String" ∷ [])) string.0 (and_from (p (codes "String")) true string.0 refl) in
     ap (list_all p) (inputs-shapes ds ∙ ap shapes_inputs e ∙ standard-inputs)
     ∙ and_from (p (codes "Boolean")) (list_all p (codes "Boolean" ∷ codes "String" ∷ codes "String" ∷ [])) boolean.0
-        (and_from (p (codes "Boolean")) (list_all p (codes "String" ∷ codes "String" ∷ [])) boolean.0 tail)
+    (and_from (p (codes "Boolean")) (list_all p (codes "String" ∷ codes "String" ∷ [])) boolean.0 tail)
 
 pub accepted-at : {S C : Type 0} (roots : Roots) (ts us : List (MetaTypeOf S C)) (q : List ℕ) (mu su : Option (List ℕ)) → IsAccepted roots ts → q ≡ roots.query → mu ≡ roots.mutation → su ≡ roots.subscription → us ≡ ts → IsAccepted (record { query = q; mutation = mu; subscription = su }) us
 accepted-at roots ts us q mu su a e f g h =

@@ -42,5 +42,5 @@ module _ {S C : Type 0} (q : List ℕ) (slice ts rest whole : List (MetaTypeOf S
         old_is = split-at ts i (m.Object x) within here;
         new_is = inserted ∙ ap (λ l. insert l i (m.Object y)) removed ∙ insert-removed ts i (m.Object y) within;
         named = (bytes_eq-Decides (string_bytes x.name) q).0 (and_parts (is_named {S = S} {C = C} q (m.Object x)) true at_x).0;
-        added = added
+        added = added;
       }

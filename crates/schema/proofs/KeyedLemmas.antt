@@ -67,4 +67,3 @@ pub lookup-distinct : {T : Type 0} (name_of : T → Option (List ℕ)) (m : T) (
 lookup-distinct name_of m es ys zs None named keyed same h = tt
 lookup-distinct name_of m es ys zs (Some n) named keyed same h =
     lookup-find name_of n es keyed ∙ ap (find (is_called name_of n)) same ∙ find-distinct name_of m n named ys zs h
-

@@ -9,7 +9,7 @@ use Rattle.std.proofs.lemmas.List.Folds.{list_all-append}
 use Rattle.std.proofs.lemmas.List.Sums.{sum_by-cons}
 use Rattle.std.proofs.lemmas.Slice.Eq.{bytes_eq-Decides}
 use Rattle.language.specs.Types.{shape}
-use Rattle.schema.specs.declared.meta.fields.Argument.{Argument}
+use Rattle.schema.specs.declared.meta.arguments.Argument.{Argument}
 use Rattle.schema.specs.declared.meta.fields.Field.{Field}
 use Rattle.schema.specs.declared.meta.kinds.MetaTypeOf.{MetaTypeOf}
 use Rattle.schema.specs.Accepted.{is_named, is_listed}
@@ -49,8 +49,8 @@ module _ {S C : Type 0} (p : List ℕ → Bool) where
   inputs-in t h =
       let rest = all-back p (flat_map field_names (fields_of t)) (map argument_type (input_fields_of t) ++ (interfaces_of t ++ members_of t)) h in
       all-joined p (flat_map field_inputs (fields_of t)) (map argument_type (input_fields_of t))
-        (all-parts p field_names field_inputs (fields-inputs p) (fields_of t) (all-front p (flat_map field_names (fields_of t)) (map argument_type (input_fields_of t) ++ (interfaces_of t ++ members_of t)) h))
-        (all-front p (map argument_type (input_fields_of t)) (interfaces_of t ++ members_of t) rest)
+      (all-parts p field_names field_inputs (fields-inputs p) (fields_of t) (all-front p (flat_map field_names (fields_of t)) (map argument_type (input_fields_of t) ++ (interfaces_of t ++ members_of t)) h))
+      (all-front p (map argument_type (input_fields_of t)) (interfaces_of t ++ members_of t) rest)
 
   -- and so are a union's members
   members-in : (t : MetaTypeOf S C) → list_all p (names_in t) ≡ true → list_all p (members_of t) ≡ true
@@ -63,8 +63,8 @@ module _ {S C : Type 0} (p : List ℕ → Bool) where
       let added : list_all p added_names ≡ true = all-back p (flat_map names_in ts) added_names h in
       let after : list_all p (codes "__Type" ∷ added_inputs) ≡ true = (and_parts (p (codes "__Schema")) (list_all p (codes "__Type" ∷ added_inputs)) added).1 in
       all-joined p (flat_map inputs_in ts) added_inputs
-        (all-parts p names_in inputs_in inputs-in ts (all-front p (flat_map names_in ts) added_names h))
-        (and_parts (p (codes "__Type")) (list_all p added_inputs) after).1
+      (all-parts p names_in inputs_in inputs-in ts (all-front p (flat_map names_in ts) added_names h))
+      (and_parts (p (codes "__Type")) (list_all p added_inputs) after).1
 
   pub all-members : (ts : List (MetaTypeOf S C)) → list_all p (all_names ts) ≡ true → list_all p (all_members ts) ≡ true
   all-members ts h = all-parts p names_in members_of members-in ts (all-front p (flat_map names_in ts) added_names h)

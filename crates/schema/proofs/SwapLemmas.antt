@@ -5,7 +5,7 @@ use Rattle.std.specs.Option.{option_map_or}
 use Rattle.std.proofs.lemmas.Bool.{and_parts, and_from}
 use Rattle.std.proofs.lemmas.Grind.{flat_map-append}
 use Rattle.language.specs.Types.{shape}
-use Rattle.schema.specs.declared.meta.fields.Argument.{Argument}
+use Rattle.schema.specs.declared.meta.arguments.Argument.{Argument}
 use Rattle.schema.specs.declared.meta.fields.Field.{Field}
 use Rattle.schema.specs.declared.meta.objects.ObjectMeta.{ObjectMeta}
 use Rattle.schema.specs.declared.meta.kinds.MetaTypeOf.{MetaTypeOf}
@@ -68,7 +68,7 @@ module _ (S C : Type 0) (x y : ObjectMeta S) (added : HasAddedFields x y) where
         let of_g : list_all p (field_inputs g) ≡ true = ap (list_all p) (type-inputs g added.fields.4) ∙ and_from (p (codes "String")) true s refl in
         let of_both : list_all p (flat_map field_inputs (f ∷ g ∷ [])) ≡ true = all-joined p (field_inputs f) (field_inputs g ++ []) of_f (all-joined p (field_inputs g) [] of_g refl) in
         let of_y : list_all p (flat_map field_inputs y.fields.items) ≡ true =
-              ap (λ l. list_all p (flat_map field_inputs l)) added.fields.2 ∙ ap (list_all p) (flat_map-append field_inputs x.fields.items (f ∷ g ∷ [])) ∙ all-joined p (flat_map field_inputs x.fields.items) (flat_map field_inputs (f ∷ g ∷ [])) of_x of_both in
+        ap (λ l. list_all p (flat_map field_inputs l)) added.fields.2 ∙ ap (list_all p) (flat_map-append field_inputs x.fields.items (f ∷ g ∷ [])) ∙ all-joined p (flat_map field_inputs x.fields.items) (flat_map field_inputs (f ∷ g ∷ [])) of_x of_both in
         all-joined p (flat_map field_inputs y.fields.items) [] of_y refl
 
     names_step : p (codes "__Schema") ≡ true → p (codes "__Type") ≡ true → p (codes "String") ≡ true → list_all p (names_in {S = S} {C = C} (m.Object x)) ≡ true → list_all p (names_in {S = S} {C = C} (m.Object y)) ≡ true
@@ -83,9 +83,9 @@ module _ (S C : Type 0) (x y : ObjectMeta S) (added : HasAddedFields x y) where
         let of_g : list_all p (field_names g) ≡ true = and_from (p (shape g.field_type).name) (list_all p (field_inputs g)) type_g (ap (list_all p) (type-inputs g added.fields.4) ∙ and_from (p (codes "String")) true u refl) in
         let of_both : list_all p (flat_map field_names (f ∷ g ∷ [])) ≡ true = all-joined p (field_names f) (field_names g ++ []) of_f (all-joined p (field_names g) [] of_g refl) in
         let of_y : list_all p (flat_map field_names y.fields.items) ≡ true =
-              ap (λ l. list_all p (flat_map field_names l)) added.fields.2 ∙ ap (list_all p) (flat_map-append field_names x.fields.items (f ∷ g ∷ [])) ∙ all-joined p (flat_map field_names x.fields.items) (flat_map field_names (f ∷ g ∷ [])) of_x of_both in
+        ap (λ l. list_all p (flat_map field_names l)) added.fields.2 ∙ ap (list_all p) (flat_map-append field_names x.fields.items (f ∷ g ∷ [])) ∙ all-joined p (flat_map field_names x.fields.items) (flat_map field_names (f ∷ g ∷ [])) of_x of_both in
         all-joined p (flat_map field_names y.fields.items) (rest y) of_y
-          (ap (λ v. list_all p (map string_bytes v.items ++ [])) added.interfaces ∙ all-back p (flat_map field_names x.fields.items) (rest x) h)
+        (ap (λ v. list_all p (map string_bytes v.items ++ [])) added.interfaces ∙ all-back p (flat_map field_names x.fields.items) (rest x) h)
 
   name-same : (n : List ℕ) → is_named {S = S} {C = C} n (m.Object y) ≡ is_named {S = S} {C = C} n (m.Object x)
   name-same n = ap (λ s. is_named {S = S} {C = C} n (m.Object (record x { name = s }))) added.name
@@ -119,15 +119,15 @@ module _ (S C : Type 0) (x y : ObjectMeta S) (added : HasAddedFields x y) where
     names-kept p h =
         let given = at_added p h in
         all-joined p (flat_map names_in (before ++ m.Object y ∷ after)) added_names
-          (flat-swap p names_in (m.Object x) (m.Object y) (names_step p given.0 given.1 given.2) before after (all-front p (flat_map names_in (before ++ m.Object x ∷ after)) added_names h))
-          (all-back p (flat_map names_in (before ++ m.Object x ∷ after)) added_names h)
+        (flat-swap p names_in (m.Object x) (m.Object y) (names_step p given.0 given.1 given.2) before after (all-front p (flat_map names_in (before ++ m.Object x ∷ after)) added_names h))
+        (all-back p (flat_map names_in (before ++ m.Object x ∷ after)) added_names h)
 
     inputs-kept : (p : List ℕ → Bool) → list_all p (all_inputs (before ++ m.Object x ∷ after)) ≡ true → list_all p (all_inputs (before ++ m.Object y ∷ after)) ≡ true
     inputs-kept p h =
         let added_all : list_all p added_inputs ≡ true = all-back p (flat_map inputs_in (before ++ m.Object x ∷ after)) added_inputs h in
         all-joined p (flat_map inputs_in (before ++ m.Object y ∷ after)) added_inputs
-          (flat-swap p inputs_in (m.Object x) (m.Object y) (inputs_step p (and_parts (p (codes "String")) (list_all p (codes "Boolean" ∷ [])) added_all).0) before after (all-front p (flat_map inputs_in (before ++ m.Object x ∷ after)) added_inputs h))
-          added_all
+        (flat-swap p inputs_in (m.Object x) (m.Object y) (inputs_step p (and_parts (p (codes "String")) (list_all p (codes "Boolean" ∷ [])) added_all).0) before after (all-front p (flat_map inputs_in (before ++ m.Object x ∷ after)) added_inputs h))
+        added_all
 
     members-kept : (p : List ℕ → Bool) → list_all p (all_members (before ++ m.Object x ∷ after)) ≡ true → list_all p (all_members (before ++ m.Object y ∷ after)) ≡ true
     members-kept p h = flat-swap p members_of (m.Object x) (m.Object y) (λ e. e) before after h
@@ -140,7 +140,7 @@ module _ (S C : Type 0) (x y : ObjectMeta S) (added : HasAddedFields x y) where
       query_object = ap (λ p. p roots.query) (object-same before after) ∙ a.query_object;
       names_listed = ap (λ p. list_all p (all_names (before ++ m.Object y ∷ after))) (listed-same before after) ∙ names-kept (is_listed (before ++ m.Object x ∷ after)) a.names_listed;
       members_objects = ap (λ p. list_all p (all_members (before ++ m.Object y ∷ after))) (object-same before after) ∙ members-kept (is_object_listed (before ++ m.Object x ∷ after)) a.members_objects;
-      inputs_input = ap (λ p. list_all p (all_inputs (before ++ m.Object y ∷ after))) (input-same before after) ∙ inputs-kept (is_input_listed (before ++ m.Object x ∷ after)) a.inputs_input
+      inputs_input = ap (λ p. list_all p (all_inputs (before ++ m.Object y ∷ after))) (input-same before after) ∙ inputs-kept (is_input_listed (before ++ m.Object x ∷ after)) a.inputs_input;
     }
 
 pub accepted-extended : {S C : Type 0} (roots : Roots) (q : List ℕ) (ts us : List (MetaTypeOf S C)) → IsExtended q ts us → IsAccepted roots ts → IsAccepted roots us

@@ -1,7 +1,7 @@
 -- What a schema adds to a list of types: two fields of the root of queries, and four directives.
 use Rattle.std.specs.Prelude.{◌≡◌, ℕ, List, [], ◌∷◌, ◌++◌, Bool, true, false, Option, Some, None, is_some, codes, map, option_map, string_bytes}
 use Rattle.language.specs.Types.{TypeShape, shape, non_null_named}
-use Rattle.schema.specs.declared.meta.fields.Argument.{Argument}
+use Rattle.schema.specs.declared.meta.arguments.Argument.{Argument}
 use Rattle.schema.specs.declared.meta.fields.Field.{Field}
 use Rattle.schema.specs.declared.meta.objects.ObjectMeta.{ObjectMeta}
 use Rattle.schema.specs.declared.meta.kinds.MetaTypeOf.{MetaTypeOf}

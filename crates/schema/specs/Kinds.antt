@@ -5,7 +5,7 @@ use Rattle.std.specs.Option.{option_map_or}
 use Rattle.std.specs.Str.{bytes_eq}
 use Rattle.language.specs.Types.{TypeShape, shape, non_null_named, non_null_of, nullable_of, list_of}
 use Rattle.schema.specs.declared.meta.fields.Field.{Field}
-use Rattle.schema.specs.declared.meta.fields.Argument.{Argument}
+use Rattle.schema.specs.declared.meta.arguments.Argument.{Argument}
 use Rattle.schema.specs.declared.meta.wrappers.ListMeta.{ListMeta}
 use Rattle.schema.specs.declared.meta.kinds.TypeKind.{TypeKind}
 use Rattle.schema.specs.declared.meta.kinds.TypeKind.TheVariants as k

@@ -37,7 +37,10 @@ impl fmt::Display for SchemaError {
             SchemaError::UnionMemberNotObject(name) => {
                 write!(f, "the union member \"{name}\" is not an object")
             }
-            SchemaError::NotInputType(name) => write!(f, "the type \"{name}\" is not an input type"),
+            SchemaError::NotInputType(name) => write!(
+                f,
+                "the type \"{name}\" is not an input type"
+            ),
         }
     }
 }

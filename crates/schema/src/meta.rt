@@ -1,6 +1,8 @@
 //! Metadata of types (GraphQL, October 2021, section 3.4).
 
+pub mod arguments;
 pub mod deprecation;
+pub mod enum_values;
 pub mod enums;
 pub mod fields;
 pub mod inputs;
@@ -11,9 +13,11 @@ pub mod scalars;
 pub mod unions;
 pub mod wrappers;
 
+pub use arguments::Argument;
 pub use deprecation::DeprecationStatus;
-pub use enums::{EnumMeta, EnumMetaOf, EnumValue};
-pub use fields::{Argument, Field};
+pub use enum_values::EnumValue;
+pub use enums::{EnumMeta, EnumMetaOf};
+pub use fields::Field;
 pub use inputs::{InputObjectMeta, InputObjectMetaOf};
 pub use interfaces::InterfaceMeta;
 pub use kinds::{MetaType, MetaTypeOf, TypeKind};

@@ -2,7 +2,8 @@
 ghost use Rattle.std.specs.Prelude.{◌≡◌, ℕ, List, option_copied, find};
 ghost use Rattle.std.specs.Str.{bytes_eq};
 
-use crate::meta::fields::{Argument, Field};
+use crate::meta::arguments::Argument;
+use crate::meta::fields::Field;
 
 /// What has a name.
 pub trait Named {

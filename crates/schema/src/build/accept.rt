@@ -10,9 +10,7 @@ ghost use Rattle.schema.specs.RootNames.{roots_asked};
 use crate::build::first::{
     first_added_input, first_added_name, first_input_of_all, first_member_of_all, first_name_of_all,
 };
-use crate::build::listed::{
-    NameTest, NotInput, NotObject, Unlisted, is_object_type_listed,
-};
+use crate::build::listed::{NameTest, NotInput, NotObject, Unlisted, is_object_type_listed};
 use crate::build::repeated::{are_all_named, first_repeated};
 use crate::build::roots::{RootNames, first_root};
 use crate::error::SchemaError;
@@ -52,10 +50,7 @@ fn check_roots<S, C>(
 }
 
 /// The first name at fault among all that the types and what a schema adds name.
-fn first_of_names<'t, T: NameTest, S, C>(
-    test: &T,
-    types: &'t [MetaTypeOf<S, C>],
-) -> Option<&'t str>
+fn first_of_names<'t, T: NameTest, S, C>(test: &T, types: &'t [MetaTypeOf<S, C>]) -> Option<&'t str>
     ensures { option_map (λ s. s.now) result ≡ find (T.fails_at test.now) (all_names types.now) }
 {
     if let Some(name) = first_name_of_all(test, types) {

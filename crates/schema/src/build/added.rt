@@ -2,7 +2,8 @@
 ghost use Rattle.std.specs.Prelude.{◌≡◌, IfOk, [], ◌∷◌, codes, map};
 ghost use Rattle.schema.specs.Added.{argument_shape, field_shape, directive_shape, required, schema_field, type_field, with_argument, conditional, deprecated_shape, specified_by_shape, standard_directives};
 
-use crate::meta::fields::{Argument, Field};
+use crate::meta::arguments::Argument;
+use crate::meta::fields::Field;
 use crate::model::directives::{DirectiveLocation, DirectiveType};
 use language::error::OutOfMemory;
 use language::types::Type;
@@ -53,11 +54,10 @@ fn make_directive<S: Drop>(
 fn make_conditional<S: Drop>(alloc: Global, name: &str) -> Result<DirectiveType<S>, OutOfMemory>
     ensures { IfOk result (λ d. directive_shape d ≡ conditional name.now) }
 {
-    let locations = vec![
-        in alloc;
+    let locations = vec![in alloc;
         DirectiveLocation::Field,
         DirectiveLocation::FragmentSpread,
-        DirectiveLocation::InlineFragment
+        DirectiveLocation::InlineFragment,
     ]?;
     make_directive(alloc, name, locations, "if", "Boolean")
 }
@@ -65,7 +65,10 @@ fn make_conditional<S: Drop>(alloc: Global, name: &str) -> Result<DirectiveType<
 fn make_deprecated<S: Drop>(alloc: Global) -> Result<DirectiveType<S>, OutOfMemory>
     ensures { IfOk result (λ d. directive_shape d ≡ deprecated_shape) }
 {
-    let locations = vec![in alloc; DirectiveLocation::FieldDefinition, DirectiveLocation::EnumValue]?;
+    let locations = vec![in alloc;
+        DirectiveLocation::FieldDefinition,
+        DirectiveLocation::EnumValue,
+    ]?;
     make_directive(alloc, "deprecated", locations, "reason", "String")
 }
 

@@ -5,7 +5,8 @@ ghost use Rattle.schema.specs.Names.{argument_type, field_inputs, field_names, i
 ghost use Rattle.schema.specs.Kinds.{fields_of, input_fields_of};
 
 use crate::build::listed::NameTest;
-use crate::meta::fields::{Argument, Field};
+use crate::meta::arguments::Argument;
+use crate::meta::fields::Field;
 use crate::meta::kinds::MetaTypeOf;
 
 fn first_text<'t, T: NameTest>(test: &T, texts: &'t [String]) -> Option<&'t str>
@@ -19,10 +20,7 @@ fn first_text<'t, T: NameTest>(test: &T, texts: &'t [String]) -> Option<&'t str>
     None
 }
 
-pub fn first_argument<'t, T: NameTest, S>(
-    test: &T,
-    arguments: &'t [Argument<S>],
-) -> Option<&'t str>
+pub fn first_argument<'t, T: NameTest, S>(test: &T, arguments: &'t [Argument<S>]) -> Option<&'t str>
     ensures { option_map (λ s. s.now) result ≡ find (T.fails_at test.now) (map argument_type arguments.now) }
 {
     for argument in arguments {

@@ -20,10 +20,7 @@ pub fn are_all_named<S, C>(types: &[MetaTypeOf<S, C>]) -> bool
 }
 
 /// The name of a type that another, later in the list, has too.
-fn name_again<'t, S, C>(
-    meta: &'t MetaTypeOf<S, C>,
-    others: &[MetaTypeOf<S, C>],
-) -> Option<&'t str>
+fn name_again<'t, S, C>(meta: &'t MetaTypeOf<S, C>, others: &[MetaTypeOf<S, C>]) -> Option<&'t str>
     ensures { option_map (λ s. s.now) result ≡ repeated_name meta.now others.now }
 {
     match meta.name() {

@@ -36,13 +36,7 @@ fn first_of_option<'n, T: NameTest>(test: &T, name: Option<&'n str>) -> Option<&
     ensures { option_map (λ s. s.now) result ≡ find (T.fails_at test.now) (listed (option_map (λ s. s.now) name.entry)) }
 {
     match name {
-        Some(n) => {
-            if test.fails(n) {
-                Some(n)
-            } else {
-                None
-            }
-        }
+        Some(n) => { if test.fails(n) { Some(n) } else { None } }
         None => None,
     }
 }

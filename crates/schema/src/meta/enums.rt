@@ -1,59 +1,14 @@
-//! Enums and their values.
-ghost use Rattle.std.specs.Prelude.{◌≡◌, IfOk, None, Some, true, option_map, string_bytes};
+//! Enums.
+ghost use Rattle.std.specs.Prelude.{◌≡◌, IfOk, None, Some, option_map, string_bytes};
 ghost use Rattle.schema.specs.Answers.{SameAnswer};
-ghost use Rattle.schema.specs.Deprecation.{is_deprecated_status, reason_of};
 ghost use Rattle.schema.specs.Kept.{enum_check};
 
 use crate::check::CheckedScalar;
 use crate::default_check::{DefaultCheck, InputValueParseFn};
-use crate::meta::deprecation::DeprecationStatus;
+use crate::meta::enum_values::EnumValue;
 use crate::meta::kinds::MetaTypeOf;
-use crate::texts::copy_text;
 use language::error::OutOfMemory;
 use std::alloc::Global;
-
-/// A value of an enum.
-#[derive(Clone, Debug, Drop)]
-pub struct EnumValue {
-    pub name: String,
-    pub description: Option<String>,
-    pub deprecation_status: DeprecationStatus,
-}
-
-impl EnumValue {
-    /// A value of this name, with no description, and not deprecated.
-    pub fn new(alloc: Global, name: &str) -> Result<Self, OutOfMemory>
-        ensures name { IfOk result (λ v. string_bytes v.name ≡ name.now) }
-        ensures description { IfOk result (λ v. v.description ≡ None) }
-        ensures current { IfOk result (λ v. v.deprecation_status ≡ DeprecationStatus.Current) }
-    {
-        Ok(EnumValue {
-            name: String::from_str(alloc, name)?,
-            description: None,
-            deprecation_status: DeprecationStatus::Current,
-        })
-    }
-
-    /// Replaces the description.
-    pub fn description(mut self, text: &str) -> Result<Self, OutOfMemory>
-        ensures text { IfOk result (λ v. option_map string_bytes v.description ≡ Some text.now) }
-        ensures others { IfOk result (λ v. v ≡ record self { description = v.description }) }
-    {
-        self.description = Some(String::from_str(*self.name.allocator(), text)?);
-        Ok(self)
-    }
-
-    /// Says that the value is deprecated, with the reason, if one is given.
-    pub fn deprecated(mut self, reason: Option<&str>) -> Result<Self, OutOfMemory>
-        ensures deprecated { IfOk result (λ v. is_deprecated_status v.deprecation_status ≡ true) }
-        ensures reason { IfOk result (λ v. reason_of v.deprecation_status ≡ option_map (λ t. t.now) reason.entry) }
-        ensures others { IfOk result (λ v. v ≡ record self { deprecation_status = v.deprecation_status }) }
-    {
-        let reason = copy_text(*self.name.allocator(), reason)?;
-        self.deprecation_status = DeprecationStatus::Deprecated(reason);
-        Ok(self)
-    }
-}
 
 /// Metadata of an enum (section 3.9), whose values the check tells.
 #[derive(Drop)]
@@ -70,8 +25,8 @@ pub type EnumMeta<S> = EnumMetaOf<<S as CheckedScalar>::Check>;
 impl EnumMetaOf<DefaultCheck> {
     /// An enum of this name with these values, and no description.
     ///
-    /// The check may be called on every value, and any two answers to one value are the same, the
-    /// text of a refusal included, unless memory was wanting.
+    /// The caller's check has to work on any value. It has to answer a value the same each time, with
+    /// the same text where it refuses, unless it runs out of memory.
     pub fn new(
         alloc: Global,
         name: &str,

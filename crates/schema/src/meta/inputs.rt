@@ -5,7 +5,7 @@ ghost use Rattle.schema.specs.Kept.{input_object_check};
 
 use crate::check::CheckedScalar;
 use crate::default_check::{DefaultCheck, InputValueParseFn};
-use crate::meta::fields::Argument;
+use crate::meta::arguments::Argument;
 use crate::meta::kinds::MetaTypeOf;
 use language::error::OutOfMemory;
 use language::value::DefaultScalarValue;
@@ -26,8 +26,8 @@ pub type InputObjectMeta<S> = InputObjectMetaOf<S, <S as CheckedScalar>::Check>;
 impl InputObjectMetaOf<DefaultScalarValue, DefaultCheck> {
     /// An input object of this name with these fields, and no description.
     ///
-    /// The check may be called on every value, and any two answers to one value are the same, the
-    /// text of a refusal included, unless memory was wanting.
+    /// The caller's check has to work on any value. It has to answer a value the same each time, with
+    /// the same text where it refuses, unless it runs out of memory.
     pub fn new(
         alloc: Global,
         name: &str,

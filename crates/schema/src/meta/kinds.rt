@@ -4,8 +4,9 @@ ghost use Rattle.language.specs.Types.{shape};
 ghost use Rattle.schema.specs.Kinds.{name_of_meta, description_of_meta, url_of_meta, kind_of_meta, field_named, input_field_named, type_of_meta, check_of_meta, is_composite_meta, is_leaf_meta, is_abstract_meta, is_input_meta, is_builtin_meta, is_builtin_name, list_type_of};
 
 use crate::check::CheckedScalar;
+use crate::meta::arguments::Argument;
 use crate::meta::enums::EnumMetaOf;
-use crate::meta::fields::{Argument, Field};
+use crate::meta::fields::Field;
 use crate::meta::inputs::InputObjectMetaOf;
 use crate::meta::interfaces::InterfaceMeta;
 use crate::meta::objects::ObjectMeta;
@@ -150,7 +151,7 @@ impl<S, C> MetaTypeOf<S, C> {
         }
     }
 
-    /// The check, with the fact that is kept beside it, of a scalar, an enum or an input object.
+    /// What tells the values of a scalar, an enum or an input object; none for another kind.
     pub fn input_value_parse_fn(&self) -> Option<&C>
         ensures { option_copied result ≡ check_of_meta self.now }
     {

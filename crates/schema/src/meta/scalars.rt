@@ -24,8 +24,8 @@ pub type ScalarMeta<S> = ScalarMetaOf<<S as CheckedScalar>::Check>;
 impl ScalarMetaOf<DefaultCheck> {
     /// A scalar of this name, with no description and no URL.
     ///
-    /// The check may be called on every value, and any two answers to one value are the same, the
-    /// text of a refusal included, unless memory was wanting. No call asks the token function.
+    /// The caller's check has to work on any value. It has to answer a value the same each time, with
+    /// the same text where it refuses, unless it runs out of memory. No call asks the token function.
     pub fn new(
         alloc: Global,
         name: &str,

@@ -2,7 +2,7 @@
 ghost use Rattle.std.specs.Prelude.{◌≡◌, IfOk, None, Some, option_map, string_bytes};
 ghost use Rattle.schema.specs.Locations.{location_words};
 
-use crate::meta::fields::Argument;
+use crate::meta::arguments::Argument;
 use language::error::OutOfMemory;
 use language::value::DefaultScalarValue;
 use std::alloc::Global;

@@ -59,12 +59,12 @@ impl<S, C> Model for SchemaTypeOf<S, C> {
     ghost coded = { Prim.hlevel (codes, coded_value) };
 
     ghost view = { λ s. record {
-        description = option_map string_bytes s.description;
-        types = values s.types;
-        roots = record { query = string_bytes s.query; mutation = option_map string_bytes s.mutation; subscription = option_map string_bytes s.subscription };
-        directives = values s.directives;
-        accepted = s.accepted;
-        directive_inputs_input = s.directive_inputs_input
+      description = option_map string_bytes s.description;
+      types = values s.types;
+      roots = record { query = string_bytes s.query; mutation = option_map string_bytes s.mutation; subscription = option_map string_bytes s.subscription };
+      directives = values s.directives;
+      accepted = s.accepted;
+      directive_inputs_input = s.directive_inputs_input;
     } };
 }
 

@@ -11,5 +11,5 @@ returns-clause-added g c =
       name = refl;
       description = refl;
       interfaces = refl;
-      fields = (f, h, grown, c.in_ok-schema_field.ensures, c.in_ok-type_field.ensures)
+      fields = (f, h, grown, c.in_ok-schema_field.ensures, c.in_ok-type_field.ensures);
     }

@@ -1,7 +1,6 @@
 use Rattle.std.proofs.Common.{◌≡◌, drop, map, string_bytes}
 use Rattle.std.specs.Prelude.{find}
 use Rattle.std.specs.List.{flat_map}
-
 use Rattle.schema.proofs.build.first.first_text.Given as goal
 
 abbrev pub invariant-loop-text : goal.invariant-loop-text

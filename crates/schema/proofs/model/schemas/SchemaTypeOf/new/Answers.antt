@@ -17,4 +17,4 @@ returns-clause-refused g c = subst (λ r. IfErr c.from_list.result (λ e. IsTrue
 pub returns-clause-memory_alone : goal.returns-clause-memory_alone
 returns-clause-memory_alone g c =
     refused-memory (roots_of c.args.query.now c.args.mutation.now c.args.subscription.now) c.args.types.items c.from_list.result
-      (subst (λ r. IfErr c.from_list.result (λ e. IsTrueRefusal r c.args.types.items e)) c.new.ensures c.from_list.ensures.refused)
+    (subst (λ r. IfErr c.from_list.result (λ e. IsTrueRefusal r c.args.types.items e)) c.new.ensures c.from_list.ensures.refused)
