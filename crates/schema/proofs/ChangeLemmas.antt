@@ -1,6 +1,6 @@
 -- Changes of a schema.
-use Rattle.std.proofs.Common.{◌≡◌, 𝕀, ℕ, List, [], ◌∷◌, ◌++◌, Bool, true, false, cond, not, ◌&&◌, ◌||◌, Option, Some, None, map, string_bytes, refl, ap, subst, sym, ◌∙◌}
-use Rattle.std.specs.Prelude.{find, String, Result, Ok, Err, IfErr, IsOkUnless, Contains}
+use Rattle.std.proofs.Common.{◌≡◌, ℕ, List, [], ◌∷◌, ◌++◌, Bool, true, false, cond, not, ◌&&◌, ◌||◌, Option, Some, None, map, string_bytes, refl, ap, subst, sym, ◌∙◌}
+use Rattle.std.specs.Prelude.{find, String, Result, Ok, Err, IfErr, OnOk, OnErr, is_ok, IsOkUnless, Contains}
 use Rattle.std.specs.declared.alloc.Global.{Global}
 use Rattle.std.specs.List.{flat_map, list_any, list_all}
 use Rattle.std.specs.Option.{option_map_or}
@@ -24,7 +24,11 @@ use Rattle.schema.proofs.Finds.{all-at}
 use Rattle.schema.proofs.KeyedLemmas.{bytes_eq-sym}
 use Rattle.schema.proofs.PossibleLemmas.{or-false, weaker-all}
 use Rattle.schema.proofs.Refusals.{all-front, all-back, all-joined}
-use mathlib.Core.HLevel.{IsProp, is_prop→PathP}
+use Rattle.std.specs.Coded.{codes}
+use mathlib.Core.HLevel.{is_prop→PathP}
+
+true-prop : (b : Bool) → IsProp (b ≡ true)
+true-prop b = hlevel codes
 
 -- a type of a kind is listed where the type of the name has it
 module _ {T : Type 0} (name_of : T → Option (List ℕ)) (kind : T → Bool) (n : List ℕ) where
@@ -58,10 +62,7 @@ module _ {S C : Type 0} where
   inputs-listed ts ns h = weaker-all (is_input_listed ts) (is_listed ts) (λ n. kind-listed name_of_meta is_input_meta n ts) ns h
 
   IsAccepted-prop : (roots : Roots) (ts : List (MetaTypeOf S C)) → IsProp (IsAccepted roots ts)
-  IsAccepted-prop roots ts = hlevel
-
-  true-prop : (b : Bool) → IsProp (b ≡ true)
-  true-prop b = hlevel
+  IsAccepted-prop roots ts = hlevel codes
 
   -- a schema is what callers see of it
   pub catalog-same : (c d : Catalog S C) → c.description ≡ d.description → c.types ≡ d.types → c.roots ≡ d.roots → c.directives ≡ d.directives → c ≡ d
@@ -80,16 +81,16 @@ module _ {S : Type 0} (k : String Global) (d : DirectiveType S) (same : string_b
       let own : string_bytes e.1.name ≡ string_bytes e.0 = (bytes_eq-Decides (string_bytes e.1.name) (string_bytes e.0)).0 h in
       (λ i. bytes_eq (same i) (sym own i)) ∙ bytes_eq-sym (string_bytes d.name) (string_bytes e.1.name)
 
-  listed_step : (b : Bool) (e : String Global × DirectiveType S) (es : List (String Global × DirectiveType S)) → map (λ x. x.1) (insert_entry string_eq es k d) ≡ with_directive d (map (λ x. x.1) es)
+  inserted_step : (b : Bool) (e : String Global × DirectiveType S) (es : List (String Global × DirectiveType S)) → map (λ x. x.1) (insert_entry string_eq es k d) ≡ with_directive d (map (λ x. x.1) es)
       → map (λ x. x.1) (cond b ((e.0, d) ∷ es) (e ∷ insert_entry string_eq es k d)) ≡ cond b (d ∷ map (λ x. x.1) es) (e.1 ∷ with_directive d (map (λ x. x.1) es))
-  listed_step true e es h = refl
-  listed_step false e es h = ap (λ l. e.1 ∷ l) h
+  inserted_step true e es h = refl
+  inserted_step false e es h = ap (λ l. e.1 ∷ l) h
 
   pub with-inserted : (es : List (String Global × DirectiveType S)) → are_keyed directive_name es ≡ true → map (λ x. x.1) (insert_entry string_eq es k d) ≡ with_directive d (map (λ x. x.1) es)
   with-inserted [] h = refl
   with-inserted (e ∷ es) h =
       let parts = and_parts (is_called directive_name (string_bytes e.0) e.1) (are_keyed directive_name es) h in
-      listed_step (string_eq k e.0) e es (with-inserted es parts.1)
+      inserted_step (string_eq k e.0) e es (with-inserted es parts.1)
       ∙ ap (λ b. cond b (d ∷ map (λ x. x.1) es) (e.1 ∷ with_directive d (map (λ x. x.1) es))) (at_key e parts.0)
 
   keyed_step : (b : Bool) (e : String Global × DirectiveType S) (es : List (String Global × DirectiveType S)) → string_eq k e.0 ≡ b → is_called directive_name (string_bytes e.0) e.1 ≡ true → are_keyed directive_name es ≡ true → are_keyed directive_name (insert_entry string_eq es k d) ≡ true
@@ -132,3 +133,16 @@ module _ {S C : Type 0} (ts : List (MetaTypeOf S C)) (ns : List (List ℕ)) (inp
   pub memory-refused : {T : Type 0} (r : Result T SchemaError) → IfErr r (IsTrueOfArguments ts ns) → IsOkUnless r e.OutOfMemory
   memory-refused (Ok x) h = tt
   memory-refused (Err x) h = memory-true x h
+
+module _ {A T E : Type 0} (x a b : A) where
+  pub on-ok-from : (r : Result T E) → x ≡ cond (is_ok r) a b → OnOk r (x ≡ a)
+  on-ok-from (Ok t) e = e
+  on-ok-from (Err f) e = tt
+
+  pub on-err-from : (r : Result T E) → x ≡ cond (is_ok r) a b → OnErr r (x ≡ b)
+  on-err-from (Ok t) e = tt
+  on-err-from (Err f) e = e
+
+pub inputs-either : {S : Type 0} (p : List ℕ → Bool) (d : DirectiveType S) (xs ys : List (DirectiveType S)) (b : Bool) → list_all p (directive_types d) ≡ true → list_all p (directive_inputs xs) ≡ true → ys ≡ cond b (with_directive d xs) xs → list_all p (directive_inputs ys) ≡ true
+inputs-either p d xs ys true new old e = ap (λ l. list_all p (directive_inputs l)) e ∙ inputs-with p d new xs old
+inputs-either p d xs ys false new old e = ap (λ l. list_all p (directive_inputs l)) e ∙ old

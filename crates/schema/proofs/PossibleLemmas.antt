@@ -60,8 +60,8 @@ module _ {T : Type 0} (name_of : T → Option (List ℕ)) (p : T → Bool) (n : 
   among-passing (t ∷ ts) h =
       step (p t) t ts refl
       ∙ found (p t) (is_called name_of n t) t ts refl refl
-          (λ e. none-found (is_called name_of n) ts (first-alone name_of t ts n h e))
-          (among-passing ts (and_parts (option_map_or (λ k. not (is_any_called name_of ts k)) (name_of t) true) (are_distinct name_of ts) h).1)
+      (λ e. none-found (is_called name_of n) ts (first-alone name_of t ts n h e))
+      (among-passing ts (and_parts (option_map_or (λ k. not (is_any_called name_of ts k)) (name_of t) true) (are_distinct name_of ts) h).1)
 
   pub among-filter : (ts : List T) → are_distinct name_of ts ≡ true → is_among (filter_map name_of (filter p ts)) n ≡ option_map_or p (find (is_called name_of n) ts) false
   unfolding passing
@@ -143,7 +143,7 @@ module _ {T : Type 0} (name_of : T → Option (List ℕ)) where
     passing-called [] = refl
     passing-called (t ∷ ts) =
         called_step (p t) t ts
-          (weaker-all (is_any_called name_of ts) (is_any_called name_of (t ∷ ts)) (λ n h. or_right (is_called name_of n t) (is_any_called name_of ts n) h) (filter_map name_of (filter p ts)) (passing-called ts))
+        (weaker-all (is_any_called name_of ts) (is_any_called name_of (t ∷ ts)) (λ n h. or_right (is_called name_of n t) (is_any_called name_of ts n) h) (filter_map name_of (filter p ts)) (passing-called ts))
 
     refound_here : (o : Option (List ℕ)) (t : T) (ts : List T) → name_of t ≡ o → is_some o ≡ true → are_distinct name_of (t ∷ ts) ≡ true → filter_map (find_named ts) (filter_map name_of (filter p ts)) ≡ filter p ts
         → filter_map (find_named (t ∷ ts)) (cons_option o (filter_map name_of (filter p ts))) ≡ t ∷ filter p ts
@@ -200,7 +200,7 @@ all-in-part p f (y ∷ ys) zero d x h e k = subst (λ w. list_all p (f w) ≡ tr
 all-in-part p f (y ∷ ys) (suc i) d x h e k = all-in-part p f ys i d x (omega arith) e (all-back p (f y) (flat_map f ys) k)
 
 -- the elements behind references, seen by a function
-map-now : {A B : Type 0} (f : A → B) (rs : List (Bor A)) → map (λ r. f r.now) rs ≡ map f (map (λ r. r.now) rs)
+pub map-now : {A B : Type 0} (f : A → B) (rs : List (Bor A)) → map (λ r. f r.now) rs ≡ map f (map (λ r. r.now) rs)
 map-now f [] = refl
 map-now f (r ∷ rs) = ap (λ l. f r.now ∷ l) (map-now f rs)
 

@@ -114,11 +114,11 @@ module _ {S C : Type 0} (roots : Roots) (ts : List (MetaTypeOf S C)) (accepted :
   pub names-trans : (a b c : List ℕ) → is_name_below ts a b ≡ true → is_name_below ts b c ≡ true → is_name_below ts a c ≡ true
   names-trans a b c h e =
       elim (or_cases (bytes_eq a b) (is_listed ts a && may_be ts b a) h) [
-          inl p ↦ subst (λ w. is_name_below ts w c ≡ true) (sym ((bytes_eq-Decides a b).0 p)) e
+        | inl p ↦ subst (λ w. is_name_below ts w c ≡ true) (sym ((bytes_eq-Decides a b).0 p)) e
         | inr p ↦ elim (or_cases (bytes_eq b c) (is_listed ts b && may_be ts c b) e) [
-              inl q ↦ subst (λ w. is_name_below ts a w ≡ true) ((bytes_eq-Decides b c).0 q) h
-            | inr q ↦ absurd (no_chain a b c (and_parts (is_listed ts a) (may_be ts b a) p).1 (and_parts (is_listed ts b) (may_be ts c b) q).1)
-          ]
+          | inl q ↦ subst (λ w. is_name_below ts a w ≡ true) ((bytes_eq-Decides b c).0 q) h
+          | inr q ↦ absurd (no_chain a b c (and_parts (is_listed ts a) (may_be ts b a) p).1 (and_parts (is_listed ts b) (may_be ts c b) q).1)
+        ]
       ]
 
 module _ {S C : Type 0} (ts : List (MetaTypeOf S C)) where
@@ -145,7 +145,7 @@ module _ {S C : Type 0} (ts : List (MetaTypeOf S C)) where
   pub subtype-trans : (roots : Roots) → IsAccepted roots ts → (t u w : TypeShape) (r : Bool) → r ≡ is_subtype_of ts t w → IsSubtype ts t u → IsSubtype ts u w → r ≡ true
   subtype-trans roots accepted t u w r e h k =
       e ∙ layers-trans (is_name_below ts t.name u.name) (is_name_below ts u.name w.name) (is_name_below ts t.name w.name) (names-trans roots ts accepted t.name u.name w.name)
-            (reverse t.modifiers) (reverse u.modifiers) (reverse w.modifiers) (subtype-test t u h) (subtype-test u w k)
+      (reverse t.modifiers) (reverse u.modifiers) (reverse w.modifiers) (subtype-test t u h) (subtype-test u w k)
 
 -- known is found
 pub any-found : {A : Type 0} (p : A → Bool) (xs : List A) → list_any p xs ≡ is_some (find p xs)

@@ -1,5 +1,5 @@
 -- The metadata and the modifiers of a type, level by level.
-use Rattle.std.proofs.Common.{◌≡◌, ℕ, ◌+◌, ◌-◌, List, [], ◌∷◌, ◌++◌, length, Option, Some, None, Bor, option_map, reverse, refl, ap, sym, ◌∙◌, arith}
+use Rattle.std.proofs.Common.{◌≡◌, ℕ, ◌+◌, ◌-◌, List, [], ◌∷◌, ◌++◌, length, length-append, Option, Some, None, Bor, option_map, reverse, refl, ap, sym, ◌∙◌, arith}
 use Rattle.std.specs.Prelude.{slice_get, unwrap_or, fold}
 use Rattle.std.proofs.lemmas.List.{reverse-append, reverse-reverse}
 use Rattle.std.specs.Prelude.{Box}
@@ -31,3 +31,12 @@ module _ {S C : Type 0} where
   items-List w size =
       ap (λ ms. option_map (λ ns. record { meta = w.meta; modifiers = reverse ns }) (modifiers_of_items ms)) (reverse-append w.modifiers (m.List size ∷ []))
       ∙ ap (λ ns. Some (record { meta = w.meta; modifiers = ns })) (reverse-reverse w.modifiers)
+
+push-get : (ms : List TypeModifier) (x : TypeModifier) → slice_get (ms ++ x ∷ []) (length ms) ≡ Some x
+push-get [] x = refl
+push-get (m ∷ ms) x = push-get ms x
+
+pub outermost-push : (ms : List TypeModifier) (x : TypeModifier) → outermost (ms ++ x ∷ []) ≡ Some x
+outermost-push ms x =
+    let last : length (ms ++ x ∷ []) - 1 ≡ length ms = omega (arith, length-append ms (x ∷ [])) in
+    ap (slice_get (ms ++ x ∷ [])) last ∙ push-get ms x

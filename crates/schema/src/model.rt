@@ -1,10 +1,10 @@
 //! Schemas.
 
 pub mod directives;
-pub mod schemas;
-pub mod types;
 mod made;
+pub mod schemas;
 mod type_calls;
+pub mod types;
 
 pub use directives::{DirectiveLocation, DirectiveType};
 pub use schemas::{SchemaType, SchemaTypeOf};

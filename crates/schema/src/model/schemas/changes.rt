@@ -1,17 +1,21 @@
 //! Changes of a schema.
-ghost use Rattle.std.specs.Prelude.{◌≡◌, IfErr, IsOkUnless, OnErr, OnOk, Some, not, true, map, option_map, string_bytes};
+ghost use Rattle.std.specs.Prelude.{◌≡◌, if◌then◌else◌, is_ok, IfErr, IsOkUnless, OnErr, OnOk, Some, not, true, map, option_map, string_bytes};
 ghost use Rattle.std.specs.List.{list_all};
+ghost use Rattle.indexmap.specs.IndexMap.{values};
 ghost use Rattle.schema.specs.Accepted.{is_listed, is_input_listed};
 ghost use Rattle.schema.specs.Changes.{directive_types, with_directive, IsTrueOfArguments};
+ghost use Rattle.schema.specs.Directives.{directive_name};
+ghost use Rattle.schema.specs.Named.{are_keyed};
 ghost use Rattle.schema.specs.Names.{argument_type};
 
 use crate::build::first::first_argument;
 use crate::build::listed::NameTest;
 use crate::error::SchemaError;
-use crate::meta::fields::Argument;
+use crate::meta::arguments::Argument;
 use crate::model::directives::DirectiveType;
 use crate::model::schemas::SchemaTypeOf;
 use crate::texts::as_text;
+use indexmap::IndexMap;
 use language::error::OutOfMemory;
 use std::alloc::Global;
 
@@ -36,6 +40,23 @@ impl<S, C> NameTest for NoInputIn<'_, S, C> {
 
     fn fails(&self, name: &str) -> bool {
         !self.0.is_input_known(name)
+    }
+}
+
+/// Puts a directive under its name, in the place of the one that stands there or at the end.
+fn put_entry<S: Drop>(
+    directives: &mut IndexMap<String, DirectiveType<S>>,
+    directive: DirectiveType<S>,
+) -> Result<(), SchemaError>
+    requires { are_keyed directive_name directives.old.entries ≡ true }
+    ensures listed { values directives.new ≡ (if is_ok result then with_directive directive (values directives.old) else values directives.old) }
+    ensures keyed { are_keyed directive_name directives.new.entries ≡ true }
+    ensures err { IfErr result (λ e. e ≡ SchemaError.OutOfMemory) }
+{
+    let key = String::from_str(*directive.name.allocator(), directive.name.as_str())?;
+    match directives.insert(key, directive) {
+        Ok(_) => Ok(()),
+        Err(_) => Err(SchemaError::OutOfMemory),
     }
 }
 
@@ -124,10 +145,6 @@ impl<S: Drop, C: Drop> SchemaTypeOf<S, C> {
         ensures unchanged { OnErr result (self.new ≡ self.old) }
         ensures err { IfErr result (λ e. e ≡ SchemaError.OutOfMemory) }
     {
-        let key = String::from_str(*directive.name.allocator(), directive.name.as_str())?;
-        match self.directives.insert(key, directive) {
-            Ok(_) => Ok(()),
-            Err(_) => Err(SchemaError::OutOfMemory),
-        }
+        put_entry(&mut self.directives, directive)
     }
 }

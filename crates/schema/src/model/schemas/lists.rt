@@ -26,10 +26,7 @@ fn push_if_found<'a, S, C>(
 
 impl<S, C> SchemaTypeOf<S, C> {
     /// The types, in the order in which they were listed.
-    pub fn concrete_type_list(
-        &self,
-        alloc: Global,
-    ) -> Result<Vec<&MetaTypeOf<S, C>>, OutOfMemory>
+    pub fn concrete_type_list(&self, alloc: Global) -> Result<Vec<&MetaTypeOf<S, C>>, OutOfMemory>
         ensures { IfOk result (λ v. map (λ r. r.now) v.items ≡ self.now.types) }
     {
         let mut list = Vec::new(alloc);

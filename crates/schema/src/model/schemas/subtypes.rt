@@ -45,8 +45,10 @@ impl<S, C> SchemaTypeOf<S, C> {
         ensures reflexive { borrowed_shape sub_type.entry ≡ borrowed_shape super_type.entry → IsTrue result }
         ensures transitive { (t : TypeShape) → IsSubtype self.now.types (borrowed_shape sub_type.entry) t → IsSubtype self.now.types t (borrowed_shape super_type.entry) → IsTrue result }
     {
-        let are_names_below =
-            self.is_named_subtype(sub_type.innermost_name(), super_type.innermost_name());
+        let are_names_below = self.is_named_subtype(
+            sub_type.innermost_name(),
+            super_type.innermost_name(),
+        );
         are_modifiers_below(
             sub_type.modifiers(),
             super_type.modifiers(),
