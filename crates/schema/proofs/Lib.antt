@@ -1,9 +1,14 @@
 pub mod AcceptedLemmas
+pub mod ChangeLemmas
 pub mod ConcreteLemmas
 pub mod DirectiveLemmas
 pub mod ExtendLemmas
 pub mod Finds
 pub mod KeyedLemmas
+pub mod OrderLemmas
+pub mod PossibleLemmas
 pub mod Refusals
 pub mod RootLemmas
+pub mod SubtypeLemmas
 pub mod SwapLemmas
+pub mod WrappedLemmas

@@ -9,7 +9,7 @@ use Rattle.schema.specs.Kinds.{name_of_meta}
 use Rattle.schema.proofs.AcceptedLemmas.{find-called}
 use Rattle.schema.proofs.Refusals.{all-front, all-back}
 
-copied_some : {T : Type 0} (o : Option (Bor T)) → is_some (option_copied o) ≡ is_some o
+pub copied_some : {T : Type 0} (o : Option (Bor T)) → is_some (option_copied o) ≡ is_some o
 copied_some None = refl
 copied_some (Some x) = refl
 

@@ -4,6 +4,7 @@ pub mod Answers
 pub mod Arguments
 pub mod Built
 pub mod Catalog
+pub mod Changes
 pub mod Codes
 pub mod Concrete
 pub mod Deprecation
@@ -13,6 +14,10 @@ pub mod Kinds
 pub mod Locations
 pub mod Named
 pub mod Names
+pub mod Ordered
+pub mod Possible
 pub mod Repeated
 pub mod RootNames
 pub mod SampleChecks
+pub mod Subtype
+pub mod Wrapped

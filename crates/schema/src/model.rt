@@ -1,7 +1,9 @@
 //! Schemas.
 
 pub mod directives;
+mod made;
 pub mod schemas;
+mod type_calls;
 pub mod types;
 
 pub use directives::{DirectiveLocation, DirectiveType};

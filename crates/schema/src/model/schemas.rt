@@ -7,6 +7,12 @@ ghost use Rattle.schema.specs.Directives.{directive_name, directive_inputs};
 ghost use Rattle.schema.specs.Kinds.{name_of_meta};
 ghost use Rattle.schema.specs.Named.{are_keyed};
 
+mod changes;
+mod lists;
+mod ordered;
+mod possible;
+mod subtypes;
+
 use crate::build::accept::check_types;
 use crate::build::directives::directives_by_name;
 use crate::build::extend::with_added_fields;

@@ -1,0 +1,15 @@
+use Rattle.std.proofs.Common.{false, ap, sym, ◌∙◌}
+use Rattle.std.specs.Option.{option_map_or}
+use Rattle.schema.specs.Kinds.{name_of_meta, is_input_meta}
+use Rattle.schema.proofs.ChangeLemmas.{kind-found}
+use Rattle.schema.proofs.model.schemas.SchemaTypeOf.is_input_known.Goals as goal
+
+pub returns-in-Some : goal.returns-in-Some
+returns-in-Some g c =
+    let s = c.args.self.now in
+    c.is_input.ensures ∙ ap (λ o. option_map_or is_input_meta o false) c.in-Some.ensures ∙ sym (kind-found name_of_meta is_input_meta c.args.name.now s.types s.accepted.distinct)
+
+pub returns-in-None : goal.returns-in-None
+returns-in-None g c =
+    let s = c.args.self.now in
+    ap (λ o. option_map_or is_input_meta o false) c.in-None.ensures ∙ sym (kind-found name_of_meta is_input_meta c.args.name.now s.types s.accepted.distinct)

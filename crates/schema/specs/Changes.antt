@@ -1,0 +1,27 @@
+-- What changes of a schema leave, and which directives are refused.
+use Rattle.std.specs.Prelude.{◌≡◌, ⊤, ℕ, List, [], ◌∷◌, false, true, Contains, map, string_bytes, if◌then◌else◌}
+use Rattle.schema.specs.declared.error.SchemaError.{SchemaError}
+use Rattle.schema.specs.declared.error.SchemaError.TheVariants as e
+use Rattle.schema.specs.declared.meta.kinds.MetaTypeOf.{MetaTypeOf}
+use Rattle.schema.specs.declared.model.directives.DirectiveType.{DirectiveType}
+use Rattle.schema.specs.Accepted.{is_listed, is_input_listed}
+use Rattle.schema.specs.Directives.{directive_name}
+use Rattle.schema.specs.Named.{is_called}
+use Rattle.schema.specs.Names.{argument_type}
+
+-- the types of the arguments of a directive
+abbrev pub directive_types : {S : Type 0} → DirectiveType S → List (List ℕ)
+directive_types d = map argument_type d.arguments.items
+
+-- the directive in the place of the one of its name, or else at the end
+abbrev pub with_directive : {S : Type 0} → DirectiveType S → List (DirectiveType S) → List (DirectiveType S)
+with_directive d [] = d ∷ []
+with_directive d (x ∷ xs) = if is_called directive_name (string_bytes d.name) x then d ∷ xs else x ∷ with_directive d xs
+
+module _ {S C : Type 0} where
+  -- The refusal is true of a directive whose arguments have these types, with its very name.
+  abbrev pub IsTrueOfArguments : List (MetaTypeOf S C) → List (List ℕ) → SchemaError → Type 0
+  IsTrueOfArguments ts ns e.OutOfMemory = ⊤
+  IsTrueOfArguments ts ns (e.UnknownType n) = Contains ns (string_bytes n) × (is_listed ts (string_bytes n) ≡ false)
+  IsTrueOfArguments ts ns (e.NotInputType n) = Contains ns (string_bytes n) × (is_listed ts (string_bytes n) ≡ true) × (is_input_listed ts (string_bytes n) ≡ false)
+  IsTrueOfArguments ts ns _ = ⊥

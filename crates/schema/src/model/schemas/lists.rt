@@ -1,0 +1,101 @@
+//! The types of a schema in lists.
+ghost use Rattle.std.specs.Prelude.{◌≡◌, ℕ, List, ◌++◌, IfOk, OnOk, Some, option_to_list, true, map, string_bytes};
+ghost use Rattle.std.specs.List.{filter};
+ghost use Rattle.std.specs.Option.{option_copied};
+ghost use Rattle.schema.specs.Catalog.{type_in};
+ghost use Rattle.schema.specs.Kinds.{name_of_meta, is_abstract_meta};
+ghost use Rattle.schema.specs.Possible.{is_implementer, possible_names, types_named};
+
+use crate::meta::kinds::MetaTypeOf;
+use crate::model::schemas::SchemaTypeOf;
+use crate::model::schemas::possible::implements;
+use language::error::OutOfMemory;
+use std::alloc::Global;
+
+fn push_if_found<'a, S, C>(
+    list: &mut Vec<&'a MetaTypeOf<S, C>>,
+    found: Option<&'a MetaTypeOf<S, C>>,
+) -> Result<(), OutOfMemory>
+    ensures { OnOk result (map (λ r. r.now) list.new.items ≡ map (λ r. r.now) list.old.items ++ option_to_list (option_copied found.entry)) }
+{
+    if let Some(meta) = found {
+        list.push(meta)?;
+    }
+    Ok(())
+}
+
+impl<S, C> SchemaTypeOf<S, C> {
+    /// The types, in the order in which they were listed.
+    pub fn concrete_type_list(&self, alloc: Global) -> Result<Vec<&MetaTypeOf<S, C>>, OutOfMemory>
+        ensures { IfOk result (λ v. map (λ r. r.now) v.items ≡ self.now.types) }
+    {
+        let mut list = Vec::new(alloc);
+        for meta in self.types.values() {
+            list.push(meta)?;
+        }
+        Ok(list)
+    }
+
+    /// The types of the names that are known.
+    fn types_of_names(
+        &self,
+        alloc: Global,
+        names: &[String],
+    ) -> Result<Vec<&MetaTypeOf<S, C>>, OutOfMemory>
+        ensures { IfOk result (λ v. map (λ r. r.now) v.items ≡ types_named self.now.types (map string_bytes names.now)) }
+    {
+        let mut list = Vec::new(alloc);
+        for name in names {
+            push_if_found(&mut list, self.concrete_type_by_name(name.as_str()))?;
+        }
+        Ok(list)
+    }
+
+    /// The objects that list the interface of the name.
+    fn implementers(
+        &self,
+        alloc: Global,
+        interface: &str,
+    ) -> Result<Vec<&MetaTypeOf<S, C>>, OutOfMemory>
+        ensures { IfOk result (λ v. map (λ r. r.now) v.items ≡ filter (is_implementer interface.now) self.now.types) }
+    {
+        let mut list = Vec::new(alloc);
+        for meta in self.types.values() {
+            if implements(meta, interface) {
+                list.push(meta)?;
+            }
+        }
+        Ok(list)
+    }
+
+    /// What an interface or a union may be: the members of a union in their order, or the objects
+    /// that list the interface, in the order in which they were listed.
+    ///
+    /// Members that the schema doesn't know are passed over; a union of the schema has none.
+    pub fn possible_types(
+        &self,
+        alloc: Global,
+        meta: &MetaTypeOf<S, C>,
+    ) -> Result<Vec<&MetaTypeOf<S, C>>, OutOfMemory>
+        requires { is_abstract_meta meta.now ≡ true }
+        ensures types { IfOk result (λ v. map (λ r. r.now) v.items ≡ types_named self.now.types (possible_names self.now.types meta.now)) }
+        ensures names { (n : List ℕ) → type_in n self.now ≡ Some meta.now → IfOk result (λ v. map (λ r. name_of_meta r.now) v.items ≡ map (λ k. Some k) (possible_names self.now.types meta.now)) }
+    {
+        self.types_of_possible_names(alloc, meta)
+    }
+
+    fn types_of_possible_names(
+        &self,
+        alloc: Global,
+        meta: &MetaTypeOf<S, C>,
+    ) -> Result<Vec<&MetaTypeOf<S, C>>, OutOfMemory>
+        requires { is_abstract_meta meta.now ≡ true }
+        ensures { IfOk result (λ v. map (λ r. r.now) v.items ≡ types_named self.now.types (possible_names self.now.types meta.now)) }
+    {
+        match meta {
+            MetaTypeOf::Union(union) => self.types_of_names(alloc, union.of_type_names.as_slice()),
+            MetaTypeOf::Interface(interface) => self.implementers(alloc, interface.name.as_str()),
+            _ => unreachable!(),
+        }
+    }
+}

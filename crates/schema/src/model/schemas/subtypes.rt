@@ -1,0 +1,89 @@
+//! Which types stand below which.
+ghost use Rattle.std.specs.Prelude.{◌≡◌, ◌↔◌, IsTrue, ◌&&◌, reverse};
+ghost use Rattle.language.specs.Types.{TypeShape, borrowed_shape};
+ghost use Rattle.schema.specs.Accepted.{is_listed};
+ghost use Rattle.schema.specs.Kinds.{is_abstract_meta};
+ghost use Rattle.schema.specs.Possible.{is_among, possible_names};
+ghost use Rattle.schema.specs.Subtype.{may_be, is_name_below, are_layers_below, IsSubtype, is_subtype_of};
+
+use crate::meta::kinds::MetaTypeOf;
+use crate::model::schemas::SchemaTypeOf;
+use language::types::{BorrowedType, TypeModifier};
+
+/// Whether modifiers stand below others round names that do so or not.
+fn are_modifiers_below(
+    sub_type: &[TypeModifier],
+    super_type: &[TypeModifier],
+    are_names_below: bool,
+) -> bool
+    ensures { result ≡ are_layers_below are_names_below (reverse sub_type.now) (reverse super_type.now) }
+{
+    match (sub_type.split_last(), super_type.split_last()) {
+        (None, None) => are_names_below,
+        (Some((TypeModifier::NonNull, inner)), Some((TypeModifier::NonNull, outer))) => {
+            are_modifiers_below(inner, outer, are_names_below)
+        }
+        (Some((TypeModifier::List(_), inner)), Some((TypeModifier::List(_), outer))) => {
+            are_modifiers_below(inner, outer, are_names_below)
+        }
+        (Some((TypeModifier::NonNull, inner)), _) => {
+            are_modifiers_below(inner, super_type, are_names_below)
+        }
+        _ => false,
+    }
+}
+
+impl<S, C> SchemaTypeOf<S, C> {
+    /// Whether the first type is a subtype of the second, so that its values may stand where the
+    /// second is asked for. Expected sizes of lists don't matter.
+    ///
+    /// Each type is a subtype of itself, and a subtype of a subtype is one, whether the names are
+    /// known or not.
+    pub fn is_subtype(&self, sub_type: BorrowedType<'_>, super_type: BorrowedType<'_>) -> bool
+        ensures subtype { IsTrue result ↔ IsSubtype self.now.types (borrowed_shape sub_type.entry) (borrowed_shape super_type.entry) }
+        ensures test { result ≡ is_subtype_of self.now.types (borrowed_shape sub_type.entry) (borrowed_shape super_type.entry) }
+        ensures reflexive { borrowed_shape sub_type.entry ≡ borrowed_shape super_type.entry → IsTrue result }
+        ensures transitive { (t : TypeShape) → IsSubtype self.now.types (borrowed_shape sub_type.entry) t → IsSubtype self.now.types t (borrowed_shape super_type.entry) → IsTrue result }
+    {
+        let are_names_below = self.is_named_subtype(
+            sub_type.innermost_name(),
+            super_type.innermost_name(),
+        );
+        are_modifiers_below(
+            sub_type.modifiers(),
+            super_type.modifiers(),
+            are_names_below,
+        )
+    }
+
+    /// Whether the names are equal, or both are known and the second is that of an interface or a
+    /// union which may be the first.
+    pub fn is_named_subtype(&self, sub_type_name: &str, super_type_name: &str) -> bool
+        ensures { result ≡ is_name_below self.now.types sub_type_name.now super_type_name.now }
+    {
+        sub_type_name == super_type_name
+            || self.is_known(sub_type_name) && self.may_be_named(super_type_name, sub_type_name)
+    }
+
+    pub(crate) fn is_known(&self, name: &str) -> bool
+        ensures { result ≡ is_listed self.now.types name.now }
+    {
+        self.concrete_type_by_name(name).is_some()
+    }
+
+    /// Whether the type of the first name is an interface or a union which may be the second.
+    fn may_be_named(&self, super_type_name: &str, sub_type_name: &str) -> bool
+        ensures { result ≡ may_be self.now.types super_type_name.now sub_type_name.now }
+    {
+        match self.concrete_type_by_name(super_type_name) {
+            Some(meta) => self.is_abstract_and_possible(meta, sub_type_name),
+            None => false,
+        }
+    }
+
+    fn is_abstract_and_possible(&self, meta: &MetaTypeOf<S, C>, name: &str) -> bool
+        ensures { result ≡ (is_abstract_meta meta.now && is_among (possible_names self.now.types meta.now) name.now) }
+    {
+        meta.is_abstract() && self.is_possible_name(meta, name)
+    }
+}
