@@ -1,1 +1,8 @@
 pub mod ErrorValue
+pub mod EventValue
+pub mod Node
+pub mod Occurrence
+pub mod Outline
+pub mod SchemaView
+pub mod TypedEvent
+pub mod Typing
