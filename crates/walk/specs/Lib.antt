@@ -1,5 +1,10 @@
+pub mod Codes
+pub mod ContextState
 pub mod ErrorValue
 pub mod EventValue
+pub mod FragmentSet
+pub mod NameSet
+pub mod Names
 pub mod Node
 pub mod Occurrence
 pub mod Outline
