@@ -8,6 +8,9 @@ pub mod Names
 pub mod Node
 pub mod Occurrence
 pub mod Outline
+pub mod Pair
+pub mod PairLaws
 pub mod SchemaView
+pub mod Step
 pub mod TypedEvent
 pub mod Typing

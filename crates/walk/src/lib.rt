@@ -4,10 +4,17 @@
 pub mod context;
 pub mod event;
 mod fragment_names;
+pub mod laws;
+pub mod multi_visitor;
 pub mod rule_error;
 mod typed_events;
+pub mod visitor;
+pub mod walk;
 
 pub use context::{ValidatorContext, ValidatorContextOf};
 pub use event::Event;
 pub use language::error::OutOfMemory;
+pub use multi_visitor::{MultiVisitorCons, MultiVisitorNil};
 pub use rule_error::RuleError;
+pub use visitor::{Machine, Visitor};
+pub use walk::{visit, walk_with};

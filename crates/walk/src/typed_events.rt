@@ -1,6 +1,6 @@
 //! The events of a part of a document, each with the types at its node.
 
-ghost use Rattle.std.specs.Prelude.{◌≡◌, List, [], ◌++◌, ◌∷◌, OnOk, string_bytes, Some, option_and_then, find};
+ghost use Rattle.std.specs.Prelude.{◌≡◌, List, [], ◌++◌, ◌∷◌, OnOk, IfOk, string_bytes, Some, option_and_then, find};
 ghost use Rattle.std.specs.Str.{bytes_eq};
 ghost use Rattle.std.specs.Option.{option_copied, option_map};
 ghost use Rattle.language.specs.Types.{borrowed_shape, list_inner_of, non_null_named};
@@ -22,7 +22,7 @@ use language::value::InputValue;
 use schema::check::CheckedScalar;
 use schema::meta::{Argument, MetaTypeOf};
 use schema::model::SchemaTypeOf;
-use std::alloc::AllocError;
+use std::alloc::{AllocError, Global};
 
 /// The types at a node, borrowed from the schema and the document.
 #[derive_where(Clone, Copy)]
@@ -610,7 +610,7 @@ fn events_of_fragment<'a, S, C>(
 }
 
 // The events of a definition.
-pub(crate) fn events_of_definition<'a, S, C>(
+fn push_definition<'a, S, C>(
     schema: &'a SchemaTypeOf<S, C>,
     definition: &'a Definition<'a, S>,
     types: TypesOf<'a, S, C>,
@@ -624,3 +624,16 @@ pub(crate) fn events_of_definition<'a, S, C>(
     }
 }
 
+/// The events of a definition that stands at these types, in the order of a walk.
+pub(crate) fn events_of_definition<'a, S, C>(
+    alloc: Global,
+    schema: &'a SchemaTypeOf<S, C>,
+    definition: &'a Definition<'a, S>,
+    types: TypesOf<'a, S, C>,
+) -> Result<Vec<PlannedEventOf<'a, S, C>>, AllocError>
+    ensures { IfOk result (λ events. all_planned events.items ≡ events_of (outline_of_definition (catalog_of schema.now) (typing_of types.entry) definition.now)) }
+{
+    let mut events = Vec::new(alloc);
+    push_definition(schema, definition, types, &mut events)?;
+    Ok(events)
+}
