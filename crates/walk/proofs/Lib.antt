@@ -1,3 +1,4 @@
+pub mod Entering
 pub mod Events
 pub mod Lists
 pub mod NameSets

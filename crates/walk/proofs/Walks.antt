@@ -6,10 +6,12 @@ use Rattle.language.specs.declared.tree.Definition.{Definition}
 use Rattle.schema.specs.Catalog.{Catalog}
 use Rattle.walk.specs.Typing.{Typing}
 use Rattle.walk.specs.Node
-use Rattle.walk.specs.ContextState.{ContextState}
+use Rattle.walk.specs.ContextState.{ContextState, typing, scope_of}
+use Rattle.walk.specs.Names.{fragment_names}
+use Rattle.walk.specs.Rule.{Allowance, AllowsFrom, Appended}
 use Rattle.walk.specs.Outline.{each, outline_of_definition}
 use Rattle.walk.specs.TypedEvent.{TypedEvent, entering, leaving, events_of, typed_events}
-use Rattle.walk.specs.Step.{StepOf, Stepped, Ran}
+use Rattle.walk.specs.Step.{StepOf, Run, Stepped, Ran}
 use Rattle.walk.proofs.Events.{events-each}
 use Rattle.walk.proofs.Lists.{flat_map_more}
 use Rattle.walk.proofs.Runs.{Ran-append, Ran-one}
@@ -40,3 +42,11 @@ module _ {S C V : Type 0} (step : StepOf S C V) where
       ap (flat_map (λ d. events_of (outline_of_definition w.schema t d))) (take_all i doc h) ∙ sym (events-each (outline_of_definition w.schema t) doc) in
       let q = Ran-append step (enter ∷ flat_map (λ d. events_of (outline_of_definition w.schema t d)) (take i doc)) (leave ∷ []) a b c w w' w'' r (Ran-one step leave b c w' w'' s) in
       subst (λ z. Ran step (typed_events w.schema z doc) a c w w'') e (subst (λ z. Ran step (enter ∷ (z ++ leave ∷ [])) a c w w'') all q)
+
+-- in a context that knows the fragments of the document, fresh rules append what they are allowed
+pub ran_appends : {S C V : Type 0} (step : StepOf S C V) (fresh : V → Type 0) (allows : Allowance S C) (a b : V) (w w' : ContextState S C) (doc : List (Definition S))
+    → AllowsFrom step fresh allows → w.known ≡ fragment_names doc → fresh a → Ran step (typed_events w.schema (typing w) doc) a b w w'
+    → Appended (allows (scope_of w.schema doc) (typing w) doc) w w'
+ran_appends step fresh allows a b w w' doc keeps known f (es, r, e) =
+    let r' = subst (λ k. Run (step (record { schema = w.schema; known = k })) (typed_events w.schema (typing w) doc) a b es) known r in
+    (es, keeps a f w.schema (typing w) doc b es r', e)

@@ -1,7 +1,6 @@
--- The set of the names of a document's fragments.
-use Rattle.std.specs.Prelude.{ℕ, List}
+-- The names of a document's fragments, as they are kept.
+use Rattle.std.specs.Prelude.{ℕ, List, map}
 use Rattle.walk.specs.declared.fragment_names.FragmentNames.{FragmentNames}
-use Rattle.walk.specs.Names.{fragment_names}
 
-abbrev pub known_names : {S : Type 0} → FragmentNames S → List (List ℕ)
-known_names f = fragment_names f.document.now
+abbrev pub known_names : FragmentNames → List (List ℕ)
+known_names f = map (λ n. n.now) f.listed.items

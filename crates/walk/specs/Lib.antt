@@ -1,5 +1,6 @@
 pub mod Codes
 pub mod ContextState
+pub mod Entering
 pub mod ErrorValue
 pub mod EventValue
 pub mod FragmentSet
@@ -10,6 +11,8 @@ pub mod Occurrence
 pub mod Outline
 pub mod Pair
 pub mod PairLaws
+pub mod Rule
+pub mod RuleLaws
 pub mod SchemaView
 pub mod Step
 pub mod TypedEvent

@@ -1,6 +1,6 @@
 //! What visitors know and report in a walk.
 
-ghost use Rattle.std.specs.Prelude.{◌≡◌, ◌++◌, ◌∷◌, [], true, false, IsErr, OnOk, OnErr, map, IfOk, IsPermutation, IsSorted};
+ghost use Rattle.std.specs.Prelude.{◌≡◌, ◌⊎◌, ◌++◌, ◌∷◌, [], true, false, IsErr, OnOk, OnErr, map, IfOk, IsPermutation, IsSorted};
 ghost use Rattle.std.specs.Fn.{FnOnceReturnsAtMut};
 ghost use Rattle.std.specs.Option.{option_copied, option_map};
 ghost use Rattle.language.specs.Types.{borrowed_shape};
@@ -32,7 +32,7 @@ use std::marker::Model;
 pub struct ValidatorContextOf<'a, S, C> {
     pub schema: &'a SchemaTypeOf<S, C>,
     alloc: Global,
-    fragment_names: FragmentNames<'a, S>,
+    fragment_names: FragmentNames<'a>,
     types: Vec<TypesOf<'a, S, C>>,
     errors: Vec<RuleError>,
     failed: bool,
@@ -44,15 +44,14 @@ pub type ValidatorContext<'a, S> = ValidatorContextOf<'a, S, <S as CheckedScalar
 impl<'a, S, C> Model for ValidatorContextOf<'a, S, C> {
     ghost use Rattle.std.specs.Prelude.{map};
     ghost use Rattle.schema.specs.Catalog.{catalog_of};
-    ghost use Rattle.std.specs.Coded.{codes};
-    ghost use Rattle.walk.specs.Codes.{coded_value};
+    ghost use Rattle.walk.specs.Codes.{coded_state};
     ghost use Rattle.walk.specs.ContextState.{ContextState};
     ghost use Rattle.walk.specs.EventValue.{typing_of};
     ghost use Rattle.walk.specs.FragmentSet.{known_names};
 
     ghost Value = { ContextState S C };
 
-    ghost coded = { Prim.hlevel (codes, coded_value) };
+    ghost coded = { Prim.hlevel coded_state };
 
     ghost view = { λ c. record { schema = catalog_of c.schema.now; known = known_names c.fragment_names; typings = map typing_of c.types.items; errors = c.errors.items; failed = c.failed } };
 }
@@ -231,5 +230,90 @@ impl<'a, S, C> ValidatorContextOf<'a, S, C> {
         ensures { self.new ≡ failing self.old }
     {
         self.failed = true;
+    }
+
+    // Calls f at these types, or not at all where they can't be pushed.
+    fn with_types<
+        R,
+        F: FnOnce(&mut ValidatorContextOf<'a, S, C>) -> Result<R, OutOfMemory> + Drop,
+    >(
+        &mut self,
+        types: TypesOf<'a, S, C>,
+        f: F,
+    ) -> Result<R, OutOfMemory>
+        requires { F.IsAlwaysCallable f }
+        ensures ok { OnOk result ((after : ContextState S C) × FnOnceReturnsAtMut F.FnOnce f (pushed self.old (typing_of types.entry)) result after × (self.new ≡ popped after)) }
+        ensures err { OnErr result ((self.new ≡ failing self.old) ⊎ ((after : ContextState S C) × FnOnceReturnsAtMut F.FnOnce f (pushed self.old (typing_of types.entry)) result after × (self.new ≡ failing (popped after)))) }
+        ensures stays { self.old.failed ≡ true → IsErr result }
+    {
+        self.push_types(types)?;
+        let done = f(self);
+        self.pop_types();
+        if done.is_err() {
+            self.fail();
+        }
+        done
+    }
+
+    /// Calls f once with the context, in which this type, as it is written, is the type at hand.
+    ///
+    /// Where the push is refused f is not called. What f answers is handed on, and what was pushed is taken off again; after a
+    /// refusal, f's own too, the context has failed.
+    pub fn with_pushed_type<
+        R,
+        F: FnOnce(&mut ValidatorContextOf<'a, S, C>) -> Result<R, OutOfMemory> + Drop,
+    >(
+        &mut self,
+        t: Option<BorrowedType<'a>>,
+        f: F,
+    ) -> Result<R, OutOfMemory>
+        requires { F.IsAlwaysCallable f }
+        ensures ok { OnOk result ((after : ContextState S C) × FnOnceReturnsAtMut F.FnOnce f (pushed self.old (at_type self.old.schema (typing self.old) (option_map borrowed_shape t.entry))) result after × (self.new ≡ popped after)) }
+        ensures err { OnErr result ((self.new ≡ failing self.old) ⊎ ((after : ContextState S C) × FnOnceReturnsAtMut F.FnOnce f (pushed self.old (at_type self.old.schema (typing self.old) (option_map borrowed_shape t.entry))) result after × (self.new ≡ failing (popped after)))) }
+        ensures stays { self.old.failed ≡ true → IsErr result }
+    {
+        let types = self.types().at_type(self.schema, t);
+        self.with_types(types, f)
+    }
+
+    /// Calls f once with the context, in which the type at hand is the parent type.
+    ///
+    /// Where the push is refused f is not called. What f answers is handed on, and what was pushed is taken off again; after a
+    /// refusal, f's own too, the context has failed.
+    pub fn with_pushed_parent_type<
+        R,
+        F: FnOnce(&mut ValidatorContextOf<'a, S, C>) -> Result<R, OutOfMemory> + Drop,
+    >(
+        &mut self,
+        f: F,
+    ) -> Result<R, OutOfMemory>
+        requires { F.IsAlwaysCallable f }
+        ensures ok { OnOk result ((after : ContextState S C) × FnOnceReturnsAtMut F.FnOnce f (pushed self.old (at_set (typing self.old))) result after × (self.new ≡ popped after)) }
+        ensures err { OnErr result ((self.new ≡ failing self.old) ⊎ ((after : ContextState S C) × FnOnceReturnsAtMut F.FnOnce f (pushed self.old (at_set (typing self.old))) result after × (self.new ≡ failing (popped after)))) }
+        ensures stays { self.old.failed ≡ true → IsErr result }
+    {
+        let types = self.types().at_set();
+        self.with_types(types, f)
+    }
+
+    /// Calls f once with the context, in which an input of this type is expected.
+    ///
+    /// Where the push is refused f is not called. What f answers is handed on, and what was pushed is taken off again; after a
+    /// refusal, f's own too, the context has failed.
+    pub fn with_pushed_input_type<
+        R,
+        F: FnOnce(&mut ValidatorContextOf<'a, S, C>) -> Result<R, OutOfMemory> + Drop,
+    >(
+        &mut self,
+        t: Option<BorrowedType<'a>>,
+        f: F,
+    ) -> Result<R, OutOfMemory>
+        requires { F.IsAlwaysCallable f }
+        ensures ok { OnOk result ((after : ContextState S C) × FnOnceReturnsAtMut F.FnOnce f (pushed self.old (at_input (typing self.old) (option_map borrowed_shape t.entry))) result after × (self.new ≡ popped after)) }
+        ensures err { OnErr result ((self.new ≡ failing self.old) ⊎ ((after : ContextState S C) × FnOnceReturnsAtMut F.FnOnce f (pushed self.old (at_input (typing self.old) (option_map borrowed_shape t.entry))) result after × (self.new ≡ failing (popped after)))) }
+        ensures stays { self.old.failed ≡ true → IsErr result }
+    {
+        let types = self.types().at_input(t);
+        self.with_types(types, f)
     }
 }

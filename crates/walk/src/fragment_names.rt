@@ -1,39 +1,42 @@
 //! The names of the fragments of a document.
 
-ghost use Rattle.std.specs.Prelude.{◌≡◌, ℕ, List, OnOk, ◌||◌};
+ghost use Rattle.std.specs.Prelude.{◌≡◌, ℕ, List, OnOk, map, [], ◌∷◌, ◌++◌};
 ghost use Rattle.walk.specs.NameSet.{has_name};
-ghost use Rattle.walk.specs.Names.{is_among, fragment_name, fragment_names};
+ghost use Rattle.walk.specs.Names.{is_among};
 
 use language::error::OutOfMemory;
 use language::tree::Definition;
 use std::alloc::Global;
 use std::collections::BTreeSet;
 
-/// The names that a document gives to its fragments: strangers choose them, so they are kept in order.
+/// The names that a document gives to its fragments: in its order, with repeats, and as a set, since strangers choose them.
 #[derive(Drop)]
-pub(crate) struct FragmentNames<'a, S> {
-    document: &'a [Definition<'a, S>],
+pub(crate) struct FragmentNames<'a> {
+    listed: Vec<&'a str>,
     names: BTreeSet<&'a str>,
-    ghost exact: { (name : List ℕ) → has_name names name ≡ is_among (fragment_names document.now) name },
+    ghost exact: { (name : List ℕ) → has_name names name ≡ is_among (map (λ n. n.now) listed.items) name },
 }
 
-impl<'a, S> FragmentNames<'a, S> {
+impl<'a> FragmentNames<'a> {
     ghost use Rattle.std.specs.Prelude.{◌≡◌, IfOk};
     ghost use Rattle.walk.specs.Names.{is_among, fragment_names};
     ghost use Rattle.walk.specs.FragmentSet.{known_names};
 
     /// The names of the fragments of the document.
-    pub(crate) fn new(
+    pub(crate) fn new<S>(
         alloc: Global,
         document: &'a [Definition<'a, S>],
-    ) -> Result<FragmentNames<'a, S>, OutOfMemory>
+    ) -> Result<FragmentNames<'a>, OutOfMemory>
         ensures { IfOk result (λ f. known_names f ≡ fragment_names document.now) }
     {
+        let mut listed = Vec::new(alloc);
         let mut names = BTreeSet::new(alloc);
         for definition in document {
-            add_name_of(definition, &mut names)?;
+            if let Definition::Fragment(fragment) = definition {
+                add_name(fragment.item.name.item, &mut listed, &mut names)?;
+            }
         }
-        Ok(FragmentNames { document, names })
+        Ok(FragmentNames { listed, names })
     }
 
     /// Whether a fragment has the name.
@@ -44,15 +47,17 @@ impl<'a, S> FragmentNames<'a, S> {
     }
 }
 
-// The name of the definition, if it defines a fragment.
-fn add_name_of<'a, S>(
-    definition: &'a Definition<'a, S>,
+// One more name, in both.
+fn add_name<'a>(
+    name: &'a str,
+    listed: &mut Vec<&'a str>,
     names: &mut BTreeSet<&'a str>,
 ) -> Result<(), OutOfMemory>
-    ensures { OnOk result ((name : List ℕ) → has_name names.new name ≡ (has_name names.old name || is_among (fragment_name definition.now) name)) }
+    requires { (n : List ℕ) → has_name names.old n ≡ is_among (map (λ x. x.now) listed.old.items) n }
+    ensures listed { OnOk result (map (λ x. x.now) listed.new.items ≡ map (λ x. x.now) listed.old.items ++ name.now ∷ []) }
+    ensures exact { OnOk result ((n : List ℕ) → has_name names.new n ≡ is_among (map (λ x. x.now) listed.new.items) n) }
 {
-    if let Definition::Fragment(fragment) = definition {
-        names.insert(fragment.item.name.item)?;
-    }
+    listed.push(name)?;
+    names.insert(name)?;
     Ok(())
 }

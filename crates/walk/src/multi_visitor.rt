@@ -5,7 +5,7 @@ ghost use Rattle.walk.specs.Pair.{no_step, pair_step};
 
 use crate::ValidatorContext;
 use crate::event::Event;
-use crate::visitor::{Machine, Visitor};
+use crate::visitor::{Fresh, Machine, Visitor};
 use language::error::OutOfMemory;
 use schema::check::CheckedScalar;
 
@@ -23,6 +23,29 @@ impl MultiVisitorNil {
         ensures { result ≡ record { 0 = visitor; 1 = self } }
     {
         MultiVisitorCons(visitor, self)
+    }
+}
+
+impl MultiVisitorNil {
+    /// A list of this rule alone, which is fresh.
+    pub fn with_rule<V: Fresh>(self, rule: V) -> MultiVisitorCons<V, MultiVisitorNil>
+        requires { V.fresh rule }
+        ensures made { result ≡ record { 0 = rule; 1 = self } }
+        ensures fresh { ⟦<MultiVisitorCons<V, MultiVisitorNil> as Fresh>⟧.fresh result }
+    {
+        MultiVisitorCons(rule, self)
+    }
+}
+
+impl<A: Fresh, B: Fresh> MultiVisitorCons<A, B> {
+    /// The list with one rule more; where it was fresh, and the rule is, it is fresh.
+    pub fn with_rule<V: Fresh>(self, rule: V) -> MultiVisitorCons<V, MultiVisitorCons<A, B>>
+        requires rule { V.fresh rule }
+        requires others { ⟦<MultiVisitorCons<A, B> as Fresh>⟧.fresh self }
+        ensures made { result ≡ record { 0 = rule; 1 = self } }
+        ensures fresh { ⟦<MultiVisitorCons<V, MultiVisitorCons<A, B>> as Fresh>⟧.fresh result }
+    {
+        MultiVisitorCons(rule, self)
     }
 }
 
@@ -49,11 +72,11 @@ impl<A, B> MultiVisitorCons<A, B> {
     }
 }
 
-impl<S: CheckedScalar> Machine<S> for MultiVisitorNil {
+impl<S, C> Machine<S, C> for MultiVisitorNil {
     ghost step = { no_step };
 }
 
-impl<S: CheckedScalar, A: Machine<S>, B: Machine<S>> Machine<S> for MultiVisitorCons<A, B> {
+impl<S, C, A: Machine<S, C>, B: Machine<S, C>> Machine<S, C> for MultiVisitorCons<A, B> {
     ghost step = { pair_step A.step B.step };
 }
 

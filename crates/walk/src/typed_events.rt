@@ -44,7 +44,7 @@ pub type PlannedEvent<'a, S> = PlannedEventOf<'a, S, <S as CheckedScalar>::Check
 
 impl<'a, S, C> TypesOf<'a, S, C> {
     // Where a type is written.
-    fn at_type(self, schema: &'a SchemaTypeOf<S, C>, literal: Option<BorrowedType<'a>>) -> Self
+    pub(crate) fn at_type(self, schema: &'a SchemaTypeOf<S, C>, literal: Option<BorrowedType<'a>>) -> Self
         ensures { typing_of result ≡ at_type (catalog_of schema.now) (typing_of self.entry) (option_map borrowed_shape literal.entry) }
     {
         let current = match literal {
@@ -60,7 +60,7 @@ impl<'a, S, C> TypesOf<'a, S, C> {
     }
 
     // Where an input of a type is expected.
-    fn at_input(self, literal: Option<BorrowedType<'a>>) -> Self
+    pub(crate) fn at_input(self, literal: Option<BorrowedType<'a>>) -> Self
         ensures { typing_of result ≡ at_input (typing_of self.entry) (option_map borrowed_shape literal.entry) }
     {
         TypesOf {
@@ -72,7 +72,7 @@ impl<'a, S, C> TypesOf<'a, S, C> {
     }
 
     // In a selection set.
-    fn at_set(self) -> Self
+    pub(crate) fn at_set(self) -> Self
         ensures { typing_of result ≡ at_set (typing_of self.entry) }
     {
         TypesOf {

@@ -1,7 +1,9 @@
 //! The walk over a document.
 
-ghost use Rattle.std.specs.Prelude.{◌≡◌, IfOk, OnErr, IsErr, true};
-ghost use Rattle.walk.specs.ContextState.{typing};
+ghost use Rattle.std.specs.Prelude.{◌≡◌, IfOk, OnOk, OnErr, IsErr, true};
+ghost use Rattle.walk.specs.ContextState.{typing, scope_of};
+ghost use Rattle.walk.specs.Names.{fragment_names};
+ghost use Rattle.walk.specs.Rule.{Appended};
 ghost use Rattle.walk.specs.EventValue.{typed_event, typing_of, planned, all_planned};
 ghost use Rattle.walk.specs.Outline.{outline_of_definition};
 ghost use Rattle.walk.specs.Step.{Ran, Stepped, KeepsPlace};
@@ -10,6 +12,7 @@ ghost use Rattle.walk.specs.TypedEvent.{events_of, typed_events};
 use crate::ValidatorContext;
 use crate::event::Event;
 use crate::multi_visitor::MultiVisitorCons;
+use crate::rule::Rule;
 use crate::typed_events::{PlannedEvent, TypesOf, events_of_definition};
 use crate::visitor::{Machine, Visitor};
 use language::error::OutOfMemory;
@@ -102,10 +105,26 @@ pub fn visit<'a, A: Visitor<'a, S>, B: Visitor<'a, S>, S: CheckedScalar>(
     ctx: &mut ValidatorContext<'a, S>,
     document: &'a [Definition<'a, S>],
 ) -> Result<(), OutOfMemory>
-    ensures ran { IfOk result (λ _. Ran ⟦<MultiVisitorCons<A, B> as Machine<S>>⟧.step (typed_events ctx.old.schema (typing ctx.old) document.now) v.old v.new ctx.old ctx.new) }
+    ensures ran { IfOk result (λ _. Ran ⟦<MultiVisitorCons<A, B> as Machine<S, S::Check>>⟧.step (typed_events ctx.old.schema (typing ctx.old) document.now) v.old v.new ctx.old ctx.new) }
     ensures err { OnErr result (KeepsPlace ctx.old ctx.new) }
     ensures failed { OnErr result (ctx.new.failed ≡ true) }
     ensures stays { ctx.old.failed ≡ true → IsErr result }
 {
     walk_with(v, ctx, document)
+}
+
+/// Walks over a document with rules that are fresh, in a context that was made for this document.
+pub fn visit_rules<'a, S: CheckedScalar, R: Visitor<'a, S> + Rule<S, S::Check>>(
+    rules: &mut R,
+    ctx: &mut ValidatorContext<'a, S>,
+    document: &'a [Definition<'a, S>],
+) -> Result<(), OutOfMemory>
+    requires known { ctx.old.known ≡ fragment_names document.now }
+    requires fresh { R.fresh rules.old }
+    ensures appended { OnOk result (Appended (R.allows (scope_of ctx.old.schema document.now) (typing ctx.old) document.now) ctx.old ctx.new) }
+    ensures err { OnErr result (KeepsPlace ctx.old ctx.new) }
+    ensures failed { OnErr result (ctx.new.failed ≡ true) }
+    ensures stays { ctx.old.failed ≡ true → IsErr result }
+{
+    walk_with(rules, ctx, document)
 }
