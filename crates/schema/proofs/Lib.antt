@@ -1,1 +1,9 @@
+pub mod AcceptedLemmas
+pub mod ConcreteLemmas
+pub mod DirectiveLemmas
+pub mod ExtendLemmas
+pub mod Finds
 pub mod KeyedLemmas
+pub mod Refusals
+pub mod RootLemmas
+pub mod SwapLemmas

@@ -1,0 +1,13 @@
+-- The schema that a list of types makes.
+use Rattle.std.specs.Prelude.{◌≡◌, List, None, map}
+use Rattle.schema.specs.declared.meta.kinds.MetaTypeOf.{MetaTypeOf}
+use Rattle.schema.specs.Accepted.{Roots}
+use Rattle.schema.specs.Added.{IsExtended, directive_shape, standard_directives}
+use Rattle.schema.specs.Catalog.{Catalog}
+
+-- The types are those of the list, with the two fields added; the directives are the four that every schema has.
+pub record IsSchemaOf {S C : Type 0} (roots : Roots) (ts : List (MetaTypeOf S C)) (c : Catalog S C) : Type 0 where
+  pub types : IsExtended roots.query ts c.types
+  pub roots_kept : c.roots ≡ roots
+  pub directives : map directive_shape c.directives ≡ standard_directives
+  pub no_description : c.description ≡ None

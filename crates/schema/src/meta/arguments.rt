@@ -1,0 +1,62 @@
+//! Arguments of fields and directives, and fields of input objects.
+ghost use Rattle.std.specs.Prelude.{◌≡◌, IfOk, None, Some, codes, nat_eq, option_map, string_bytes};
+ghost use Rattle.std.specs.List.{starts_with};
+
+use language::error::OutOfMemory;
+use language::types::Type;
+use language::value::InputValue;
+use std::alloc::Global;
+
+/// An argument of a field or a directive, or a field of an input object.
+#[derive(Clone, Debug, Drop)]
+pub struct Argument<S> {
+    pub name: String,
+    pub description: Option<String>,
+    pub arg_type: Type,
+    pub default_value: Option<InputValue<S>>,
+}
+
+impl<S> Argument<S> {
+    /// An argument of this name and this type, with no description and no default value.
+    pub fn new(alloc: Global, name: &str, arg_type: Type) -> Result<Self, OutOfMemory>
+        ensures name { IfOk result (λ a. string_bytes a.name ≡ name.now) }
+        ensures arg_type { IfOk result (λ a. a.arg_type ≡ arg_type) }
+        ensures description { IfOk result (λ a. a.description ≡ None) }
+        ensures default_value { IfOk result (λ a. a.default_value ≡ None) }
+    {
+        Ok(Argument {
+            name: String::from_str(alloc, name)?,
+            description: None,
+            arg_type,
+            default_value: None,
+        })
+    }
+
+    /// Replaces the description.
+    pub fn description(mut self, text: &str) -> Result<Self, OutOfMemory>
+    where
+        S: Drop,
+        ensures text { IfOk result (λ a. option_map string_bytes a.description ≡ Some text.now) }
+        ensures others { IfOk result (λ a. a ≡ record self { description = a.description }) }
+    {
+        self.description = Some(String::from_str(*self.name.allocator(), text)?);
+        Ok(self)
+    }
+
+    /// Replaces the default value.
+    pub fn default_value(mut self, value: InputValue<S>) -> Self
+    where
+        S: Drop,
+        ensures { result ≡ record self { default_value = Some value } }
+    {
+        self.default_value = Some(value);
+        self
+    }
+
+    /// Whether the name begins with `__`.
+    pub fn is_builtin(&self) -> bool
+        ensures { result ≡ starts_with nat_eq (string_bytes self.now.name) (codes "__") }
+    {
+        self.name.as_str().starts_with("__")
+    }
+}

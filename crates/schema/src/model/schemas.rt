@@ -1,0 +1,226 @@
+//! A schema: its types and its directives, each by name.
+ghost use Rattle.std.specs.Prelude.{◌≡◌, true, option_map, string_bytes};
+ghost use Rattle.std.specs.List.{list_all};
+ghost use Rattle.indexmap.specs.IndexMap.{values};
+ghost use Rattle.schema.specs.Accepted.{IsAccepted, is_input_listed};
+ghost use Rattle.schema.specs.Directives.{directive_name, directive_inputs};
+ghost use Rattle.schema.specs.Kinds.{name_of_meta};
+ghost use Rattle.schema.specs.Named.{are_keyed};
+
+use crate::build::accept::check_types;
+use crate::build::directives::directives_by_name;
+use crate::build::extend::with_added_fields;
+use crate::build::keyed::map_by_name;
+use crate::build::roots::RootNames;
+use crate::check::CheckedScalar;
+use crate::error::SchemaError;
+use crate::meta::kinds::MetaTypeOf;
+use crate::model::directives::DirectiveType;
+use crate::model::types::TypeTypeOf;
+use crate::texts::copy_text;
+use indexmap::IndexMap;
+use language::value::DefaultScalarValue;
+use std::alloc::Global;
+use std::marker::Model;
+
+/// A schema (section 3.3).
+#[derive(Drop)]
+pub struct SchemaTypeOf<S, C> {
+    description: Option<String>,
+    types: IndexMap<String, MetaTypeOf<S, C>>,
+    query: String,
+    mutation: Option<String>,
+    subscription: Option<String>,
+    directives: IndexMap<String, DirectiveType<S>>,
+    ghost accepted: { IsAccepted (record { query = string_bytes query; mutation = option_map string_bytes mutation; subscription = option_map string_bytes subscription }) (values types) },
+    ghost directive_inputs_input: { list_all (is_input_listed (values types)) (directive_inputs (values directives)) ≡ true },
+    ghost keyed: { are_keyed name_of_meta types.entries ≡ true },
+    ghost directives_keyed: { are_keyed directive_name directives.entries ≡ true },
+}
+
+/// A schema, with the checks that its kind of scalars has.
+pub type SchemaType<S = DefaultScalarValue> = SchemaTypeOf<S, <S as CheckedScalar>::Check>;
+
+impl<S, C> Model for SchemaTypeOf<S, C> {
+    ghost use Rattle.std.specs.Prelude.{option_map, string_bytes};
+    ghost use Rattle.std.specs.Coded.{codes};
+    ghost use Rattle.indexmap.specs.IndexMap.{values};
+    ghost use Rattle.schema.specs.Catalog.{Catalog};
+    ghost use Rattle.schema.specs.Codes.{coded_value};
+
+    ghost Value = { Catalog S C };
+
+    ghost coded = { Prim.hlevel (codes, coded_value) };
+
+    ghost view = { λ s. record {
+      description = option_map string_bytes s.description;
+      types = values s.types;
+      roots = record { query = string_bytes s.query; mutation = option_map string_bytes s.mutation; subscription = option_map string_bytes s.subscription };
+      directives = values s.directives;
+      accepted = s.accepted;
+      directive_inputs_input = s.directive_inputs_input;
+    } };
+}
+
+impl<S: Drop, C: Drop> SchemaTypeOf<S, C> {
+    ghost use Rattle.std.specs.Prelude.{◌≡◌, None, IfErr, IfOk, IsOkUnless, OnOk, map};
+    ghost use Rattle.schema.specs.Accepted.{IsAccepted, IsTrueRefusal, roots_of};
+    ghost use Rattle.schema.specs.Added.{directive_shape, standard_directives};
+    ghost use Rattle.schema.specs.Built.{IsSchemaOf};
+    ghost use Rattle.schema.specs.RootNames.{roots_asked};
+
+    /// The schema of a list of types with these roots, to which the fields `__schema` and `__type`
+    /// of the root of queries and the directives `skip`, `include`, `deprecated` and `specifiedBy`
+    /// are added. The names `_EmptyMutation` and `_EmptySubscription` mean that there is no such root.
+    ///
+    /// A refusal but for want of memory is true of the list; which one is named where several are
+    /// true is left open.
+    pub fn new(
+        alloc: Global,
+        types: Vec<MetaTypeOf<S, C>>,
+        query: &str,
+        mutation: &str,
+        subscription: &str,
+    ) -> Result<Self, SchemaError>
+        ensures accepted { OnOk result (IsAccepted (roots_of query.now mutation.now subscription.now) types.items) }
+        ensures built { IfOk result (λ s. IsSchemaOf (roots_of query.now mutation.now subscription.now) types.items s) }
+        ensures refused { IfErr result (λ e. IsTrueRefusal (roots_of query.now mutation.now subscription.now) types.items e) }
+        ensures memory_alone { IsAccepted (roots_of query.now mutation.now subscription.now) types.items → IsOkUnless result SchemaError.OutOfMemory }
+    {
+        Self::from_list(alloc, types, RootNames::new(query, mutation, subscription))
+    }
+
+    fn from_list(
+        alloc: Global,
+        types: Vec<MetaTypeOf<S, C>>,
+        roots: RootNames<'_>,
+    ) -> Result<Self, SchemaError>
+        ensures accepted { OnOk result (IsAccepted (roots_asked roots.entry) types.items) }
+        ensures built { IfOk result (λ s. IsSchemaOf (roots_asked roots.entry) types.items s) }
+        ensures refused { IfErr result (λ e. IsTrueRefusal (roots_asked roots.entry) types.items e) }
+    {
+        check_types(alloc, types.as_slice(), roots)?;
+        let types = with_added_fields(alloc, types, roots.query)?;
+        Self::from_accepted(alloc, types, roots)
+    }
+
+    fn from_accepted(
+        alloc: Global,
+        types: Vec<MetaTypeOf<S, C>>,
+        roots: RootNames<'_>,
+    ) -> Result<Self, SchemaError>
+        requires { IsAccepted (roots_asked roots) types.items }
+        ensures types { IfOk result (λ s. s.types ≡ types.items) }
+        ensures roots { IfOk result (λ s. s.roots ≡ roots_asked roots.entry) }
+        ensures directives { IfOk result (λ s. map directive_shape s.directives ≡ standard_directives) }
+        ensures description { IfOk result (λ s. s.description ≡ None) }
+        ensures err { IfErr result (λ e. e ≡ SchemaError.OutOfMemory) }
+    {
+        let query = String::from_str(alloc, roots.query)?;
+        let mutation = copy_text(alloc, roots.mutation)?;
+        let subscription = copy_text(alloc, roots.subscription)?;
+        let directives = directives_by_name(alloc)?;
+        let types = map_by_name(alloc, types)?;
+        Ok(SchemaTypeOf {
+            description: None,
+            types,
+            query,
+            mutation,
+            subscription,
+            directives,
+        })
+    }
+}
+
+impl<S, C> SchemaTypeOf<S, C> {
+    ghost use Rattle.std.specs.Prelude.{◌≡◌, ◌↔◌, Some, IsSome, true, option_copied, option_map};
+    ghost use Rattle.schema.specs.Catalog.{type_in, root_in, directive_in};
+    ghost use Rattle.schema.specs.Concrete.{concrete_of};
+    ghost use Rattle.schema.specs.Kinds.{is_object_meta};
+
+    /// The type of the name, with nothing round it.
+    pub fn type_by_name(&self, name: &str) -> Option<TypeTypeOf<'_, S, C>>
+        ensures { option_map concrete_of result ≡ option_map (λ t. Some t) (type_in name.now self.now) }
+    {
+        match self.concrete_type_by_name(name) {
+            Some(meta) => Some(TypeTypeOf::Concrete(meta)),
+            None => None,
+        }
+    }
+
+    /// The type of the name.
+    pub fn concrete_type_by_name(&self, name: &str) -> Option<&MetaTypeOf<S, C>>
+        ensures { option_copied result ≡ type_in name.now self.now }
+    {
+        self.types.get(name)
+    }
+
+    /// The root of queries, with nothing round it.
+    pub fn query_type(&self) -> TypeTypeOf<'_, S, C>
+        ensures { concrete_of result ≡ type_in self.now.roots.query self.now }
+    {
+        TypeTypeOf::Concrete(self.concrete_query_type())
+    }
+
+    /// The root of queries, an object.
+    pub fn concrete_query_type(&self) -> &MetaTypeOf<S, C>
+        ensures root { Some result.now ≡ type_in self.now.roots.query self.now }
+        ensures object { is_object_meta result.now ≡ true }
+    {
+        match self.concrete_type_by_name(self.query.as_str()) {
+            Some(meta) => meta,
+            None => unreachable!(),
+        }
+    }
+
+    /// The root of mutations, if there is one, with nothing round it.
+    pub fn mutation_type(&self) -> Option<TypeTypeOf<'_, S, C>>
+        ensures root { option_map concrete_of result ≡ option_map (λ t. Some t) (root_in self.now.roots.mutation self.now) }
+        ensures asked { IsSome result ↔ IsSome self.now.roots.mutation }
+    {
+        match self.concrete_mutation_type() {
+            Some(meta) => Some(TypeTypeOf::Concrete(meta)),
+            None => None,
+        }
+    }
+
+    /// The root of mutations, if there is one.
+    pub fn concrete_mutation_type(&self) -> Option<&MetaTypeOf<S, C>>
+        ensures root { option_copied result ≡ root_in self.now.roots.mutation self.now }
+        ensures asked { IsSome result ↔ IsSome self.now.roots.mutation }
+    {
+        match &self.mutation {
+            Some(name) => self.concrete_type_by_name(name.as_str()),
+            None => None,
+        }
+    }
+
+    /// The root of subscriptions, if there is one, with nothing round it.
+    pub fn subscription_type(&self) -> Option<TypeTypeOf<'_, S, C>>
+        ensures root { option_map concrete_of result ≡ option_map (λ t. Some t) (root_in self.now.roots.subscription self.now) }
+        ensures asked { IsSome result ↔ IsSome self.now.roots.subscription }
+    {
+        match self.concrete_subscription_type() {
+            Some(meta) => Some(TypeTypeOf::Concrete(meta)),
+            None => None,
+        }
+    }
+
+    /// The root of subscriptions, if there is one.
+    pub fn concrete_subscription_type(&self) -> Option<&MetaTypeOf<S, C>>
+        ensures root { option_copied result ≡ root_in self.now.roots.subscription self.now }
+        ensures asked { IsSome result ↔ IsSome self.now.roots.subscription }
+    {
+        match &self.subscription {
+            Some(name) => self.concrete_type_by_name(name.as_str()),
+            None => None,
+        }
+    }
+
+    /// The directive of the name.
+    pub fn directive_by_name(&self, name: &str) -> Option<&DirectiveType<S>>
+        ensures { option_copied result ≡ directive_in name.now self.now }
+    {
+        self.directives.get(name)
+    }
+}

@@ -1,0 +1,38 @@
+//! Texts that a type keeps.
+ghost use Rattle.std.specs.Prelude.{◌≡◌, IfOk, map, option_map, string_bytes};
+ghost use Rattle.language.specs.Types.{shape};
+
+use language::error::OutOfMemory;
+use language::types::Type;
+use std::alloc::Global;
+
+/// The text, if there is one.
+pub fn as_text(text: &Option<String>) -> Option<&str>
+    ensures { option_map (λ s. s.now) result ≡ option_map string_bytes text.now }
+{
+    match text {
+        Some(kept) => Some(kept.as_str()),
+        None => None,
+    }
+}
+
+/// A copy of the text, if there is one.
+pub fn copy_text(alloc: Global, text: Option<&str>) -> Result<Option<String>, OutOfMemory>
+    ensures { IfOk result (λ t. option_map string_bytes t ≡ option_map (λ s. s.now) text.entry) }
+{
+    match text {
+        Some(given) => Ok(Some(String::from_str(alloc, given)?)),
+        None => Ok(None),
+    }
+}
+
+/// The innermost names of the types, in their order.
+pub fn innermost_names(alloc: Global, types: &[Type]) -> Result<Vec<String>, OutOfMemory>
+    ensures { IfOk result (λ v. map string_bytes v.items ≡ map (λ t. (shape t).name) types.now) }
+{
+    let mut names = Vec::new(alloc);
+    for t in types {
+        names.push(String::from_str(alloc, t.innermost_name())?)?;
+    }
+    Ok(names)
+}
