@@ -5,10 +5,10 @@ use Rattle.std.specs.Str.{bytes_eq}
 use Rattle.language.specs.Types.{TypeShape, shape, name_of, non_null_named}
 use Rattle.language.specs.declared.tree.OperationType.{OperationType}
 use Rattle.language.specs.declared.tree.OperationType.TheVariants as kind
-use Rattle.schema.specs.declared.meta.MetaTypeOf.{MetaTypeOf}
-use Rattle.schema.specs.declared.meta.Field.{Field}
-use Rattle.schema.specs.declared.meta.Argument.{Argument}
-use Rattle.schema.specs.Meta.{name_of_meta, field_named, input_field_named}
+use Rattle.schema.specs.declared.meta.kinds.MetaTypeOf.{MetaTypeOf}
+use Rattle.schema.specs.declared.meta.fields.Field.{Field}
+use Rattle.schema.specs.declared.meta.arguments.Argument.{Argument}
+use Rattle.schema.specs.Kinds.{name_of_meta, field_named, input_field_named}
 use Rattle.schema.specs.Catalog.{Catalog, type_in, root_in, directive_in}
 
 module _ {S C : Type 0} where
@@ -18,9 +18,9 @@ module _ {S C : Type 0} where
 
   -- the root of the operations of a kind, where the schema has one
   abbrev pub root_type : Catalog S C → OperationType → Option (MetaTypeOf S C)
-  root_type schema kind.Query = root_in (Some schema.query) schema
-  root_type schema kind.Mutation = root_in schema.mutation schema
-  root_type schema kind.Subscription = root_in schema.subscription schema
+  root_type schema kind.Query = root_in (Some schema.roots.query) schema
+  root_type schema kind.Mutation = root_in schema.roots.mutation schema
+  root_type schema kind.Subscription = root_in schema.roots.subscription schema
 
   -- as a type that is never null
   abbrev pub root_literal : Catalog S C → OperationType → Option TypeShape

@@ -4,7 +4,6 @@ ghost use Rattle.std.specs.Prelude.{◌≡◌, ◌⊎◌, ◌++◌, ◌∷◌, [
 ghost use Rattle.std.specs.Fn.{FnOnceReturnsAtMut};
 ghost use Rattle.std.specs.Option.{option_copied, option_map};
 ghost use Rattle.language.specs.Types.{borrowed_shape};
-ghost use Rattle.schema.specs.Catalog.{catalog_of};
 ghost use Rattle.walk.specs.ContextState.{ContextState, typing, pushed, popped, with_errors, failing, fresh_context, has_some};
 ghost use Rattle.walk.specs.ErrorValue.{error_cmp};
 ghost use Rattle.walk.specs.EventValue.{typing_of};
@@ -43,8 +42,7 @@ pub type ValidatorContext<'a, S> = ValidatorContextOf<'a, S, <S as CheckedScalar
 
 impl<'a, S, C> Model for ValidatorContextOf<'a, S, C> {
     ghost use Rattle.std.specs.Prelude.{map};
-    ghost use Rattle.schema.specs.Catalog.{catalog_of};
-    ghost use Rattle.walk.specs.Codes.{coded_state};
+        ghost use Rattle.walk.specs.Codes.{coded_state};
     ghost use Rattle.walk.specs.ContextState.{ContextState};
     ghost use Rattle.walk.specs.EventValue.{typing_of};
     ghost use Rattle.walk.specs.FragmentSet.{known_names};
@@ -53,7 +51,7 @@ impl<'a, S, C> Model for ValidatorContextOf<'a, S, C> {
 
     ghost coded = { Prim.hlevel coded_state };
 
-    ghost view = { λ c. record { schema = catalog_of c.schema.now; known = known_names c.fragment_names; typings = map typing_of c.types.items; errors = c.errors.items; failed = c.failed } };
+    ghost view = { λ c. record { schema = c.schema.now; known = known_names c.fragment_names; typings = map typing_of c.types.items; errors = c.errors.items; failed = c.failed } };
 }
 
 impl<'a, S, C> ValidatorContextOf<'a, S, C> {
@@ -63,7 +61,7 @@ impl<'a, S, C> ValidatorContextOf<'a, S, C> {
         schema: &'a SchemaTypeOf<S, C>,
         document: &'a [Definition<'a, S>],
     ) -> Result<ValidatorContextOf<'a, S, C>, OutOfMemory>
-        ensures { IfOk result (λ ctx. ctx ≡ fresh_context (catalog_of schema.now) document.now) }
+        ensures { IfOk result (λ ctx. ctx ≡ fresh_context schema.now document.now) }
     {
         let fragment_names = FragmentNames::new(alloc, document)?;
         Ok(ValidatorContextOf {

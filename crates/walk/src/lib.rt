@@ -8,6 +8,8 @@ pub mod laws;
 pub mod multi_visitor;
 pub mod rule;
 pub mod rule_error;
+#[cfg(test)]
+mod tests;
 mod typed_events;
 pub mod visitor;
 pub mod walk;

@@ -4,7 +4,6 @@ ghost use Rattle.std.specs.Prelude.{◌≡◌, List, [], ◌++◌, ◌∷◌, On
 ghost use Rattle.std.specs.Str.{bytes_eq};
 ghost use Rattle.std.specs.Option.{option_copied, option_map};
 ghost use Rattle.language.specs.Types.{borrowed_shape, list_inner_of, non_null_named};
-ghost use Rattle.schema.specs.Catalog.{catalog_of};
 ghost use Rattle.walk.specs.SchemaView.{field_arguments, directive_arguments, argument_literal, field_literal, root_literal, input_field_literal};
 ghost use Rattle.walk.specs.Typing.{at_type, at_input, at_operation, at_set, at_field, at_inline, at_variable, at_argument, at_items, at_object_field, at_condition};
 ghost use Rattle.walk.specs.Outline.{outline_of_bare_value, each, outline_of_value, outline_of_argument, outline_of_arguments, outline_of_directive, outline_of_directives, outline_of_variable_definition, outline_of_variable_definitions, outline_of_set, outline_in_field, if_there, outline_of_selection, outline_of_spread, outline_of_field, outline_of_inline, outline_of_operation, outline_of_fragment, outline_of_definition};
@@ -45,7 +44,7 @@ pub type PlannedEvent<'a, S> = PlannedEventOf<'a, S, <S as CheckedScalar>::Check
 impl<'a, S, C> TypesOf<'a, S, C> {
     // Where a type is written.
     pub(crate) fn at_type(self, schema: &'a SchemaTypeOf<S, C>, literal: Option<BorrowedType<'a>>) -> Self
-        ensures { typing_of result ≡ at_type (catalog_of schema.now) (typing_of self.entry) (option_map borrowed_shape literal.entry) }
+        ensures { typing_of result ≡ at_type schema.now (typing_of self.entry) (option_map borrowed_shape literal.entry) }
     {
         let current = match literal {
             Some(t) => schema.concrete_type_by_name(t.innermost_name()),
@@ -115,7 +114,7 @@ fn arguments_of_directive<'a, S, C>(
     schema: &'a SchemaTypeOf<S, C>,
     name: &str,
 ) -> Option<&'a [Argument<S>]>
-    ensures { option_copied result ≡ directive_arguments (catalog_of schema.now) name.now }
+    ensures { option_copied result ≡ directive_arguments schema.now name.now }
 {
     match schema.directive_by_name(name) {
         Some(directive) => Some(directive.arguments.as_slice()),
@@ -154,7 +153,7 @@ fn type_of_input_field<'a, S, C>(
     literal: Option<BorrowedType<'a>>,
     key: &str,
 ) -> Option<BorrowedType<'a>>
-    ensures { option_map borrowed_shape result ≡ input_field_literal (catalog_of schema.now) (option_map borrowed_shape literal.entry) key.now }
+    ensures { option_map borrowed_shape result ≡ input_field_literal schema.now (option_map borrowed_shape literal.entry) key.now }
 {
     let object = schema.concrete_type_by_name(literal?.name()?)?;
     match object.input_field_by_name(key) {
@@ -175,10 +174,10 @@ fn type_of_root<'a, S, C>(
     schema: &'a SchemaTypeOf<S, C>,
     kind: OperationType,
 ) -> Option<BorrowedType<'a>>
-    ensures { option_map borrowed_shape result ≡ root_literal (catalog_of schema.now) kind }
+    ensures { option_map borrowed_shape result ≡ root_literal schema.now kind }
 {
     let root = match kind {
-        OperationType::Query => schema.concrete_query_type(),
+        OperationType::Query => Some(schema.concrete_query_type()),
         OperationType::Mutation => schema.concrete_mutation_type(),
         OperationType::Subscription => schema.concrete_subscription_type(),
     };
@@ -191,21 +190,21 @@ fn type_of_root<'a, S, C>(
 impl<'a, S, C> TypesOf<'a, S, C> {
     // At an operation of a kind.
     fn at_operation(self, schema: &'a SchemaTypeOf<S, C>, kind: OperationType) -> Self
-        ensures { typing_of result ≡ at_type (catalog_of schema.now) (typing_of self.entry) (root_literal (catalog_of schema.now) kind) }
+        ensures { typing_of result ≡ at_type schema.now (typing_of self.entry) (root_literal schema.now kind) }
     {
         self.at_type(schema, type_of_root(schema, kind))
     }
 
     // At the definition of a fragment on a type.
     fn at_named(self, schema: &'a SchemaTypeOf<S, C>, name: &'a str) -> Self
-        ensures { typing_of result ≡ at_type (catalog_of schema.now) (typing_of self.entry) (Some (non_null_named name.now)) }
+        ensures { typing_of result ≡ at_type schema.now (typing_of self.entry) (Some (non_null_named name.now)) }
     {
         self.at_type(schema, Some(BorrowedType::non_null(name)))
     }
 
     // At a field of the name.
     fn at_field(self, schema: &'a SchemaTypeOf<S, C>, name: &str) -> Self
-        ensures { typing_of result ≡ at_type (catalog_of schema.now) (typing_of self.entry) (field_literal (typing_of self.entry).parent name.now) }
+        ensures { typing_of result ≡ at_type schema.now (typing_of self.entry) (field_literal (typing_of self.entry).parent name.now) }
     {
         self.at_type(schema, type_of_field(self.parent, name))
     }
@@ -216,7 +215,7 @@ impl<'a, S, C> TypesOf<'a, S, C> {
         schema: &'a SchemaTypeOf<S, C>,
         condition: &'a Option<Spanning<&'a str>>,
     ) -> Self
-        ensures { typing_of result ≡ at_condition (catalog_of schema.now) (typing_of self.entry) (option_map (λ c. c.item.now) condition.now) }
+        ensures { typing_of result ≡ at_condition schema.now (typing_of self.entry) (option_map (λ c. c.item.now) condition.now) }
     {
         match condition {
             Some(name) => self.at_named(schema, name.item),
@@ -247,7 +246,7 @@ impl<'a, S, C> TypesOf<'a, S, C> {
 
     // At the field of an object.
     fn at_object_field(self, schema: &'a SchemaTypeOf<S, C>, key: &str) -> Self
-        ensures { typing_of result ≡ at_object_field (catalog_of schema.now) (typing_of self.entry) key.now }
+        ensures { typing_of result ≡ at_object_field schema.now (typing_of self.entry) key.now }
     {
         self.at_input(type_of_input_field(schema, self.input, key))
     }
@@ -287,7 +286,7 @@ fn events_of_value<'a, S, C>(
     types: TypesOf<'a, S, C>,
     events: &mut Vec<PlannedEventOf<'a, S, C>>,
 ) -> Result<(), AllocError>
-    ensures { OnOk result (all_planned events.new.items ≡ all_planned events.old.items ++ events_of (outline_of_bare_value (catalog_of schema.now) item.now span.now (typing_of types.entry))) }
+    ensures { OnOk result (all_planned events.new.items ≡ all_planned events.old.items ++ events_of (outline_of_bare_value schema.now item.now span.now (typing_of types.entry))) }
 {
     match item {
         InputValue::Null => push_both(
@@ -348,7 +347,7 @@ fn events_of_items<'a, S, C>(
     types: TypesOf<'a, S, C>,
     events: &mut Vec<PlannedEventOf<'a, S, C>>,
 ) -> Result<(), AllocError>
-    ensures { OnOk result (all_planned events.new.items ≡ all_planned events.old.items ++ events_of (each (outline_of_value (catalog_of schema.now) (typing_of types.entry)) items.now)) }
+    ensures { OnOk result (all_planned events.new.items ≡ all_planned events.old.items ++ events_of (each (outline_of_value schema.now (typing_of types.entry)) items.now)) }
 {
     for value in items {
         events_of_value(schema, &value.item, &value.span, types, events)?;
@@ -364,7 +363,7 @@ fn events_of_argument<'a, S, C>(
     types: TypesOf<'a, S, C>,
     events: &mut Vec<PlannedEventOf<'a, S, C>>,
 ) -> Result<(), AllocError>
-    ensures { OnOk result (all_planned events.new.items ≡ all_planned events.old.items ++ events_of (outline_of_argument (catalog_of schema.now) (option_copied arguments.entry) (typing_of types.entry) argument.now)) }
+    ensures { OnOk result (all_planned events.new.items ≡ all_planned events.old.items ++ events_of (outline_of_argument schema.now (option_copied arguments.entry) (typing_of types.entry) argument.now)) }
 {
     let (name, value) = argument;
     let inside = types.at_argument(arguments, name.item);
@@ -381,7 +380,7 @@ fn events_of_arguments<'a, S, C>(
     types: TypesOf<'a, S, C>,
     events: &mut Vec<PlannedEventOf<'a, S, C>>,
 ) -> Result<(), AllocError>
-    ensures { OnOk result (all_planned events.new.items ≡ all_planned events.old.items ++ events_of (outline_of_arguments (catalog_of schema.now) (option_copied arguments.entry) (typing_of types.entry) written.now)) }
+    ensures { OnOk result (all_planned events.new.items ≡ all_planned events.old.items ++ events_of (outline_of_arguments schema.now (option_copied arguments.entry) (typing_of types.entry) written.now)) }
 {
     let Some(list) = written else {
         return Ok(());
@@ -399,7 +398,7 @@ fn events_of_directive<'a, S, C>(
     types: TypesOf<'a, S, C>,
     events: &mut Vec<PlannedEventOf<'a, S, C>>,
 ) -> Result<(), AllocError>
-    ensures { OnOk result (all_planned events.new.items ≡ all_planned events.old.items ++ events_of (outline_of_directive (catalog_of schema.now) (typing_of types.entry) directive.now)) }
+    ensures { OnOk result (all_planned events.new.items ≡ all_planned events.old.items ++ events_of (outline_of_directive schema.now (typing_of types.entry) directive.now)) }
 {
     let arguments = arguments_of_directive(schema, directive.item.name.item);
     push_event(events, Event::EnterDirective(directive), types)?;
@@ -414,7 +413,7 @@ fn events_of_directives<'a, S, C>(
     types: TypesOf<'a, S, C>,
     events: &mut Vec<PlannedEventOf<'a, S, C>>,
 ) -> Result<(), AllocError>
-    ensures { OnOk result (all_planned events.new.items ≡ all_planned events.old.items ++ events_of (outline_of_directives (catalog_of schema.now) (typing_of types.entry) written.now)) }
+    ensures { OnOk result (all_planned events.new.items ≡ all_planned events.old.items ++ events_of (outline_of_directives schema.now (typing_of types.entry) written.now)) }
 {
     let Some(directives) = written else {
         return Ok(());
@@ -432,7 +431,7 @@ fn events_of_variable_definition<'a, S, C>(
     types: TypesOf<'a, S, C>,
     events: &mut Vec<PlannedEventOf<'a, S, C>>,
 ) -> Result<(), AllocError>
-    ensures { OnOk result (all_planned events.new.items ≡ all_planned events.old.items ++ events_of (outline_of_variable_definition (catalog_of schema.now) (typing_of types.entry) definition.now)) }
+    ensures { OnOk result (all_planned events.new.items ≡ all_planned events.old.items ++ events_of (outline_of_variable_definition schema.now (typing_of types.entry) definition.now)) }
 {
     let (_, variable) = definition;
     let inside = types.at_variable(variable);
@@ -449,7 +448,7 @@ fn events_of_default_value<'a, S, C>(
     types: TypesOf<'a, S, C>,
     events: &mut Vec<PlannedEventOf<'a, S, C>>,
 ) -> Result<(), AllocError>
-    ensures { OnOk result (all_planned events.new.items ≡ all_planned events.old.items ++ events_of (if_there (outline_of_value (catalog_of schema.now) (typing_of types.entry)) value.now)) }
+    ensures { OnOk result (all_planned events.new.items ≡ all_planned events.old.items ++ events_of (if_there (outline_of_value schema.now (typing_of types.entry)) value.now)) }
 {
     match value {
         Some(value) => events_of_value(schema, &value.item, &value.span, types, events),
@@ -464,7 +463,7 @@ fn events_of_variable_definitions<'a, S, C>(
     types: TypesOf<'a, S, C>,
     events: &mut Vec<PlannedEventOf<'a, S, C>>,
 ) -> Result<(), AllocError>
-    ensures { OnOk result (all_planned events.new.items ≡ all_planned events.old.items ++ events_of (outline_of_variable_definitions (catalog_of schema.now) (typing_of types.entry) written.now)) }
+    ensures { OnOk result (all_planned events.new.items ≡ all_planned events.old.items ++ events_of (outline_of_variable_definitions schema.now (typing_of types.entry) written.now)) }
 {
     let Some(list) = written else {
         return Ok(());
@@ -483,7 +482,7 @@ fn events_of_set<'a, S, C>(
     types: TypesOf<'a, S, C>,
     events: &mut Vec<PlannedEventOf<'a, S, C>>,
 ) -> Result<(), AllocError>
-    ensures { OnOk result (all_planned events.new.items ≡ all_planned events.old.items ++ events_of (outline_of_set (catalog_of schema.now) (typing_of types.entry) set.now)) }
+    ensures { OnOk result (all_planned events.new.items ≡ all_planned events.old.items ++ events_of (outline_of_set schema.now (typing_of types.entry) set.now)) }
 {
     let inside = types.at_set();
     push_event(events, Event::EnterSelectionSet(set), inside)?;
@@ -501,7 +500,7 @@ fn events_of_selection<'a, S, C>(
     types: TypesOf<'a, S, C>,
     events: &mut Vec<PlannedEventOf<'a, S, C>>,
 ) -> Result<(), AllocError>
-    ensures { OnOk result (all_planned events.new.items ≡ all_planned events.old.items ++ events_of (outline_of_selection (catalog_of schema.now) (typing_of types.entry) selection.now)) }
+    ensures { OnOk result (all_planned events.new.items ≡ all_planned events.old.items ++ events_of (outline_of_selection schema.now (typing_of types.entry) selection.now)) }
 {
     match selection {
         Selection::Field(field) => events_of_field(schema, field, types, events),
@@ -517,7 +516,7 @@ fn events_of_spread<'a, S, C>(
     types: TypesOf<'a, S, C>,
     events: &mut Vec<PlannedEventOf<'a, S, C>>,
 ) -> Result<(), AllocError>
-    ensures { OnOk result (all_planned events.new.items ≡ all_planned events.old.items ++ events_of (outline_of_spread (catalog_of schema.now) (typing_of types.entry) spread.now)) }
+    ensures { OnOk result (all_planned events.new.items ≡ all_planned events.old.items ++ events_of (outline_of_spread schema.now (typing_of types.entry) spread.now)) }
 {
     push_event(events, Event::EnterFragmentSpread(spread), types)?;
     events_of_directives(schema, &spread.item.directives, types, events)?;
@@ -532,7 +531,7 @@ fn events_of_field<'a, S, C>(
     types: TypesOf<'a, S, C>,
     events: &mut Vec<PlannedEventOf<'a, S, C>>,
 ) -> Result<(), AllocError>
-    ensures { OnOk result (all_planned events.new.items ≡ all_planned events.old.items ++ events_of (outline_of_field (catalog_of schema.now) (typing_of types.entry) field.now)) }
+    ensures { OnOk result (all_planned events.new.items ≡ all_planned events.old.items ++ events_of (outline_of_field schema.now (typing_of types.entry) field.now)) }
 {
     let inside = types.at_field(schema, field.item.name.item);
     push_event(events, Event::EnterField(field), inside)?;
@@ -548,7 +547,7 @@ fn events_in_field<'a, S, C>(
     types: TypesOf<'a, S, C>,
     events: &mut Vec<PlannedEventOf<'a, S, C>>,
 ) -> Result<(), AllocError>
-    ensures { OnOk result (all_planned events.new.items ≡ all_planned events.old.items ++ events_of (outline_in_field (catalog_of schema.now) (typing_of types.entry) field.now)) }
+    ensures { OnOk result (all_planned events.new.items ≡ all_planned events.old.items ++ events_of (outline_in_field schema.now (typing_of types.entry) field.now)) }
 {
     let arguments = arguments_of_field(types.parent, field.name.item);
     events_of_arguments(schema, arguments, &field.arguments, types, events)?;
@@ -567,7 +566,7 @@ fn events_of_inline<'a, S, C>(
     types: TypesOf<'a, S, C>,
     events: &mut Vec<PlannedEventOf<'a, S, C>>,
 ) -> Result<(), AllocError>
-    ensures { OnOk result (all_planned events.new.items ≡ all_planned events.old.items ++ events_of (outline_of_inline (catalog_of schema.now) (typing_of types.entry) fragment.now)) }
+    ensures { OnOk result (all_planned events.new.items ≡ all_planned events.old.items ++ events_of (outline_of_inline schema.now (typing_of types.entry) fragment.now)) }
 {
     let inside = types.at_condition(schema, &fragment.item.type_condition);
     push_event(events, Event::EnterInlineFragment(fragment), inside)?;
@@ -583,7 +582,7 @@ fn events_of_operation<'a, S, C>(
     types: TypesOf<'a, S, C>,
     events: &mut Vec<PlannedEventOf<'a, S, C>>,
 ) -> Result<(), AllocError>
-    ensures { OnOk result (all_planned events.new.items ≡ all_planned events.old.items ++ events_of (outline_of_operation (catalog_of schema.now) (typing_of types.entry) operation.now)) }
+    ensures { OnOk result (all_planned events.new.items ≡ all_planned events.old.items ++ events_of (outline_of_operation schema.now (typing_of types.entry) operation.now)) }
 {
     let inside = types.at_operation(schema, operation.item.operation_type);
     push_event(events, Event::EnterOperationDefinition(operation), inside)?;
@@ -600,7 +599,7 @@ fn events_of_fragment<'a, S, C>(
     types: TypesOf<'a, S, C>,
     events: &mut Vec<PlannedEventOf<'a, S, C>>,
 ) -> Result<(), AllocError>
-    ensures { OnOk result (all_planned events.new.items ≡ all_planned events.old.items ++ events_of (outline_of_fragment (catalog_of schema.now) (typing_of types.entry) fragment.now)) }
+    ensures { OnOk result (all_planned events.new.items ≡ all_planned events.old.items ++ events_of (outline_of_fragment schema.now (typing_of types.entry) fragment.now)) }
 {
     let inside = types.at_named(schema, fragment.item.type_condition.item);
     push_event(events, Event::EnterFragmentDefinition(fragment), inside)?;
@@ -616,7 +615,7 @@ fn push_definition<'a, S, C>(
     types: TypesOf<'a, S, C>,
     events: &mut Vec<PlannedEventOf<'a, S, C>>,
 ) -> Result<(), AllocError>
-    ensures { OnOk result (all_planned events.new.items ≡ all_planned events.old.items ++ events_of (outline_of_definition (catalog_of schema.now) (typing_of types.entry) definition.now)) }
+    ensures { OnOk result (all_planned events.new.items ≡ all_planned events.old.items ++ events_of (outline_of_definition schema.now (typing_of types.entry) definition.now)) }
 {
     match definition {
         Definition::Operation(operation) => events_of_operation(schema, operation, types, events),
@@ -631,7 +630,7 @@ pub(crate) fn events_of_definition<'a, S, C>(
     definition: &'a Definition<'a, S>,
     types: TypesOf<'a, S, C>,
 ) -> Result<Vec<PlannedEventOf<'a, S, C>>, AllocError>
-    ensures { IfOk result (λ events. all_planned events.items ≡ events_of (outline_of_definition (catalog_of schema.now) (typing_of types.entry) definition.now)) }
+    ensures { IfOk result (λ events. all_planned events.items ≡ events_of (outline_of_definition schema.now (typing_of types.entry) definition.now)) }
 {
     let mut events = Vec::new(alloc);
     push_definition(schema, definition, types, &mut events)?;

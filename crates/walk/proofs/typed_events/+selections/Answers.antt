@@ -1,7 +1,6 @@
 use Rattle.std.proofs.Common.{Some, ◌++◌, ap, sym, ◌∙◌}
 use Rattle.std.specs.Option.{option_copied}
 use Rattle.std.proofs.lemmas.Result.{on_ok_weaker}
-use Rattle.schema.specs.Catalog.{catalog_of}
 use Rattle.walk.specs.Node
 use Rattle.walk.specs.SchemaView.{field_arguments}
 use Rattle.walk.specs.Outline.{beside, each, if_there, outline_of_value, outline_of_argument, outline_of_arguments, outline_of_directive, outline_of_directives, outline_of_variable_definition, outline_of_variable_definitions, outline_of_set, outline_of_set_if_there, outline_of_selection, outline_in_field}
@@ -24,11 +23,11 @@ events_of_selection-returns-in-InlineFragment g t c = rw c.in-InlineFragment.is 
 
 pub events_of_set-loop-selection-preserved : goal.events_of_set-loop-selection-preserved
 events_of_set-loop-selection-preserved g t c =
-    flat_map_step (λ x. events_of (outline_of_selection (catalog_of c.args.schema.now) (typing_of c.at_set-inside.result) x)) c.args.set.now c.loop-selection.selection-index c.selection-item.result _ _ _ c.loop-selection-test.true c.selection-item.is c.loop-selection.invariant c.in_ok-events_of_selection.ensures
+    flat_map_step (λ x. events_of (outline_of_selection c.args.schema.now (typing_of c.at_set-inside.result) x)) c.args.set.now c.loop-selection.selection-index c.selection-item.result _ _ _ c.loop-selection-test.true c.selection-item.is c.loop-selection.invariant c.in_ok-events_of_selection.ensures
 
 pub events_of_set-returns : goal.events_of_set-returns
 events_of_set-returns g t c =
-    let schema = catalog_of c.args.schema.now in
+    let schema = c.args.schema.now in
     on_ok_weaker c.push_event-2.result
     (λ e. retyped (Node.selection_set c.args.set.now) (λ u. each (outline_of_selection schema u) c.args.set.now) _ _ _ _ c.at_set-inside.ensures
     (around _ _ _ _ _ _ _ c.in_ok-push_event.ensures
@@ -39,13 +38,13 @@ events_of_set-returns g t c =
 pub events_of_field-returns : goal.events_of_field-returns
 events_of_field-returns g t c =
     on_ok_weaker c.push_event-2.result
-    (λ e. retyped (Node.field c.args.field.now) (λ u. outline_in_field (catalog_of c.args.schema.now) u c.args.field.now.item) _ _ _ _ c.at_field-inside.ensures
+    (λ e. retyped (Node.field c.args.field.now) (λ u. outline_in_field c.args.schema.now u c.args.field.now.item) _ _ _ _ c.at_field-inside.ensures
     (around _ _ _ _ _ _ _ c.in_ok-push_event.ensures c.in_ok-events_in_field.ensures e))
     c.push_event-2.ensures
 
 pub events_in_field-returns-in-Some : goal.events_in_field-returns-in-Some
 events_in_field-returns-in-Some g t c =
-    let schema = catalog_of c.args.schema.now in
+    let schema = c.args.schema.now in
     let types = typing_of c.args.types in
     let f = c.args.field.now in
     let start = all_planned c.args.events.now.items in
@@ -59,7 +58,7 @@ events_in_field-returns-in-Some g t c =
 
 pub events_in_field-returns-in-None : goal.events_in_field-returns-in-None
 events_in_field-returns-in-None g t c =
-    let schema = catalog_of c.args.schema.now in
+    let schema = c.args.schema.now in
     let types = typing_of c.args.types in
     let f = c.args.field.now in
     let start = all_planned c.args.events.now.items in
@@ -70,7 +69,7 @@ events_in_field-returns-in-None g t c =
 
 pub events_of_inline-returns : goal.events_of_inline-returns
 events_of_inline-returns g t c =
-    let schema = catalog_of c.args.schema.now in
+    let schema = c.args.schema.now in
     let i = c.args.fragment.now in
     on_ok_weaker c.push_event-2.result
     (λ e. retyped (Node.inline_fragment i) (λ u. beside (outline_of_directives schema u i.item.directives) (outline_of_set schema u i.item.selection_set.items)) _ _ _ _ c.at_condition-inside.ensures

@@ -1,6 +1,5 @@
 use Rattle.std.proofs.Common.{◌++◌, ap, sym, ◌∙◌}
 use Rattle.std.proofs.lemmas.Result.{on_ok_weaker}
-use Rattle.schema.specs.Catalog.{catalog_of}
 use Rattle.walk.specs.Node
 use Rattle.walk.specs.Typing.{at_items, at_object_field}
 use Rattle.walk.specs.Outline.{each, outline_of_value, outline_of_object_field, outline_of_bare_value}
@@ -13,7 +12,7 @@ use Rattle.walk.proofs.typed_events.+values.Goals as goal
 
 pub events_of_items-returns : goal.events_of_items-returns
 events_of_items-returns g t c =
-    each_whole (outline_of_value (catalog_of c.args.schema.now) (typing_of c.args.types)) c.args.items.now c.loop-value.value-index _ _ c.loop-value-test.false c.loop-value.invariant
+    each_whole (outline_of_value c.args.schema.now (typing_of c.args.types)) c.args.items.now c.loop-value.value-index _ _ c.loop-value-test.false c.loop-value.invariant
 
 pub events_of_value-returns-in-Null : goal.events_of_value-returns-in-Null
 events_of_value-returns-in-Null g t c = rw c.in-Null.is (rw of_null c.push_both.ensures)
@@ -29,7 +28,7 @@ events_of_value-returns-in-Variable g t c = rw c.in-Variable.is (rw of_variable 
 
 pub events_of_value-loop-entry-preserved : goal.events_of_value-loop-entry-preserved
 events_of_value-loop-entry-preserved g t c =
-    let schema = catalog_of c.args.schema.now in
+    let schema = c.args.schema.now in
     flat_map_step (λ x. events_of (outline_of_object_field schema (typing_of c.args.types) x)) c.deref-entry-items.result.now c.loop-entry.entry-index c.entry-item.result _ _ _ c.loop-entry-test.true c.entry-item.is c.loop-entry.invariant
     (retyped (Node.object_field c.entry-item.result) (λ u. outline_of_value schema u c.entry-item.result.1) _ _ _ _
     (c.at_object_field-inside.ensures ∙ ap (λ key. at_object_field schema (typing_of c.args.types) key) c.as_str.ensures.value)
@@ -37,7 +36,7 @@ events_of_value-loop-entry-preserved g t c =
 
 pub events_of_value-returns-in_ok-events_of_items-in-List : goal.events_of_value-returns-in_ok-events_of_items-in-List
 events_of_value-returns-in_ok-events_of_items-in-List g t c =
-    let schema = catalog_of c.args.schema.now in
+    let schema = c.args.schema.now in
     let types = typing_of c.args.types in
     let items = c.in-List.items.items in
     let told = all_planned c.push_event.new.events.items in
@@ -53,7 +52,7 @@ events_of_value-returns-in_ok-events_of_items-in-List g t c =
 
 pub events_of_value-returns-after-loop-entry : goal.events_of_value-returns-after-loop-entry
 events_of_value-returns-after-loop-entry g t c =
-    let schema = catalog_of c.args.schema.now in
+    let schema = c.args.schema.now in
     let types = typing_of c.args.types in
     let entries = c.in-Object.entries.items in
     let told = all_planned c.push_event-in-Object.new.events.items in
@@ -65,3 +64,7 @@ events_of_value-returns-after-loop-entry g t c =
     e
     ∙ ap (λ z. all_planned c.args.events.now.items ++ events_of z) (sym (ap (λ w. outline_of_bare_value schema w c.args.span.now types) c.in-Object.is ∙ of_object schema c.in-Object.entries c.args.span.now types)))
     c.push_event-in-Object-2.ensures
+
+pub events_of_items-loop-value-preserved : goal.events_of_items-loop-value-preserved
+events_of_items-loop-value-preserved g t c =
+    flat_map_step (λ x. events_of (outline_of_value c.args.schema.now (typing_of c.args.types) x)) c.args.items.now c.loop-value.value-index c.value-item.result _ _ _ c.loop-value-test.true c.value-item.is c.loop-value.invariant c.in_ok-events_of_value.ensures

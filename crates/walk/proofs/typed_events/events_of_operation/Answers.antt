@@ -1,7 +1,6 @@
 use Rattle.std.proofs.Common.{Some, ◌++◌, ap, sym, ◌∙◌}
 use Rattle.std.specs.Option.{option_copied}
 use Rattle.std.proofs.lemmas.Result.{on_ok_weaker}
-use Rattle.schema.specs.Catalog.{catalog_of}
 use Rattle.walk.specs.Node
 use Rattle.walk.specs.SchemaView.{directive_arguments}
 use Rattle.walk.specs.Outline.{beside, each, if_there, outline_of_value, outline_of_argument, outline_of_arguments, outline_of_directive, outline_of_directives, outline_of_variable_definition, outline_of_variable_definitions, outline_of_set}
@@ -13,7 +12,7 @@ use Rattle.walk.proofs.typed_events.events_of_operation.Goals as goal
 
 pub returns : goal.returns
 returns g c =
-    let schema = catalog_of c.args.schema.now in
+    let schema = c.args.schema.now in
     let o = c.args.operation.now in
     on_ok_weaker c.push_event-2.result
     (λ e. retyped (Node.operation_definition o) (λ u. beside (outline_of_variable_definitions schema u o.item.variable_definitions) (beside (outline_of_directives schema u o.item.directives) (outline_of_set schema u o.item.selection_set.items))) _ _ _ _ c.at_operation-inside.ensures
