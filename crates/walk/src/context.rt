@@ -42,7 +42,7 @@ pub type ValidatorContext<'a, S> = ValidatorContextOf<'a, S, <S as CheckedScalar
 
 impl<'a, S, C> Model for ValidatorContextOf<'a, S, C> {
     ghost use Rattle.std.specs.Prelude.{map};
-        ghost use Rattle.walk.specs.Codes.{coded_state};
+    ghost use Rattle.walk.specs.Codes.{coded_state};
     ghost use Rattle.walk.specs.ContextState.{ContextState};
     ghost use Rattle.walk.specs.EventValue.{typing_of};
     ghost use Rattle.walk.specs.FragmentSet.{known_names};
@@ -231,10 +231,7 @@ impl<'a, S, C> ValidatorContextOf<'a, S, C> {
     }
 
     // Calls f at these types, or not at all where they can't be pushed.
-    fn with_types<
-        R,
-        F: FnOnce(&mut ValidatorContextOf<'a, S, C>) -> Result<R, OutOfMemory> + Drop,
-    >(
+    fn with_types<R, F: FnOnce(&mut ValidatorContextOf<'a, S, C>) -> Result<R, OutOfMemory> + Drop>(
         &mut self,
         types: TypesOf<'a, S, C>,
         f: F,
@@ -260,11 +257,7 @@ impl<'a, S, C> ValidatorContextOf<'a, S, C> {
     pub fn with_pushed_type<
         R,
         F: FnOnce(&mut ValidatorContextOf<'a, S, C>) -> Result<R, OutOfMemory> + Drop,
-    >(
-        &mut self,
-        t: Option<BorrowedType<'a>>,
-        f: F,
-    ) -> Result<R, OutOfMemory>
+    >(&mut self, t: Option<BorrowedType<'a>>, f: F) -> Result<R, OutOfMemory>
         requires { F.IsAlwaysCallable f }
         ensures ok { OnOk result ((after : ContextState S C) × FnOnceReturnsAtMut F.FnOnce f (pushed self.old (at_type self.old.schema (typing self.old) (option_map borrowed_shape t.entry))) result after × (self.new ≡ popped after)) }
         ensures err { OnErr result ((self.new ≡ failing self.old) ⊎ ((after : ContextState S C) × FnOnceReturnsAtMut F.FnOnce f (pushed self.old (at_type self.old.schema (typing self.old) (option_map borrowed_shape t.entry))) result after × (self.new ≡ failing (popped after)))) }
@@ -281,10 +274,7 @@ impl<'a, S, C> ValidatorContextOf<'a, S, C> {
     pub fn with_pushed_parent_type<
         R,
         F: FnOnce(&mut ValidatorContextOf<'a, S, C>) -> Result<R, OutOfMemory> + Drop,
-    >(
-        &mut self,
-        f: F,
-    ) -> Result<R, OutOfMemory>
+    >(&mut self, f: F) -> Result<R, OutOfMemory>
         requires { F.IsAlwaysCallable f }
         ensures ok { OnOk result ((after : ContextState S C) × FnOnceReturnsAtMut F.FnOnce f (pushed self.old (at_set (typing self.old))) result after × (self.new ≡ popped after)) }
         ensures err { OnErr result ((self.new ≡ failing self.old) ⊎ ((after : ContextState S C) × FnOnceReturnsAtMut F.FnOnce f (pushed self.old (at_set (typing self.old))) result after × (self.new ≡ failing (popped after)))) }
@@ -301,11 +291,7 @@ impl<'a, S, C> ValidatorContextOf<'a, S, C> {
     pub fn with_pushed_input_type<
         R,
         F: FnOnce(&mut ValidatorContextOf<'a, S, C>) -> Result<R, OutOfMemory> + Drop,
-    >(
-        &mut self,
-        t: Option<BorrowedType<'a>>,
-        f: F,
-    ) -> Result<R, OutOfMemory>
+    >(&mut self, t: Option<BorrowedType<'a>>, f: F) -> Result<R, OutOfMemory>
         requires { F.IsAlwaysCallable f }
         ensures ok { OnOk result ((after : ContextState S C) × FnOnceReturnsAtMut F.FnOnce f (pushed self.old (at_input (typing self.old) (option_map borrowed_shape t.entry))) result after × (self.new ≡ popped after)) }
         ensures err { OnErr result ((self.new ≡ failing self.old) ⊎ ((after : ContextState S C) × FnOnceReturnsAtMut F.FnOnce f (pushed self.old (at_input (typing self.old) (option_map borrowed_shape t.entry))) result after × (self.new ≡ failing (popped after)))) }

@@ -44,12 +44,6 @@ pub enum Event<'a, S> {
     ExitListValue(Spanning<&'a Vec<Spanning<InputValue<S>>>, &'a Span>),
     EnterObjectValue(Spanning<&'a Vec<(Spanning<String>, Spanning<InputValue<S>>)>, &'a Span>),
     ExitObjectValue(Spanning<&'a Vec<(Spanning<String>, Spanning<InputValue<S>>)>, &'a Span>),
-    EnterObjectField(
-        Spanning<&'a String, &'a Span>,
-        Spanning<&'a InputValue<S>, &'a Span>,
-    ),
-    ExitObjectField(
-        Spanning<&'a String, &'a Span>,
-        Spanning<&'a InputValue<S>, &'a Span>,
-    ),
+    EnterObjectField(Spanning<&'a String, &'a Span>, Spanning<&'a InputValue<S>, &'a Span>),
+    ExitObjectField(Spanning<&'a String, &'a Span>, Spanning<&'a InputValue<S>, &'a Span>),
 }

@@ -91,8 +91,7 @@ impl<'a, S: CheckedScalar> Visitor<'a, S> for MultiVisitorNil {
 }
 
 impl<'a, S: CheckedScalar, A: Visitor<'a, S>, B: Visitor<'a, S>> Visitor<'a, S>
-    for MultiVisitorCons<A, B>
-{
+    for MultiVisitorCons<A, B> {
     fn on(
         &mut self,
         ctx: &mut ValidatorContext<'a, S>,

@@ -11,7 +11,10 @@ fn prints_its_places(rt: HostRuntime) -> Result<(), Fail> {
         SourcePosition::new(30, 2, 3),
     ];
     let error = RuleError::new(rt.alloc(), "Unknown fragment: \"A\"", &places)?;
-    assert_eq!(rt; error.to_string(rt.alloc())?.as_str(), "Unknown fragment: \"A\". At 0:11, 2:3");
+    assert_eq!(rt;
+        error.to_string(rt.alloc())?.as_str(),
+        "Unknown fragment: \"A\". At 0:11, 2:3"
+    );
     assert_eq!(rt; error.message(), "Unknown fragment: \"A\"");
     assert_eq!(rt; error.locations().len(), 2);
     let nowhere = RuleError::new(rt.alloc(), "m", &[])?;

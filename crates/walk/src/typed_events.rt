@@ -43,7 +43,11 @@ pub type PlannedEvent<'a, S> = PlannedEventOf<'a, S, <S as CheckedScalar>::Check
 
 impl<'a, S, C> TypesOf<'a, S, C> {
     // Where a type is written.
-    pub(crate) fn at_type(self, schema: &'a SchemaTypeOf<S, C>, literal: Option<BorrowedType<'a>>) -> Self
+    pub(crate) fn at_type(
+        self,
+        schema: &'a SchemaTypeOf<S, C>,
+        literal: Option<BorrowedType<'a>>,
+    ) -> Self
         ensures { typing_of result ≡ at_type schema.now (typing_of self.entry) (option_map borrowed_shape literal.entry) }
     {
         let current = match literal {
@@ -314,27 +318,69 @@ fn events_of_value<'a, S, C>(
             types,
         ),
         InputValue::List(items) => {
-            push_event(events, Event::EnterListValue(Spanning { item: items, span }), types)?;
+            push_event(
+                events,
+                Event::EnterListValue(Spanning { item: items, span }),
+                types,
+            )?;
             let inside = types.at_items();
             events_of_items(schema, items.as_slice(), inside, events)?;
-            push_event(events, Event::ExitListValue(Spanning { item: items, span }), types)
+            push_event(
+                events,
+                Event::ExitListValue(Spanning { item: items, span }),
+                types,
+            )
         }
         InputValue::Object(entries) => {
-            push_event(events, Event::EnterObjectValue(Spanning { item: entries, span }), types)?;
+            push_event(
+                events,
+                Event::EnterObjectValue(Spanning {
+                    item: entries,
+                    span,
+                }),
+                types,
+            )?;
             for entry in entries {
                 let (key, value) = entry;
                 let inside = types.at_object_field(schema, key.item.as_str());
-                push_event(events, Event::EnterObjectField(
-                        Spanning { item: &key.item, span: &key.span },
-                        Spanning { item: &value.item, span: &value.span },
-                    ), inside)?;
+                push_event(
+                    events,
+                    Event::EnterObjectField(
+                        Spanning {
+                            item: &key.item,
+                            span: &key.span,
+                        },
+                        Spanning {
+                            item: &value.item,
+                            span: &value.span,
+                        },
+                    ),
+                    inside,
+                )?;
                 events_of_value(schema, &value.item, &value.span, inside, events)?;
-                push_event(events, Event::ExitObjectField(
-                        Spanning { item: &key.item, span: &key.span },
-                        Spanning { item: &value.item, span: &value.span },
-                    ), inside)?;
+                push_event(
+                    events,
+                    Event::ExitObjectField(
+                        Spanning {
+                            item: &key.item,
+                            span: &key.span,
+                        },
+                        Spanning {
+                            item: &value.item,
+                            span: &value.span,
+                        },
+                    ),
+                    inside,
+                )?;
             }
-            push_event(events, Event::ExitObjectValue(Spanning { item: entries, span }), types)
+            push_event(
+                events,
+                Event::ExitObjectValue(Spanning {
+                    item: entries,
+                    span,
+                }),
+                types,
+            )
         }
     }
 }
@@ -571,7 +617,12 @@ fn events_of_inline<'a, S, C>(
     let inside = types.at_condition(schema, &fragment.item.type_condition);
     push_event(events, Event::EnterInlineFragment(fragment), inside)?;
     events_of_directives(schema, &fragment.item.directives, inside, events)?;
-    events_of_set(schema, fragment.item.selection_set.as_slice(), inside, events)?;
+    events_of_set(
+        schema,
+        fragment.item.selection_set.as_slice(),
+        inside,
+        events,
+    )?;
     push_event(events, Event::ExitInlineFragment(fragment), inside)
 }
 
@@ -588,7 +639,12 @@ fn events_of_operation<'a, S, C>(
     push_event(events, Event::EnterOperationDefinition(operation), inside)?;
     events_of_variable_definitions(schema, &operation.item.variable_definitions, inside, events)?;
     events_of_directives(schema, &operation.item.directives, inside, events)?;
-    events_of_set(schema, operation.item.selection_set.as_slice(), inside, events)?;
+    events_of_set(
+        schema,
+        operation.item.selection_set.as_slice(),
+        inside,
+        events,
+    )?;
     push_event(events, Event::ExitOperationDefinition(operation), inside)
 }
 
@@ -604,7 +660,12 @@ fn events_of_fragment<'a, S, C>(
     let inside = types.at_named(schema, fragment.item.type_condition.item);
     push_event(events, Event::EnterFragmentDefinition(fragment), inside)?;
     events_of_directives(schema, &fragment.item.directives, inside, events)?;
-    events_of_set(schema, fragment.item.selection_set.as_slice(), inside, events)?;
+    events_of_set(
+        schema,
+        fragment.item.selection_set.as_slice(),
+        inside,
+        events,
+    )?;
     push_event(events, Event::ExitFragmentDefinition(fragment), inside)
 }
 
