@@ -1,0 +1,14 @@
+use Rattle.std.proofs.Common.{◌≡◌, ap, ◌∙◌}
+use Rattle.walk.specs.EventValue.{typing_of, all_planned}
+use Rattle.walk.specs.Outline.{outline_of_definition}
+use Rattle.walk.specs.TypedEvent.{events_of}
+use Rattle.walk.proofs.Walks.{IfOk-ran}
+use Rattle.walk.proofs.walk.visit_definition.Goals as goal
+
+pub returns-in-Ok-clause-ran : goal.returns-in-Ok-clause-ran
+returns-in-Ok-clause-ran g c =
+    let e : all_planned c.deref.result.now ≡ events_of (outline_of_definition c.args.ctx.now.schema (typing_of c.args.types) c.args.definition.now) =
+    ap all_planned c.deref.ensures.value
+    ∙ c.in-Ok.ensures
+    ∙ ap (λ w. events_of (outline_of_definition w.schema (typing_of c.args.types) c.args.definition.now)) c.ctx.view_is in
+    IfOk-ran g.V.Machine.step _ _ c.args.v.now c.tell_all.new.v c.args.ctx.now c.tell_all.new.ctx c.tell_all.result e c.tell_all.ensures.ran

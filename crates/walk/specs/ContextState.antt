@@ -1,0 +1,64 @@
+-- What a context holds, as callers see it.
+use Rattle.std.specs.Prelude.{ℕ, ◌-◌, List, [], ◌∷◌, ◌++◌, Option, Some, None, Bool, true, false, slice_get, length, take}
+use Rattle.language.specs.declared.tree.Definition.{Definition}
+use Rattle.schema.specs.Catalog.{Catalog}
+use Rattle.walk.specs.ErrorValue.{ErrorValue}
+use Rattle.walk.specs.Names.{fragment_names}
+use Rattle.walk.specs.Typing.{Typing, untyped}
+
+-- the schema, the names of the document's fragments, the types that were pushed, what was reported, and whether it has failed
+pub record ContextState (S C : Type 0) : Type 0 where
+  pub schema : Catalog S C
+  pub known : List (List ℕ)
+  pub typings : List (Typing S C)
+  pub errors : List ErrorValue
+  pub failed : Bool
+
+-- what stays the same in a walk: the schema, and the names of the document's fragments
+pub record DocumentScope (S C : Type 0) : Type 0 where
+  pub schema : Catalog S C
+  pub known : List (List ℕ)
+
+module _ {S C : Type 0} where
+  abbrev pub or_untyped : Option (Typing S C) → Typing S C
+  or_untyped None = untyped
+  or_untyped (Some t) = t
+
+  -- the types at hand: those that were pushed last
+  abbrev pub last_typing : List (Typing S C) → Typing S C
+  last_typing ts = or_untyped (slice_get ts (length ts - 1))
+
+  abbrev pub typing : ContextState S C → Typing S C
+  typing w = last_typing w.typings
+
+  -- the context with these types pushed
+  abbrev pub pushed : ContextState S C → Typing S C → ContextState S C
+  pushed w t = record w { typings = w.typings ++ t ∷ [] }
+
+  -- and without the types that were pushed last
+  abbrev pub popped : ContextState S C → ContextState S C
+  popped w = record w { typings = take (length w.typings - 1) w.typings }
+
+  -- the context with more errors
+  abbrev pub with_errors : ContextState S C → List ErrorValue → ContextState S C
+  with_errors w es = record w { errors = w.errors ++ es }
+
+  -- the context once it has failed
+  abbrev pub failing : ContextState S C → ContextState S C
+  failing w = record w { failed = true }
+
+  abbrev pub scope_of_context : ContextState S C → DocumentScope S C
+  scope_of_context w = record { schema = w.schema; known = w.known }
+
+  -- what is known of a document
+  abbrev pub scope_of : Catalog S C → List (Definition S) → DocumentScope S C
+  scope_of schema doc = record { schema = schema; known = fragment_names doc }
+
+  -- a context that was made for a document: no types, and nothing reported
+  abbrev pub fresh_context : Catalog S C → List (Definition S) → ContextState S C
+  fresh_context schema doc = record { schema = schema; known = fragment_names doc; typings = []; errors = []; failed = false }
+
+-- whether there is an error
+abbrev pub has_some : {X : Type 0} → List X → Bool
+has_some [] = false
+has_some (x ∷ xs) = true

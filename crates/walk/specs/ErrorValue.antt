@@ -1,0 +1,34 @@
+-- An error of validation as callers see it.
+use Rattle.std.specs.Prelude.{ℕ, List, [], ◌∷◌, ◌++◌, codes}
+use Rattle.std.specs.List.{flat_map}
+use Rattle.std.specs.declared.cmp.Ordering.{Ordering}
+use Rattle.std.specs.Ordering.{nat_cmp, on, then_cmp}
+use Rattle.std.specs.Cmp.Lexicographic.{slice_cmp}
+use Rattle.language.specs.declared.position.SourcePosition.{SourcePosition}
+use Rattle.language.specs.Position.{index_of, line_of, column_of, printed_position}
+
+-- the places in their order, and the bytes of the message
+pub record ErrorValue : Type 0 where
+  pub locations : List SourcePosition
+  pub message : List ℕ
+
+-- by index, then line, then column
+abbrev pub position_cmp : SourcePosition → SourcePosition → Ordering
+position_cmp = then_cmp (on index_of nat_cmp) (then_cmp (on line_of nat_cmp) (on column_of nat_cmp))
+
+-- place by place, a beginning before a longer list, and then by the bytes of the message
+abbrev pub error_cmp : ErrorValue → ErrorValue → Ordering
+error_cmp = then_cmp (on (λ e. e.locations) (slice_cmp position_cmp)) (on (λ e. e.message) (slice_cmp nat_cmp))
+
+-- places after a first one
+abbrev pub more_places : List SourcePosition → List ℕ
+more_places ps = flat_map (λ p. codes ", " ++ printed_position p) ps
+
+-- places with commas between them
+abbrev pub printed_places : List SourcePosition → List ℕ
+printed_places [] = []
+printed_places (p ∷ ps) = printed_position p ++ more_places ps
+
+-- what an error prints
+abbrev pub printed_error : ErrorValue → List ℕ
+printed_error e = (e.message ++ codes ". At ") ++ printed_places e.locations

@@ -1,0 +1,51 @@
+-- What rules may report of documents.
+use Rattle.std.specs.Prelude.{◌≡◌, List, [], ◌++◌, IsPermutation}
+use Rattle.language.specs.declared.tree.Definition.{Definition}
+use Rattle.schema.specs.Catalog.{Catalog}
+use Rattle.walk.specs.declared.multi_visitor.MultiVisitorCons.{MultiVisitorCons}
+use Rattle.walk.specs.ErrorValue.{ErrorValue}
+use Rattle.walk.specs.ContextState.{ContextState, DocumentScope, scope_of, with_errors}
+use Rattle.walk.specs.Typing.{Typing}
+use Rattle.walk.specs.TypedEvent.{typed_events}
+use Rattle.walk.specs.Step.{StepOf, Run}
+
+-- which lists of errors may be reported of each document, which stands at the types given
+abbrev pub Allowance : Type 0 → Type 0 → Type 1
+Allowance S C = DocumentScope S C → Typing S C → List (Definition S) → List ErrorValue → Type 0
+
+-- a list of errors for each document
+abbrev pub Collection : Type 0 → Type 0 → Type 0
+Collection S C = DocumentScope S C → Typing S C → List (Definition S) → List ErrorValue
+
+module _ {S C : Type 0} where
+  -- just these errors, in some order
+  abbrev pub exactly : Collection S C → Allowance S C
+  exactly collection scope t doc es = IsPermutation (collection scope t doc) es
+
+  -- what the one allows and what the other allows, in some order
+  abbrev pub together : Allowance S C → Allowance S C → Allowance S C
+  together newer other scope t doc es =
+      (fs : List ErrorValue) × (gs : List ErrorValue) × newer scope t doc fs × other scope t doc gs × IsPermutation (fs ++ gs) es
+
+  -- no errors
+  abbrev pub nothing : Allowance S C
+  nothing scope t doc es = es ≡ []
+
+  -- what each run from a fresh value reports of a document is allowed
+  abbrev pub AllowsFrom : {V : Type 0} → StepOf S C V → (V → Type 0) → Allowance S C → Type 0
+  AllowsFrom {V} step fresh allows =
+      (start : V) → fresh start → (schema : Catalog S C) (t : Typing S C) (doc : List (Definition S)) (end : V) (es : List ErrorValue)
+      → Run (step (scope_of schema doc)) (typed_events schema t doc) start end es
+      → allows (scope_of schema doc) t doc es
+
+  -- errors of which P holds were appended, and nothing else has changed
+  abbrev pub Appended : (List ErrorValue → Type 0) → ContextState S C → ContextState S C → Type 0
+  Appended P old new = (es : List ErrorValue) × P es × (new ≡ with_errors old es)
+
+-- both of a pair are fresh
+abbrev pub pair_fresh : {V W : Type 0} → (V → Type 0) → (W → Type 0) → MultiVisitorCons V W → Type 0
+pair_fresh newer other a = newer a.0 × other a.1
+
+-- any value is
+abbrev pub any_value : {V : Type 0} → V → Type 0
+any_value a = Unit {0}

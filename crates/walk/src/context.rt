@@ -1,0 +1,303 @@
+//! What visitors know and report in a walk.
+
+ghost use Rattle.std.specs.Prelude.{◌≡◌, ◌⊎◌, ◌++◌, ◌∷◌, [], true, false, IsErr, OnOk, OnErr, map, IfOk, IsPermutation, IsSorted};
+ghost use Rattle.std.specs.Fn.{FnOnceReturnsAtMut};
+ghost use Rattle.std.specs.Option.{option_copied, option_map};
+ghost use Rattle.language.specs.Types.{borrowed_shape};
+ghost use Rattle.walk.specs.ContextState.{ContextState, typing, pushed, popped, with_errors, failing, fresh_context, has_some};
+ghost use Rattle.walk.specs.ErrorValue.{error_cmp};
+ghost use Rattle.walk.specs.EventValue.{typing_of};
+ghost use Rattle.walk.specs.Names.{is_among};
+ghost use Rattle.walk.specs.Typing.{at_type, at_input, at_set};
+
+use crate::RuleError;
+use crate::fragment_names::FragmentNames;
+use crate::typed_events::TypesOf;
+use language::error::OutOfMemory;
+use language::position::SourcePosition;
+use language::tree::Definition;
+use language::types::BorrowedType;
+use schema::check::CheckedScalar;
+use schema::meta::MetaTypeOf;
+use schema::model::SchemaTypeOf;
+use std::alloc::Global;
+use std::marker::Model;
+
+/// The schema, the names of the document's fragments, the types at the node at hand, and the errors that were reported.
+///
+/// A context that has failed, since memory was refused in one of its calls or in a walk over it, refuses each later call that
+/// reports, pushes or ends, and each later walk.
+#[derive(Drop)]
+pub struct ValidatorContextOf<'a, S, C> {
+    pub schema: &'a SchemaTypeOf<S, C>,
+    alloc: Global,
+    fragment_names: FragmentNames<'a>,
+    types: Vec<TypesOf<'a, S, C>>,
+    errors: Vec<RuleError>,
+    failed: bool,
+}
+
+/// The context of a walk, with the checks that its kind of scalars has.
+pub type ValidatorContext<'a, S> = ValidatorContextOf<'a, S, <S as CheckedScalar>::Check>;
+
+impl<'a, S, C> Model for ValidatorContextOf<'a, S, C> {
+    ghost use Rattle.std.specs.Prelude.{map};
+    ghost use Rattle.walk.specs.Codes.{coded_state};
+    ghost use Rattle.walk.specs.ContextState.{ContextState};
+    ghost use Rattle.walk.specs.EventValue.{typing_of};
+    ghost use Rattle.walk.specs.FragmentSet.{known_names};
+
+    ghost Value = { ContextState S C };
+
+    ghost coded = { Prim.hlevel coded_state };
+
+    ghost view = { λ c. record { schema = c.schema.now; known = known_names c.fragment_names; typings = map typing_of c.types.items; errors = c.errors.items; failed = c.failed } };
+}
+
+impl<'a, S, C> ValidatorContextOf<'a, S, C> {
+    /// A context for a document, in which no types are pushed and nothing is reported.
+    pub fn new(
+        alloc: Global,
+        schema: &'a SchemaTypeOf<S, C>,
+        document: &'a [Definition<'a, S>],
+    ) -> Result<ValidatorContextOf<'a, S, C>, OutOfMemory>
+        ensures { IfOk result (λ ctx. ctx ≡ fresh_context schema.now document.now) }
+    {
+        let fragment_names = FragmentNames::new(alloc, document)?;
+        Ok(ValidatorContextOf {
+            schema,
+            alloc,
+            fragment_names,
+            types: Vec::new(alloc),
+            errors: Vec::new(alloc),
+            failed: false,
+        })
+    }
+
+    /// What the context allocates by.
+    pub fn allocator(&self) -> Global {
+        self.alloc
+    }
+
+    /// Whether the document that the context was made for has a fragment of the name.
+    pub fn is_known_fragment(&self, name: &str) -> bool
+        ensures { result ≡ is_among self.now.known name.now }
+    {
+        self.fragment_names.has(name)
+    }
+
+    /// Whether an error was reported.
+    pub fn has_errors(&self) -> bool
+        ensures { result ≡ has_some self.now.errors }
+    {
+        !self.errors.is_empty()
+    }
+
+    /// The types at the node at hand.
+    pub(crate) fn types(&self) -> TypesOf<'a, S, C>
+        ensures { typing_of result ≡ typing self.now }
+    {
+        match self.types.last() {
+            Some(types) => *types,
+            None => TypesOf {
+                current: None,
+                literal: None,
+                parent: None,
+                input: None,
+            },
+        }
+    }
+
+    /// The type of the schema at the node at hand, where there is one.
+    pub fn current_type(&self) -> Option<&'a MetaTypeOf<S, C>>
+        ensures { option_copied result ≡ (typing self.now).current }
+    {
+        self.types().current
+    }
+
+    /// That type as it was written.
+    pub fn current_type_literal(&self) -> Option<BorrowedType<'a>>
+        ensures { option_map borrowed_shape result ≡ (typing self.now).literal }
+    {
+        self.types().literal
+    }
+
+    /// The type of the selection set round the node at hand, where there is one.
+    pub fn parent_type(&self) -> Option<&'a MetaTypeOf<S, C>>
+        ensures { option_copied result ≡ (typing self.now).parent }
+    {
+        self.types().parent
+    }
+
+    /// The type of the input that is expected at the node at hand, as it was written.
+    pub fn current_input_type_literal(&self) -> Option<BorrowedType<'a>>
+        ensures { option_map borrowed_shape result ≡ (typing self.now).input }
+    {
+        self.types().input
+    }
+
+    /// Adds an error with this message, at these places.
+    pub fn report_error(
+        &mut self,
+        message: &str,
+        locations: &[SourcePosition],
+    ) -> Result<(), OutOfMemory>
+        ensures ok { OnOk result (self.new ≡ with_errors self.old (record { locations = locations.now; message = message.now } ∷ [])) }
+        ensures err { OnErr result (self.new ≡ failing self.old) }
+        ensures stays { self.old.failed ≡ true → IsErr result }
+    {
+        if self.failed {
+            return Err(OutOfMemory);
+        }
+        match RuleError::new(self.alloc, message, locations) {
+            Ok(error) => self.push_error(error),
+            Err(_) => {
+                self.failed = true;
+                Err(OutOfMemory)
+            }
+        }
+    }
+
+    // Adds an error.
+    fn push_error(&mut self, error: RuleError) -> Result<(), OutOfMemory>
+        ensures ok { OnOk result (self.new ≡ with_errors self.old (error ∷ [])) }
+        ensures err { OnErr result (self.new ≡ failing self.old) }
+    {
+        if self.errors.push(error).is_err() {
+            self.failed = true;
+            return Err(OutOfMemory);
+        }
+        Ok(())
+    }
+
+    /// Adds errors, in their order.
+    pub fn append_errors(&mut self, mut errors: Vec<RuleError>) -> Result<(), OutOfMemory>
+        ensures ok { OnOk result (self.new ≡ with_errors self.old errors.items) }
+        ensures err { OnErr result (self.new ≡ failing self.old) }
+        ensures stays { self.old.failed ≡ true → IsErr result }
+    {
+        if self.failed {
+            return Err(OutOfMemory);
+        }
+        if self.errors.append(&mut errors).is_err() {
+            self.failed = true;
+            return Err(OutOfMemory);
+        }
+        Ok(())
+    }
+
+    /// The errors that were reported, in ascending order, each as often as it was reported.
+    pub fn into_errors(self) -> Result<Vec<RuleError>, OutOfMemory>
+        ensures all { IfOk result (λ errors. IsPermutation self.entry.errors errors.items) }
+        ensures sorted { IfOk result (λ errors. IsSorted error_cmp errors.items) }
+        ensures stays { self.entry.failed ≡ true → IsErr result }
+    {
+        let mut errors = self.errors;
+        if self.failed {
+            return Err(OutOfMemory);
+        }
+        errors.sort()?;
+        Ok(errors)
+    }
+
+    // Goes to a node of these types.
+    pub(crate) fn push_types(&mut self, types: TypesOf<'a, S, C>) -> Result<(), OutOfMemory>
+        ensures ok { OnOk result (self.new ≡ pushed self.old (typing_of types.entry)) }
+        ensures err { OnErr result (self.new ≡ failing self.old) }
+        ensures stays { self.old.failed ≡ true → IsErr result }
+    {
+        if self.failed {
+            return Err(OutOfMemory);
+        }
+        if self.types.push(types).is_err() {
+            self.failed = true;
+            return Err(OutOfMemory);
+        }
+        Ok(())
+    }
+
+    // Leaves it.
+    pub(crate) fn pop_types(&mut self)
+        ensures { self.new ≡ popped self.old }
+    {
+        let _ = self.types.pop();
+    }
+
+    // Refuses each later call.
+    pub(crate) fn fail(&mut self)
+        ensures { self.new ≡ failing self.old }
+    {
+        self.failed = true;
+    }
+
+    // Calls f at these types, or not at all where they can't be pushed.
+    fn with_types<R, F: FnOnce(&mut ValidatorContextOf<'a, S, C>) -> Result<R, OutOfMemory> + Drop>(
+        &mut self,
+        types: TypesOf<'a, S, C>,
+        f: F,
+    ) -> Result<R, OutOfMemory>
+        requires { F.IsAlwaysCallable f }
+        ensures ok { OnOk result ((after : ContextState S C) × FnOnceReturnsAtMut F.FnOnce f (pushed self.old (typing_of types.entry)) result after × (self.new ≡ popped after)) }
+        ensures err { OnErr result ((self.new ≡ failing self.old) ⊎ ((after : ContextState S C) × FnOnceReturnsAtMut F.FnOnce f (pushed self.old (typing_of types.entry)) result after × (self.new ≡ failing (popped after)))) }
+        ensures stays { self.old.failed ≡ true → IsErr result }
+    {
+        self.push_types(types)?;
+        let done = f(self);
+        self.pop_types();
+        if done.is_err() {
+            self.fail();
+        }
+        done
+    }
+
+    /// Calls f once with the context, in which this type, as it is written, is the type at hand.
+    ///
+    /// Where the push is refused f is not called. What f answers is handed on, and what was pushed is taken off again; after a
+    /// refusal, f's own too, the context has failed.
+    pub fn with_pushed_type<
+        R,
+        F: FnOnce(&mut ValidatorContextOf<'a, S, C>) -> Result<R, OutOfMemory> + Drop,
+    >(&mut self, t: Option<BorrowedType<'a>>, f: F) -> Result<R, OutOfMemory>
+        requires { F.IsAlwaysCallable f }
+        ensures ok { OnOk result ((after : ContextState S C) × FnOnceReturnsAtMut F.FnOnce f (pushed self.old (at_type self.old.schema (typing self.old) (option_map borrowed_shape t.entry))) result after × (self.new ≡ popped after)) }
+        ensures err { OnErr result ((self.new ≡ failing self.old) ⊎ ((after : ContextState S C) × FnOnceReturnsAtMut F.FnOnce f (pushed self.old (at_type self.old.schema (typing self.old) (option_map borrowed_shape t.entry))) result after × (self.new ≡ failing (popped after)))) }
+        ensures stays { self.old.failed ≡ true → IsErr result }
+    {
+        let types = self.types().at_type(self.schema, t);
+        self.with_types(types, f)
+    }
+
+    /// Calls f once with the context, in which the type at hand is the parent type.
+    ///
+    /// Where the push is refused f is not called. What f answers is handed on, and what was pushed is taken off again; after a
+    /// refusal, f's own too, the context has failed.
+    pub fn with_pushed_parent_type<
+        R,
+        F: FnOnce(&mut ValidatorContextOf<'a, S, C>) -> Result<R, OutOfMemory> + Drop,
+    >(&mut self, f: F) -> Result<R, OutOfMemory>
+        requires { F.IsAlwaysCallable f }
+        ensures ok { OnOk result ((after : ContextState S C) × FnOnceReturnsAtMut F.FnOnce f (pushed self.old (at_set (typing self.old))) result after × (self.new ≡ popped after)) }
+        ensures err { OnErr result ((self.new ≡ failing self.old) ⊎ ((after : ContextState S C) × FnOnceReturnsAtMut F.FnOnce f (pushed self.old (at_set (typing self.old))) result after × (self.new ≡ failing (popped after)))) }
+        ensures stays { self.old.failed ≡ true → IsErr result }
+    {
+        let types = self.types().at_set();
+        self.with_types(types, f)
+    }
+
+    /// Calls f once with the context, in which an input of this type is expected.
+    ///
+    /// Where the push is refused f is not called. What f answers is handed on, and what was pushed is taken off again; after a
+    /// refusal, f's own too, the context has failed.
+    pub fn with_pushed_input_type<
+        R,
+        F: FnOnce(&mut ValidatorContextOf<'a, S, C>) -> Result<R, OutOfMemory> + Drop,
+    >(&mut self, t: Option<BorrowedType<'a>>, f: F) -> Result<R, OutOfMemory>
+        requires { F.IsAlwaysCallable f }
+        ensures ok { OnOk result ((after : ContextState S C) × FnOnceReturnsAtMut F.FnOnce f (pushed self.old (at_input (typing self.old) (option_map borrowed_shape t.entry))) result after × (self.new ≡ popped after)) }
+        ensures err { OnErr result ((self.new ≡ failing self.old) ⊎ ((after : ContextState S C) × FnOnceReturnsAtMut F.FnOnce f (pushed self.old (at_input (typing self.old) (option_map borrowed_shape t.entry))) result after × (self.new ≡ failing (popped after)))) }
+        ensures stays { self.old.failed ≡ true → IsErr result }
+    {
+        let types = self.types().at_input(t);
+        self.with_types(types, f)
+    }
+}

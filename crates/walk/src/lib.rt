@@ -1,0 +1,24 @@
+//! Errors of validation, the context of a walk, visitors, and the walk over a document.
+#![tactic(auto)]
+
+pub mod context;
+pub mod event;
+mod fragment_names;
+pub mod laws;
+pub mod multi_visitor;
+pub mod rule;
+pub mod rule_error;
+#[cfg(test)]
+mod tests;
+mod typed_events;
+pub mod visitor;
+pub mod walk;
+
+pub use context::{ValidatorContext, ValidatorContextOf};
+pub use event::Event;
+pub use language::error::OutOfMemory;
+pub use multi_visitor::{MultiVisitorCons, MultiVisitorNil};
+pub use rule::Rule;
+pub use rule_error::RuleError;
+pub use visitor::{Fresh, Machine, Visitor};
+pub use walk::{visit, visit_rules, walk_with};

@@ -1,0 +1,103 @@
+//! Several visitors as one.
+
+ghost use Rattle.std.specs.Prelude.{◌≡◌};
+ghost use Rattle.walk.specs.Pair.{no_step, pair_step};
+
+use crate::ValidatorContext;
+use crate::event::Event;
+use crate::visitor::{Fresh, Machine, Visitor};
+use language::error::OutOfMemory;
+use schema::check::CheckedScalar;
+
+/// No visitor.
+#[derive(Drop)]
+pub struct MultiVisitorNil;
+
+/// A visitor, and others that were there before it; it hears of each event first.
+#[derive(Drop)]
+pub struct MultiVisitorCons<A, B>(A, B);
+
+impl MultiVisitorNil {
+    /// A list of this visitor alone.
+    pub fn with<V>(self, visitor: V) -> MultiVisitorCons<V, MultiVisitorNil>
+        ensures { result ≡ record { 0 = visitor; 1 = self } }
+    {
+        MultiVisitorCons(visitor, self)
+    }
+}
+
+impl MultiVisitorNil {
+    /// A list of this rule alone, which is fresh.
+    pub fn with_rule<V: Fresh>(self, rule: V) -> MultiVisitorCons<V, MultiVisitorNil>
+        requires { V.fresh rule }
+        ensures made { result ≡ record { 0 = rule; 1 = self } }
+        ensures fresh { ⟦<MultiVisitorCons<V, MultiVisitorNil> as Fresh>⟧.fresh result }
+    {
+        MultiVisitorCons(rule, self)
+    }
+}
+
+impl<A: Fresh, B: Fresh> MultiVisitorCons<A, B> {
+    /// The list with one rule more; where it was fresh, and the rule is, it is fresh.
+    pub fn with_rule<V: Fresh>(self, rule: V) -> MultiVisitorCons<V, MultiVisitorCons<A, B>>
+        requires rule { V.fresh rule }
+        requires others { ⟦<MultiVisitorCons<A, B> as Fresh>⟧.fresh self }
+        ensures made { result ≡ record { 0 = rule; 1 = self } }
+        ensures fresh { ⟦<MultiVisitorCons<V, MultiVisitorCons<A, B>> as Fresh>⟧.fresh result }
+    {
+        MultiVisitorCons(rule, self)
+    }
+}
+
+impl<A, B> MultiVisitorCons<A, B> {
+    /// The list with one visitor more, which hears of each event first.
+    pub fn with<V>(self, visitor: V) -> MultiVisitorCons<V, MultiVisitorCons<A, B>>
+        ensures { result ≡ record { 0 = visitor; 1 = self } }
+    {
+        MultiVisitorCons(visitor, self)
+    }
+
+    /// The visitor that was added last.
+    pub fn newest(&self) -> &A
+        ensures { result.now ≡ self.now.0 }
+    {
+        &self.0
+    }
+
+    /// The other visitors.
+    pub fn rest(&self) -> &B
+        ensures { result.now ≡ self.now.1 }
+    {
+        &self.1
+    }
+}
+
+impl<S, C> Machine<S, C> for MultiVisitorNil {
+    ghost step = { no_step };
+}
+
+impl<S, C, A: Machine<S, C>, B: Machine<S, C>> Machine<S, C> for MultiVisitorCons<A, B> {
+    ghost step = { pair_step A.step B.step };
+}
+
+impl<'a, S: CheckedScalar> Visitor<'a, S> for MultiVisitorNil {
+    fn on(
+        &mut self,
+        _ctx: &mut ValidatorContext<'a, S>,
+        _event: &Event<'a, S>,
+    ) -> Result<(), OutOfMemory> {
+        Ok(())
+    }
+}
+
+impl<'a, S: CheckedScalar, A: Visitor<'a, S>, B: Visitor<'a, S>> Visitor<'a, S>
+    for MultiVisitorCons<A, B> {
+    fn on(
+        &mut self,
+        ctx: &mut ValidatorContext<'a, S>,
+        event: &Event<'a, S>,
+    ) -> Result<(), OutOfMemory> {
+        self.0.on(ctx, event)?;
+        self.1.on(ctx, event)
+    }
+}

@@ -1,0 +1,128 @@
+//! The walk over a document.
+
+ghost use Rattle.std.specs.Prelude.{◌≡◌, IfOk, OnOk, OnErr, IsErr, true};
+ghost use Rattle.walk.specs.ContextState.{typing, scope_of};
+ghost use Rattle.walk.specs.Names.{fragment_names};
+ghost use Rattle.walk.specs.Rule.{Appended};
+ghost use Rattle.walk.specs.EventValue.{typed_event, typing_of, planned, all_planned};
+ghost use Rattle.walk.specs.Outline.{outline_of_definition};
+ghost use Rattle.walk.specs.Step.{Ran, Stepped, KeepsPlace};
+ghost use Rattle.walk.specs.TypedEvent.{events_of, typed_events};
+
+use crate::ValidatorContext;
+use crate::event::Event;
+use crate::multi_visitor::MultiVisitorCons;
+use crate::rule::Rule;
+use crate::typed_events::{PlannedEvent, TypesOf, events_of_definition};
+use crate::visitor::{Machine, Visitor};
+use language::error::OutOfMemory;
+use language::tree::Definition;
+use schema::check::CheckedScalar;
+
+// Tells a visitor of one event, at these types.
+fn tell_one<'a, S: CheckedScalar, V: Visitor<'a, S>>(
+    v: &mut V,
+    ctx: &mut ValidatorContext<'a, S>,
+    event: &Event<'a, S>,
+    types: TypesOf<'a, S, S::Check>,
+) -> Result<(), OutOfMemory>
+    ensures stepped { IfOk result (λ _. Stepped V.step (typed_event event.now (typing_of types.entry)) v.old v.new ctx.old ctx.new) }
+    ensures err { OnErr result (KeepsPlace ctx.old ctx.new) }
+    ensures failed { OnErr result (ctx.new.failed ≡ true) }
+    ensures stays { ctx.old.failed ≡ true → IsErr result }
+{
+    ctx.push_types(types)?;
+    let done = v.on(ctx, event);
+    ctx.pop_types();
+    if done.is_err() {
+        ctx.fail();
+    }
+    done
+}
+
+// Tells a visitor of these events.
+fn tell_all<'a, S: CheckedScalar, V: Visitor<'a, S>>(
+    v: &mut V,
+    ctx: &mut ValidatorContext<'a, S>,
+    events: &[PlannedEvent<'a, S>],
+) -> Result<(), OutOfMemory>
+    ensures ran { IfOk result (λ _. Ran V.step (all_planned events.now) v.old v.new ctx.old ctx.new) }
+    ensures err { OnErr result (KeepsPlace ctx.old ctx.new) }
+    ensures failed { OnErr result (ctx.new.failed ≡ true) }
+{
+    for planned in events {
+        tell_one(v, ctx, &planned.event, planned.types)?;
+    }
+    Ok(())
+}
+
+// Tells a visitor of the events of a definition, which stands at these types.
+fn visit_definition<'a, S: CheckedScalar, V: Visitor<'a, S>>(
+    v: &mut V,
+    ctx: &mut ValidatorContext<'a, S>,
+    definition: &'a Definition<'a, S>,
+    types: TypesOf<'a, S, S::Check>,
+) -> Result<(), OutOfMemory>
+    ensures ran { IfOk result (λ _. Ran V.step (events_of (outline_of_definition ctx.old.schema (typing_of types.entry) definition.now)) v.old v.new ctx.old ctx.new) }
+    ensures err { OnErr result (KeepsPlace ctx.old ctx.new) }
+    ensures failed { OnErr result (ctx.new.failed ≡ true) }
+{
+    match events_of_definition(ctx.allocator(), ctx.schema, definition, types) {
+        Ok(events) => tell_all(v, ctx, &events),
+        Err(_) => {
+            ctx.fail();
+            Err(OutOfMemory)
+        }
+    }
+}
+
+/// Tells a visitor of all events of a document, in their order, each at the types of its node.
+///
+/// It takes memory for the events of one definition at a time, and stops at the first refusal.
+pub fn walk_with<'a, S: CheckedScalar, V: Visitor<'a, S>>(
+    v: &mut V,
+    ctx: &mut ValidatorContext<'a, S>,
+    document: &'a [Definition<'a, S>],
+) -> Result<(), OutOfMemory>
+    ensures ran { IfOk result (λ _. Ran V.step (typed_events ctx.old.schema (typing ctx.old) document.now) v.old v.new ctx.old ctx.new) }
+    ensures err { OnErr result (KeepsPlace ctx.old ctx.new) }
+    ensures failed { OnErr result (ctx.new.failed ≡ true) }
+    ensures stays { ctx.old.failed ≡ true → IsErr result }
+{
+    let types = ctx.types();
+    tell_one(v, ctx, &Event::EnterDocument(document), types)?;
+    for definition in document {
+        visit_definition(v, ctx, definition, types)?;
+    }
+    tell_one(v, ctx, &Event::ExitDocument(document), types)
+}
+
+/// Walks over a document with the visitors of the list, of which the newest hears of each event first.
+pub fn visit<'a, A: Visitor<'a, S>, B: Visitor<'a, S>, S: CheckedScalar>(
+    v: &mut MultiVisitorCons<A, B>,
+    ctx: &mut ValidatorContext<'a, S>,
+    document: &'a [Definition<'a, S>],
+) -> Result<(), OutOfMemory>
+    ensures ran { IfOk result (λ _. Ran ⟦<MultiVisitorCons<A, B> as Machine<S, S::Check>>⟧.step (typed_events ctx.old.schema (typing ctx.old) document.now) v.old v.new ctx.old ctx.new) }
+    ensures err { OnErr result (KeepsPlace ctx.old ctx.new) }
+    ensures failed { OnErr result (ctx.new.failed ≡ true) }
+    ensures stays { ctx.old.failed ≡ true → IsErr result }
+{
+    walk_with(v, ctx, document)
+}
+
+/// Walks over a document with rules that are fresh, in a context that was made for this document.
+pub fn visit_rules<'a, S: CheckedScalar, R: Visitor<'a, S> + Rule<S, S::Check>>(
+    rules: &mut R,
+    ctx: &mut ValidatorContext<'a, S>,
+    document: &'a [Definition<'a, S>],
+) -> Result<(), OutOfMemory>
+    requires known { ctx.old.known ≡ fragment_names document.now }
+    requires fresh { R.fresh rules.old }
+    ensures appended { OnOk result (Appended (R.allows (scope_of ctx.old.schema document.now) (typing ctx.old) document.now) ctx.old ctx.new) }
+    ensures err { OnErr result (KeepsPlace ctx.old ctx.new) }
+    ensures failed { OnErr result (ctx.new.failed ≡ true) }
+    ensures stays { ctx.old.failed ≡ true → IsErr result }
+{
+    walk_with(rules, ctx, document)
+}
