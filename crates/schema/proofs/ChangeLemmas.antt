@@ -67,13 +67,13 @@ module _ {S C : Type 0} where
   -- a schema is what callers see of it
   pub catalog-same : (c d : Catalog S C) → c.description ≡ d.description → c.types ≡ d.types → c.roots ≡ d.roots → c.directives ≡ d.directives → c ≡ d
   catalog-same c d e f g h = λ i. record {
-      description = e i;
-      types = f i;
-      roots = g i;
-      directives = h i;
-      accepted = is_prop→PathP (λ j. IsAccepted (g j) (f j)) (λ j. IsAccepted-prop (g j) (f j)) c.accepted d.accepted i;
-      directive_inputs_input = is_prop→PathP (λ j. list_all (is_input_listed (f j)) (directive_inputs (h j)) ≡ true) (λ j. true-prop (list_all (is_input_listed (f j)) (directive_inputs (h j)))) c.directive_inputs_input d.directive_inputs_input i
-    }
+    description = e i;
+    types = f i;
+    roots = g i;
+    directives = h i;
+    accepted = is_prop→PathP (λ j. IsAccepted (g j) (f j)) (λ j. IsAccepted-prop (g j) (f j)) c.accepted d.accepted i;
+    directive_inputs_input = is_prop→PathP (λ j. list_all (is_input_listed (f j)) (directive_inputs (h j)) ≡ true) (λ j. true-prop (list_all (is_input_listed (f j)) (directive_inputs (h j)))) c.directive_inputs_input d.directive_inputs_input i;
+  }
 
 module _ {S : Type 0} (k : String Global) (d : DirectiveType S) (same : string_bytes k ≡ string_bytes d.name) where
   at_key : (e : String Global × DirectiveType S) → is_called directive_name (string_bytes e.0) e.1 ≡ true → string_eq k e.0 ≡ is_called directive_name (string_bytes d.name) e.1
