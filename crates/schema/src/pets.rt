@@ -1,11 +1,15 @@
 //! The list `pets` of the tests.
+ghost use Rattle.std.specs.Prelude.{◌≡◌};
+ghost use Rattle.schema.specs.Answers.{SameAnswer};
+
+use crate::default_check::{InputValueParseFn, ScalarTokenParseFn};
 use crate::error::SchemaError;
 use crate::meta::{
     Argument, EnumMetaOf, EnumValue, Field, InputObjectMetaOf, InterfaceMeta, MetaType, ObjectMeta,
     UnionMeta,
 };
 use crate::model::SchemaType;
-use crate::samples::{check_text, field, object, scalar};
+use crate::samples::{field, object, scalar};
 use language::types::Type;
 use language::value::{DefaultScalarValue, InputValue};
 use std::alloc::Global;
@@ -74,12 +78,15 @@ fn object_of(
     )
 }
 
-fn dog_command(alloc: Global) -> Result<MetaType, SchemaError> {
+fn dog_command(alloc: Global, check: InputValueParseFn) -> Result<MetaType, SchemaError>
+    requires callable { (a : _) (v : _) → InputValueParseFn.pre check a v }
+    requires one_answer { (a b : _) (v w : _) (r s : _) → v.now ≡ w.now → InputValueParseFn.post check a v r → InputValueParseFn.post check b w s → SameAnswer r s }
+{
     let mut values = Vec::new(alloc);
     values.push(EnumValue::new(alloc, "SIT")?)?;
     values.push(EnumValue::new(alloc, "HEEL")?)?;
     values.push(EnumValue::new(alloc, "DOWN")?)?;
-    Ok(EnumMetaOf::new(alloc, "DogCommand", values, check_text)?.into_meta())
+    Ok(EnumMetaOf::new(alloc, "DogCommand", values, check)?.into_meta())
 }
 
 fn dog(alloc: Global) -> Result<MetaType, SchemaError> {
@@ -108,19 +115,25 @@ fn human(alloc: Global) -> Result<MetaType, SchemaError> {
     object_of(alloc, "Human", fields, &["Being"])
 }
 
-fn complex_input(alloc: Global) -> Result<MetaType, SchemaError> {
+fn complex_input(alloc: Global, check: InputValueParseFn) -> Result<MetaType, SchemaError>
+    requires callable { (a : _) (v : _) → InputValueParseFn.pre check a v }
+    requires one_answer { (a b : _) (v w : _) (r s : _) → v.now ≡ w.now → InputValueParseFn.post check a v r → InputValueParseFn.post check b w s → SameAnswer r s }
+{
     let mut inputs = Vec::new(alloc);
     inputs.push(argument(alloc, "requiredField", Type::non_null(alloc, "Boolean")?)?)?;
     inputs.push(argument(alloc, "intField", nullable(alloc, "Int")?)?)?;
     inputs.push(argument(alloc, "stringListField", list(alloc, "String")?)?)?;
-    Ok(InputObjectMetaOf::new(alloc, "ComplexInput", inputs, check_text)?.into_meta())
+    Ok(InputObjectMetaOf::new(alloc, "ComplexInput", inputs, check)?.into_meta())
 }
 
-fn pair_input(alloc: Global) -> Result<MetaType, SchemaError> {
+fn pair_input(alloc: Global, check: InputValueParseFn) -> Result<MetaType, SchemaError>
+    requires callable { (a : _) (v : _) → InputValueParseFn.pre check a v }
+    requires one_answer { (a b : _) (v w : _) (r s : _) → v.now ≡ w.now → InputValueParseFn.post check a v r → InputValueParseFn.post check b w s → SameAnswer r s }
+{
     let mut inputs = Vec::new(alloc);
     inputs.push(argument(alloc, "b", Type::non_null(alloc, "Int")?)?)?;
     inputs.push(argument(alloc, "a", Type::non_null(alloc, "Int")?)?)?;
-    Ok(InputObjectMetaOf::new(alloc, "PairInput", inputs, check_text)?.into_meta())
+    Ok(InputObjectMetaOf::new(alloc, "PairInput", inputs, check)?.into_meta())
 }
 
 /// A field of type `String` with one argument.
@@ -174,10 +187,17 @@ fn query_root(alloc: Global) -> Result<MetaType, SchemaError> {
 }
 
 /// What every sample list begins with.
-fn common(alloc: Global) -> Result<Vec<MetaType>, SchemaError> {
+fn common(
+    alloc: Global,
+    check: InputValueParseFn,
+    token: ScalarTokenParseFn,
+) -> Result<Vec<MetaType>, SchemaError>
+    requires callable { (a : _) (v : _) → InputValueParseFn.pre check a v }
+    requires one_answer { (a b : _) (v w : _) (r s : _) → v.now ≡ w.now → InputValueParseFn.post check a v r → InputValueParseFn.post check b w s → SameAnswer r s }
+{
     let mut types = Vec::new(alloc);
-    types.push(scalar(alloc, "String")?)?;
-    types.push(scalar(alloc, "Boolean")?)?;
+    types.push(scalar(alloc, "String", check, token)?)?;
+    types.push(scalar(alloc, "Boolean", check, token)?)?;
     let query_type = Field::new(alloc, "queryType", Type::non_null(alloc, "__Type")?)?;
     types.push(object(alloc, "__Schema", query_type)?)?;
     types.push(object(alloc, "__Type", field(alloc, "name", "String")?)?)?;
@@ -185,10 +205,17 @@ fn common(alloc: Global) -> Result<Vec<MetaType>, SchemaError> {
 }
 
 /// The list `pets`.
-pub fn pets(alloc: Global) -> Result<Vec<MetaType>, SchemaError> {
-    let mut types = common(alloc)?;
-    types.push(scalar(alloc, "Int")?)?;
-    types.push(dog_command(alloc)?)?;
+pub fn pets(
+    alloc: Global,
+    check: InputValueParseFn,
+    token: ScalarTokenParseFn,
+) -> Result<Vec<MetaType>, SchemaError>
+    requires callable { (a : _) (v : _) → InputValueParseFn.pre check a v }
+    requires one_answer { (a b : _) (v w : _) (r s : _) → v.now ≡ w.now → InputValueParseFn.post check a v r → InputValueParseFn.post check b w s → SameAnswer r s }
+{
+    let mut types = common(alloc, check, token)?;
+    types.push(scalar(alloc, "Int", check, token)?)?;
+    types.push(dog_command(alloc, check)?)?;
     types.push(interface(alloc, "Being")?)?;
     types.push(interface(alloc, "Pet")?)?;
     types.push(dog(alloc)?)?;
@@ -196,8 +223,8 @@ pub fn pets(alloc: Global) -> Result<Vec<MetaType>, SchemaError> {
     types.push(human(alloc)?)?;
     types.push(union_of(alloc, "CatOrDog", &["Cat", "Dog"])?)?;
     types.push(union_of(alloc, "DogOrHuman", &["Dog", "Human"])?)?;
-    types.push(complex_input(alloc)?)?;
-    types.push(pair_input(alloc)?)?;
+    types.push(complex_input(alloc, check)?)?;
+    types.push(pair_input(alloc, check)?)?;
     types.push(complicated_args(alloc)?)?;
     types.push(query_root(alloc)?)?;
     Ok(types)

@@ -3,6 +3,7 @@ use crate::error::SchemaError;
 use crate::meta::{Argument, MetaType, UnionMeta};
 use crate::model::{DirectiveType, SchemaType, TypeType};
 use crate::pets::{pets, schema_of};
+use crate::samples::{check_text, no_token};
 use language::types::Type;
 use language::value::DefaultScalarValue;
 use std::alloc::Global;
@@ -30,7 +31,7 @@ fn meta<'s>(schema: &'s Pets, name: &str) -> Result<&'s MetaType, Fail> {
 #[test]
 fn types_are_listed_in_order(rt: HostRuntime) -> Result<(), Fail> {
     let alloc = rt.alloc();
-    let schema = schema_of(alloc, pets(alloc)?)?;
+    let schema = schema_of(alloc, pets(alloc, check_text, no_token)?)?;
     let mut text = String::new(alloc);
     let types: Vec<TypeType<'_, DefaultScalarValue>> = schema.type_list(alloc)?;
     for listed in types.iter() {
@@ -47,7 +48,7 @@ fn types_are_listed_in_order(rt: HostRuntime) -> Result<(), Fail> {
 #[test]
 fn types_are_listed_as_given(rt: HostRuntime) -> Result<(), Fail> {
     let alloc = rt.alloc();
-    let schema = schema_of(alloc, pets(alloc)?)?;
+    let schema = schema_of(alloc, pets(alloc, check_text, no_token)?)?;
     let listed = schema.concrete_type_list(alloc)?;
     let text = joined(alloc, listed.as_slice())?;
     assert_eq!(rt;
@@ -70,7 +71,7 @@ fn directive_names(alloc: Global, schema: &Pets) -> Result<String, SchemaError> 
 #[test]
 fn directives_are_listed_in_order(rt: HostRuntime) -> Result<(), Fail> {
     let alloc = rt.alloc();
-    let schema = schema_of(alloc, pets(alloc)?)?;
+    let schema = schema_of(alloc, pets(alloc, check_text, no_token)?)?;
     let text = directive_names(alloc, &schema)?;
     assert_eq!(rt; text.as_str(), "deprecated include skip specifiedBy ");
     Ok(())
@@ -79,7 +80,7 @@ fn directives_are_listed_in_order(rt: HostRuntime) -> Result<(), Fail> {
 #[test]
 fn possible_types_are_listed(rt: HostRuntime) -> Result<(), Fail> {
     let alloc = rt.alloc();
-    let schema = schema_of(alloc, pets(alloc)?)?;
+    let schema = schema_of(alloc, pets(alloc, check_text, no_token)?)?;
     let union_meta = meta(&schema, "CatOrDog")?;
     let interface = meta(&schema, "Pet")?;
     assert!(rt; union_meta.is_abstract());
@@ -98,7 +99,7 @@ fn possible_types_are_listed(rt: HostRuntime) -> Result<(), Fail> {
 #[test]
 fn types_overlap(rt: HostRuntime) -> Result<(), Fail> {
     let alloc = rt.alloc();
-    let schema = schema_of(alloc, pets(alloc)?)?;
+    let schema = schema_of(alloc, pets(alloc, check_text, no_token)?)?;
     let being = meta(&schema, "Being")?;
     let dog = meta(&schema, "Dog")?;
     let human = meta(&schema, "Human")?;
@@ -112,7 +113,7 @@ fn types_overlap(rt: HostRuntime) -> Result<(), Fail> {
 #[test]
 fn types_are_made(rt: HostRuntime) -> Result<(), Fail> {
     let alloc = rt.alloc();
-    let schema = schema_of(alloc, pets(alloc)?)?;
+    let schema = schema_of(alloc, pets(alloc, check_text, no_token)?)?;
     let named = Type::non_null(alloc, "Int")?
         .wrap_list(None)?
         .wrap_non_null()?;
@@ -139,7 +140,7 @@ fn types_are_made(rt: HostRuntime) -> Result<(), Fail> {
 #[test]
 fn subtypes_are_told(rt: HostRuntime) -> Result<(), Fail> {
     let alloc = rt.alloc();
-    let schema = schema_of(alloc, pets(alloc)?)?;
+    let schema = schema_of(alloc, pets(alloc, check_text, no_token)?)?;
     let int = Type::nullable(alloc, "Int")?;
     let required = Type::non_null(alloc, "Int")?;
     let dog = Type::nullable(alloc, "Dog")?;
@@ -158,13 +159,13 @@ fn subtypes_are_told(rt: HostRuntime) -> Result<(), Fail> {
 #[test]
 fn lists_are_refused(rt: HostRuntime) -> Result<(), Fail> {
     let alloc = rt.alloc();
-    let mut types = pets(alloc)?;
+    let mut types = pets(alloc, check_text, no_token)?;
     types.retain(|listed| listed.name() != Some("Boolean"));
     assert_eq!(rt;
         schema_of(alloc, types).err(),
         Some(SchemaError::UnknownType(String::from_str(alloc, "Boolean")?))
     );
-    let mut types = pets(alloc)?;
+    let mut types = pets(alloc, check_text, no_token)?;
     let mut members = Vec::new(alloc);
     members.push(Type::nullable(alloc, "Pet")?)?;
     types.push(UnionMeta::new(alloc, "Pets", members)?.into_meta())?;
@@ -185,7 +186,7 @@ fn flag(alloc: Global, type_name: &str) -> Result<DirectiveType<DefaultScalarVal
 #[test]
 fn directives_are_refused(rt: HostRuntime) -> Result<(), Fail> {
     let alloc = rt.alloc();
-    let mut schema = schema_of(alloc, pets(alloc)?)?;
+    let mut schema = schema_of(alloc, pets(alloc, check_text, no_token)?)?;
     assert_eq!(rt;
         schema.add_directive(flag(alloc, "Dog")?).err(),
         Some(SchemaError::NotInputType(String::from_str(alloc, "Dog")?))
@@ -202,7 +203,7 @@ fn directives_are_refused(rt: HostRuntime) -> Result<(), Fail> {
 #[test]
 fn directives_are_replaced(rt: HostRuntime) -> Result<(), Fail> {
     let alloc = rt.alloc();
-    let mut schema = schema_of(alloc, pets(alloc)?)?;
+    let mut schema = schema_of(alloc, pets(alloc, check_text, no_token)?)?;
     let skip = DirectiveType::new(alloc, "skip", Vec::new(alloc), Vec::new(alloc), false)?;
     schema.add_directive(skip)?;
     let text = directive_names(alloc, &schema)?;
@@ -220,7 +221,7 @@ fn directives_are_replaced(rt: HostRuntime) -> Result<(), Fail> {
 #[test]
 fn the_description_is_kept(rt: HostRuntime) -> Result<(), Fail> {
     let alloc = rt.alloc();
-    let mut schema = schema_of(alloc, pets(alloc)?)?;
+    let mut schema = schema_of(alloc, pets(alloc, check_text, no_token)?)?;
     assert_eq!(rt; schema.description(), None);
     schema.set_description("animals")?;
     assert_eq!(rt; schema.description(), Some("animals"));
