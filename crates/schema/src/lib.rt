@@ -9,10 +9,6 @@ pub mod meta;
 pub mod model;
 pub mod named;
 #[cfg(test)]
-mod pets;
-#[cfg(test)]
-mod pets_tests;
-#[cfg(test)]
 mod samples;
 #[cfg(test)]
 mod tests;
