@@ -4,5 +4,6 @@ pub mod Lists
 pub mod NameSets
 pub mod Runs
 pub mod SelectionOutlines
+pub mod Sums
 pub mod ValueOutlines
 pub mod Walks

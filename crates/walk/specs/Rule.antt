@@ -1,5 +1,6 @@
 -- What rules may report of documents.
-use Rattle.std.specs.Prelude.{◌≡◌, List, [], ◌++◌, IsPermutation}
+use Rattle.std.specs.Prelude.{◌≡◌, List, [], ◌∷◌, ◌++◌, IsPermutation}
+use Rattle.std.specs.List.{flat_map}
 use Rattle.language.specs.declared.tree.Definition.{Definition}
 use Rattle.schema.specs.Catalog.{Catalog}
 use Rattle.walk.specs.declared.multi_visitor.MultiVisitorCons.{MultiVisitorCons}
@@ -30,6 +31,15 @@ module _ {S C : Type 0} where
   -- no errors
   abbrev pub nothing : Allowance S C
   nothing scope t doc es = es ≡ []
+
+  -- all that these collect
+  abbrev pub sum_of : List (Collection S C) → Collection S C
+  sum_of collections scope t doc = flat_map (λ c. c scope t doc) collections
+
+  -- each of these, exactly, together
+  abbrev pub all_exactly : List (Collection S C) → Allowance S C
+  all_exactly [] = nothing
+  all_exactly (c ∷ rest) = together (exactly c) (all_exactly rest)
 
   -- what each run from a fresh value reports of a document is allowed
   abbrev pub AllowsFrom : {V : Type 0} → StepOf S C V → (V → Type 0) → Allowance S C → Type 0

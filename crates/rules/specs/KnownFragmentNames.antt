@@ -1,0 +1,23 @@
+-- Spreads of names that no fragment of the document has.
+use Rattle.std.specs.Prelude.{ℕ, List, [], ◌∷◌, ◌++◌, if◌then◌else◌, codes}
+use Rattle.walk.specs.ContextState.{DocumentScope}
+use Rattle.walk.specs.ErrorValue.{ErrorValue}
+use Rattle.walk.specs.Names.{is_among}
+use Rattle.walk.specs.Node.{Node, Name, fragment_spread}
+use Rattle.walk.specs.Occurrence.{Occurrence}
+
+abbrev pub unknown_fragment_message : List ℕ → List ℕ
+unknown_fragment_message name = (codes "Unknown fragment: \"" ++ name) ++ codes "\""
+
+-- a name that is not among the known ones is reported, at the name
+abbrev pub unknown_name : List (List ℕ) → Name → List ErrorValue
+unknown_name known name =
+    if is_among known name.item.now then [] else record { locations = name.span.start ∷ []; message = unknown_fragment_message name.item.now } ∷ []
+
+abbrev pub unknown_spread : {S : Type 0} → List (List ℕ) → Node S → List ErrorValue
+unknown_spread known (fragment_spread s) = unknown_name known s.item.name
+unknown_spread known _ = []
+
+-- at a spread: its name, if no fragment has it
+abbrev pub unknown_fragments : {S C : Type 0} → DocumentScope S C → Occurrence S C → List ErrorValue
+unknown_fragments scope o = unknown_spread scope.known o.node

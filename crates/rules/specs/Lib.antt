@@ -1,0 +1,9 @@
+pub mod AskedChecks
+pub mod KnownFragmentNames
+pub mod LoneAnonymousOperation
+pub mod Names
+pub mod Noting
+pub mod NotingLaws
+pub mod Places
+pub mod Repeats
+pub mod UniqueOperationNames

@@ -1,0 +1,37 @@
+-- Operations without a name that are not alone.
+use Rattle.std.specs.Prelude.{ℕ, List, [], ◌∷◌, Option, Some, None, nat_lt, length, if◌then◌else◌, codes}
+use Rattle.std.specs.List.{flat_map}
+use Rattle.language.specs.declared.tree.Definition.{Definition}
+use Rattle.language.specs.declared.tree.Definition.TheVariants as definition
+use Rattle.language.specs.declared.tree.Operation.{Operation}
+use Rattle.walk.specs.ContextState.{DocumentScope}
+use Rattle.walk.specs.ErrorValue.{ErrorValue}
+use Rattle.walk.specs.Node.{Node, Name, Placed, document}
+use Rattle.walk.specs.Occurrence.{Occurrence}
+
+abbrev pub anonymous_message : List ℕ
+anonymous_message = codes "This anonymous operation must be the only defined operation"
+
+abbrev pub operation_of : {S : Type 0} → Definition S → List (Placed (Operation S))
+operation_of (definition.Operation o) = o ∷ []
+operation_of (definition.Fragment f) = []
+
+-- the operations of a document, in their order
+abbrev pub operations : {S : Type 0} → List (Definition S) → List (Placed (Operation S))
+operations doc = flat_map operation_of doc
+
+abbrev pub nameless : {S : Type 0} → Placed (Operation S) → Option Name → List ErrorValue
+nameless o None = record { locations = o.span.start ∷ []; message = anonymous_message } ∷ []
+nameless o (Some name) = []
+
+-- an operation without a name is reported, at its start
+abbrev pub anonymous : {S : Type 0} → Placed (Operation S) → List ErrorValue
+anonymous o = nameless o o.item.name
+
+abbrev pub lone_anonymous : {S : Type 0} → Node S → List ErrorValue
+lone_anonymous (document doc) = if nat_lt 1 (length (operations doc)) then flat_map anonymous (operations doc) else []
+lone_anonymous _ = []
+
+-- at the document: where it has two operations or more, each that has no name
+abbrev pub lone_anonymous_operations : {S C : Type 0} → DocumentScope S C → Occurrence S C → List ErrorValue
+lone_anonymous_operations scope o = lone_anonymous o.node

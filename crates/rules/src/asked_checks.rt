@@ -1,0 +1,69 @@
+//! The smallest rule that asks checks. It shows that the form of a rule carries them; no document is judged by it.
+
+ghost use Rattle.std.specs.Prelude.{◌≡◌};
+ghost use Rattle.std.specs.Option.{option_copied};
+ghost use Rattle.walk.specs.ContextState.{typing};
+ghost use Rattle.walk.specs.Entering.{relating_step, given};
+ghost use Rattle.walk.specs.Rule.{any_value};
+ghost use Rattle.walk.proofs.Entering.{relating_keeps};
+ghost use Rattle.rules.specs.AskedChecks.{check_at, refusals};
+
+use language::error::{CheckError, OutOfMemory};
+use schema::check::CheckedScalar;
+use std::alloc::Global;
+use walk::{Event, Fresh, Machine, Rule, ValidatorContext, Visitor};
+
+/// Reports, at the value of an argument, what the check of its type has against it.
+#[derive(Drop)]
+pub struct AskedChecks {
+    alloc: Global,
+}
+
+/// The rule, made ready for one document.
+pub fn factory(alloc: Global) -> AskedChecks {
+    AskedChecks { alloc }
+}
+
+impl Fresh for AskedChecks {
+    ghost fresh = { any_value };
+}
+
+impl<S: CheckedScalar> Machine<S, S::Check> for AskedChecks {
+    ghost step = { relating_step (refusals S.may_answer) };
+}
+
+impl<S: CheckedScalar> Rule<S, S::Check> for AskedChecks {
+    ghost allows = { given (refusals S.may_answer) };
+
+    ghost keeps = { relating_keeps (refusals S.may_answer) };
+}
+
+impl<'a, S: CheckedScalar> Visitor<'a, S> for AskedChecks {
+    fn on(
+        &mut self,
+        ctx: &mut ValidatorContext<'a, S>,
+        event: &Event<'a, S>,
+    ) -> Result<(), OutOfMemory> {
+        if let Event::EnterArgument(argument) = event {
+            if let Some(check) = check_of(ctx) {
+                match S::run_check(check, self.alloc, &argument.1.item) {
+                    Ok(()) => {}
+                    Err(CheckError::Refused(text)) => {
+                        ctx.report_error(text.as_str(), &[argument.1.span.start])?;
+                    }
+                    Err(CheckError::OutOfMemory) => return Err(OutOfMemory),
+                }
+            }
+        }
+        Ok(())
+    }
+}
+
+// The check of the type that is expected at the node at hand.
+fn check_of<'a, S: CheckedScalar>(ctx: &ValidatorContext<'a, S>) -> Option<&'a S::Check>
+    ensures { option_copied result ≡ check_at ctx.now.schema (typing ctx.now).input }
+{
+    let literal = ctx.current_input_type_literal()?;
+    let meta = ctx.schema.concrete_type_by_name(literal.innermost_name())?;
+    meta.input_value_parse_fn()
+}

@@ -1,0 +1,2 @@
+pub mod SampleChecks
+pub mod StageOne

@@ -1,0 +1,17 @@
+//! Validation of documents against schemas (GraphQL, October 2021, section 5): all names of the crates below, under the paths
+//! that juniper has them, and the call that tries every rule.
+#![tactic(auto)]
+
+pub mod ast;
+pub mod parser;
+pub mod rules;
+pub mod schema;
+#[cfg(test)]
+mod tests;
+
+pub use crate::rules::visit_all_rules;
+pub use language::error::OutOfMemory;
+pub use walk::{
+    Event, MultiVisitorCons, MultiVisitorNil, RuleError, ValidatorContext, ValidatorContextOf, Visitor,
+    visit,
+};

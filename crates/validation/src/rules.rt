@@ -1,0 +1,39 @@
+//! The rules, each in its module, and the call that tries them all.
+
+ghost use Rattle.std.specs.Prelude.{◌≡◌, IfOk, OnOk, OnErr, IsErr, true};
+ghost use Rattle.walk.specs.ContextState.{typing, scope_of};
+ghost use Rattle.walk.specs.Names.{fragment_names};
+ghost use Rattle.walk.specs.Rule.{Appended, exactly, sum_of};
+ghost use Rattle.walk.specs.Step.{KeepsPlace};
+ghost use Rattle.validation.specs.StageOne.{stage_one};
+
+pub use rules::{known_fragment_names, lone_anonymous_operation, unique_operation_names};
+
+use language::error::OutOfMemory;
+use language::tree::Definition;
+use schema::check::CheckedScalar;
+use walk::{MultiVisitorNil, ValidatorContext, visit_rules};
+
+/// Tries every rule on a document, in a context that was made for it, and appends the errors of the rules.
+///
+/// It walks over the document once. The answer is the number of pairs of fragments that were compared; no rule that compares
+/// any is there yet, so it is 0.
+pub fn visit_all_rules<'a, S: CheckedScalar>(
+    ctx: &mut ValidatorContext<'a, S>,
+    document: &'a [Definition<'a, S>],
+) -> Result<u128, OutOfMemory>
+    requires known { ctx.old.known ≡ fragment_names document.now }
+    ensures appended { OnOk result (Appended (exactly (sum_of stage_one) (scope_of ctx.old.schema document.now) (typing ctx.old) document.now) ctx.old ctx.new) }
+    ensures compared { IfOk result (λ pairs. pairs ≡ 0) }
+    ensures err { OnErr result (KeepsPlace ctx.old ctx.new) }
+    ensures failed { OnErr result (ctx.new.failed ≡ true) }
+    ensures stays { ctx.old.failed ≡ true → IsErr result }
+{
+    let alloc = ctx.allocator();
+    let mut rules = MultiVisitorNil
+        .with_rule(unique_operation_names::factory(alloc))
+        .with_rule(lone_anonymous_operation::factory(alloc))
+        .with_rule(known_fragment_names::factory(alloc));
+    visit_rules(&mut rules, ctx, document)?;
+    Ok(0)
+}
