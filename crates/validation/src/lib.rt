@@ -5,12 +5,12 @@
 pub mod ast;
 pub mod parser;
 pub mod rules;
-pub mod schema;
 #[cfg(test)]
 mod tests;
 
 pub use crate::rules::visit_all_rules;
 pub use language::error::OutOfMemory;
+pub use schema;
 pub use walk::{
     Event, MultiVisitorCons, MultiVisitorNil, RuleError, ValidatorContext, ValidatorContextOf, Visitor,
     visit,

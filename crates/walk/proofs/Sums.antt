@@ -1,5 +1,5 @@
 -- Rules that each report their collection report the sum of these.
-use Rattle.std.proofs.Common.{◌≡◌, List, [], ◌∷◌, ◌++◌, sym, subst, IsPermutation, Result, Ok, Err, OnOk}
+use Rattle.std.proofs.Common.{◌≡◌, List, [], ◌∷◌, ◌++◌, sym, subst, IsPermutation}
 use Rattle.std.proofs.lemmas.List.Sorted.{IsPermutation-refl, IsPermutation-trans, IsPermutation-append_left, IsPermutation-append_right}
 use Rattle.language.specs.declared.tree.Definition.{Definition}
 use Rattle.walk.specs.ErrorValue.{ErrorValue}
@@ -16,6 +16,5 @@ module _ {S C : Type 0} (scope : DocumentScope S C) (t : Typing S C) (doc : List
       (IsPermutation-trans _ _ _ (IsPermutation-append_right fs others gs (sum_exactly rest gs q)) r)
 
   -- the same of what a walk appended
-  pub sum_appended : {T E : Type 0} (cs : List (Collection S C)) (r : Result T E) (old new : ContextState S C) → OnOk r (Appended (all_exactly cs scope t doc) old new) → OnOk r (Appended (exactly (sum_of cs) scope t doc) old new)
-  sum_appended cs (Ok x) old new (es, p, e) = (es, sum_exactly cs es p, e)
-  sum_appended cs (Err x) old new h = tt
+  pub sum_appended : (cs : List (Collection S C)) (old new : ContextState S C) → Appended (all_exactly cs scope t doc) old new → Appended (exactly (sum_of cs) scope t doc) old new
+  sum_appended cs old new (es, p, e) = (es, sum_exactly cs es p, e)

@@ -1,7 +1,7 @@
 use Rattle.std.proofs.lemmas.Map.Text.{btree_map_updates_str}
-use Rattle.rules.specs.Places.{places_of}
-use Rattle.rules.proofs.FirstNoted.{new_noted}
-use Rattle.rules.proofs.first_places.FirstPlaces.note.Goals as goal
+use Rattle.local_rules.specs.Places.{places_of}
+use Rattle.local_rules.proofs.FirstNoted.{new_noted}
+use Rattle.local_rules.proofs.first_places.FirstPlaces.note.Goals as goal
 
 pub returns-in_ok-insert-in-None-clause-kept : goal.returns-in_ok-insert-in-None-clause-kept
 returns-in_ok-insert-in-None-clause-kept c =

@@ -1,8 +1,8 @@
 //! The places where names were seen first.
 
 ghost use Rattle.std.specs.Prelude.{◌≡◌, IfOk};
-ghost use Rattle.rules.specs.Noting.{noted, nothing_noted};
-ghost use Rattle.rules.specs.Places.{places_of};
+ghost use Rattle.local_rules.specs.Noting.{noted, nothing_noted};
+ghost use Rattle.local_rules.specs.Places.{places_of};
 
 use language::error::OutOfMemory;
 use language::position::SourcePosition;

@@ -6,7 +6,7 @@ ghost use Rattle.walk.specs.ContextState.{typing};
 ghost use Rattle.walk.specs.Entering.{relating_step, given};
 ghost use Rattle.walk.specs.Rule.{any_value};
 ghost use Rattle.walk.proofs.Entering.{relating_keeps};
-ghost use Rattle.rules.specs.AskedChecks.{check_at, refusals};
+ghost use Rattle.local_rules.specs.AskedChecks.{check_at, refusals};
 
 use language::error::{CheckError, OutOfMemory};
 use schema::check::CheckedScalar;

@@ -2,7 +2,7 @@
 use Rattle.std.specs.Prelude.{ℕ, List, ◌++◌, Option, None, codes}
 use Rattle.std.specs.Option.{option_map}
 use Rattle.walk.specs.Node.{Node, operation_definition}
-use Rattle.rules.specs.Names.{Named}
+use Rattle.local_rules.specs.Names.{Named}
 
 abbrev pub repeated_operation_message : List ℕ → List ℕ
 repeated_operation_message name = codes "There can only be one operation named " ++ name

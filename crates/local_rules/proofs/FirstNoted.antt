@@ -4,8 +4,8 @@ use mathlib.Core.Path.{fun_ext}
 use Rattle.std.proofs.lemmas.Slice.Eq.{bytes_eq-Decides}
 use Rattle.std.specs.Str.{bytes_eq}
 use Rattle.std.specs.Map.{update}
-use Rattle.rules.specs.Names.{Named, Places}
-use Rattle.rules.specs.Noting.{noted, or_else}
+use Rattle.local_rules.specs.Names.{Named, Places}
+use Rattle.local_rules.specs.Noting.{noted, or_else}
 
 new_by : {T : Type 0} (b : Bool) (f : Option T) (x : T) → (b ≡ true → f ≡ None) → cond b (Some x) f ≡ or_else f (cond b (Some x) None)
 new_by true f x h = ap (λ z. or_else z (Some x)) (sym (h refl))

@@ -1,6 +1,6 @@
 use Rattle.std.proofs.Common.{◌≡◌, ◌≤◌, take, length}
-use Rattle.rules.specs.LoneAnonymousOperation.{operations}
-use Rattle.rules.proofs.lone_anonymous_operation.operation_count.Given as goal
+use Rattle.local_rules.specs.LoneAnonymousOperation.{operations}
+use Rattle.local_rules.proofs.lone_anonymous_operation.operation_count.Given as goal
 
 -- those that were seen are counted
 abbrev pub invariant-loop-definition : goal.invariant-loop-definition

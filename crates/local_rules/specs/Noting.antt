@@ -8,8 +8,8 @@ use Rattle.walk.specs.Occurrence.{Occurrence, occurrences}
 use Rattle.walk.specs.Step.{StepOf}
 use Rattle.walk.specs.Rule.{Collection}
 use Rattle.walk.specs.Entering.{keeping_step}
-use Rattle.rules.specs.Names.{Named, Places}
-use Rattle.rules.specs.Repeats.{repeat_at, repeats}
+use Rattle.local_rules.specs.Names.{Named, Places}
+use Rattle.local_rules.specs.Repeats.{repeat_at, repeats}
 
 abbrev pub nothing_noted : Places
 nothing_noted name = None

@@ -7,7 +7,7 @@ ghost use Rattle.walk.specs.Entering.{finding_step, found};
 ghost use Rattle.walk.specs.Rule.{any_value, exactly};
 ghost use Rattle.walk.specs.Step.{KeepsPlace};
 ghost use Rattle.walk.proofs.Entering.{finding_keeps};
-ghost use Rattle.rules.specs.LoneAnonymousOperation.{operations, anonymous, lone_anonymous_operations};
+ghost use Rattle.local_rules.specs.LoneAnonymousOperation.{operations, anonymous, lone_anonymous_operations};
 
 use language::error::OutOfMemory;
 use language::tree::Definition;

@@ -4,7 +4,7 @@ ghost use Rattle.std.specs.Prelude.{◌≡◌, IfOk, string_bytes};
 ghost use Rattle.walk.specs.Entering.{finding_step, found};
 ghost use Rattle.walk.specs.Rule.{any_value, exactly};
 ghost use Rattle.walk.proofs.Entering.{finding_keeps};
-ghost use Rattle.rules.specs.KnownFragmentNames.{unknown_fragment_message, unknown_fragments};
+ghost use Rattle.local_rules.specs.KnownFragmentNames.{unknown_fragment_message, unknown_fragments};
 
 use language::error::OutOfMemory;
 use schema::check::CheckedScalar;

@@ -2,10 +2,10 @@
 
 ghost use Rattle.std.specs.Prelude.{◌≡◌, IfOk, string_bytes};
 ghost use Rattle.walk.specs.Rule.{exactly};
-ghost use Rattle.rules.specs.Noting.{noting_step, repeated, NothingNoted};
-ghost use Rattle.rules.specs.NotingLaws.{noting_keeps};
-ghost use Rattle.rules.specs.Places.{places_of};
-ghost use Rattle.rules.specs.UniqueOperationNames.{operation_name, repeated_operation_message};
+ghost use Rattle.local_rules.specs.Noting.{noting_step, repeated, NothingNoted};
+ghost use Rattle.local_rules.specs.NotingLaws.{noting_keeps};
+ghost use Rattle.local_rules.specs.Places.{places_of};
+ghost use Rattle.local_rules.specs.UniqueOperationNames.{operation_name, repeated_operation_message};
 
 use crate::first_places::FirstPlaces;
 use language::error::OutOfMemory;

@@ -11,9 +11,9 @@ use Rattle.walk.specs.Occurrence.{Occurrence, occurrences}
 use Rattle.walk.specs.Entering.{found_keeping}
 use Rattle.walk.specs.Rule.{AllowsFrom, exactly}
 use Rattle.walk.proofs.Entering.{keeping_keeps}
-use Rattle.rules.specs.Names.{Named, Places}
-use Rattle.rules.specs.Repeats.{first_place, repeats, repeats_after}
-use Rattle.rules.specs.Noting.{noted, noted_if, nothing_noted, or_else, to_list, repeat_if, repeated, noting_step, NothingNoted}
+use Rattle.local_rules.specs.Names.{Named, Places}
+use Rattle.local_rules.specs.Repeats.{first_place, repeats, repeats_after}
+use Rattle.local_rules.specs.Noting.{noted, noted_if, nothing_noted, or_else, to_list, repeat_if, repeated, noting_step, NothingNoted}
 
 -- to note one more name is to have one more at the end
 first_place-more : (earlier : List Named) (n : Named) (name : List ℕ) → noted (first_place earlier) n name ≡ first_place (earlier ++ n ∷ []) name

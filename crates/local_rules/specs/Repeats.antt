@@ -3,7 +3,7 @@ use Rattle.std.specs.Prelude.{ℕ, List, [], ◌∷◌, ◌++◌, Option, None, 
 use Rattle.std.specs.Str.{bytes_eq}
 use Rattle.language.specs.declared.position.SourcePosition.{SourcePosition}
 use Rattle.walk.specs.ErrorValue.{ErrorValue}
-use Rattle.rules.specs.Names.{Named, Places}
+use Rattle.local_rules.specs.Names.{Named, Places}
 
 -- the place of the first of a name
 abbrev pub first_place : List Named → Places
