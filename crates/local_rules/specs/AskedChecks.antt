@@ -1,5 +1,5 @@
 -- What checks have against the values of arguments.
-use Rattle.std.specs.Prelude.{◌≡◌, ◌⊎◌, ℕ, List, [], ◌∷◌, Option, Some, None, option_and_then}
+use Rattle.std.specs.Prelude.{◌≡◌, ℕ, List, [], ◌∷◌, Option, Some, None, option_and_then}
 use Rattle.language.specs.Types.{TypeShape}
 use Rattle.language.specs.declared.value.InputValue.{InputValue}
 use Rattle.schema.specs.Answers.{Answers, Accepts, RefusesWith}
@@ -7,7 +7,7 @@ use Rattle.schema.specs.Catalog.{Catalog}
 use Rattle.schema.specs.Kinds.{check_of_meta}
 use Rattle.walk.specs.ContextState.{DocumentScope}
 use Rattle.walk.specs.ErrorValue.{ErrorValue}
-use Rattle.walk.specs.Node.{Node, ArgumentEntry, argument}
+use Rattle.walk.specs.Node.{Node, Placed, argument}
 use Rattle.walk.specs.Occurrence.{Occurrence}
 use Rattle.walk.specs.SchemaView.{named_type}
 
@@ -17,15 +17,22 @@ module _ {S C : Type 0} where
   check_at schema literal = option_and_then check_of_meta (named_type schema literal)
 
   module _ (may : Answers (InputValue S) C) where
-    -- nothing where the check may accept the value, or the text with which it may refuse it
-    abbrev pub told : Option C → ArgumentEntry S → List ErrorValue → Type 0
-    told None a es = es ≡ []
-    told (Some c) a es =
-        (Accepts may c a.1.item × (es ≡ []))
-        ⊎ ((m : List ℕ) × RefusesWith may c a.1.item m × (es ≡ record { locations = a.1.span.start ∷ []; message = m } ∷ []))
+    -- what the check may have against the value: nothing where it may accept it, or the text of a refusal
+    abbrev pub IsFault : C → InputValue S → Option (List ℕ) → Type 0
+    IsFault c v None = Accepts may c v
+    IsFault c v (Some m) = RefusesWith may c v m
+
+    abbrev pub faulty : Placed (InputValue S) → Option (List ℕ) → List ErrorValue
+    faulty v None = []
+    faulty v (Some m) = record { locations = v.span.start ∷ []; message = m } ∷ []
+
+    -- a value of a type that has a check
+    abbrev pub told : Option C → Placed (InputValue S) → List ErrorValue → Type 0
+    told None v es = es ≡ []
+    told (Some c) v es = (fault : Option (List ℕ)) × IsFault c v.item fault × (es ≡ faulty v fault)
 
     abbrev pub told_at : Option C → Node S → List ErrorValue → Type 0
-    told_at check (argument a) es = told check a es
+    told_at check (argument a) es = told check a.1 es
     told_at check _ es = es ≡ []
 
     abbrev pub refusals : DocumentScope S C → Occurrence S C → List ErrorValue → Type 0

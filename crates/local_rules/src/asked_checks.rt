@@ -1,14 +1,15 @@
 //! The smallest rule that asks checks. It shows that the form of a rule carries them; no document is judged by it.
 
-ghost use Rattle.std.specs.Prelude.{◌≡◌};
-ghost use Rattle.std.specs.Option.{option_copied};
+ghost use Rattle.std.specs.Prelude.{◌≡◌, IfOk, string_bytes};
+ghost use Rattle.std.specs.Option.{option_copied, option_map};
 ghost use Rattle.walk.specs.ContextState.{typing};
 ghost use Rattle.walk.specs.Entering.{relating_step, given};
 ghost use Rattle.walk.specs.Rule.{any_value};
 ghost use Rattle.walk.proofs.Entering.{relating_keeps};
-ghost use Rattle.local_rules.specs.AskedChecks.{check_at, refusals};
+ghost use Rattle.local_rules.specs.AskedChecks.{check_at, IsFault, refusals};
 
 use language::error::{CheckError, OutOfMemory};
+use language::value::InputValue;
 use schema::check::CheckedScalar;
 use std::alloc::Global;
 use walk::{Event, Fresh, Machine, Rule, ValidatorContext, Visitor};
@@ -46,16 +47,28 @@ impl<'a, S: CheckedScalar> Visitor<'a, S> for AskedChecks {
     ) -> Result<(), OutOfMemory> {
         if let Event::EnterArgument(argument) = event {
             if let Some(check) = check_of(ctx) {
-                match S::run_check(check, self.alloc, &argument.1.item) {
-                    Ok(()) => {}
-                    Err(CheckError::Refused(text)) => {
-                        ctx.report_error(text.as_str(), &[argument.1.span.start])?;
-                    }
-                    Err(CheckError::OutOfMemory) => return Err(OutOfMemory),
+                let value = &argument.1;
+                if let Some(fault) = fault_of(self.alloc, check, &value.item)? {
+                    ctx.report_error(fault.as_str(), &[value.span.start])?;
                 }
             }
         }
         Ok(())
+    }
+}
+
+// What a check has against a value.
+fn fault_of<S: CheckedScalar>(
+    alloc: Global,
+    check: &S::Check,
+    value: &InputValue<S>,
+) -> Result<Option<String>, OutOfMemory>
+    ensures { IfOk result (λ fault. IsFault S.may_answer check.now value.now (option_map string_bytes fault)) }
+{
+    match S::run_check(check, alloc, value) {
+        Ok(()) => Ok(None),
+        Err(CheckError::Refused(text)) => Ok(Some(text)),
+        Err(CheckError::OutOfMemory) => Err(OutOfMemory),
     }
 }
 
