@@ -13,8 +13,20 @@ use schema::model::SchemaType;
 use std::alloc::Global;
 use std::test::Fail;
 
-// The errors, a line each, and then the number of pairs that were compared.
+// What is told of a document that a test built.
+//
+// A context borrows a document for as long as the document's own names live, so what a test builds is never freed.
 fn told<'a>(
+    alloc: Global,
+    schema: &'a SchemaType,
+    document: Vec<Query<'a>>,
+) -> Result<String, OutOfMemory> {
+    let document = document.leak();
+    told_of(alloc, schema, document)
+}
+
+// The errors, a line each, and then the number of pairs that were compared.
+fn told_of<'a>(
     alloc: Global,
     schema: &'a SchemaType,
     document: &'a [Query<'a>],
@@ -60,7 +72,7 @@ fn a_spread_of_an_unknown_fragment(rt: HostRuntime) -> Result<(), Fail> {
     let schema = demo(alloc, check_text, no_token)?;
     let document = unknown_spread(alloc)?;
     assert_eq!(rt;
-        told(alloc, &schema, &document)?.as_str(),
+        told(alloc, &schema, document)?.as_str(),
         "Unknown fragment: \"A\". At 0:11\n0"
     );
     Ok(())
@@ -72,7 +84,7 @@ fn operations_without_a_name(rt: HostRuntime) -> Result<(), Fail> {
     let schema = demo(alloc, check_text, no_token)?;
     let document = two_anonymous(alloc)?;
     assert_eq!(rt;
-        told(alloc, &schema, &document)?.as_str(),
+        told(alloc, &schema, document)?.as_str(),
         "This anonymous operation must be the only defined operation. At 0:0\nThis anonymous operation must be the only defined operation. At 0:17\n0"
     );
     Ok(())
@@ -84,11 +96,11 @@ fn operations_of_one_name(rt: HostRuntime) -> Result<(), Fail> {
     let schema = demo(alloc, check_text, no_token)?;
     let document = two_named(alloc, "Q")?;
     assert_eq!(rt;
-        told(alloc, &schema, &document)?.as_str(),
+        told(alloc, &schema, document)?.as_str(),
         "There can only be one operation named Q. At 0:0, 0:25\n0"
     );
     let document = two_named(alloc, "R")?;
-    assert_eq!(rt; told(alloc, &schema, &document)?.as_str(), "0");
+    assert_eq!(rt; told(alloc, &schema, document)?.as_str(), "0");
     Ok(())
 }
 
@@ -96,7 +108,7 @@ fn operations_of_one_name(rt: HostRuntime) -> Result<(), Fail> {
 fn a_document_with_no_definitions(rt: HostRuntime) -> Result<(), Fail> {
     let alloc = rt.alloc();
     let schema = demo(alloc, check_text, no_token)?;
-    assert_eq!(rt; told(alloc, &schema, &[])?.as_str(), "0");
+    assert_eq!(rt; told(alloc, &schema, Vec::new(alloc))?.as_str(), "0");
     Ok(())
 }
 
@@ -111,7 +123,7 @@ fn is_first_row_told(
 {
     let schema = demo(alloc, check, token)?;
     let document = unknown_spread(alloc)?;
-    let told = told(alloc, &schema, &document)?;
+    let told = told(alloc, &schema, document)?;
     Ok(told.as_str() == "Unknown fragment: \"A\". At 0:11\n0")
 }
 
