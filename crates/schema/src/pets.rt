@@ -17,8 +17,8 @@ use std::alloc::Global;
 /// A name and the type that it has, written as `Name`, `Name!` or `[Name]`.
 type Typed<'t> = (&'t str, &'t str);
 
-/// A field, and its arguments.
-type FieldRow<'t> = (Typed<'t>, &'t [Typed<'t>]);
+/// The name and the type of a field, and the argument that it has, if any.
+type FieldRow<'t> = (&'t str, &'t str, Option<Typed<'t>>);
 
 /// The type that is written so.
 fn written(alloc: Global, text: &str) -> Result<Type, SchemaError> {
@@ -54,11 +54,13 @@ fn arguments(
 }
 
 fn field_of(alloc: Global, row: &FieldRow<'_>) -> Result<Field<DefaultScalarValue>, SchemaError> {
-    let mut made = Field::new(alloc, row.0.0, written(alloc, row.0.1)?)?;
-    for argument in arguments(alloc, row.1)? {
-        made = made.argument(argument)?;
+    let made = Field::new(alloc, row.0, written(alloc, row.1)?)?;
+    match row.2 {
+        Some(given) => {
+            Ok(made.argument(Argument::new(alloc, given.0, written(alloc, given.1)?)?)?)
+        }
+        None => Ok(made),
     }
-    Ok(made)
 }
 
 /// The field `__typename: String!`, then those of the rows.
@@ -87,7 +89,7 @@ fn object_of(
 
 /// An interface with the field `name(surname: Boolean): String`.
 fn interface(alloc: Global, name: &str) -> Result<MetaType, SchemaError> {
-    let rows = fields(alloc, &[(("name", "String"), &[("surname", "Boolean")])])?;
+    let rows = fields(alloc, &[("name", "String", Some(("surname", "Boolean")))])?;
     Ok(InterfaceMeta::new(alloc, name, rows)?.into_meta())
 }
 
@@ -102,13 +104,14 @@ fn dog(alloc: Global) -> Result<MetaType, SchemaError> {
         "Dog",
         &["Being", "Pet"],
         &[
-            (("name", "String"), &[("surname", "Boolean")]),
-            (("nickname", "String"), &[]),
-            (("barkVolume", "Int"), &[]),
-            (("barks", "Boolean"), &[]),
+            ("name", "String", Some(("surname", "Boolean"))),
+            ("nickname", "String", None),
+            ("barkVolume", "Int", None),
+            ("barks", "Boolean", None),
             (
-                ("doesKnowCommand", "Boolean"),
-                &[("dogCommand", "DogCommand")],
+                "doesKnowCommand",
+                "Boolean",
+                Some(("dogCommand", "DogCommand")),
             ),
         ],
     )
@@ -120,10 +123,10 @@ fn cat(alloc: Global) -> Result<MetaType, SchemaError> {
         "Cat",
         &["Being", "Pet"],
         &[
-            (("name", "String"), &[("surname", "Boolean")]),
-            (("nickname", "String"), &[]),
-            (("meows", "Boolean"), &[]),
-            (("meowVolume", "Int"), &[]),
+            ("name", "String", Some(("surname", "Boolean"))),
+            ("nickname", "String", None),
+            ("meows", "Boolean", None),
+            ("meowVolume", "Int", None),
         ],
     )
 }
@@ -134,10 +137,10 @@ fn human(alloc: Global) -> Result<MetaType, SchemaError> {
         "Human",
         &["Being"],
         &[
-            (("name", "String"), &[("surname", "Boolean")]),
-            (("pets", "[Pet]"), &[]),
-            (("relatives", "[Human]"), &[]),
-            (("iq", "Int"), &[]),
+            ("name", "String", Some(("surname", "Boolean"))),
+            ("pets", "[Pet]", None),
+            ("relatives", "[Human]", None),
+            ("iq", "Int", None),
         ],
     )
 }
@@ -148,53 +151,67 @@ fn query_root(alloc: Global) -> Result<MetaType, SchemaError> {
         "QueryRoot",
         &[],
         &[
-            (("human", "Human"), &[("id", "String")]),
-            (("dog", "Dog"), &[]),
-            (("cat", "Cat"), &[]),
-            (("pet", "Pet"), &[]),
-            (("catOrDog", "CatOrDog"), &[]),
-            (("dogOrHuman", "DogOrHuman"), &[]),
-            (("complicatedArgs", "ComplicatedArgs"), &[]),
+            ("human", "Human", Some(("id", "String"))),
+            ("dog", "Dog", None),
+            ("cat", "Cat", None),
+            ("pet", "Pet", None),
+            ("catOrDog", "CatOrDog", None),
+            ("dogOrHuman", "DogOrHuman", None),
+            ("complicatedArgs", "ComplicatedArgs", None),
         ],
     )
 }
 
-/// The field `multipleOpts(opt1: Int = 0, opt2: Int = 0): String`.
-fn two_optional(alloc: Global) -> Result<Field<DefaultScalarValue>, SchemaError> {
-    let mut made = field(alloc, "multipleOpts", "String")?;
-    for argument in arguments(alloc, &[("opt1", "Int"), ("opt2", "Int")])? {
-        let zero = InputValue::Scalar(DefaultScalarValue::Int(0));
-        made = made.argument(argument.default_value(zero))?;
+/// The field of type `String` with these arguments.
+fn text_field(
+    alloc: Global,
+    name: &str,
+    given: Vec<Argument<DefaultScalarValue>>,
+) -> Result<Field<DefaultScalarValue>, SchemaError> {
+    let mut made = field(alloc, name, "String")?;
+    for argument in given {
+        made = made.argument(argument)?;
     }
     Ok(made)
+}
+
+/// The arguments `opt1: Int = 0` and `opt2: Int = 0`.
+fn two_zeros(alloc: Global) -> Result<Vec<Argument<DefaultScalarValue>>, SchemaError> {
+    let mut list = Vec::new(alloc);
+    for name in ["opt1", "opt2"] {
+        let zero = InputValue::Scalar(DefaultScalarValue::Int(0));
+        list.push(Argument::new(alloc, name, Type::nullable(alloc, "Int")?)?.default_value(zero))?;
+    }
+    Ok(list)
 }
 
 fn complicated_args(alloc: Global) -> Result<MetaType, SchemaError> {
     let mut list = fields(
         alloc,
         &[
-            (("intArgField", "String"), &[("intArg", "Int")]),
+            ("intArgField", "String", Some(("intArg", "Int"))),
             (
-                ("nonNullIntArgField", "String"),
-                &[("nonNullIntArg", "Int!")],
+                "nonNullIntArgField",
+                "String",
+                Some(("nonNullIntArg", "Int!")),
             ),
-            (("enumArgField", "String"), &[("enumArg", "DogCommand")]),
+            ("enumArgField", "String", Some(("enumArg", "DogCommand"))),
             (
-                ("stringListArgField", "String"),
-                &[("stringListArg", "[String]")],
+                "stringListArgField",
+                "String",
+                Some(("stringListArg", "[String]")),
             ),
             (
-                ("complexArgField", "String"),
-                &[("complexArg", "ComplexInput")],
+                "complexArgField",
+                "String",
+                Some(("complexArg", "ComplexInput")),
             ),
-            (("pairArgField", "String"), &[("pairArg", "PairInput")]),
-            (
-                ("multipleReqs", "String"),
-                &[("req1", "Int!"), ("req2", "Int!")],
-            ),
+            ("pairArgField", "String", Some(("pairArg", "PairInput"))),
         ],
     )?;
-    list.push(two_optional(alloc)?)?;
+    let required = arguments(alloc, &[("req1", "Int!"), ("req2", "Int!")])?;
+    list.push(text_field(alloc, "multipleReqs", required)?)?;
+    list.push(text_field(alloc, "multipleOpts", two_zeros(alloc)?)?)?;
     Ok(ObjectMeta::new(alloc, "ComplicatedArgs", list)?.into_meta())
 }
 
@@ -234,8 +251,8 @@ fn first_types(
     for name in ["String", "Boolean"] {
         types.push(scalar(alloc, name, check, token)?)?;
     }
-    types.push(object_of(alloc, "__Schema", &[], &[(("queryType", "__Type!"), &[])])?)?;
-    types.push(object_of(alloc, "__Type", &[], &[(("name", "String"), &[])])?)?;
+    types.push(object_of(alloc, "__Schema", &[], &[("queryType", "__Type!", None)])?)?;
+    types.push(object_of(alloc, "__Type", &[], &[("name", "String", None)])?)?;
     Ok(types)
 }
 

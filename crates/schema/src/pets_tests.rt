@@ -101,6 +101,16 @@ fn types_overlap(rt: HostRuntime) -> Result<(), Fail> {
     Ok(())
 }
 
+/// What the type `[Name!]` of the schema prints.
+fn made_printed(alloc: Global, schema: &Pets, name: &str) -> Result<String, SchemaError> {
+    let named = Type::non_null(alloc, name)?.wrap_list(None)?;
+    if !schema.is_known(named.innermost_name()) {
+        return Ok(String::new(alloc));
+    }
+    let made: TypeType<'_, DefaultScalarValue> = schema.make_type(alloc, named.as_borrowed())?;
+    Ok(made.to_string(alloc)?)
+}
+
 #[test]
 fn types_are_made(rt: HostRuntime) -> Result<(), Fail> {
     let alloc = rt.alloc();
@@ -108,10 +118,7 @@ fn types_are_made(rt: HostRuntime) -> Result<(), Fail> {
     let named = Type::non_null(alloc, "Int")?
         .wrap_list(None)?
         .wrap_non_null()?;
-    if schema
-        .concrete_type_by_name(named.innermost_name())
-        .is_none()
-    {
+    if !schema.is_known(named.innermost_name()) {
         return Err(Fail::from("no Int"));
     }
     let made: TypeType<'_, DefaultScalarValue> = schema.make_type(alloc, named.as_borrowed())?;
@@ -123,6 +130,7 @@ fn types_are_made(rt: HostRuntime) -> Result<(), Fail> {
         return Err(Fail::from("no list"));
     };
     assert_eq!(rt; items.to_string(alloc)?.as_str(), "Int!");
+    assert_eq!(rt; made_printed(alloc, &schema, "Int")?.as_str(), "[Int!]");
     Ok(())
 }
 

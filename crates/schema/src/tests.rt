@@ -275,10 +275,7 @@ fn said_of_types(
         _ => 0,
     };
     let named = Type::non_null(alloc, "Dog")?.wrap_list(None)?;
-    let known = schema
-        .concrete_type_by_name(named.innermost_name())
-        .is_some();
-    if !known {
+    if !schema.is_known(named.innermost_name()) {
         return Ok((members, 0));
     }
     let made: TypeType<'_, DefaultScalarValue> = schema.make_type(alloc, named.as_borrowed())?;
