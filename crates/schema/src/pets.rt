@@ -21,7 +21,7 @@ type Typed<'t> = (&'t str, &'t str);
 type FieldRow<'t> = (&'t str, &'t str, Option<Typed<'t>>);
 
 /// The type that is written so.
-fn written(alloc: Global, text: &str) -> Result<Type, SchemaError> {
+pub fn written(alloc: Global, text: &str) -> Result<Type, SchemaError> {
     if let Some(name) = text.strip_suffix("!") {
         return Ok(Type::non_null(alloc, name)?);
     }
@@ -312,4 +312,16 @@ pub fn schema_of(
         "_EmptyMutation",
         "_EmptySubscription",
     )
+}
+
+/// The schema of the list `pets`.
+pub fn pets_schema(
+    alloc: Global,
+    check: InputValueParseFn,
+    token: ScalarTokenParseFn,
+) -> Result<SchemaType<DefaultScalarValue>, SchemaError>
+    requires callable { (a : _) (v : _) → InputValueParseFn.pre check a v }
+    requires one_answer { (a b : _) (v w : _) (r s : _) → v.now ≡ w.now → InputValueParseFn.post check a v r → InputValueParseFn.post check b w s → SameAnswer r s }
+{
+    schema_of(alloc, pets(alloc, check, token)?)
 }
