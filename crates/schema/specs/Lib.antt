@@ -9,6 +9,7 @@ pub mod Codes
 pub mod Concrete
 pub mod Deprecation
 pub mod Directives
+pub mod ErrorTexts
 pub mod Kept
 pub mod Kinds
 pub mod Locations

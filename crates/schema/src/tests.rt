@@ -5,7 +5,7 @@ use crate::meta::{
     Argument, EnumMetaOf, EnumValue, Field, InputObjectMetaOf, InterfaceMeta, ListMeta, MetaType,
     NullableMeta, ScalarMetaOf, UnionMeta,
 };
-use crate::model::{DirectiveLocation, DirectiveType, SchemaType};
+use crate::model::{DirectiveLocation, DirectiveType, SchemaType, TypeType};
 use crate::samples::{check_text, demo, demo_with, field, name_with_argument, no_token, object};
 use language::types::Type;
 use language::value::{DefaultScalarValue, InputValue};
@@ -245,4 +245,72 @@ fn a_directive_is_made(rt: HostRuntime) -> Result<(), Fail> {
         Some("marks")
     );
     Ok(())
+}
+
+/// The schema of `demo` and the union `Pets` of dogs.
+fn demo_and_union(
+    alloc: Global,
+    types: Vec<MetaType>,
+) -> Result<SchemaType<DefaultScalarValue>, SchemaError> {
+    let mut types = types;
+    let mut members = Vec::new(alloc);
+    members.push(Type::nullable(alloc, "Dog")?)?;
+    types.push(UnionMeta::new(alloc, "Pets", members)?.into_meta())?;
+    SchemaType::<DefaultScalarValue>::new(
+        alloc,
+        types,
+        "QueryRoot",
+        "_EmptyMutation",
+        "_EmptySubscription",
+    )
+}
+
+/// How many types may stand for the union, and how long the printed form of `[Dog!]` is.
+fn said_of_types(
+    alloc: Global,
+    schema: &SchemaType<DefaultScalarValue>,
+) -> Result<(usize, usize), SchemaError> {
+    let members = match schema.concrete_type_by_name("Pets") {
+        Some(meta) if meta.is_abstract() => schema.possible_types(alloc, meta)?.len(),
+        _ => 0,
+    };
+    let named = Type::non_null(alloc, "Dog")?.wrap_list(None)?;
+    if !schema.is_known(named.innermost_name()) {
+        return Ok((members, 0));
+    }
+    let made: TypeType<'_, DefaultScalarValue> = schema.make_type(alloc, named.as_borrowed())?;
+    Ok((members, made.to_string(alloc)?.len()))
+}
+
+/// What the calls that take memory say of the types: the numbers of types and of directives, and
+/// what is said of the types above.
+fn said_of_schema(
+    alloc: Global,
+    types: Vec<MetaType>,
+) -> Result<(usize, usize, (usize, usize)), SchemaError> {
+    let mut schema = demo_and_union(alloc, types)?;
+    let flag = DirectiveType::new(alloc, "flag", Vec::new(alloc), Vec::new(alloc), false)?;
+    if let Err(refused) = schema.add_directive(flag) {
+        return match schema.directive_list(alloc)?.len() {
+            4 => Err(refused),
+            _ => Err(SchemaError::UnnamedType),
+        };
+    }
+    schema.set_description("animals")?;
+    let types: Vec<TypeType<'_, DefaultScalarValue>> = schema.type_list(alloc)?;
+    let directives = schema.directive_list(alloc)?.len();
+    Ok((types.len(), directives, said_of_types(alloc, &schema)?))
+}
+
+/// Run with each request for memory refused in turn, the answer is the same or tells of the refusal.
+#[test]
+fn a_refused_request_changes_no_answer(rt: HostRuntime) {
+    let alloc = rt.alloc();
+    let Ok(types) = demo(alloc, check_text, no_token) else {
+        return;
+    };
+    match said_of_schema(alloc, types) {
+        Ok(said) => assert_eq!(rt; said, (7, 5, (1, 6))),
+        Err(refused) => assert_eq!(rt; refused, SchemaError::OutOfMemory),
+    }
 }

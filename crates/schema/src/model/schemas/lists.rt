@@ -30,8 +30,8 @@ impl<S, C> SchemaTypeOf<S, C> {
         ensures { IfOk result (λ v. map (λ r. r.now) v.items ≡ self.now.types) }
     {
         let mut list = Vec::new(alloc);
-        for meta in self.types.values() {
-            list.push(meta)?;
+        for listed in self.types.values() {
+            list.push(listed)?;
         }
         Ok(list)
     }
