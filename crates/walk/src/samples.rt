@@ -18,15 +18,15 @@ use schema::model::SchemaType;
 use std::alloc::Global;
 
 type Value = InputValue<DefaultScalarValue>;
+
 type Set<'a> = Vec<Selection<'a, DefaultScalarValue>>;
+
 type Written<'a> = Option<Spanning<Arguments<'a, DefaultScalarValue>>>;
+
 type Directives<'a> = Option<Vec<Spanning<Directive<'a, DefaultScalarValue>>>>;
 
 /// Accepts every value.
-pub fn check_any(
-    _alloc: Global,
-    _value: &InputValue<DefaultScalarValue>,
-) -> Result<(), CheckError>
+pub fn check_any(_alloc: Global, _value: &InputValue<DefaultScalarValue>) -> Result<(), CheckError>
     ensures { result ≡ Ok tt }
 {
     Ok(())
@@ -130,21 +130,11 @@ pub fn sample_schema(
         "queryType",
         Type::non_null(alloc, "__Type")?,
     )?)?;
-    types.push(with_field(
-        alloc,
-        "__Type",
-        "name",
-        Type::nullable(alloc, "String")?,
-    )?)?;
+    types.push(with_field(alloc, "__Type", "name", Type::nullable(alloc, "String")?)?)?;
     types.push(pair(alloc, check)?)?;
     types.push(dog(alloc)?)?;
     types.push(query_root(alloc)?)?;
-    types.push(with_field(
-        alloc,
-        "MutationRoot",
-        "feed",
-        Type::nullable(alloc, "Dog")?,
-    )?)?;
+    types.push(with_field(alloc, "MutationRoot", "feed", Type::nullable(alloc, "Dog")?)?)?;
     SchemaType::<DefaultScalarValue>::new(
         alloc,
         types,
@@ -183,7 +173,7 @@ fn directive<'a>(
         here(Directive {
             name: here(name),
             arguments,
-        })
+        }),
     ]?))
 }
 
@@ -237,7 +227,10 @@ fn dog_arguments<'a>(alloc: Global) -> Result<Written<'a>, OutOfMemory> {
         (here(String::from_str(alloc, "a")?), here(sit)),
     ]?);
     let pair = InputValue::Object(vec![in alloc;
-        (here(String::from_str(alloc, "a")?), here(text(alloc, "three")?)),
+        (
+            here(String::from_str(alloc, "a")?),
+            here(text(alloc, "three")?)
+        ),
         (here(String::from_str(alloc, "zz")?), here(inner)),
     ]?);
     let sizes = InputValue::List(vec![in alloc;
@@ -271,7 +264,11 @@ fn dog_set<'a>(alloc: Global) -> Result<Set<'a>, OutOfMemory> {
             directive(alloc, "skip", None)?,
             vec![in alloc; field("meows", None, None)]?,
         ),
-        inline(None, directive(alloc, "include", None)?, vec![in alloc; friends]?),
+        inline(
+            None,
+            directive(alloc, "include", None)?,
+            vec![in alloc; friends]?
+        ),
     ]?)
 }
 
@@ -328,8 +325,16 @@ fn query<'a>(alloc: Global) -> Result<Definition<'a, DefaultScalarValue>, OutOfM
 pub fn sample_document<'a>(
     alloc: Global,
 ) -> Result<Vec<Definition<'a, DefaultScalarValue>>, OutOfMemory> {
-    let feed = field("feed", None, Some(vec![in alloc; field("name", None, None)]?));
-    let dog = field("dog", None, Some(vec![in alloc; field("name", None, None)]?));
+    let feed = field(
+        "feed",
+        None,
+        Some(vec![in alloc; field("name", None, None)]?),
+    );
+    let dog = field(
+        "dog",
+        None,
+        Some(vec![in alloc; field("name", None, None)]?),
+    );
     let fragment = Fragment {
         name: here("F"),
         type_condition: here("Dog"),
@@ -338,8 +343,20 @@ pub fn sample_document<'a>(
     };
     Ok(vec![in alloc;
         query(alloc)?,
-        operation(OperationType::Mutation, "M", None, None, vec![in alloc; feed]?),
-        operation(OperationType::Subscription, "S", None, None, vec![in alloc; dog]?),
+        operation(
+            OperationType::Mutation,
+            "M",
+            None,
+            None,
+            vec![in alloc; feed]?
+        ),
+        operation(
+            OperationType::Subscription,
+            "S",
+            None,
+            None,
+            vec![in alloc; dog]?
+        ),
         Definition::Fragment(here(fragment)),
     ]?)
 }

@@ -195,7 +195,10 @@ fn a_context_keeps_names_types_and_errors(rt: HostRuntime) -> Result<(), Fail> {
     assert!(rt; !ctx.is_known_fragment("Dog"));
     let dogs = schema.concrete_query_type().field_by_name("dog");
     let dog = dogs.map(|field| field.field_type.as_borrowed());
-    let here = ctx.with_pushed_type(dog, |ctx| Ok((ctx.current_type(), ctx.current_type_literal())))?;
+    let here = ctx.with_pushed_type(
+        dog,
+        |ctx| Ok((ctx.current_type(), ctx.current_type_literal())),
+    )?;
     assert_eq!(rt; here.0.and_then(|meta| meta.name()), Some("Dog"));
     assert!(rt; here.1 == dog);
     let parent = ctx.with_pushed_type(dog, |ctx| {
@@ -242,7 +245,9 @@ fn rules_are_walked_with(rt: HostRuntime) -> Result<(), Fail> {
     let schema = sample_schema(alloc, check_any, no_token)?;
     let document = sample_document(alloc)?;
     let mut ctx = ValidatorContext::new(alloc, &schema, &document)?;
-    let mut rules = MultiVisitorNil.with_rule(MultiVisitorNil).with_rule(MultiVisitorNil);
+    let mut rules = MultiVisitorNil
+        .with_rule(MultiVisitorNil)
+        .with_rule(MultiVisitorNil);
     visit_rules(&mut rules, &mut ctx, &document)?;
     assert!(rt; ctx.into_errors()?.is_empty());
     Ok(())
@@ -260,7 +265,13 @@ fn refuses_all<'a>(
     let pushes_parent = ctx.with_pushed_parent_type(|_| Ok(())).is_err();
     let pushes_input = ctx.with_pushed_input_type(None, |_| Ok(())).is_err();
     let walks = recorded(alloc, &mut ctx, document).is_err();
-    reports && appends && pushes && pushes_parent && pushes_input && walks && ctx.into_errors().is_err()
+    reports
+        && appends
+        && pushes
+        && pushes_parent
+        && pushes_input
+        && walks
+        && ctx.into_errors().is_err()
 }
 
 /// Run with each request for memory refused in turn, a walk tells the same, or it answers a refusal and the context has failed.
