@@ -1,11 +1,11 @@
 //! A visitor that writes down what it hears.
-ghost use Rattle.std.specs.Prelude.{◌≡◌, []};
 
 use crate::ValidatorContext;
 use crate::event::Event;
 use crate::visitor::{Machine, Visitor};
 use language::error::OutOfMemory;
 use language::scalar::ScalarValue;
+use language::tree::Operation;
 use language::types::BorrowedType;
 use language::value::DefaultScalarValue;
 use schema::default_check::DefaultCheck;
@@ -34,39 +34,34 @@ impl<'a> Visitor<'a, DefaultScalarValue> for Recorder {
         ctx: &mut ValidatorContext<'a, DefaultScalarValue>,
         event: &Event<'a, DefaultScalarValue>,
     ) -> Result<(), OutOfMemory> {
+        let alloc = *self.text.allocator();
+        let types = shown_types(alloc, ctx)?;
         let (name, node) = entered(event);
-        push_line(&mut self.text, name, node, ctx)?;
+        self.text.push_str(name)?;
+        self.text.push('(')?;
+        self.text.push_str(node)?;
+        self.text.push_str(") ")?;
+        self.text.push_str(types.as_str())?;
+        self.text.push('\n')?;
         Ok(())
     }
 }
 
-/// The event's line.
-fn push_line(
-    text: &mut String,
-    name: &str,
-    node: &str,
+/// The type at hand, that type as it was written, the parent type and the input type as it was written.
+pub fn shown_types(
+    alloc: Global,
     ctx: &ValidatorContext<'_, DefaultScalarValue>,
-) -> Result<(), AllocError> {
-    let alloc = *text.allocator();
+) -> Result<String, OutOfMemory> {
     let literal = shown(alloc, ctx.current_type_literal())?;
     let input = shown(alloc, ctx.current_input_type_literal())?;
-    for part in [
-        name,
-        "(",
-        node,
-        ") ",
-        name_of(ctx.current_type()),
-        " ",
-        literal.as_str(),
-        " ",
-        name_of(ctx.parent_type()),
-        " ",
-        input.as_str(),
-        "\n",
-    ] {
-        text.push_str(part)?;
-    }
-    Ok(())
+    let mut text = String::from_str(alloc, name_of(ctx.current_type()))?;
+    text.push(' ')?;
+    text.push_str(literal.as_str())?;
+    text.push(' ')?;
+    text.push_str(name_of(ctx.parent_type()))?;
+    text.push(' ')?;
+    text.push_str(input.as_str())?;
+    Ok(text)
 }
 
 fn name_of<'a>(meta: Option<&'a MetaType>) -> &'a str {
@@ -83,14 +78,18 @@ fn shown(alloc: Global, literal: Option<BorrowedType<'_>>) -> Result<String, All
     }
 }
 
+fn name_in<'e>(operation: &'e Operation<'_, DefaultScalarValue>) -> &'e str {
+    match &operation.name {
+        Some(name) => name.item,
+        None => "",
+    }
+}
+
 /// The name of an event, and what its node is called.
 fn entered<'e>(event: &'e Heard<'_>) -> (&'static str, &'e str) {
     match event {
         Event::EnterDocument(_) => ("enter_document", ""),
-        Event::EnterOperationDefinition(o) => (
-            "enter_operation_definition",
-            o.item.name.as_ref().map_or("", |name| name.item),
-        ),
+        Event::EnterOperationDefinition(o) => ("enter_operation_definition", name_in(&o.item)),
         Event::EnterFragmentDefinition(f) => ("enter_fragment_definition", f.item.name.item),
         Event::EnterVariableDefinition(v) => ("enter_variable_definition", v.0.item),
         Event::EnterDirective(d) => ("enter_directive", d.item.name.item),
@@ -113,10 +112,7 @@ fn entered<'e>(event: &'e Heard<'_>) -> (&'static str, &'e str) {
 fn left<'e>(event: &'e Heard<'_>) -> (&'static str, &'e str) {
     match event {
         Event::ExitDocument(_) => ("exit_document", ""),
-        Event::ExitOperationDefinition(o) => (
-            "exit_operation_definition",
-            o.item.name.as_ref().map_or("", |name| name.item),
-        ),
+        Event::ExitOperationDefinition(o) => ("exit_operation_definition", name_in(&o.item)),
         Event::ExitFragmentDefinition(f) => ("exit_fragment_definition", f.item.name.item),
         Event::ExitVariableDefinition(v) => ("exit_variable_definition", v.0.item),
         Event::ExitDirective(d) => ("exit_directive", d.item.name.item),

@@ -111,12 +111,12 @@ fn with_field(
     object(alloc, name, fields)
 }
 
-/// The schema of the walks: with a root of mutations, `MutationRoot { feed: Dog }`, and none of subscriptions.
-pub fn sample_schema(
+/// The types of the walks: `MutationRoot { feed: Dog }`, those above, and what each schema has.
+pub fn sample_types(
     alloc: Global,
     check: InputValueParseFn,
     token: ScalarTokenParseFn,
-) -> Result<SchemaType<DefaultScalarValue>, SchemaError>
+) -> Result<Vec<MetaType>, SchemaError>
     requires callable { (a : _) (v : _) → InputValueParseFn.pre check a v }
     requires one_answer { (a b : _) (v w : _) (r s : _) → v.now ≡ w.now → InputValueParseFn.post check a v r → InputValueParseFn.post check b w s → SameAnswer r s }
 {
@@ -124,17 +124,21 @@ pub fn sample_schema(
     types.push(ScalarMetaOf::new(alloc, "String", check, token)?.into_meta())?;
     types.push(ScalarMetaOf::new(alloc, "Boolean", check, token)?.into_meta())?;
     types.push(ScalarMetaOf::new(alloc, "Int", check, token)?.into_meta())?;
-    types.push(with_field(
-        alloc,
-        "__Schema",
-        "queryType",
-        Type::non_null(alloc, "__Type")?,
-    )?)?;
+    let query_type = Type::non_null(alloc, "__Type")?;
+    types.push(with_field(alloc, "__Schema", "queryType", query_type)?)?;
     types.push(with_field(alloc, "__Type", "name", Type::nullable(alloc, "String")?)?)?;
     types.push(pair(alloc, check)?)?;
     types.push(dog(alloc)?)?;
     types.push(query_root(alloc)?)?;
     types.push(with_field(alloc, "MutationRoot", "feed", Type::nullable(alloc, "Dog")?)?)?;
+    Ok(types)
+}
+
+/// The schema of the walks, which has a root of mutations and none of subscriptions.
+pub fn sample_schema(
+    alloc: Global,
+    types: Vec<MetaType>,
+) -> Result<SchemaType<DefaultScalarValue>, SchemaError> {
     SchemaType::<DefaultScalarValue>::new(
         alloc,
         types,

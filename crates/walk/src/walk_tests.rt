@@ -1,13 +1,14 @@
 //! A walk over every kind of node, and the calls of a context.
 
-use crate::recorder::Recorder;
-use crate::samples::{check_any, no_token, sample_document, sample_schema};
+use crate::recorder::{Recorder, shown_types};
+use crate::samples::{check_any, no_token, sample_document, sample_schema, sample_types};
 use crate::{MultiVisitorCons, MultiVisitorNil, RuleError, ValidatorContext, visit, visit_rules};
 use language::error::OutOfMemory;
 use language::position::SourcePosition;
-use language::tree::Document;
+use language::tree::Definition;
 use language::types::BorrowedType;
 use language::value::DefaultScalarValue;
+use schema::model::SchemaType;
 use std::alloc::Global;
 use std::test::Fail;
 
@@ -153,14 +154,16 @@ exit_fragment_definition(F) Dog Dog! - -
 exit_document() - - - -
 ";
 
-type Written<'a> = Document<'a, DefaultScalarValue>;
+type Schema = SchemaType<DefaultScalarValue>;
+
+type Visitors = MultiVisitorCons<Recorder, MultiVisitorNil>;
 
 /// What a visitor hears of the document.
 fn recorded<'a>(
     alloc: Global,
     ctx: &mut ValidatorContext<'a, DefaultScalarValue>,
-    document: Written<'a>,
-) -> Result<MultiVisitorCons<Recorder, MultiVisitorNil>, OutOfMemory> {
+    document: &'a [Definition<'a, DefaultScalarValue>],
+) -> Result<Visitors, OutOfMemory> {
     let recorder = Recorder {
         text: String::new(alloc),
     };
@@ -169,58 +172,128 @@ fn recorded<'a>(
     Ok(visitors)
 }
 
+/// The same in a fresh context. After a refusal it says whether the context refuses each later call.
+fn recorded_afresh<'a>(
+    alloc: Global,
+    schema: &'a Schema,
+    document: &'a [Definition<'a, DefaultScalarValue>],
+) -> Result<Visitors, bool> {
+    match ValidatorContext::new(alloc, schema, document) {
+        Ok(mut ctx) => match recorded(alloc, &mut ctx, document) {
+            Ok(visitors) => Ok(visitors),
+            Err(_e) => Err(refuses_all(alloc, ctx, document)),
+        },
+        Err(_e) => Err(true),
+    }
+}
+
+/// Whether a context refuses each call that reports, pushes or ends, and each walk.
+fn refuses_all<'a>(
+    alloc: Global,
+    mut ctx: ValidatorContext<'a, DefaultScalarValue>,
+    document: &'a [Definition<'a, DefaultScalarValue>],
+) -> bool {
+    let reports = ctx.report_error("m", &[]).is_err();
+    let appends = ctx.append_errors(Vec::new(alloc)).is_err();
+    let pushes = ctx.with_pushed_type(None, |_ctx| Ok(())).is_err();
+    let pushes_parent = ctx.with_pushed_parent_type(|_ctx| Ok(())).is_err();
+    let pushes_input = ctx.with_pushed_input_type(None, |_ctx| Ok(())).is_err();
+    let walks = recorded(alloc, &mut ctx, document).is_err();
+    let ends = ctx.into_errors().is_err();
+    reports && appends && pushes && pushes_parent && pushes_input && walks && ends
+}
+
 #[test]
 fn every_kind_of_node_is_told(rt: HostRuntime) -> Result<(), Fail> {
     let alloc = rt.alloc();
-    let schema = sample_schema(alloc, check_any, no_token)?;
+    let schema = sample_schema(alloc, sample_types(alloc, check_any, no_token)?)?;
     let document = sample_document(alloc)?;
-    let mut ctx = ValidatorContext::new(alloc, &schema, &document)?;
-    let visitors = recorded(alloc, &mut ctx, &document)?;
+    let Ok(visitors) = recorded_afresh(alloc, &schema, &document) else {
+        return Err(Fail::from("memory was refused"));
+    };
     let heard = visitors.newest().text.as_str();
     for (said, want) in heard.lines().zip(WALK.lines()) {
         assert_eq!(rt; said, want);
     }
     assert_eq!(rt; heard, WALK);
-    assert!(rt; ctx.into_errors()?.is_empty());
     Ok(())
 }
 
+/// Run with each request for memory refused in turn, a walk tells the same, or it answers a refusal and the context has failed.
 #[test]
-fn a_context_keeps_names_types_and_errors(rt: HostRuntime) -> Result<(), Fail> {
+fn a_refused_request_changes_no_walk(rt: HostRuntime) {
     let alloc = rt.alloc();
-    let schema = sample_schema(alloc, check_any, no_token)?;
-    let document = sample_document(alloc)?;
-    let mut ctx = ValidatorContext::new(alloc, &schema, &document)?;
-    assert!(rt; ctx.is_known_fragment("F"));
-    assert!(rt; !ctx.is_known_fragment("Dog"));
-    let dogs = schema.concrete_query_type().field_by_name("dog");
-    let dog = dogs.map(|field| field.field_type.as_borrowed());
-    let here = ctx.with_pushed_type(
-        dog,
-        |ctx| Ok((ctx.current_type(), ctx.current_type_literal())),
-    )?;
-    assert_eq!(rt; here.0.and_then(|meta| meta.name()), Some("Dog"));
-    assert!(rt; here.1 == dog);
+    let Ok(types) = sample_types(alloc, check_any, no_token) else {
+        return;
+    };
+    let Ok(schema) = sample_schema(alloc, types) else {
+        return;
+    };
+    let Ok(document) = sample_document(alloc) else {
+        return;
+    };
+    match recorded_afresh(alloc, &schema, &document) {
+        Ok(visitors) => assert_eq!(rt; visitors.newest().text.as_str(), WALK),
+        Err(refuses) => assert!(rt; refuses),
+    }
+}
+
+/// The types at hand: with a type pushed, with that type as the parent too, with an input type pushed, and with nothing.
+fn types_in_turn<'a>(
+    alloc: Global,
+    schema: &'a Schema,
+    document: &'a [Definition<'a, DefaultScalarValue>],
+) -> Result<(String, String, String, String), OutOfMemory> {
+    let mut ctx = ValidatorContext::new(alloc, schema, document)?;
+    let dog = Some(BorrowedType::non_null("Dog"));
+    let int = Some(BorrowedType::nullable("Int"));
+    let pushed = ctx.with_pushed_type(dog, |ctx| shown_types(alloc, ctx))?;
     let parent = ctx.with_pushed_type(dog, |ctx| {
-        ctx.with_pushed_parent_type(|ctx| Ok(ctx.parent_type()))
+        ctx.with_pushed_parent_type(|ctx| shown_types(alloc, ctx))
     })?;
-    assert_eq!(rt; parent.and_then(|meta| meta.name()), Some("Dog"));
-    let word = Some(BorrowedType::non_null("String"));
-    let input = ctx.with_pushed_input_type(word, |ctx| Ok(ctx.current_input_type_literal()))?;
-    assert!(rt; input == word);
-    assert!(rt; ctx.current_type().is_none());
-    assert!(rt; ctx.current_type_literal().is_none());
-    assert!(rt; ctx.parent_type().is_none());
-    assert!(rt; ctx.current_input_type_literal().is_none());
-    Ok(())
+    let input = ctx.with_pushed_input_type(int, |ctx| shown_types(alloc, ctx))?;
+    Ok((pushed, parent, input, shown_types(alloc, &ctx)?))
 }
 
 #[test]
-fn errors_come_in_order_with_repeats(rt: HostRuntime) -> Result<(), Fail> {
+fn types_are_pushed(rt: HostRuntime) -> Result<(), Fail> {
     let alloc = rt.alloc();
-    let schema = sample_schema(alloc, check_any, no_token)?;
-    let mut ctx = ValidatorContext::new(alloc, &schema, &[])?;
-    assert!(rt; !ctx.has_errors());
+    let schema = sample_schema(alloc, sample_types(alloc, check_any, no_token)?)?;
+    let (pushed, parent, input, after) = types_in_turn(alloc, &schema, &[])?;
+    assert_eq!(rt; pushed.as_str(), "Dog Dog! - -");
+    assert_eq!(rt; parent.as_str(), "Dog Dog! Dog -");
+    assert_eq!(rt; input.as_str(), "- - - Int");
+    assert_eq!(rt; after.as_str(), "- - - -");
+    Ok(())
+}
+
+/// Whether the fragments `F` and `Dog` are known.
+fn known_fragments<'a>(
+    alloc: Global,
+    schema: &'a Schema,
+    document: &'a [Definition<'a, DefaultScalarValue>],
+) -> Result<(bool, bool), OutOfMemory> {
+    let ctx = ValidatorContext::new(alloc, schema, document)?;
+    Ok((ctx.is_known_fragment("F"), ctx.is_known_fragment("Dog")))
+}
+
+#[test]
+fn fragments_are_known(rt: HostRuntime) -> Result<(), Fail> {
+    let alloc = rt.alloc();
+    let schema = sample_schema(alloc, sample_types(alloc, check_any, no_token)?)?;
+    let document = sample_document(alloc)?;
+    assert_eq!(rt; known_fragments(alloc, &schema, &document)?, (true, false));
+    Ok(())
+}
+
+/// Whether there are errors before anything is reported, whether there are some after, and the errors.
+fn reported<'a>(
+    alloc: Global,
+    schema: &'a Schema,
+    document: &'a [Definition<'a, DefaultScalarValue>],
+) -> Result<(bool, bool, Vec<RuleError>), OutOfMemory> {
+    let mut ctx = ValidatorContext::new(alloc, schema, document)?;
+    let before = ctx.has_errors();
     let early = SourcePosition::new(3, 0, 3);
     let late = SourcePosition::new(7, 0, 7);
     ctx.report_error("late", &[late])?;
@@ -229,8 +302,16 @@ fn errors_come_in_order_with_repeats(rt: HostRuntime) -> Result<(), Fail> {
     more.push(RuleError::new(alloc, "late", &[late])?)?;
     more.push(RuleError::new(alloc, "before", &[early])?)?;
     ctx.append_errors(more)?;
-    assert!(rt; ctx.has_errors());
-    let errors = ctx.into_errors()?;
+    let after = ctx.has_errors();
+    Ok((before, after, ctx.into_errors()?))
+}
+
+#[test]
+fn errors_come_in_order_with_repeats(rt: HostRuntime) -> Result<(), Fail> {
+    let alloc = rt.alloc();
+    let schema = sample_schema(alloc, sample_types(alloc, check_any, no_token)?)?;
+    let (before, after, errors) = reported(alloc, &schema, &[])?;
+    assert!(rt; !before && after);
     let mut messages = errors.iter().map(|error| error.message());
     for want in ["before", "early", "late", "late"] {
         assert_eq!(rt; messages.next(), Some(want));
@@ -239,56 +320,25 @@ fn errors_come_in_order_with_repeats(rt: HostRuntime) -> Result<(), Fail> {
     Ok(())
 }
 
-#[test]
-fn rules_are_walked_with(rt: HostRuntime) -> Result<(), Fail> {
-    let alloc = rt.alloc();
-    let schema = sample_schema(alloc, check_any, no_token)?;
-    let document = sample_document(alloc)?;
-    let mut ctx = ValidatorContext::new(alloc, &schema, &document)?;
+/// What two rules report that report nothing.
+fn reported_by_nobody<'a>(
+    alloc: Global,
+    schema: &'a Schema,
+    document: &'a [Definition<'a, DefaultScalarValue>],
+) -> Result<Vec<RuleError>, OutOfMemory> {
+    let mut ctx = ValidatorContext::new(alloc, schema, document)?;
     let mut rules = MultiVisitorNil
         .with_rule(MultiVisitorNil)
         .with_rule(MultiVisitorNil);
-    visit_rules(&mut rules, &mut ctx, &document)?;
-    assert!(rt; ctx.into_errors()?.is_empty());
-    Ok(())
+    visit_rules(&mut rules, &mut ctx, document)?;
+    ctx.into_errors()
 }
 
-/// Whether a context refuses each call that reports, pushes or ends, and each walk.
-fn refuses_all<'a>(
-    alloc: Global,
-    mut ctx: ValidatorContext<'a, DefaultScalarValue>,
-    document: Written<'a>,
-) -> bool {
-    let reports = ctx.report_error("m", &[]).is_err();
-    let appends = ctx.append_errors(Vec::new(alloc)).is_err();
-    let pushes = ctx.with_pushed_type(None, |_| Ok(())).is_err();
-    let pushes_parent = ctx.with_pushed_parent_type(|_| Ok(())).is_err();
-    let pushes_input = ctx.with_pushed_input_type(None, |_| Ok(())).is_err();
-    let walks = recorded(alloc, &mut ctx, document).is_err();
-    reports
-        && appends
-        && pushes
-        && pushes_parent
-        && pushes_input
-        && walks
-        && ctx.into_errors().is_err()
-}
-
-/// Run with each request for memory refused in turn, a walk tells the same, or it answers a refusal and the context has failed.
 #[test]
-fn a_refused_request_changes_no_walk(rt: HostRuntime) {
+fn rules_are_walked_with(rt: HostRuntime) -> Result<(), Fail> {
     let alloc = rt.alloc();
-    let Ok(schema) = sample_schema(alloc, check_any, no_token) else {
-        return;
-    };
-    let Ok(document) = sample_document(alloc) else {
-        return;
-    };
-    let Ok(mut ctx) = ValidatorContext::new(alloc, &schema, &document) else {
-        return;
-    };
-    match recorded(alloc, &mut ctx, &document) {
-        Ok(visitors) => assert_eq!(rt; visitors.newest().text.as_str(), WALK),
-        Err(OutOfMemory) => assert!(rt; refuses_all(alloc, ctx, &document)),
-    }
+    let schema = sample_schema(alloc, sample_types(alloc, check_any, no_token)?)?;
+    let document = sample_document(alloc)?;
+    assert!(rt; reported_by_nobody(alloc, &schema, &document)?.is_empty());
+    Ok(())
 }
