@@ -36,7 +36,7 @@ impl<'a> Visitor<'a, DefaultScalarValue> for Recorder {
     ) -> Result<(), OutOfMemory> {
         let alloc = *self.text.allocator();
         let types = shown_types(alloc, ctx)?;
-        let (name, node) = entered(event);
+        let (name, node) = told(event);
         self.text.push_str(name)?;
         self.text.push('(')?;
         self.text.push_str(node)?;
@@ -86,7 +86,7 @@ fn name_in<'e>(operation: &'e Operation<'_, DefaultScalarValue>) -> &'e str {
 }
 
 /// The name of an event, and what its node is called.
-fn entered<'e>(event: &'e Heard<'_>) -> (&'static str, &'e str) {
+fn told<'e>(event: &'e Heard<'_>) -> (&'static str, &'e str) {
     match event {
         Event::EnterDocument(_) => ("enter_document", ""),
         Event::EnterOperationDefinition(o) => ("enter_operation_definition", name_in(&o.item)),
@@ -105,12 +105,6 @@ fn entered<'e>(event: &'e Heard<'_>) -> (&'static str, &'e str) {
         Event::EnterListValue(_) => ("enter_list_value", ""),
         Event::EnterObjectValue(_) => ("enter_object_value", ""),
         Event::EnterObjectField(k, _) => ("enter_object_field", k.item.as_str()),
-        _ => left(event),
-    }
-}
-
-fn left<'e>(event: &'e Heard<'_>) -> (&'static str, &'e str) {
-    match event {
         Event::ExitDocument(_) => ("exit_document", ""),
         Event::ExitOperationDefinition(o) => ("exit_operation_definition", name_in(&o.item)),
         Event::ExitFragmentDefinition(f) => ("exit_fragment_definition", f.item.name.item),
@@ -128,6 +122,5 @@ fn left<'e>(event: &'e Heard<'_>) -> (&'static str, &'e str) {
         Event::ExitListValue(_) => ("exit_list_value", ""),
         Event::ExitObjectValue(_) => ("exit_object_value", ""),
         Event::ExitObjectField(k, _) => ("exit_object_field", k.item.as_str()),
-        _ => ("", ""),
     }
 }

@@ -1,6 +1,5 @@
 //! A schema and a document that has every kind of node, for the tests.
 ghost use Rattle.std.specs.Prelude.{◌≡◌, Ok};
-ghost use Rattle.schema.specs.Answers.{SameAnswer};
 
 use language::error::{CheckError, OutOfMemory, ParseError};
 use language::position::{SourcePosition, Span, Spanning};
@@ -10,7 +9,7 @@ use language::tree::{
 };
 use language::types::Type;
 use language::value::{DefaultScalarValue, InputValue};
-use schema::default_check::{InputValueParseFn, ScalarTokenKind, ScalarTokenParseFn};
+use schema::default_check::{DefaultCheck, ScalarTokenKind};
 use schema::error::SchemaError;
 use schema::meta;
 use schema::meta::{Argument, InputObjectMetaOf, MetaType, ObjectMeta, ScalarMetaOf};
@@ -39,6 +38,15 @@ pub fn no_token(
     _text: &str,
 ) -> Result<DefaultScalarValue, ParseError> {
     Err(ParseError::Refused(String::from_str(alloc, "no token")?))
+}
+
+/// A check for each type that has one.
+#[derive(Drop)]
+pub struct Checks {
+    pub string: DefaultCheck,
+    pub boolean: DefaultCheck,
+    pub int: DefaultCheck,
+    pub pair: DefaultCheck,
 }
 
 /// An object with the field `__typename: String!` and these.
@@ -89,14 +97,11 @@ fn query_root(alloc: Global) -> Result<MetaType, SchemaError> {
 }
 
 /// `Pair { a: Int!, a: String }`
-fn pair(alloc: Global, check: InputValueParseFn) -> Result<MetaType, SchemaError>
-    requires callable { (a : _) (v : _) → InputValueParseFn.pre check a v }
-    requires one_answer { (a b : _) (v w : _) (r s : _) → v.now ≡ w.now → InputValueParseFn.post check a v r → InputValueParseFn.post check b w s → SameAnswer r s }
-{
+fn pair(alloc: Global, check: DefaultCheck) -> Result<MetaType, SchemaError> {
     let mut fields = Vec::new(alloc);
     fields.push(Argument::new(alloc, "a", Type::non_null(alloc, "Int")?)?)?;
     fields.push(Argument::new(alloc, "a", Type::nullable(alloc, "String")?)?)?;
-    Ok(InputObjectMetaOf::new(alloc, "Pair", fields, check)?.into_meta())
+    Ok(InputObjectMetaOf::with_check(alloc, "Pair", fields, check)?.into_meta())
 }
 
 /// An object with one field of its own, of this name and type.
@@ -112,22 +117,21 @@ fn with_field(
 }
 
 /// The types of the walks: `MutationRoot { feed: Dog }`, those above, and what each schema has.
-pub fn sample_types(
-    alloc: Global,
-    check: InputValueParseFn,
-    token: ScalarTokenParseFn,
-) -> Result<Vec<MetaType>, SchemaError>
-    requires callable { (a : _) (v : _) → InputValueParseFn.pre check a v }
-    requires one_answer { (a b : _) (v w : _) (r s : _) → v.now ≡ w.now → InputValueParseFn.post check a v r → InputValueParseFn.post check b w s → SameAnswer r s }
-{
+fn sample_types(alloc: Global, checks: Checks) -> Result<Vec<MetaType>, SchemaError> {
+    let Checks {
+        string,
+        boolean,
+        int,
+        pair: of_pair,
+    } = checks;
     let mut types = Vec::new(alloc);
-    types.push(ScalarMetaOf::new(alloc, "String", check, token)?.into_meta())?;
-    types.push(ScalarMetaOf::new(alloc, "Boolean", check, token)?.into_meta())?;
-    types.push(ScalarMetaOf::new(alloc, "Int", check, token)?.into_meta())?;
+    types.push(ScalarMetaOf::with_check(alloc, "String", string)?.into_meta())?;
+    types.push(ScalarMetaOf::with_check(alloc, "Boolean", boolean)?.into_meta())?;
+    types.push(ScalarMetaOf::with_check(alloc, "Int", int)?.into_meta())?;
     let query_type = Type::non_null(alloc, "__Type")?;
     types.push(with_field(alloc, "__Schema", "queryType", query_type)?)?;
     types.push(with_field(alloc, "__Type", "name", Type::nullable(alloc, "String")?)?)?;
-    types.push(pair(alloc, check)?)?;
+    types.push(pair(alloc, of_pair)?)?;
     types.push(dog(alloc)?)?;
     types.push(query_root(alloc)?)?;
     types.push(with_field(alloc, "MutationRoot", "feed", Type::nullable(alloc, "Dog")?)?)?;
@@ -137,11 +141,11 @@ pub fn sample_types(
 /// The schema of the walks, which has a root of mutations and none of subscriptions.
 pub fn sample_schema(
     alloc: Global,
-    types: Vec<MetaType>,
+    checks: Checks,
 ) -> Result<SchemaType<DefaultScalarValue>, SchemaError> {
     SchemaType::<DefaultScalarValue>::new(
         alloc,
-        types,
+        sample_types(alloc, checks)?,
         "QueryRoot",
         "MutationRoot",
         "_EmptySubscription",

@@ -1,13 +1,14 @@
 //! A walk over every kind of node, and the calls of a context.
 
 use crate::recorder::{Recorder, shown_types};
-use crate::samples::{check_any, no_token, sample_document, sample_schema, sample_types};
+use crate::samples::{Checks, check_any, no_token, sample_document, sample_schema};
 use crate::{MultiVisitorCons, MultiVisitorNil, RuleError, ValidatorContext, visit, visit_rules};
 use language::error::OutOfMemory;
 use language::position::SourcePosition;
 use language::tree::Definition;
 use language::types::BorrowedType;
 use language::value::DefaultScalarValue;
+use schema::default_check::DefaultCheck;
 use schema::model::SchemaType;
 use std::alloc::Global;
 use std::test::Fail;
@@ -173,10 +174,10 @@ fn recorded<'a>(
 }
 
 /// The same in a fresh context. After a refusal it says whether the context refuses each later call.
-fn recorded_afresh<'a>(
+fn recorded_afresh(
     alloc: Global,
-    schema: &'a Schema,
-    document: &'a [Definition<'a, DefaultScalarValue>],
+    schema: &Schema,
+    document: &[Definition<'_, DefaultScalarValue>],
 ) -> Result<Visitors, bool> {
     match ValidatorContext::new(alloc, schema, document) {
         Ok(mut ctx) => match recorded(alloc, &mut ctx, document) {
@@ -206,7 +207,13 @@ fn refuses_all<'a>(
 #[test]
 fn every_kind_of_node_is_told(rt: HostRuntime) -> Result<(), Fail> {
     let alloc = rt.alloc();
-    let schema = sample_schema(alloc, sample_types(alloc, check_any, no_token)?)?;
+    let checks = Checks {
+        string: DefaultCheck::with_token(check_any, no_token),
+        boolean: DefaultCheck::with_token(check_any, no_token),
+        int: DefaultCheck::with_token(check_any, no_token),
+        pair: DefaultCheck::new(check_any),
+    };
+    let schema = sample_schema(alloc, checks)?;
     let document = sample_document(alloc)?;
     let Ok(visitors) = recorded_afresh(alloc, &schema, &document) else {
         return Err(Fail::from("memory was refused"));
@@ -223,10 +230,13 @@ fn every_kind_of_node_is_told(rt: HostRuntime) -> Result<(), Fail> {
 #[test]
 fn a_refused_request_changes_no_walk(rt: HostRuntime) {
     let alloc = rt.alloc();
-    let Ok(types) = sample_types(alloc, check_any, no_token) else {
-        return;
+    let checks = Checks {
+        string: DefaultCheck::with_token(check_any, no_token),
+        boolean: DefaultCheck::with_token(check_any, no_token),
+        int: DefaultCheck::with_token(check_any, no_token),
+        pair: DefaultCheck::new(check_any),
     };
-    let Ok(schema) = sample_schema(alloc, types) else {
+    let Ok(schema) = sample_schema(alloc, checks) else {
         return;
     };
     let Ok(document) = sample_document(alloc) else {
@@ -239,10 +249,10 @@ fn a_refused_request_changes_no_walk(rt: HostRuntime) {
 }
 
 /// The types at hand: with a type pushed, with that type as the parent too, with an input type pushed, and with nothing.
-fn types_in_turn<'a>(
+fn types_in_turn(
     alloc: Global,
-    schema: &'a Schema,
-    document: &'a [Definition<'a, DefaultScalarValue>],
+    schema: &Schema,
+    document: &[Definition<'_, DefaultScalarValue>],
 ) -> Result<(String, String, String, String), OutOfMemory> {
     let mut ctx = ValidatorContext::new(alloc, schema, document)?;
     let dog = Some(BorrowedType::non_null("Dog"));
@@ -252,48 +262,33 @@ fn types_in_turn<'a>(
         ctx.with_pushed_parent_type(|ctx| shown_types(alloc, ctx))
     })?;
     let input = ctx.with_pushed_input_type(int, |ctx| shown_types(alloc, ctx))?;
-    Ok((pushed, parent, input, shown_types(alloc, &ctx)?))
+    let after = shown_types(alloc, &ctx)?;
+    Ok((pushed, parent, input, after))
 }
 
-#[test]
-fn types_are_pushed(rt: HostRuntime) -> Result<(), Fail> {
-    let alloc = rt.alloc();
-    let schema = sample_schema(alloc, sample_types(alloc, check_any, no_token)?)?;
-    let (pushed, parent, input, after) = types_in_turn(alloc, &schema, &[])?;
-    assert_eq!(rt; pushed.as_str(), "Dog Dog! - -");
-    assert_eq!(rt; parent.as_str(), "Dog Dog! Dog -");
-    assert_eq!(rt; input.as_str(), "- - - Int");
-    assert_eq!(rt; after.as_str(), "- - - -");
-    Ok(())
-}
-
-/// Whether the fragments `F` and `Dog` are known.
-fn known_fragments<'a>(
+/// Whether the fragments `F` and `Dog` are known, and whether there are errors before anything is reported.
+fn known_at_first(
     alloc: Global,
-    schema: &'a Schema,
-    document: &'a [Definition<'a, DefaultScalarValue>],
-) -> Result<(bool, bool), OutOfMemory> {
+    schema: &Schema,
+    document: &[Definition<'_, DefaultScalarValue>],
+) -> Result<(bool, bool, bool), OutOfMemory> {
     let ctx = ValidatorContext::new(alloc, schema, document)?;
-    Ok((ctx.is_known_fragment("F"), ctx.is_known_fragment("Dog")))
+    let fragment = ctx.is_known_fragment("F");
+    let other = ctx.is_known_fragment("Dog");
+    Ok((fragment, other, ctx.has_errors()))
 }
 
-#[test]
-fn fragments_are_known(rt: HostRuntime) -> Result<(), Fail> {
-    let alloc = rt.alloc();
-    let schema = sample_schema(alloc, sample_types(alloc, check_any, no_token)?)?;
-    let document = sample_document(alloc)?;
-    assert_eq!(rt; known_fragments(alloc, &schema, &document)?, (true, false));
-    Ok(())
-}
-
-/// Whether there are errors before anything is reported, whether there are some after, and the errors.
-fn reported<'a>(
+/// Four errors, in a context that two rules walked with that report nothing.
+fn reported(
     alloc: Global,
-    schema: &'a Schema,
-    document: &'a [Definition<'a, DefaultScalarValue>],
-) -> Result<(bool, bool, Vec<RuleError>), OutOfMemory> {
+    schema: &Schema,
+    document: &[Definition<'_, DefaultScalarValue>],
+) -> Result<Vec<RuleError>, OutOfMemory> {
     let mut ctx = ValidatorContext::new(alloc, schema, document)?;
-    let before = ctx.has_errors();
+    let mut rules = MultiVisitorNil
+        .with_rule(MultiVisitorNil)
+        .with_rule(MultiVisitorNil);
+    visit_rules(&mut rules, &mut ctx, document)?;
     let early = SourcePosition::new(3, 0, 3);
     let late = SourcePosition::new(7, 0, 7);
     ctx.report_error("late", &[late])?;
@@ -302,43 +297,32 @@ fn reported<'a>(
     more.push(RuleError::new(alloc, "late", &[late])?)?;
     more.push(RuleError::new(alloc, "before", &[early])?)?;
     ctx.append_errors(more)?;
-    let after = ctx.has_errors();
-    Ok((before, after, ctx.into_errors()?))
+    ctx.into_errors()
 }
 
 #[test]
-fn errors_come_in_order_with_repeats(rt: HostRuntime) -> Result<(), Fail> {
+fn a_context_keeps_types_names_and_errors(rt: HostRuntime) -> Result<(), Fail> {
     let alloc = rt.alloc();
-    let schema = sample_schema(alloc, sample_types(alloc, check_any, no_token)?)?;
-    let (before, after, errors) = reported(alloc, &schema, &[])?;
-    assert!(rt; !before && after);
+    let checks = Checks {
+        string: DefaultCheck::with_token(check_any, no_token),
+        boolean: DefaultCheck::with_token(check_any, no_token),
+        int: DefaultCheck::with_token(check_any, no_token),
+        pair: DefaultCheck::new(check_any),
+    };
+    let schema = sample_schema(alloc, checks)?;
+    let document = sample_document(alloc)?;
+    let (pushed, parent, input, after) = types_in_turn(alloc, &schema, &document)?;
+    assert_eq!(rt; pushed.as_str(), "Dog Dog! - -");
+    assert_eq!(rt; parent.as_str(), "Dog Dog! Dog -");
+    assert_eq!(rt; input.as_str(), "- - - Int");
+    assert_eq!(rt; after.as_str(), "- - - -");
+    let known = known_at_first(alloc, &schema, &document)?;
+    assert_eq!(rt; known, (true, false, false));
+    let errors = reported(alloc, &schema, &document)?;
     let mut messages = errors.iter().map(|error| error.message());
     for want in ["before", "early", "late", "late"] {
         assert_eq!(rt; messages.next(), Some(want));
     }
     assert_eq!(rt; messages.next(), None);
-    Ok(())
-}
-
-/// What two rules report that report nothing.
-fn reported_by_nobody<'a>(
-    alloc: Global,
-    schema: &'a Schema,
-    document: &'a [Definition<'a, DefaultScalarValue>],
-) -> Result<Vec<RuleError>, OutOfMemory> {
-    let mut ctx = ValidatorContext::new(alloc, schema, document)?;
-    let mut rules = MultiVisitorNil
-        .with_rule(MultiVisitorNil)
-        .with_rule(MultiVisitorNil);
-    visit_rules(&mut rules, &mut ctx, document)?;
-    ctx.into_errors()
-}
-
-#[test]
-fn rules_are_walked_with(rt: HostRuntime) -> Result<(), Fail> {
-    let alloc = rt.alloc();
-    let schema = sample_schema(alloc, sample_types(alloc, check_any, no_token)?)?;
-    let document = sample_document(alloc)?;
-    assert!(rt; reported_by_nobody(alloc, &schema, &document)?.is_empty());
     Ok(())
 }
