@@ -53,7 +53,7 @@ take-pushed xs x = rw (length-pushed xs x) (take-seam xs x)
 pub popped-pushed : {S C : Type 0} (w : ContextState S C) (t : Typing S C) → popped (pushed w t) ≡ w
 popped-pushed w t = ap (λ ts. record w { typings = ts }) (take-pushed w.typings t)
 
-popped-reported : {S C : Type 0} (w : ContextState S C) (t : Typing S C) (es : List ErrorValue) → popped (with_errors (pushed w t) es) ≡ with_errors w es
+pub popped-reported : {S C : Type 0} (w : ContextState S C) (t : Typing S C) (es : List ErrorValue) → popped (with_errors (pushed w t) es) ≡ with_errors w es
 popped-reported w t es = ap (λ ts. record w { typings = ts; errors = w.errors ++ es }) (take-pushed w.typings t)
 
 module _ {S C V : Type 0} (step : StepOf S C V) where

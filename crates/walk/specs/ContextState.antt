@@ -1,5 +1,5 @@
 -- What a context holds, as callers see it.
-use Rattle.std.specs.Prelude.{ℕ, ◌-◌, List, [], ◌∷◌, ◌++◌, Option, Some, None, Bool, true, false, slice_get, length, take}
+use Rattle.std.specs.Prelude.{◌≡◌, ℕ, ◌-◌, List, [], ◌∷◌, ◌++◌, Option, Some, None, Bool, true, false, slice_get, length, take}
 use Rattle.language.specs.declared.tree.Definition.{Definition}
 use Rattle.schema.specs.Catalog.{Catalog}
 use Rattle.walk.specs.ErrorValue.{ErrorValue}
@@ -57,6 +57,11 @@ module _ {S C : Type 0} where
   -- a context that was made for a document: no types, and nothing reported
   abbrev pub fresh_context : Catalog S C → List (Definition S) → ContextState S C
   fresh_context schema doc = record { schema = schema; known = fragment_names doc; typings = []; errors = []; failed = false }
+
+module _ {S C : Type 0} where
+  -- types that are pushed and popped leave a context as it was, but for what was reported between
+  abbrev pub LeavesTypes : ContextState S C → Typing S C → Type 0
+  LeavesTypes w t = (popped (pushed w t) ≡ w) × ((es : List ErrorValue) → popped (with_errors (pushed w t) es) ≡ with_errors w es)
 
 -- whether there is an error
 abbrev pub has_some : {X : Type 0} → List X → Bool

@@ -1,7 +1,8 @@
 -- An error of validation as callers see it.
-use Rattle.std.specs.Prelude.{ℕ, List, [], ◌∷◌, ◌++◌, codes}
+use Rattle.std.specs.Prelude.{◌≡◌, ◌↔◌, ℕ, List, [], ◌∷◌, ◌++◌, codes}
 use Rattle.std.specs.List.{flat_map}
 use Rattle.std.specs.declared.cmp.Ordering.{Ordering}
+use Rattle.std.specs.declared.cmp.Ordering.TheVariants.{Equal}
 use Rattle.std.specs.Ordering.{nat_cmp, on, then_cmp}
 use Rattle.std.specs.Cmp.Lexicographic.{slice_cmp}
 use Rattle.language.specs.declared.position.SourcePosition.{SourcePosition}
@@ -19,6 +20,10 @@ position_cmp = then_cmp (on index_of nat_cmp) (then_cmp (on line_of nat_cmp) (on
 -- place by place, a beginning before a longer list, and then by the bytes of the message
 abbrev pub error_cmp : ErrorValue → ErrorValue → Ordering
 error_cmp = then_cmp (on (λ e. e.locations) (slice_cmp position_cmp)) (on (λ e. e.message) (slice_cmp nat_cmp))
+
+-- two errors compare as equal just if they are the same error
+abbrev pub EqualMeansSame : Type 0
+EqualMeansSame = (a b : ErrorValue) → (error_cmp a b ≡ Equal) ↔ (a ≡ b)
 
 -- places after a first one
 abbrev pub more_places : List SourcePosition → List ℕ

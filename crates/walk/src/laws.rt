@@ -1,6 +1,9 @@
 //! Laws of visitors, of the context and of errors.
 
+ghost use Rattle.walk.specs.ContextState.{ContextState, LeavesTypes};
+ghost use Rattle.walk.specs.ErrorValue.{EqualMeansSame};
 ghost use Rattle.walk.specs.Pair.{PairSplits};
+ghost use Rattle.walk.specs.Typing.{Typing};
 
 use crate::visitor::Machine;
 
@@ -8,4 +11,14 @@ use crate::visitor::Machine;
 /// of what each appends. In a list of visitors the law takes off one after another.
 pub fn pair_runs<S, C, A: Machine<S, C>, B: Machine<S, C>>()
     ensures { PairSplits A.step B.step }
+{}
+
+/// Types that are pushed and then popped leave a context as it was; what was reported between stays.
+pub fn pushes_are_undone<S, C>()
+    ensures { (w : ContextState S C) (t : Typing S C) → LeavesTypes w t }
+{}
+
+/// Two errors compare as equal just if they are the same error: the same places and the same message.
+pub fn equal_errors_are_the_same()
+    ensures { EqualMeansSame }
 {}
