@@ -1,0 +1,123 @@
+//! The program's work, over any reader and any writers.
+ghost use Rattle.std.specs.Prelude.{◌≡◌, ◌≤◌};
+
+use crate::checks::{
+    check_boolean, check_complex_input, check_dog_command, check_id, check_int, check_pair_input,
+    check_string, refuse_token,
+};
+use crate::failure::Failure;
+use crate::reader::read_document;
+use crate::report::{Report, validate};
+use crate::samples::{Checks, boxes, demo, pets};
+use schema::default_check::DefaultCheck;
+use schema::model::SchemaType;
+use language::value::DefaultScalarValue;
+use std::alloc::Global;
+use std::io::{Read, Write};
+
+/// A sample schema.
+#[derive(Clone, Copy, Debug, PartialEq, Eq)]
+enum Sample {
+    Demo,
+    Pets,
+    Boxes,
+}
+
+// What `check demo` validates.
+const DEMO_DOCUMENT: &[u8] = b"{ dog { ...A } }";
+
+/// Does what the words ask for, and answers the status to end with. The words are those after the program's own name.
+///
+/// `demo` reads nothing; `pets` and `boxes` read the input to its end, as a document. What is told of a document goes to
+/// `output`, in one piece; why there is nothing to tell goes to `faults`, as one line.
+///
+/// - 0: the document has no error;
+/// - 1: it has errors;
+/// - 2: the input isn't a document that the reader reads;
+/// - 3: a request for memory was refused;
+/// - 4: the words are other ones;
+/// - 5: a read or a write failed.
+pub fn run<R: Read, W: Write, E: Write>(
+    alloc: Global,
+    words: &[String],
+    input: &mut R,
+    output: &mut W,
+    faults: &mut E,
+) -> u8
+    ensures status { result ≤ 5 }
+{
+    match report_on(alloc, words, input) {
+        Ok(report) => write_report(&report, output, faults),
+        Err(failure) => tell(failure, faults),
+    }
+}
+
+fn write_report<W: Write, E: Write>(report: &Report, output: &mut W, faults: &mut E) -> u8
+    ensures status { result ≤ 5 }
+{
+    if output.write_all(report.text.as_bytes()).is_err() || output.flush().is_err() {
+        return tell(Failure::InputOutput, faults);
+    }
+    u8::from(report.has_errors)
+}
+
+/// Tells of a failure in a line, and answers its status, or that of a failed write.
+pub fn tell<E: Write>(failure: Failure, faults: &mut E) -> u8
+    ensures status { result ≤ 5 }
+{
+    if writeln!(faults, "check: {failure}").is_err() || faults.flush().is_err() {
+        return Failure::InputOutput.status();
+    }
+    failure.status()
+}
+
+fn report_on<R: Read>(alloc: Global, words: &[String], input: &mut R) -> Result<Report, Failure> {
+    let sample = sample_of(words).ok_or(Failure::Usage)?;
+    match sample {
+        Sample::Demo => check(alloc, sample, DEMO_DOCUMENT),
+        Sample::Pets | Sample::Boxes => {
+            let mut text = Vec::new(alloc);
+            input.read_to_end(&mut text)?;
+            check(alloc, sample, text.as_slice())
+        }
+    }
+}
+
+fn sample_of(words: &[String]) -> Option<Sample> {
+    match words {
+        [word] => match word.as_str() {
+            "demo" => Some(Sample::Demo),
+            "pets" => Some(Sample::Pets),
+            "boxes" => Some(Sample::Boxes),
+            _ => None,
+        },
+        _ => None,
+    }
+}
+
+/// Reads the text as a document and validates it against a sample schema.
+fn check(alloc: Global, sample: Sample, text: &[u8]) -> Result<Report, Failure> {
+    let document = read_document(alloc, text)?;
+    let checks = Checks {
+        int: DefaultCheck::with_token(check_int, refuse_token),
+        string: DefaultCheck::with_token(check_string, refuse_token),
+        boolean: DefaultCheck::with_token(check_boolean, refuse_token),
+        id: DefaultCheck::with_token(check_id, refuse_token),
+        dog_command: DefaultCheck::new(check_dog_command),
+        complex_input: DefaultCheck::new(check_complex_input),
+        pair_input: DefaultCheck::new(check_pair_input),
+    };
+    let types = match sample {
+        Sample::Demo => demo(alloc, checks)?,
+        Sample::Pets => pets(alloc, checks)?,
+        Sample::Boxes => boxes(alloc, checks)?,
+    };
+    let schema = SchemaType::<DefaultScalarValue>::new(
+        alloc,
+        types,
+        "QueryRoot",
+        "_EmptyMutation",
+        "_EmptySubscription",
+    )?;
+    Ok(validate(alloc, &schema, document.as_slice())?)
+}
