@@ -5,6 +5,8 @@
 mod bench;
 mod checks;
 mod failure;
+#[cfg(test)]
+mod outline;
 mod program;
 mod reader;
 mod report;
