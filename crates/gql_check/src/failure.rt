@@ -1,6 +1,4 @@
 //! Why the program tells nothing of a document.
-ghost use Rattle.std.specs.Prelude.{◌≡◌, ◌≤◌};
-
 use crate::reader::ReadError;
 use language::error::OutOfMemory;
 use language::position::SourcePosition;
@@ -23,9 +21,14 @@ pub enum Failure {
 }
 
 impl Failure {
+    ghost use Rattle.std.specs.Prelude.{◌≡◌, ◌≤◌};
+    ghost use Rattle.gql_check.specs.Statuses.{status_of};
+
     /// The status that the program ends with.
     pub fn status(self) -> u8
-        ensures { result ≤ 5 }
+        ensures value { result ≡ status_of self }
+        ensures least { 2 ≤ result }
+        ensures most { result ≤ 5 }
     {
         match self {
             Failure::Syntax(_) => 2,

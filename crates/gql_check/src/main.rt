@@ -3,6 +3,8 @@
 
 #[cfg(test)]
 mod bench;
+#[cfg(test)]
+mod broken;
 mod checks;
 mod failure;
 #[cfg(test)]

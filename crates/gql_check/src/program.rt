@@ -1,5 +1,9 @@
 //! The program's work, over any reader and any writers.
-ghost use Rattle.std.specs.Prelude.{◌≡◌, ◌≤◌};
+ghost use Rattle.std.specs.Prelude.{◌≡◌, ◌≤◌, ◌⊎◌, IfOk, OnOk, if◌then◌else◌, string_bytes};
+ghost use Rattle.std.specs.Io.KnownBytes.{Appends};
+ghost use Rattle.gql_check.specs.Report.{TellsReport};
+ghost use Rattle.gql_check.specs.Statuses.{status_of};
+ghost use Rattle.gql_check.specs.Told.{IsReport};
 
 use crate::checks::{
     check_boolean, check_complex_input, check_dog_command, check_id, check_int, check_pair_input,
@@ -7,13 +11,13 @@ use crate::checks::{
 };
 use crate::failure::Failure;
 use crate::reader::read_document;
-use crate::report::{Report, validate};
+use crate::report::Report;
 use crate::samples::{Checks, boxes, demo, pets};
 use schema::default_check::DefaultCheck;
 use schema::model::SchemaType;
 use language::value::DefaultScalarValue;
 use std::alloc::Global;
-use std::io::{Read, Write};
+use std::io::{self, Read, Write};
 
 /// A sample schema.
 #[derive(Clone, Copy, Debug, PartialEq, Eq)]
@@ -45,6 +49,8 @@ pub fn run<R: Read, W: Write, E: Write>(
     faults: &mut E,
 ) -> u8
     ensures status { result ≤ 5 }
+    ensures told { result ≤ 1 → TellsReport (W.contents output.old) (W.contents output.new) result }
+    ensures silent { 2 ≤ result → result ≤ 4 → output.new ≡ output.old }
 {
     match report_on(alloc, words, input) {
         Ok(report) => write_report(&report, output, faults),
@@ -53,17 +59,30 @@ pub fn run<R: Read, W: Write, E: Write>(
 }
 
 fn write_report<W: Write, E: Write>(report: &Report, output: &mut W, faults: &mut E) -> u8
-    ensures status { result ≤ 5 }
+    ensures most { result ≤ 5 }
+    ensures loud { 2 ≤ result → result ≡ 5 }
+    ensures value { result ≤ 1 → result ≡ (if report.now.is_clean then 0 else 1) }
+    ensures written { result ≤ 1 → Appends (W.contents output.old) (W.contents output.new) (string_bytes report.now.text) }
 {
-    if output.write_all(report.text.as_bytes()).is_err() || output.flush().is_err() {
-        return tell(Failure::InputOutput, faults);
+    match write_text(output, report.text.as_str()) {
+        Ok(()) => if report.is_clean { 0 } else { 1 },
+        Err(_) => tell(Failure::InputOutput, faults),
     }
-    u8::from(report.has_errors)
+}
+
+fn write_text<W: Write>(output: &mut W, text: &str) -> io::Result<()>
+    ensures { OnOk result (Appends (W.contents output.old) (W.contents output.new) text.now) }
+{
+    output.write_all(text.as_bytes())?;
+    output.flush()?;
+    Ok(())
 }
 
 /// Tells of a failure in a line, and answers its status, or that of a failed write.
 pub fn tell<E: Write>(failure: Failure, faults: &mut E) -> u8
-    ensures status { result ≤ 5 }
+    ensures value { (result ≡ status_of failure) ⊎ (result ≡ 5) }
+    ensures least { 2 ≤ result }
+    ensures most { result ≤ 5 }
 {
     if writeln!(faults, "check: {failure}").is_err() || faults.flush().is_err() {
         return Failure::InputOutput.status();
@@ -71,7 +90,9 @@ pub fn tell<E: Write>(failure: Failure, faults: &mut E) -> u8
     failure.status()
 }
 
-fn report_on<R: Read>(alloc: Global, words: &[String], input: &mut R) -> Result<Report, Failure> {
+fn report_on<R: Read>(alloc: Global, words: &[String], input: &mut R) -> Result<Report, Failure>
+    ensures { IfOk result IsReport }
+{
     let sample = sample_of(words).ok_or(Failure::Usage)?;
     match sample {
         Sample::Demo => check(alloc, sample, DEMO_DOCUMENT),
@@ -96,7 +117,9 @@ fn sample_of(words: &[String]) -> Option<Sample> {
 }
 
 /// Reads the text as a document and validates it against a sample schema.
-fn check(alloc: Global, sample: Sample, text: &[u8]) -> Result<Report, Failure> {
+fn check(alloc: Global, sample: Sample, text: &[u8]) -> Result<Report, Failure>
+    ensures { IfOk result IsReport }
+{
     let document = read_document(alloc, text)?;
     let checks = Checks {
         int: DefaultCheck::with_token(check_int, refuse_token),
@@ -119,5 +142,5 @@ fn check(alloc: Global, sample: Sample, text: &[u8]) -> Result<Report, Failure> 
         "_EmptyMutation",
         "_EmptySubscription",
     )?;
-    Ok(validate(alloc, &schema, document.as_slice())?)
+    Ok(Report::on(alloc, &schema, document.as_slice())?)
 }

@@ -43,7 +43,11 @@ fn scalar_fields(alloc: Global) -> Result<Vec<FieldMeta>, OutOfMemory> {
 }
 
 // A box of a scalar, in which boxes of its own kind stand.
-fn typed_box(alloc: Global, name: &str, scalar: &str) -> Result<MetaType, OutOfMemory> {
+fn typed_box<'n>(
+    alloc: Global,
+    name: &'n str,
+    scalar: &'n str,
+) -> Result<MetaType, OutOfMemory> {
     let plain = [
         ("scalar", scalar),
         ("deepBox", name),
