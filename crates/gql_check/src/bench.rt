@@ -602,7 +602,13 @@ fn runs_as_each_row_says(rt: HostRuntime) -> Result<(), Fail> {
         let mut input = row.input;
         let mut output = Vec::new(alloc);
         let mut faults = Vec::new(alloc);
-        let status = run(alloc, words.as_slice(), &mut input, &mut output, &mut faults);
+        let status = run(
+            alloc,
+            words.as_slice(),
+            &mut input,
+            &mut output,
+            &mut faults,
+        );
         let name = row.name;
         assert_eq!(rt; str::from_utf8(output.as_slice())?, row.output, "{name}");
         assert_eq!(rt; str::from_utf8(faults.as_slice())?, row.faults, "{name}");

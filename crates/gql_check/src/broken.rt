@@ -5,6 +5,7 @@ use std::io::{self, Read, Write};
 use std::test::Fail;
 
 const FAILED: &str = "check: input or output failed\n";
+
 const NO_MEMORY: &str = "check: out of memory\n";
 
 /// Gives so many braces, a byte at a time, and then fails.
@@ -70,7 +71,13 @@ fn a_failed_read_is_told(rt: HostRuntime) -> Result<(), Fail> {
             let mut input = BrokenReader { left, kind };
             let mut output = Vec::new(alloc);
             let mut faults = Vec::new(alloc);
-            let status = run(alloc, words.as_slice(), &mut input, &mut output, &mut faults);
+            let status = run(
+                alloc,
+                words.as_slice(),
+                &mut input,
+                &mut output,
+                &mut faults,
+            );
             assert_eq!(rt; status, wanted);
             assert!(rt; output.is_empty());
             assert_eq!(rt; faults.as_slice(), line.as_bytes());
@@ -86,7 +93,13 @@ fn a_failed_write_is_told(rt: HostRuntime) -> Result<(), Fail> {
     for left in [0, 5, 1000] {
         let mut output = BrokenWriter { left };
         let mut faults = Vec::new(alloc);
-        let status = run(alloc, words.as_slice(), &mut io::empty(), &mut output, &mut faults);
+        let status = run(
+            alloc,
+            words.as_slice(),
+            &mut io::empty(),
+            &mut output,
+            &mut faults,
+        );
         assert_eq!(rt; status, 5);
         assert_eq!(rt; faults.as_slice(), FAILED.as_bytes());
     }
@@ -102,7 +115,13 @@ fn a_failed_line_of_faults_ends_with_5(rt: HostRuntime) -> Result<(), Fail> {
             let mut output = Vec::new(alloc);
             let mut faults = BrokenWriter { left };
             let mut input = text;
-            let status = run(alloc, words.as_slice(), &mut input, &mut output, &mut faults);
+            let status = run(
+                alloc,
+                words.as_slice(),
+                &mut input,
+                &mut output,
+                &mut faults,
+            );
             assert_eq!(rt; status, 5);
             assert!(rt; output.is_empty());
         }
@@ -122,13 +141,20 @@ fn a_refused_request_is_told(rt: HostRuntime) {
         return;
     };
     let mut input = b"query Q { dog { ...A } } query Q { dog { name } }".as_slice();
-    let status = run(alloc, words.as_slice(), &mut input, &mut output, &mut faults);
+    let status = run(
+        alloc,
+        words.as_slice(),
+        &mut input,
+        &mut output,
+        &mut faults,
+    );
     if status == 3 {
         assert!(rt; output.is_empty());
         assert_eq!(rt; faults.as_slice(), NO_MEMORY.as_bytes());
     } else {
         assert_eq!(rt; status, 1);
-        let text = "There can only be one operation named Q. At 0:0, 0:25\nUnknown fragment: \"A\". At 0:19\ncompared 0\n";
+        let text =
+            "There can only be one operation named Q. At 0:0, 0:25\nUnknown fragment: \"A\". At 0:19\ncompared 0\n";
         assert_eq!(rt; output.as_slice(), text.as_bytes());
         assert!(rt; faults.is_empty());
     }

@@ -11,10 +11,7 @@ use schema::default_check::ScalarTokenKind;
 use std::alloc::Global;
 
 /// Accepts an integer.
-pub fn check_int(
-    alloc: Global,
-    value: &InputValue<DefaultScalarValue>,
-) -> Result<(), CheckError>
+pub fn check_int(alloc: Global, value: &InputValue<DefaultScalarValue>) -> Result<(), CheckError>
     ensures { AnswersBy is_int (codes "not a value of Int") value.now result }
 {
     match value {
@@ -24,10 +21,7 @@ pub fn check_int(
 }
 
 /// Accepts a string.
-pub fn check_string(
-    alloc: Global,
-    value: &InputValue<DefaultScalarValue>,
-) -> Result<(), CheckError>
+pub fn check_string(alloc: Global, value: &InputValue<DefaultScalarValue>) -> Result<(), CheckError>
     ensures { AnswersBy is_string (codes "not a value of String") value.now result }
 {
     match value {
@@ -50,10 +44,7 @@ pub fn check_boolean(
 }
 
 /// Accepts a string or an integer.
-pub fn check_id(
-    alloc: Global,
-    value: &InputValue<DefaultScalarValue>,
-) -> Result<(), CheckError>
+pub fn check_id(alloc: Global, value: &InputValue<DefaultScalarValue>) -> Result<(), CheckError>
     ensures { AnswersBy is_id (codes "not a value of ID") value.now result }
 {
     match value {

@@ -4,8 +4,7 @@ use language::error::OutOfMemory;
 use language::position::SourcePosition;
 use schema::error::SchemaError;
 use std::alloc::{AllocError, AllocFailed};
-use std::fmt;
-use std::io;
+use std::{fmt, io};
 
 /// Why the program tells nothing of a document.
 #[derive(Clone, Copy, Debug)]

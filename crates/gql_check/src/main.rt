@@ -38,7 +38,10 @@ fn main(rt: HostRuntime) -> ExitCode {
 
 /// The words after the program's own name.
 fn words<R: Env + AllocGlobal>(rt: &R) -> io::Result<Vec<String>> {
-    env::args(rt)?.skip(1).collect(rt.alloc()).map_err(io::Error::from)
+    env::args(rt)?
+        .skip(1)
+        .collect(rt.alloc())
+        .map_err(io::Error::from)
 }
 
 // Words that are no text are other words than those that the program knows.

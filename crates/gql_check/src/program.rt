@@ -13,9 +13,9 @@ use crate::failure::Failure;
 use crate::reader::read_document;
 use crate::report::Report;
 use crate::samples::{Checks, boxes, demo, pets};
+use language::value::DefaultScalarValue;
 use schema::default_check::DefaultCheck;
 use schema::model::SchemaType;
-use language::value::DefaultScalarValue;
 use std::alloc::Global;
 use std::io::{self, Read, Write};
 

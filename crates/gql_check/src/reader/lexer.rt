@@ -84,7 +84,11 @@ fn name_at(text: &[u8]) -> (Token<'_>, usize) {
 // An integer takes all bytes after its first that could make it a longer number or a wrong one.
 fn integer_at(text: &[u8]) -> (Token<'_>, usize) {
     let tail = text.get(1..).unwrap_or(&[]);
-    let length = tail.iter().take_while(|byte| is_number_byte(**byte)).count().saturating_add(1);
+    let length = tail
+        .iter()
+        .take_while(|byte| is_number_byte(**byte))
+        .count()
+        .saturating_add(1);
     match ascii_text(text, length).and_then(integer) {
         Some(n) => (Token::Int(n), length),
         None => (Token::Invalid, 0),
@@ -104,9 +108,15 @@ fn string_at(text: &[u8]) -> (Token<'_>, usize) {
     if body.starts_with(b"\"\"") {
         return (Token::Invalid, 0);
     }
-    let length = body.iter().take_while(|byte| is_string_byte(**byte)).count();
+    let length = body
+        .iter()
+        .take_while(|byte| is_string_byte(**byte))
+        .count();
     match ascii_text(body, length) {
-        Some(item) if body.get(length) == Some(&b'"') => (Token::String(item), length.saturating_add(2)),
+        Some(item) if body.get(length) == Some(&b'"') => (
+            Token::String(item),
+            length.saturating_add(2),
+        ),
         _ => (Token::Invalid, 0),
     }
 }

@@ -1,6 +1,6 @@
 //! The tokens of a text, one ahead (GraphQL, October 2021, section 2.1).
-use super::lexer::{Punctuator, Token, token_at};
 use super::error::ReadError;
+use super::lexer::{Punctuator, Token, token_at};
 use language::position::{SourcePosition, Span, Spanning};
 
 /// The tokens of a text that are left.

@@ -43,11 +43,7 @@ fn scalar_fields(alloc: Global) -> Result<Vec<FieldMeta>, OutOfMemory> {
 }
 
 // A box of a scalar, in which boxes of its own kind stand.
-fn typed_box<'n>(
-    alloc: Global,
-    name: &'n str,
-    scalar: &'n str,
-) -> Result<MetaType, OutOfMemory> {
+fn typed_box<'n>(alloc: Global, name: &'n str, scalar: &'n str) -> Result<MetaType, OutOfMemory> {
     let plain = [
         ("scalar", scalar),
         ("deepBox", name),
@@ -55,7 +51,11 @@ fn typed_box<'n>(
     ];
     let mut fields = plain_fields(alloc, &plain)?;
     fields.push(Field::new(alloc, "listStringBox", list_of(alloc, "StringBox")?)?)?;
-    add_fields(alloc, &mut fields, &[("stringBox", "StringBox"), ("intBox", "IntBox")])?;
+    add_fields(
+        alloc,
+        &mut fields,
+        &[("stringBox", "StringBox"), ("intBox", "IntBox")],
+    )?;
     object(alloc, name, &["SomeBox"], fields)
 }
 
@@ -69,7 +69,12 @@ fn non_null_box(alloc: Global, name: &str, of: &str) -> Result<MetaType, OutOfMe
 fn add_connection(alloc: Global, types: &mut Vec<MetaType>) -> Result<(), OutOfMemory> {
     let node = plain_fields(alloc, &[("id", "ID"), ("name", "String")])?;
     types.push(object(alloc, "Node", &[], node)?)?;
-    types.push(object(alloc, "Edge", &[], plain_fields(alloc, &[("node", "Node")])?)?)?;
+    types.push(object(
+        alloc,
+        "Edge",
+        &[],
+        plain_fields(alloc, &[("node", "Node")])?,
+    )?)?;
     let mut fields = own_fields(alloc)?;
     fields.push(Field::new(alloc, "edges", list_of(alloc, "Edge")?)?)?;
     types.push(object(alloc, "Connection", &[], fields)?)?;

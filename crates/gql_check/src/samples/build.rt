@@ -3,9 +3,7 @@ use language::error::OutOfMemory;
 use language::types::Type;
 use language::value::DefaultScalarValue;
 use schema::default_check::DefaultCheck;
-use schema::meta::{
-    Argument, Field, InterfaceMeta, MetaType, ObjectMeta, ScalarMetaOf, UnionMeta,
-};
+use schema::meta::{Argument, Field, InterfaceMeta, MetaType, ObjectMeta, ScalarMetaOf, UnionMeta};
 use std::alloc::Global;
 
 /// The check of each type of the lists that has one.
@@ -21,6 +19,7 @@ pub struct Checks {
 }
 
 pub type FieldMeta = Field<DefaultScalarValue>;
+
 pub type ArgumentMeta = Argument<DefaultScalarValue>;
 
 /// A scalar with this check.
@@ -36,7 +35,11 @@ pub fn object(
     fields: Vec<FieldMeta>,
 ) -> Result<MetaType, OutOfMemory> {
     let interfaces = types(alloc, interfaces)?;
-    Ok(ObjectMeta::new(alloc, name, fields)?.interfaces(interfaces)?.into_meta())
+    Ok(
+        ObjectMeta::new(alloc, name, fields)?
+            .interfaces(interfaces)?
+            .into_meta(),
+    )
 }
 
 /// An interface.
@@ -70,10 +73,7 @@ pub fn own_fields(alloc: Global) -> Result<Vec<FieldMeta>, OutOfMemory> {
 }
 
 /// The field `__typename: String!`, and then fields of these names and types that may be null.
-pub fn plain_fields(
-    alloc: Global,
-    listed: &[(&str, &str)],
-) -> Result<Vec<FieldMeta>, OutOfMemory> {
+pub fn plain_fields(alloc: Global, listed: &[(&str, &str)]) -> Result<Vec<FieldMeta>, OutOfMemory> {
     let mut fields = own_fields(alloc)?;
     add_fields(alloc, &mut fields, listed)?;
     Ok(fields)
@@ -123,6 +123,11 @@ pub fn common(
     let mut fields = own_fields(alloc)?;
     fields.push(Field::new(alloc, "queryType", Type::non_null(alloc, "__Type")?)?)?;
     types.push(object(alloc, "__Schema", &[], fields)?)?;
-    types.push(object(alloc, "__Type", &[], plain_fields(alloc, &[("name", "String")])?)?)?;
+    types.push(object(
+        alloc,
+        "__Type",
+        &[],
+        plain_fields(alloc, &[("name", "String")])?,
+    )?)?;
     Ok(types)
 }

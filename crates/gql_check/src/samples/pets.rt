@@ -46,7 +46,11 @@ fn named_fields(alloc: Global) -> Result<Vec<FieldMeta>, OutOfMemory> {
 
 fn dog(alloc: Global) -> Result<MetaType, OutOfMemory> {
     let mut fields = named_fields(alloc)?;
-    let plain = [("nickname", "String"), ("barkVolume", "Int"), ("barks", "Boolean")];
+    let plain = [
+        ("nickname", "String"),
+        ("barkVolume", "Int"),
+        ("barks", "Boolean"),
+    ];
     add_fields(alloc, &mut fields, &plain)?;
     let command = argument(alloc, "dogCommand", "DogCommand")?;
     fields.push(field(alloc, "doesKnowCommand", "Boolean")?.argument(command)?)?;
@@ -55,7 +59,11 @@ fn dog(alloc: Global) -> Result<MetaType, OutOfMemory> {
 
 fn cat(alloc: Global) -> Result<MetaType, OutOfMemory> {
     let mut fields = named_fields(alloc)?;
-    let plain = [("nickname", "String"), ("meows", "Boolean"), ("meowVolume", "Int")];
+    let plain = [
+        ("nickname", "String"),
+        ("meows", "Boolean"),
+        ("meowVolume", "Int"),
+    ];
     add_fields(alloc, &mut fields, &plain)?;
     object(alloc, "Cat", &["Being", "Pet"], fields)
 }
@@ -88,23 +96,27 @@ fn complicated_args(alloc: Global) -> Result<MetaType, OutOfMemory> {
     fields.push(text_field(alloc, "intArgField", argument(alloc, "intArg", "Int")?)?)?;
     let int = required(alloc, "nonNullIntArg", "Int")?;
     fields.push(text_field(alloc, "nonNullIntArgField", int)?)?;
-    fields.push(text_field(alloc, "enumArgField", argument(alloc, "enumArg", "DogCommand")?)?)?;
+    fields.push(text_field(
+        alloc,
+        "enumArgField",
+        argument(alloc, "enumArg", "DogCommand")?,
+    )?)?;
     let list = Argument::new(alloc, "stringListArg", list_of(alloc, "String")?)?;
     fields.push(text_field(alloc, "stringListArgField", list)?)?;
     let complex = argument(alloc, "complexArg", "ComplexInput")?;
     fields.push(text_field(alloc, "complexArgField", complex)?)?;
-    fields.push(text_field(alloc, "pairArgField", argument(alloc, "pairArg", "PairInput")?)?)?;
+    fields.push(text_field(
+        alloc,
+        "pairArgField",
+        argument(alloc, "pairArg", "PairInput")?,
+    )?)?;
     fields.push(multiple_required(alloc)?)?;
     fields.push(multiple_optional(alloc)?)?;
     object(alloc, "ComplicatedArgs", &[], fields)
 }
 
 // A field of type `String` with one argument.
-fn text_field(
-    alloc: Global,
-    name: &str,
-    argument: ArgumentMeta,
-) -> Result<FieldMeta, OutOfMemory> {
+fn text_field(alloc: Global, name: &str, argument: ArgumentMeta) -> Result<FieldMeta, OutOfMemory> {
     field(alloc, name, "String")?.argument(argument)
 }
 
