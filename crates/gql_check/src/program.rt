@@ -41,6 +41,7 @@ const DEMO_DOCUMENT: &[u8] = b"{ dog { ...A } }";
 /// - 3: a request for memory was refused;
 /// - 4: the words are other ones;
 /// - 5: a read or a write failed.
+#[tactic(auto, using(crate::proofs::Reports::tells))]
 pub fn run<R: Read, W: Write, E: Write>(
     alloc: Global,
     words: &[String],
@@ -94,12 +95,18 @@ fn report_on<R: Read>(alloc: Global, words: &[String], input: &mut R) -> Result<
     ensures { IfOk result IsReport }
 {
     let sample = sample_of(words).ok_or(Failure::Usage)?;
+    let text = text_for(alloc, sample, input)?;
+    check(alloc, sample, text)
+}
+
+/// The document to validate: that of the demo, or the whole input.
+fn text_for<R: Read>(alloc: Global, sample: Sample, input: &mut R) -> Result<Vec<u8>, Failure> {
     match sample {
-        Sample::Demo => check(alloc, sample, DEMO_DOCUMENT),
+        Sample::Demo => Ok(DEMO_DOCUMENT.to_vec(alloc)?),
         Sample::Pets | Sample::Boxes => {
             let mut text = Vec::new(alloc);
             input.read_to_end(&mut text)?;
-            check(alloc, sample, text.as_slice())
+            Ok(text)
         }
     }
 }
@@ -117,10 +124,9 @@ fn sample_of(words: &[String]) -> Option<Sample> {
 }
 
 /// Reads the text as a document and validates it against a sample schema.
-fn check(alloc: Global, sample: Sample, text: &[u8]) -> Result<Report, Failure>
+fn check(alloc: Global, sample: Sample, text: Vec<u8>) -> Result<Report, Failure>
     ensures { IfOk result IsReport }
 {
-    let document = read_document(alloc, text)?;
     let checks = Checks {
         int: DefaultCheck::with_token(check_int, refuse_token),
         string: DefaultCheck::with_token(check_string, refuse_token),
@@ -142,5 +148,8 @@ fn check(alloc: Global, sample: Sample, text: &[u8]) -> Result<Report, Failure>
         "_EmptyMutation",
         "_EmptySubscription",
     )?;
-    Ok(Report::on(alloc, &schema, document.as_slice())?)
+    // The document is let go before the schema, since both are lent for one time.
+    let document = read_document(alloc, text.as_slice())?;
+    let report = Report::on(alloc, &schema, document.as_slice())?;
+    Ok(report)
 }
