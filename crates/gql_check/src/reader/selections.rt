@@ -46,7 +46,7 @@ fn read_selection<'a>(
 ) -> Result<Selection<'a, DefaultScalarValue>, ReadError> {
     let start = tokens.start();
     if !tokens.take(Punctuator::Spread) {
-        return Ok(Selection::Field(read_field(alloc, tokens, levels)?));
+        return read_field(alloc, tokens, levels);
     }
     if tokens.is_word("on") {
         tokens.advance();
@@ -64,7 +64,7 @@ fn read_field<'a>(
     alloc: Global,
     tokens: &mut Tokens<'a>,
     levels: usize,
-) -> Result<Spanning<Field<'a, DefaultScalarValue>>, ReadError> {
+) -> Result<Selection<'a, DefaultScalarValue>, ReadError> {
     let start = tokens.start();
     let (alias, name) = read_alias_and_name(tokens)?;
     let arguments = read_arguments(alloc, tokens, Variables::Allowed)?;
@@ -74,7 +74,7 @@ fn read_field<'a>(
     } else {
         None
     };
-    Ok(Spanning {
+    Ok(Selection::Field(Spanning {
         item: Field {
             alias,
             name,
@@ -83,9 +83,10 @@ fn read_field<'a>(
             selection_set,
         },
         span: tokens.span_from(start),
-    })
+    }))
 }
 
+#[inline(never)]
 fn read_alias_and_name<'a>(
     tokens: &mut Tokens<'a>,
 ) -> Result<(Option<Spanning<&'a str>>, Spanning<&'a str>), ReadError> {
@@ -118,6 +119,7 @@ fn read_inline_fragment<'a>(
     }))
 }
 
+#[inline(never)]
 fn read_fragment_spread<'a>(
     alloc: Global,
     tokens: &mut Tokens<'a>,
