@@ -148,8 +148,7 @@ fn check(alloc: Global, sample: Sample, text: Vec<u8>) -> Result<Report, Failure
         "_EmptyMutation",
         "_EmptySubscription",
     )?;
-    // The document is let go before the schema, since both are lent for one time.
     let document = read_document(alloc, text.as_slice())?;
-    let report = Report::on(alloc, &schema, document.as_slice())?;
+    let report = Report::on(alloc, &schema, document)?;
     Ok(report)
 }

@@ -23,14 +23,16 @@ impl Report {
     ghost use Rattle.gql_check.specs.Report.{report_text};
     ghost use Rattle.gql_check.specs.Told.{IsReport};
 
-    /// Validates a document by all rules.
+    /// Validates a document by all rules. A context borrows a document for as long as the document's own names live, so
+    /// its memory is never given back: the program ends after it.
     pub fn on<'a>(
         alloc: Global,
         schema: &'a SchemaType<DefaultScalarValue>,
-        document: &'a [Definition<'a, DefaultScalarValue>],
+        document: Vec<Definition<'a, DefaultScalarValue>>,
     ) -> Result<Report, OutOfMemory>
         ensures { IfOk result IsReport }
     {
+        let document = document.leak();
         let mut ctx = ValidatorContext::new(alloc, schema, document)?;
         let compared = visit_all_rules(&mut ctx, document)?;
         let errors = ctx.into_errors()?;
