@@ -74,8 +74,8 @@ impl<'a, S, C> ValidatorContextOf<'a, S, C> {
         })
     }
 
-    // What the context allocates by.
-    pub(crate) fn allocator(&self) -> Global {
+    /// What the context allocates by.
+    pub fn allocator(&self) -> Global {
         self.alloc
     }
 

@@ -1,0 +1,16 @@
+-- What becomes of a report that is written.
+use Rattle.std.proofs.Common.{◌≡◌, ◌∙◌, ℕ, List, Option, subst, ap, if◌then◌else◌, string_bytes}
+use Rattle.std.specs.Io.KnownBytes.{Appends}
+use Rattle.gql_check.specs.Report.{TellsReport}
+use Rattle.gql_check.specs.Told.{IsReport}
+use Rattle.gql_check.specs.declared.report.Report.{Report}
+
+-- a report whose text was written is told
+pub tells : (report : Report) (old new : Option (List ℕ)) (status : ℕ) → IsReport report → Appends old new (string_bytes report.text) → status ≡ (if report.is_clean then 0 else 1) → TellsReport old new status
+tells report old new status is written value = record {
+  errors = is.errors;
+  pairs = is.pairs;
+  sorted = is.sorted;
+  written = subst (Appends old new) is.text written;
+  status_is = value ∙ ap (λ b. if b then 0 else 1) is.is_clean;
+}

@@ -1,0 +1,4 @@
+pub mod Checks
+pub mod Report
+pub mod Statuses
+pub mod Told

@@ -1,0 +1,154 @@
+//! The program's work, over any reader and any writers.
+ghost use Rattle.std.specs.Prelude.{◌≡◌, ◌≤◌, ◌⊎◌, IfOk, OnOk, if◌then◌else◌, string_bytes};
+ghost use Rattle.std.specs.Io.KnownBytes.{Appends};
+ghost use Rattle.gql_check.specs.Report.{TellsReport};
+ghost use Rattle.gql_check.specs.Statuses.{status_of};
+ghost use Rattle.gql_check.specs.Told.{IsReport};
+
+use crate::checks::{
+    check_boolean, check_complex_input, check_dog_command, check_id, check_int, check_pair_input,
+    check_string, refuse_token,
+};
+use crate::failure::Failure;
+use crate::reader::read_document;
+use crate::report::Report;
+use crate::samples::{Checks, boxes, demo, pets};
+use language::value::DefaultScalarValue;
+use schema::default_check::DefaultCheck;
+use schema::model::SchemaType;
+use std::alloc::Global;
+use std::io::{self, Read, Write};
+
+/// A sample schema.
+#[derive(Clone, Copy, Debug, PartialEq, Eq)]
+enum Sample {
+    Demo,
+    Pets,
+    Boxes,
+}
+
+// What `check demo` validates.
+const DEMO_DOCUMENT: &[u8] = b"{ dog { ...A } }";
+
+/// Does what the words ask for, and answers the status to end with. The words are those after the program's own name.
+///
+/// `demo` reads nothing; `pets` and `boxes` read the input to its end, as a document. What is told of a document goes to
+/// `output`, in one piece; why there is nothing to tell goes to `faults`, as one line.
+///
+/// - 0: the document has no error;
+/// - 1: it has errors;
+/// - 2: the input isn't a document that the reader reads;
+/// - 3: a request for memory was refused;
+/// - 4: the words are other ones;
+/// - 5: a read or a write failed.
+#[tactic(auto, using(crate::proofs::Reports::tells))]
+pub fn run<R: Read, W: Write, E: Write>(
+    alloc: Global,
+    words: &[String],
+    input: &mut R,
+    output: &mut W,
+    faults: &mut E,
+) -> u8
+    ensures status { result ≤ 5 }
+    ensures told { result ≤ 1 → TellsReport (W.contents output.old) (W.contents output.new) result }
+    ensures silent { 2 ≤ result → result ≤ 4 → output.new ≡ output.old }
+{
+    match report_on(alloc, words, input) {
+        Ok(report) => write_report(&report, output, faults),
+        Err(failure) => tell(failure, faults),
+    }
+}
+
+fn write_report<W: Write, E: Write>(report: &Report, output: &mut W, faults: &mut E) -> u8
+    ensures most { result ≤ 5 }
+    ensures loud { 2 ≤ result → result ≡ 5 }
+    ensures value { result ≤ 1 → result ≡ (if report.now.is_clean then 0 else 1) }
+    ensures written { result ≤ 1 → Appends (W.contents output.old) (W.contents output.new) (string_bytes report.now.text) }
+{
+    match write_text(output, report.text.as_str()) {
+        Ok(()) => if report.is_clean { 0 } else { 1 },
+        Err(_) => tell(Failure::InputOutput, faults),
+    }
+}
+
+fn write_text<W: Write>(output: &mut W, text: &str) -> io::Result<()>
+    ensures { OnOk result (Appends (W.contents output.old) (W.contents output.new) text.now) }
+{
+    output.write_all(text.as_bytes())?;
+    output.flush()?;
+    Ok(())
+}
+
+/// Tells of a failure in a line, and answers its status, or that of a failed write.
+pub fn tell<E: Write>(failure: Failure, faults: &mut E) -> u8
+    ensures value { (result ≡ status_of failure) ⊎ (result ≡ 5) }
+    ensures least { 2 ≤ result }
+    ensures most { result ≤ 5 }
+{
+    if writeln!(faults, "check: {failure}").is_err() || faults.flush().is_err() {
+        return Failure::InputOutput.status();
+    }
+    failure.status()
+}
+
+fn report_on<R: Read>(alloc: Global, words: &[String], input: &mut R) -> Result<Report, Failure>
+    ensures { IfOk result IsReport }
+{
+    let sample = sample_of(words).ok_or(Failure::Usage)?;
+    let text = text_for(alloc, sample, input)?;
+    check(alloc, sample, text)
+}
+
+/// The document to validate: that of the demo, or the whole input.
+fn text_for<R: Read>(alloc: Global, sample: Sample, input: &mut R) -> Result<Vec<u8>, Failure> {
+    match sample {
+        Sample::Demo => Ok(DEMO_DOCUMENT.to_vec(alloc)?),
+        Sample::Pets | Sample::Boxes => {
+            let mut text = Vec::new(alloc);
+            input.read_to_end(&mut text)?;
+            Ok(text)
+        }
+    }
+}
+
+fn sample_of(words: &[String]) -> Option<Sample> {
+    match words {
+        [word] => match word.as_str() {
+            "demo" => Some(Sample::Demo),
+            "pets" => Some(Sample::Pets),
+            "boxes" => Some(Sample::Boxes),
+            _ => None,
+        },
+        _ => None,
+    }
+}
+
+/// Reads the text as a document and validates it against a sample schema.
+fn check(alloc: Global, sample: Sample, text: Vec<u8>) -> Result<Report, Failure>
+    ensures { IfOk result IsReport }
+{
+    let checks = Checks {
+        int: DefaultCheck::with_token(check_int, refuse_token),
+        string: DefaultCheck::with_token(check_string, refuse_token),
+        boolean: DefaultCheck::with_token(check_boolean, refuse_token),
+        id: DefaultCheck::with_token(check_id, refuse_token),
+        dog_command: DefaultCheck::new(check_dog_command),
+        complex_input: DefaultCheck::new(check_complex_input),
+        pair_input: DefaultCheck::new(check_pair_input),
+    };
+    let types = match sample {
+        Sample::Demo => demo(alloc, checks)?,
+        Sample::Pets => pets(alloc, checks)?,
+        Sample::Boxes => boxes(alloc, checks)?,
+    };
+    let schema = SchemaType::<DefaultScalarValue>::new(
+        alloc,
+        types,
+        "QueryRoot",
+        "_EmptyMutation",
+        "_EmptySubscription",
+    )?;
+    let document = read_document(alloc, text.as_slice())?;
+    let report = Report::on(alloc, &schema, document)?;
+    Ok(report)
+}

@@ -1,0 +1,76 @@
+//! What is told of a document.
+ghost use Rattle.std.specs.Prelude.{◌≡◌, ◌==◌, IfOk, length, string_bytes};
+ghost use Rattle.gql_check.specs.Report.{error_lines};
+
+use validation::rules::visit_all_rules;
+use language::error::OutOfMemory;
+use language::tree::Definition;
+use language::value::DefaultScalarValue;
+use schema::model::SchemaType;
+use std::alloc::Global;
+use walk::{RuleError, ValidatorContext};
+
+/// What is told of a document.
+#[derive(Drop)]
+pub struct Report {
+    /// The errors in order, a line each, and then the number of pairs of fragments that were compared.
+    pub text: String,
+    /// Whether there is no error.
+    pub is_clean: bool,
+}
+
+impl Report {
+    ghost use Rattle.gql_check.specs.Report.{report_text};
+    ghost use Rattle.gql_check.specs.Told.{IsReport};
+
+    /// Validates a document by all rules. A context borrows a document for as long as the document's own names live, so
+    /// its memory is never given back: the program ends after it.
+    pub fn on<'a>(
+        alloc: Global,
+        schema: &'a SchemaType<DefaultScalarValue>,
+        document: Vec<Definition<'a, DefaultScalarValue>>,
+    ) -> Result<Report, OutOfMemory>
+        ensures { IfOk result IsReport }
+    {
+        let document = document.leak();
+        Report::on_lent(alloc, schema, document)
+    }
+
+    fn on_lent<'a>(
+        alloc: Global,
+        schema: &'a SchemaType<DefaultScalarValue>,
+        document: &'a [Definition<'a, DefaultScalarValue>],
+    ) -> Result<Report, OutOfMemory>
+        ensures { IfOk result IsReport }
+    {
+        let mut ctx = ValidatorContext::new(alloc, schema, document)?;
+        let compared = visit_all_rules(&mut ctx, document)?;
+        let errors = ctx.into_errors()?;
+        let report = Report::of(alloc, errors.as_slice(), compared)?;
+        Ok(report)
+    }
+
+    /// The report on these errors, where so many pairs were compared.
+    fn of(alloc: Global, errors: &[RuleError], compared: u128) -> Result<Report, OutOfMemory>
+        ensures text { IfOk result (λ r. string_bytes r.text ≡ report_text errors.now compared) }
+        ensures is_clean { IfOk result (λ r. r.is_clean ≡ (length errors.now == 0)) }
+    {
+        let mut text = print_errors(alloc, errors)?;
+        writeln!(text, "compared {compared}")?;
+        Ok(Report {
+            text,
+            is_clean: errors.is_empty(),
+        })
+    }
+}
+
+/// Each error on a line.
+fn print_errors(alloc: Global, errors: &[RuleError]) -> Result<String, OutOfMemory>
+    ensures { IfOk result (λ s. string_bytes s ≡ error_lines errors.now) }
+{
+    let mut text = String::new(alloc);
+    for error in errors {
+        writeln!(text, "{error}")?;
+    }
+    Ok(text)
+}

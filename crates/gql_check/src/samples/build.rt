@@ -1,0 +1,133 @@
+//! What the sample lists are built of.
+use language::error::OutOfMemory;
+use language::types::Type;
+use language::value::DefaultScalarValue;
+use schema::default_check::DefaultCheck;
+use schema::meta::{Argument, Field, InterfaceMeta, MetaType, ObjectMeta, ScalarMetaOf, UnionMeta};
+use std::alloc::Global;
+
+/// The check of each type of the lists that has one.
+#[derive(Drop)]
+pub struct Checks {
+    pub int: DefaultCheck,
+    pub string: DefaultCheck,
+    pub boolean: DefaultCheck,
+    pub id: DefaultCheck,
+    pub dog_command: DefaultCheck,
+    pub complex_input: DefaultCheck,
+    pub pair_input: DefaultCheck,
+}
+
+pub type FieldMeta = Field<DefaultScalarValue>;
+
+pub type ArgumentMeta = Argument<DefaultScalarValue>;
+
+/// A scalar with this check.
+pub fn scalar(alloc: Global, name: &str, check: DefaultCheck) -> Result<MetaType, OutOfMemory> {
+    Ok(ScalarMetaOf::with_check(alloc, name, check)?.into_meta())
+}
+
+/// An object of these interfaces.
+pub fn object(
+    alloc: Global,
+    name: &str,
+    interfaces: &[&str],
+    fields: Vec<FieldMeta>,
+) -> Result<MetaType, OutOfMemory> {
+    let interfaces = types(alloc, interfaces)?;
+    Ok(
+        ObjectMeta::new(alloc, name, fields)?
+            .interfaces(interfaces)?
+            .into_meta(),
+    )
+}
+
+/// An interface.
+pub fn interface(
+    alloc: Global,
+    name: &str,
+    fields: Vec<FieldMeta>,
+) -> Result<MetaType, OutOfMemory> {
+    Ok(InterfaceMeta::new(alloc, name, fields)?.into_meta())
+}
+
+/// A union of these members.
+pub fn union_of(alloc: Global, name: &str, members: &[&str]) -> Result<MetaType, OutOfMemory> {
+    Ok(UnionMeta::new(alloc, name, types(alloc, members)?)?.into_meta())
+}
+
+// The types of these names, which may be null.
+fn types(alloc: Global, names: &[&str]) -> Result<Vec<Type>, OutOfMemory> {
+    let mut types = Vec::new(alloc);
+    for name in names {
+        types.push(Type::nullable(alloc, name)?)?;
+    }
+    Ok(types)
+}
+
+/// The field `__typename: String!`, with which each object and interface begins.
+pub fn own_fields(alloc: Global) -> Result<Vec<FieldMeta>, OutOfMemory> {
+    let mut fields = Vec::new(alloc);
+    fields.push(Field::new(alloc, "__typename", Type::non_null(alloc, "String")?)?)?;
+    Ok(fields)
+}
+
+/// The field `__typename: String!`, and then fields of these names and types that may be null.
+pub fn plain_fields(alloc: Global, listed: &[(&str, &str)]) -> Result<Vec<FieldMeta>, OutOfMemory> {
+    let mut fields = own_fields(alloc)?;
+    add_fields(alloc, &mut fields, listed)?;
+    Ok(fields)
+}
+
+/// Appends fields of these names and types that may be null.
+pub fn add_fields(
+    alloc: Global,
+    fields: &mut Vec<FieldMeta>,
+    listed: &[(&str, &str)],
+) -> Result<(), OutOfMemory> {
+    for (name, type_name) in listed {
+        fields.push(field(alloc, name, type_name)?)?;
+    }
+    Ok(())
+}
+
+/// A field of a type that may be null.
+pub fn field(alloc: Global, name: &str, type_name: &str) -> Result<FieldMeta, OutOfMemory> {
+    Field::new(alloc, name, Type::nullable(alloc, type_name)?)
+}
+
+/// A list that may be null, of items that may be null.
+pub fn list_of(alloc: Global, type_name: &str) -> Result<Type, OutOfMemory> {
+    Type::nullable(alloc, type_name)?.wrap_list(None)
+}
+
+/// An argument or input field of a type that may be null.
+pub fn argument(alloc: Global, name: &str, type_name: &str) -> Result<ArgumentMeta, OutOfMemory> {
+    Argument::new(alloc, name, Type::nullable(alloc, type_name)?)
+}
+
+/// An argument or input field of a type that is never null.
+pub fn required(alloc: Global, name: &str, type_name: &str) -> Result<ArgumentMeta, OutOfMemory> {
+    Argument::new(alloc, name, Type::non_null(alloc, type_name)?)
+}
+
+/// What every list begins with: `String`, `Boolean`, `__Schema` and `__Type`.
+pub fn common(
+    alloc: Global,
+    string: DefaultCheck,
+    boolean: DefaultCheck,
+) -> Result<Vec<MetaType>, OutOfMemory> {
+    let mut types = Vec::new(alloc);
+    types.push(scalar(alloc, "String", string)?)?;
+    types.push(scalar(alloc, "Boolean", boolean)?)?;
+    let mut fields = own_fields(alloc)?;
+    fields.push(Field::new(alloc, "queryType", Type::non_null(alloc, "__Type")?)?)?;
+    types.push(object(alloc, "__Schema", &[], fields)?)?;
+    types.push(object(
+        alloc,
+        "__Type",
+        &[],
+        plain_fields(alloc, &[("name", "String")])?,
+    )?)?;
+    Ok(types)
+}
