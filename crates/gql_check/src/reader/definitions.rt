@@ -16,7 +16,7 @@ use std::alloc::Global;
 /// Reads a document, whose names are slices of the text. It takes time in proportion to the text.
 ///
 /// Places count bytes: the index from the start of the text, the column from the start of the line. A line ends with a
-/// line feed alone. A fault is told at the start of the first token that doesn't fit, or at the end of the text.
+/// line feed alone. Where the text is no document the answer names the place of the token at which that shows, or its end.
 pub fn read_document(
     alloc: Global,
     text: &[u8],

@@ -6,7 +6,7 @@ use std::alloc::{AllocError, AllocFailed};
 /// Why a text is read as no document.
 #[derive(Clone, Copy, Debug)]
 pub enum ReadError {
-    /// The text isn't a document: the start of the first token that doesn't fit, or the end of the text.
+    /// The text is no document: where the token starts at which that shows, or where the text ends.
     Fault(SourcePosition),
     /// A request for memory was refused, so nothing is known of the text.
     OutOfMemory,
