@@ -174,7 +174,19 @@ fn recorded<'a>(
 }
 
 /// The same in a fresh context. After a refusal it says whether the context refuses each later call.
+///
+/// A context borrows a document for as long as the document's own names live, so what a test builds is never freed.
 fn recorded_afresh<'a>(
+    alloc: Global,
+    schema: &'a Schema,
+    document: Vec<Definition<'a, DefaultScalarValue>>,
+) -> Result<Visitors, bool> {
+    let document = document.leak();
+    recorded_of_lent(alloc, schema, document)
+}
+
+/// The same of a document that is lent.
+fn recorded_of_lent<'a>(
     alloc: Global,
     schema: &'a Schema,
     document: &'a [Definition<'a, DefaultScalarValue>],
@@ -215,7 +227,8 @@ fn every_kind_of_node_is_told(rt: HostRuntime) -> Result<(), Fail> {
     };
     let schema = sample_schema(alloc, checks)?;
     let document = sample_document(alloc)?;
-    let Ok(visitors) = recorded_afresh(alloc, &schema, &document) else {
+    let recorded = recorded_afresh(alloc, &schema, document);
+    let Ok(visitors) = recorded else {
         return Err(Fail::from("memory was refused"));
     };
     let heard = visitors.newest().text.as_str();
@@ -242,7 +255,7 @@ fn a_refused_request_changes_no_walk(rt: HostRuntime) {
     let Ok(document) = sample_document(alloc) else {
         return;
     };
-    match recorded_afresh(alloc, &schema, &document) {
+    match recorded_afresh(alloc, &schema, document) {
         Ok(visitors) => assert_eq!(rt; visitors.newest().text.as_str(), WALK),
         Err(refuses) => assert!(rt; refuses),
     }
