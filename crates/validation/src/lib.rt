@@ -12,6 +12,6 @@ pub use crate::rules::visit_all_rules;
 pub use language::error::OutOfMemory;
 pub use schema;
 pub use walk::{
-    Event, MultiVisitorCons, MultiVisitorNil, RuleError, ValidatorContext, ValidatorContextOf, Visitor,
-    visit,
+    Event, MultiVisitorCons, MultiVisitorNil, RuleError, ValidatorContext, ValidatorContextOf,
+    Visitor, visit,
 };

@@ -7,10 +7,9 @@ ghost use Rattle.walk.specs.Rule.{Appended, exactly, sum_of};
 ghost use Rattle.walk.specs.Step.{KeepsPlace};
 ghost use Rattle.validation.specs.StageOne.{stage_one};
 
-pub use local_rules::{known_fragment_names, lone_anonymous_operation, unique_operation_names};
-
 use language::error::OutOfMemory;
 use language::tree::Definition;
+pub use local_rules::{known_fragment_names, lone_anonymous_operation, unique_operation_names};
 use schema::check::CheckedScalar;
 use walk::{MultiVisitorNil, ValidatorContext, visit_rules};
 

@@ -64,7 +64,12 @@ pub fn demo(
     let mut types = Vec::new(alloc);
     types.push(scalar(alloc, "String", check, token)?)?;
     types.push(scalar(alloc, "Boolean", check, token)?)?;
-    types.push(object(alloc, "__Schema", "queryType", Type::non_null(alloc, "__Type")?)?)?;
+    types.push(object(
+        alloc,
+        "__Schema",
+        "queryType",
+        Type::non_null(alloc, "__Type")?,
+    )?)?;
     types.push(object(alloc, "__Type", "name", Type::nullable(alloc, "String")?)?)?;
     types.push(object(alloc, "Dog", "name", Type::nullable(alloc, "String")?)?)?;
     types.push(object(alloc, "QueryRoot", "dog", Type::nullable(alloc, "Dog")?)?)?;

@@ -7,6 +7,7 @@ use language::value::DefaultScalarValue;
 use std::alloc::Global;
 
 pub type Node<'a> = Selection<'a, DefaultScalarValue>;
+
 pub type Query<'a> = Definition<'a, DefaultScalarValue>;
 
 // A place of the only line, so many bytes behind another.

@@ -60,7 +60,10 @@ fn two_anonymous<'a>(alloc: Global) -> Result<Vec<Query<'a>>, OutOfMemory> {
 // `query Q { dog { name } } query Q { dog { name } }`, the second of this name
 fn two_named<'a>(alloc: Global, second: &'a str) -> Result<Vec<Query<'a>>, OutOfMemory> {
     let selection = dog(alloc, 10, 12, name_field(16))?;
-    let mut document = alone(alloc, query(alloc, Some(name("Q", 6, 1)), 0, 24, selection)?)?;
+    let mut document = alone(
+        alloc,
+        query(alloc, Some(name("Q", 6, 1)), 0, 24, selection)?,
+    )?;
     let selection = dog(alloc, 35, 12, name_field(41))?;
     document.push(query(alloc, Some(name(second, 31, 1)), 25, 24, selection)?)?;
     Ok(document)
