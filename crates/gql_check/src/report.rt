@@ -2,12 +2,12 @@
 ghost use Rattle.std.specs.Prelude.{◌≡◌, ◌==◌, IfOk, length, string_bytes};
 ghost use Rattle.gql_check.specs.Report.{error_lines};
 
-use validation::rules::visit_all_rules;
 use language::error::OutOfMemory;
 use language::tree::Definition;
 use language::value::DefaultScalarValue;
 use schema::model::SchemaType;
 use std::alloc::Global;
+use validation::rules::visit_all_rules;
 use walk::{RuleError, ValidatorContext};
 
 /// What is told of a document.
