@@ -1,7 +1,10 @@
 //! Several visitors as one.
 
-ghost use Rattle.std.specs.Prelude.{◌≡◌};
+ghost use Rattle.std.specs.Prelude.{◌≡◌, IfOk, IsOk, OnErr};
+ghost use Rattle.walk.specs.ContextState.{typing};
+ghost use Rattle.walk.specs.EventValue.{typed_event};
 ghost use Rattle.walk.specs.Pair.{no_step, pair_step};
+ghost use Rattle.walk.specs.Step.{KeepsPlace, Stepped};
 
 use crate::ValidatorContext;
 use crate::event::Event;
@@ -83,9 +86,13 @@ impl<S, C, A: Machine<S, C>, B: Machine<S, C>> Machine<S, C> for MultiVisitorCon
 impl<'a, S: CheckedScalar> Visitor<'a, S> for MultiVisitorNil {
     fn on(
         &mut self,
-        _ctx: &mut ValidatorContext<'a, S>,
-        _event: &Event<'a, S>,
-    ) -> Result<(), OutOfMemory> {
+        ctx: &mut ValidatorContext<'a, S>,
+        event: &Event<'a, S>,
+    ) -> Result<(), OutOfMemory>
+        ensures always { IsOk result }
+        ensures stepped { IfOk result (λ _. Stepped no_step (typed_event event.now (typing ctx.old)) self.old self.new ctx.old ctx.new) }
+        ensures err { OnErr result (KeepsPlace ctx.old ctx.new) }
+    {
         Ok(())
     }
 }
