@@ -1,4 +1,3 @@
-pub mod Checks
 pub mod Report
 pub mod Statuses
 pub mod Told

@@ -1,5 +1,5 @@
 //! Why the program tells nothing of a document.
-use crate::reader::ReadError;
+use document_reader::ReadError;
 use language::error::OutOfMemory;
 use language::position::SourcePosition;
 use schema::error::SchemaError;

@@ -5,14 +5,9 @@
 mod bench;
 #[cfg(test)]
 mod broken;
-mod checks;
 mod failure;
-#[cfg(test)]
-mod outline;
 mod program;
-mod reader;
 mod report;
-mod samples;
 
 use crate::failure::Failure;
 use std::alloc::Global;

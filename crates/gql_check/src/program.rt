@@ -5,15 +5,16 @@ ghost use Rattle.gql_check.specs.Report.{TellsReport};
 ghost use Rattle.gql_check.specs.Statuses.{status_of};
 ghost use Rattle.gql_check.specs.Told.{IsReport};
 
-use crate::checks::{
+use crate::failure::Failure;
+use crate::report::Report;
+use document_reader::read_document;
+use language::value::DefaultScalarValue;
+use samples::build::Checks;
+use samples::checks::{
     check_boolean, check_complex_input, check_dog_command, check_id, check_int, check_pair_input,
     check_string, refuse_token,
 };
-use crate::failure::Failure;
-use crate::reader::read_document;
-use crate::report::Report;
-use crate::samples::{Checks, boxes, demo, pets};
-use language::value::DefaultScalarValue;
+use samples::{boxes, demo, pets};
 use schema::default_check::DefaultCheck;
 use schema::model::SchemaType;
 use std::alloc::Global;
@@ -26,9 +27,6 @@ enum Sample {
     Pets,
     Boxes,
 }
-
-// What `check demo` validates.
-const DEMO_DOCUMENT: &[u8] = b"{ dog { ...A } }";
 
 /// Does what the words ask for, and answers the status to end with. The words are those after the program's own name.
 ///
@@ -99,10 +97,10 @@ fn report_on<R: Read>(alloc: Global, words: &[String], input: &mut R) -> Result<
     check(alloc, sample, text)
 }
 
-/// The document to validate: that of the demo, or the whole input.
+/// The whole input, which `demo` doesn't read.
 fn text_for<R: Read>(alloc: Global, sample: Sample, input: &mut R) -> Result<Vec<u8>, Failure> {
     match sample {
-        Sample::Demo => Ok(DEMO_DOCUMENT.to_vec(alloc)?),
+        Sample::Demo => Ok(Vec::new(alloc)),
         Sample::Pets | Sample::Boxes => {
             let mut text = Vec::new(alloc);
             input.read_to_end(&mut text)?;
@@ -123,7 +121,7 @@ fn sample_of(words: &[String]) -> Option<Sample> {
     }
 }
 
-/// Reads the text as a document and validates it against a sample schema.
+/// Reads the text as a document and validates it against a sample schema. The document of `demo` is built in code.
 fn check(alloc: Global, sample: Sample, text: Vec<u8>) -> Result<Report, Failure>
     ensures { IfOk result IsReport }
 {
@@ -137,9 +135,9 @@ fn check(alloc: Global, sample: Sample, text: Vec<u8>) -> Result<Report, Failure
         pair_input: DefaultCheck::new(check_pair_input),
     };
     let types = match sample {
-        Sample::Demo => demo(alloc, checks)?,
-        Sample::Pets => pets(alloc, checks)?,
-        Sample::Boxes => boxes(alloc, checks)?,
+        Sample::Demo => demo::types(alloc, checks)?,
+        Sample::Pets => pets::types(alloc, checks)?,
+        Sample::Boxes => boxes::types(alloc, checks)?,
     };
     let schema = SchemaType::<DefaultScalarValue>::new(
         alloc,
@@ -148,7 +146,10 @@ fn check(alloc: Global, sample: Sample, text: Vec<u8>) -> Result<Report, Failure
         "_EmptyMutation",
         "_EmptySubscription",
     )?;
-    let document = read_document(alloc, text.as_slice())?;
+    let document = match sample {
+        Sample::Demo => demo::document(alloc)?,
+        Sample::Pets | Sample::Boxes => read_document(alloc, text.as_slice())?,
+    };
     let report = Report::on(alloc, &schema, document)?;
     Ok(report)
 }

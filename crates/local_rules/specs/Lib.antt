@@ -1,4 +1,3 @@
-pub mod AskedChecks
 pub mod KnownFragmentNames
 pub mod LoneAnonymousOperation
 pub mod Names

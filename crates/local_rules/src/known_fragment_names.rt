@@ -18,7 +18,9 @@ pub struct KnownFragmentNames {
 }
 
 /// The rule, made ready for one document.
-pub fn factory(alloc: Global) -> KnownFragmentNames {
+pub fn factory(alloc: Global) -> KnownFragmentNames
+    ensures { ⟦<KnownFragmentNames as Fresh>⟧.fresh result }
+{
     KnownFragmentNames { alloc }
 }
 

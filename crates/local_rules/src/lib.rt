@@ -1,8 +1,6 @@
 //! The rules that look at one place of a document, each in a module of its own.
 #![tactic(auto)]
 
-#[cfg(test)]
-pub mod asked_checks;
 mod first_places;
 pub mod known_fragment_names;
 pub mod lone_anonymous_operation;

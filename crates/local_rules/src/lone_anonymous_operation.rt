@@ -20,7 +20,9 @@ use walk::{Event, Fresh, Machine, Rule, ValidatorContext, Visitor};
 pub struct LoneAnonymousOperation;
 
 /// The rule, made ready for one document.
-pub fn factory(_alloc: Global) -> LoneAnonymousOperation {
+pub fn factory(_alloc: Global) -> LoneAnonymousOperation
+    ensures { ⟦<LoneAnonymousOperation as Fresh>⟧.fresh result }
+{
     LoneAnonymousOperation
 }
 

@@ -19,6 +19,5 @@ pub mod Ordered
 pub mod Possible
 pub mod Repeated
 pub mod RootNames
-pub mod SampleChecks
 pub mod Subtype
 pub mod Wrapped

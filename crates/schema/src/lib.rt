@@ -8,12 +8,4 @@ pub mod error;
 pub mod meta;
 pub mod model;
 pub mod named;
-#[cfg(test)]
-mod pets;
-#[cfg(test)]
-mod pets_tests;
-#[cfg(test)]
-mod samples;
-#[cfg(test)]
-mod tests;
 mod texts;

@@ -1,2 +1,1 @@
-pub mod SampleChecks
 pub mod StageOne

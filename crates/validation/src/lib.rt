@@ -5,8 +5,6 @@
 pub mod ast;
 pub mod parser;
 pub mod rules;
-#[cfg(test)]
-mod tests;
 
 pub use crate::rules::visit_all_rules;
 pub use language::error::OutOfMemory;

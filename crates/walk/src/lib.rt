@@ -6,19 +6,11 @@ pub mod event;
 mod fragment_names;
 pub mod laws;
 pub mod multi_visitor;
-#[cfg(test)]
-mod recorder;
 pub mod rule;
 pub mod rule_error;
-#[cfg(test)]
-mod samples;
-#[cfg(test)]
-mod tests;
 mod typed_events;
 pub mod visitor;
 pub mod walk;
-#[cfg(test)]
-mod walk_tests;
 
 pub use context::{ValidatorContext, ValidatorContextOf};
 pub use event::Event;

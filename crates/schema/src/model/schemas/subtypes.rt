@@ -65,7 +65,8 @@ impl<S, C> SchemaTypeOf<S, C> {
             || self.is_known(sub_type_name) && self.may_be_named(super_type_name, sub_type_name)
     }
 
-    pub(crate) fn is_known(&self, name: &str) -> bool
+    /// Whether there is a type of the name: what `make_type` asks of an innermost name.
+    pub fn is_known(&self, name: &str) -> bool
         ensures { result ≡ is_listed self.now.types name.now }
     {
         self.concrete_type_by_name(name).is_some()

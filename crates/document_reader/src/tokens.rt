@@ -1,0 +1,157 @@
+//! The tokens of a text, one ahead (GraphQL, October 2021, section 2.1).
+use crate::error::ReadError;
+use crate::lexer::{Punctuator, Token, token_at};
+use language::position::{SourcePosition, Span, Spanning};
+
+/// The tokens of a text that are left.
+#[derive(Drop)]
+pub struct Tokens<'a> {
+    text: &'a [u8],
+    // Where the text after the token ahead starts.
+    index: usize,
+    line: usize,
+    line_start: usize,
+    ahead: Token<'a>,
+    span: Span,
+    // Where the token ends that was taken last.
+    last_end: SourcePosition,
+}
+
+impl<'a> Tokens<'a> {
+    /// All tokens of the text.
+    pub fn new(text: &'a [u8]) -> Tokens<'a> {
+        let start = SourcePosition::new(0, 0, 0);
+        let mut tokens = Tokens {
+            text,
+            index: 0,
+            line: 0,
+            line_start: 0,
+            ahead: Token::End,
+            span: Span { start, end: start },
+            last_end: start,
+        };
+        tokens.advance();
+        tokens
+    }
+
+    /// The token ahead.
+    pub fn ahead(&self) -> Token<'a> {
+        self.ahead
+    }
+
+    /// Where the token ahead starts.
+    pub fn start(&self) -> SourcePosition {
+        self.span.start
+    }
+
+    /// From a place to the end of the token that was taken last.
+    pub fn span_from(&self, start: SourcePosition) -> Span {
+        Span {
+            start,
+            end: self.last_end,
+        }
+    }
+
+    /// More than the number of tokens and of levels, since each takes a byte: a bound for loops that is never met.
+    pub fn bound(&self) -> usize {
+        self.text.len().saturating_add(1)
+    }
+
+    /// The fault that the token ahead doesn't fit.
+    pub fn fault(&self) -> ReadError {
+        ReadError::Fault(self.span.start)
+    }
+
+    /// Takes the token ahead.
+    pub fn advance(&mut self) {
+        self.last_end = self.span.end;
+        self.skip_ignored();
+        let start = self.place();
+        let (token, length) = token_at(self.text.get(self.index..).unwrap_or(&[]));
+        self.index = self.index.saturating_add(length);
+        self.ahead = token;
+        self.span = Span {
+            start,
+            end: self.place(),
+        };
+    }
+
+    /// Whether this punctuator is ahead.
+    pub fn is(&self, punctuator: Punctuator) -> bool {
+        matches!(self.ahead, Token::Punctuator(ahead) if ahead == punctuator)
+    }
+
+    /// Takes this punctuator, if it is ahead.
+    pub fn take(&mut self, punctuator: Punctuator) -> bool {
+        let is_ahead = self.is(punctuator);
+        if is_ahead {
+            self.advance();
+        }
+        is_ahead
+    }
+
+    /// Takes this punctuator, or tells that something else is ahead.
+    pub fn expect(&mut self, punctuator: Punctuator) -> Result<(), ReadError> {
+        if self.take(punctuator) {
+            Ok(())
+        } else {
+            Err(self.fault())
+        }
+    }
+
+    /// Takes a name.
+    pub fn name(&mut self) -> Result<Spanning<&'a str>, ReadError> {
+        match self.ahead {
+            Token::Name(item) => {
+                let span = self.span;
+                self.advance();
+                Ok(Spanning { item, span })
+            }
+            _ => Err(self.fault()),
+        }
+    }
+
+    /// Whether this name is ahead.
+    pub fn is_word(&self, word: &str) -> bool {
+        match self.ahead {
+            Token::Name(name) => name == word,
+            _ => false,
+        }
+    }
+
+    /// Takes a variable: `$` and its name. Its span starts at the `$`.
+    pub fn variable(&mut self) -> Result<Spanning<&'a str>, ReadError> {
+        let start = self.start();
+        self.expect(Punctuator::Dollar)?;
+        let item = self.name()?.item;
+        Ok(Spanning {
+            item,
+            span: self.span_from(start),
+        })
+    }
+
+    fn place(&self) -> SourcePosition {
+        let column = self.index.saturating_sub(self.line_start);
+        SourcePosition::new(self.index, self.line, column)
+    }
+
+    // Goes past blanks, commas, ends of lines and comments.
+    fn skip_ignored(&mut self) {
+        let mut is_comment = false;
+        for byte in self.text.get(self.index..).unwrap_or(&[]) {
+            match *byte {
+                b'\n' => {
+                    is_comment = false;
+                    self.line = self.line.saturating_add(1);
+                    self.line_start = self.index.saturating_add(1);
+                }
+                b'#' => is_comment = true,
+                b' ' | b'\t' | b'\r' | b',' => {}
+                _ => if !is_comment {
+                    return;
+                },
+            }
+            self.index = self.index.saturating_add(1);
+        }
+    }
+}

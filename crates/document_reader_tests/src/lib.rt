@@ -1,0 +1,5 @@
+//! Tests of the crate `document_reader`.
+#![tactic(auto)]
+
+#[cfg(test)]
+mod outline;

@@ -1,0 +1,5 @@
+//! Tests of the crate `language`.
+#![tactic(auto)]
+
+#[cfg(test)]
+mod tests;

@@ -1,0 +1,13 @@
+//! Tests of the crate `schema`, over the sample lists.
+#![tactic(auto)]
+
+#[cfg(test)]
+mod builder;
+#[cfg(test)]
+mod metadata;
+#[cfg(test)]
+mod refused_memory;
+#[cfg(test)]
+mod relations;
+#[cfg(test)]
+mod schemas;

@@ -1,0 +1,330 @@
+//! A walk over every kind of node, and the calls of a context.
+
+use crate::recorder::{Recorder, shown_types};
+use crate::sample::{Checks, check_any, no_token, sample_document, sample_schema};
+use language::error::OutOfMemory;
+use language::position::SourcePosition;
+use language::tree::Definition;
+use language::types::BorrowedType;
+use language::value::DefaultScalarValue;
+use schema::default_check::DefaultCheck;
+use schema::model::SchemaType;
+use std::alloc::Global;
+use std::test::Fail;
+use walk::{MultiVisitorCons, MultiVisitorNil, RuleError, ValidatorContext, visit, visit_rules};
+
+/// The walk over the sample. An event of a node is followed by the type at the node, that type as it is written, the parent
+/// type, and the type of the input as it is written; a stroke stands for none.
+const WALK: &str = "enter_document() - - - -
+enter_operation_definition(Q) QueryRoot QueryRoot! - -
+enter_variable_definition(a) QueryRoot QueryRoot! - [Int]!
+enter_list_value() QueryRoot QueryRoot! - [Int]!
+enter_scalar_value(one) QueryRoot QueryRoot! - Int
+exit_scalar_value(one) QueryRoot QueryRoot! - Int
+exit_list_value() QueryRoot QueryRoot! - [Int]!
+enter_directive(skip) QueryRoot QueryRoot! - [Int]!
+enter_argument(if) QueryRoot QueryRoot! - Boolean!
+enter_scalar_value(two) QueryRoot QueryRoot! - Boolean!
+exit_scalar_value(two) QueryRoot QueryRoot! - Boolean!
+exit_argument(if) QueryRoot QueryRoot! - Boolean!
+exit_directive(skip) QueryRoot QueryRoot! - [Int]!
+exit_variable_definition(a) QueryRoot QueryRoot! - [Int]!
+enter_variable_definition(b) QueryRoot QueryRoot! - Pair
+exit_variable_definition(b) QueryRoot QueryRoot! - Pair
+enter_directive(include) QueryRoot QueryRoot! - -
+enter_argument(if) QueryRoot QueryRoot! - Boolean!
+enter_variable_value(a) QueryRoot QueryRoot! - Boolean!
+exit_variable_value(a) QueryRoot QueryRoot! - Boolean!
+exit_argument(if) QueryRoot QueryRoot! - Boolean!
+exit_directive(include) QueryRoot QueryRoot! - -
+enter_selection_set() QueryRoot QueryRoot! QueryRoot -
+enter_field(dog) Dog Dog! QueryRoot -
+enter_argument(pair) Dog Dog! QueryRoot Pair!
+enter_object_value() Dog Dog! QueryRoot Pair!
+enter_object_field(a) Dog Dog! QueryRoot Int!
+enter_scalar_value(three) Dog Dog! QueryRoot Int!
+exit_scalar_value(three) Dog Dog! QueryRoot Int!
+exit_object_field(a) Dog Dog! QueryRoot Int!
+enter_object_field(zz) Dog Dog! QueryRoot -
+enter_object_value() Dog Dog! QueryRoot -
+enter_object_field(a) Dog Dog! QueryRoot -
+enter_enum_value(SIT) Dog Dog! QueryRoot -
+exit_enum_value(SIT) Dog Dog! QueryRoot -
+exit_object_field(a) Dog Dog! QueryRoot -
+exit_object_value() Dog Dog! QueryRoot -
+exit_object_field(zz) Dog Dog! QueryRoot -
+exit_object_value() Dog Dog! QueryRoot Pair!
+exit_argument(pair) Dog Dog! QueryRoot Pair!
+enter_argument(sizes) Dog Dog! QueryRoot [[Int]!]
+enter_list_value() Dog Dog! QueryRoot [[Int]!]
+enter_list_value() Dog Dog! QueryRoot [Int]!
+enter_null_value() Dog Dog! QueryRoot Int
+exit_null_value() Dog Dog! QueryRoot Int
+exit_list_value() Dog Dog! QueryRoot [Int]!
+exit_list_value() Dog Dog! QueryRoot [[Int]!]
+exit_argument(sizes) Dog Dog! QueryRoot [[Int]!]
+enter_argument(other) Dog Dog! QueryRoot -
+enter_scalar_value(four) Dog Dog! QueryRoot -
+exit_scalar_value(four) Dog Dog! QueryRoot -
+exit_argument(other) Dog Dog! QueryRoot -
+enter_directive(nope) Dog Dog! QueryRoot -
+enter_argument(x) Dog Dog! QueryRoot -
+enter_scalar_value(five) Dog Dog! QueryRoot -
+exit_scalar_value(five) Dog Dog! QueryRoot -
+exit_argument(x) Dog Dog! QueryRoot -
+exit_directive(nope) Dog Dog! QueryRoot -
+enter_selection_set() Dog Dog! Dog -
+enter_field(name) String String Dog -
+enter_argument(x) String String Dog Int
+enter_scalar_value(six) String String Dog Int
+exit_scalar_value(six) String String Dog Int
+exit_argument(x) String String Dog Int
+exit_field(name) String String Dog -
+enter_fragment_spread(F) Dog Dog! Dog -
+enter_directive(skip) Dog Dog! Dog -
+enter_argument(if) Dog Dog! Dog Boolean!
+enter_scalar_value(seven) Dog Dog! Dog Boolean!
+exit_scalar_value(seven) Dog Dog! Dog Boolean!
+exit_argument(if) Dog Dog! Dog Boolean!
+exit_directive(skip) Dog Dog! Dog -
+exit_fragment_spread(F) Dog Dog! Dog -
+enter_inline_fragment() - Cat! Dog -
+enter_directive(skip) - Cat! Dog -
+exit_directive(skip) - Cat! Dog -
+enter_selection_set() - Cat! - -
+enter_field(meows) - - - -
+exit_field(meows) - - - -
+exit_selection_set() - Cat! - -
+exit_inline_fragment() - Cat! Dog -
+enter_inline_fragment() Dog Dog! Dog -
+enter_directive(include) Dog Dog! Dog -
+exit_directive(include) Dog Dog! Dog -
+enter_selection_set() Dog Dog! Dog -
+enter_field(friends) Dog [Dog!]! Dog -
+enter_selection_set() Dog [Dog!]! Dog -
+enter_field(name) String String Dog -
+exit_field(name) String String Dog -
+exit_selection_set() Dog [Dog!]! Dog -
+exit_field(friends) Dog [Dog!]! Dog -
+exit_selection_set() Dog Dog! Dog -
+exit_inline_fragment() Dog Dog! Dog -
+exit_selection_set() Dog Dog! Dog -
+exit_field(dog) Dog Dog! QueryRoot -
+enter_field(unknown) - - QueryRoot -
+enter_argument(x) - - QueryRoot -
+enter_list_value() - - QueryRoot -
+enter_scalar_value(eight) - - QueryRoot -
+exit_scalar_value(eight) - - QueryRoot -
+exit_list_value() - - QueryRoot -
+exit_argument(x) - - QueryRoot -
+enter_selection_set() - - - -
+enter_field(y) - - - -
+exit_field(y) - - - -
+exit_selection_set() - - - -
+exit_field(unknown) - - QueryRoot -
+exit_selection_set() QueryRoot QueryRoot! QueryRoot -
+exit_operation_definition(Q) QueryRoot QueryRoot! - -
+enter_operation_definition(M) MutationRoot MutationRoot! - -
+enter_selection_set() MutationRoot MutationRoot! MutationRoot -
+enter_field(feed) Dog Dog MutationRoot -
+enter_selection_set() Dog Dog Dog -
+enter_field(name) String String Dog -
+exit_field(name) String String Dog -
+exit_selection_set() Dog Dog Dog -
+exit_field(feed) Dog Dog MutationRoot -
+exit_selection_set() MutationRoot MutationRoot! MutationRoot -
+exit_operation_definition(M) MutationRoot MutationRoot! - -
+enter_operation_definition(S) - - - -
+enter_selection_set() - - - -
+enter_field(dog) - - - -
+enter_selection_set() - - - -
+enter_field(name) - - - -
+exit_field(name) - - - -
+exit_selection_set() - - - -
+exit_field(dog) - - - -
+exit_selection_set() - - - -
+exit_operation_definition(S) - - - -
+enter_fragment_definition(F) Dog Dog! - -
+enter_directive(skip) Dog Dog! - -
+exit_directive(skip) Dog Dog! - -
+enter_selection_set() Dog Dog! Dog -
+enter_field(__typename) String String! Dog -
+exit_field(__typename) String String! Dog -
+exit_selection_set() Dog Dog! Dog -
+exit_fragment_definition(F) Dog Dog! - -
+exit_document() - - - -
+";
+
+type Schema = SchemaType<DefaultScalarValue>;
+
+type Visitors = MultiVisitorCons<Recorder, MultiVisitorNil>;
+
+/// What a visitor hears of the document.
+fn recorded<'a>(
+    alloc: Global,
+    ctx: &mut ValidatorContext<'a, DefaultScalarValue>,
+    document: &'a [Definition<'a, DefaultScalarValue>],
+) -> Result<Visitors, OutOfMemory> {
+    let recorder = Recorder {
+        text: String::new(alloc),
+    };
+    let mut visitors = MultiVisitorNil.with(recorder);
+    visit(&mut visitors, ctx, document)?;
+    Ok(visitors)
+}
+
+/// The same in a fresh context. After a refusal it says whether the context refuses each later call.
+///
+/// A context borrows a document for as long as the document's own names live, so what a test builds is never freed.
+fn recorded_afresh<'a>(
+    alloc: Global,
+    schema: &'a Schema,
+    document: Vec<Definition<'a, DefaultScalarValue>>,
+) -> Result<Visitors, bool> {
+    let document = document.leak();
+    recorded_of_lent(alloc, schema, document)
+}
+
+/// The same of a document that is lent.
+fn recorded_of_lent<'a>(
+    alloc: Global,
+    schema: &'a Schema,
+    document: &'a [Definition<'a, DefaultScalarValue>],
+) -> Result<Visitors, bool> {
+    match ValidatorContext::new(alloc, schema, document) {
+        Ok(mut ctx) => match recorded(alloc, &mut ctx, document) {
+            Ok(visitors) => Ok(visitors),
+            Err(_e) => Err(refuses_all(alloc, ctx, document)),
+        },
+        Err(_e) => Err(true),
+    }
+}
+
+/// Whether a context refuses each call that reports, pushes or ends, and each walk.
+fn refuses_all<'a>(
+    alloc: Global,
+    mut ctx: ValidatorContext<'a, DefaultScalarValue>,
+    document: &'a [Definition<'a, DefaultScalarValue>],
+) -> bool {
+    let reports = ctx.report_error("m", &[]).is_err();
+    let appends = ctx.append_errors(Vec::new(alloc)).is_err();
+    let pushes = ctx.with_pushed_type(None, |_ctx| Ok(())).is_err();
+    let pushes_parent = ctx.with_pushed_parent_type(|_ctx| Ok(())).is_err();
+    let pushes_input = ctx.with_pushed_input_type(None, |_ctx| Ok(())).is_err();
+    let walks = recorded(alloc, &mut ctx, document).is_err();
+    let ends = ctx.into_errors().is_err();
+    reports && appends && pushes && pushes_parent && pushes_input && walks && ends
+}
+
+#[test]
+fn every_kind_of_node_is_told(rt: HostRuntime) -> Result<(), Fail> {
+    let alloc = rt.alloc();
+    let checks = Checks {
+        string: DefaultCheck::with_token(check_any, no_token),
+        boolean: DefaultCheck::with_token(check_any, no_token),
+        int: DefaultCheck::with_token(check_any, no_token),
+        pair: DefaultCheck::new(check_any),
+    };
+    let schema = sample_schema(alloc, checks)?;
+    let document = sample_document(alloc)?;
+    let recorded = recorded_afresh(alloc, &schema, document);
+    let Ok(visitors) = recorded else {
+        return Err(Fail::from("memory was refused"));
+    };
+    let heard = visitors.newest().text.as_str();
+    for (said, want) in heard.lines().zip(WALK.lines()) {
+        assert_eq!(rt; said, want);
+    }
+    assert_eq!(rt; heard, WALK);
+    Ok(())
+}
+
+/// Run with each request for memory refused in turn, a walk tells the same, or it answers a refusal and the context has failed.
+#[test]
+fn a_refused_request_changes_no_walk(rt: HostRuntime) {
+    let alloc = rt.alloc();
+    let checks = Checks {
+        string: DefaultCheck::with_token(check_any, no_token),
+        boolean: DefaultCheck::with_token(check_any, no_token),
+        int: DefaultCheck::with_token(check_any, no_token),
+        pair: DefaultCheck::new(check_any),
+    };
+    let Ok(schema) = sample_schema(alloc, checks) else {
+        return;
+    };
+    let Ok(document) = sample_document(alloc) else {
+        return;
+    };
+    match recorded_afresh(alloc, &schema, document) {
+        Ok(visitors) => assert_eq!(rt; visitors.newest().text.as_str(), WALK),
+        Err(refuses) => assert!(rt; refuses),
+    }
+}
+
+/// The types at hand: with a type pushed, with that type as the parent too, with an input type pushed, and with nothing.
+fn types_in_turn<'a>(
+    alloc: Global,
+    schema: &'a Schema,
+) -> Result<(String, String, String, String), OutOfMemory> {
+    let mut ctx = ValidatorContext::new(alloc, schema, &[])?;
+    let dog = Some(BorrowedType::non_null("Dog"));
+    let int = Some(BorrowedType::nullable("Int"));
+    let pushed = ctx.with_pushed_type(dog, |ctx| shown_types(alloc, ctx))?;
+    let parent = ctx.with_pushed_type(dog, |ctx| {
+        ctx.with_pushed_parent_type(|ctx| shown_types(alloc, ctx))
+    })?;
+    let input = ctx.with_pushed_input_type(int, |ctx| shown_types(alloc, ctx))?;
+    let after = shown_types(alloc, &ctx)?;
+    Ok((pushed, parent, input, after))
+}
+
+/// Whether the fragment `F` is known in a document with no definitions, and whether there are errors before anything is reported.
+fn known_at_first<'a>(alloc: Global, schema: &'a Schema) -> Result<(bool, bool), OutOfMemory> {
+    let ctx = ValidatorContext::new(alloc, schema, &[])?;
+    let fragment = ctx.is_known_fragment("F");
+    Ok((fragment, ctx.has_errors()))
+}
+
+/// Four errors, in a context that two rules walked with that report nothing.
+fn reported<'a>(alloc: Global, schema: &'a Schema) -> Result<Vec<RuleError>, OutOfMemory> {
+    let mut ctx = ValidatorContext::new(alloc, schema, &[])?;
+    let mut rules = MultiVisitorNil
+        .with_rule(MultiVisitorNil)
+        .with_rule(MultiVisitorNil);
+    visit_rules(&mut rules, &mut ctx, &[])?;
+    let early = SourcePosition::new(3, 0, 3);
+    let late = SourcePosition::new(7, 0, 7);
+    ctx.report_error("late", &[late])?;
+    ctx.report_error("early", &[early])?;
+    let mut more = Vec::new(alloc);
+    more.push(RuleError::new(alloc, "late", &[late])?)?;
+    more.push(RuleError::new(alloc, "before", &[early])?)?;
+    ctx.append_errors(more)?;
+    ctx.into_errors()
+}
+
+#[test]
+fn a_context_keeps_types_names_and_errors(rt: HostRuntime) -> Result<(), Fail> {
+    let alloc = rt.alloc();
+    let checks = Checks {
+        string: DefaultCheck::with_token(check_any, no_token),
+        boolean: DefaultCheck::with_token(check_any, no_token),
+        int: DefaultCheck::with_token(check_any, no_token),
+        pair: DefaultCheck::new(check_any),
+    };
+    let schema = sample_schema(alloc, checks)?;
+    let (pushed, parent, input, after) = types_in_turn(alloc, &schema)?;
+    assert_eq!(rt; pushed.as_str(), "Dog Dog! - -");
+    assert_eq!(rt; parent.as_str(), "Dog Dog! Dog -");
+    assert_eq!(rt; input.as_str(), "- - - Int");
+    assert_eq!(rt; after.as_str(), "- - - -");
+    let known = known_at_first(alloc, &schema)?;
+    assert_eq!(rt; known, (false, false));
+    let errors = reported(alloc, &schema)?;
+    let mut messages = errors.iter().map(|error| error.message());
+    for want in ["before", "early", "late", "late"] {
+        assert_eq!(rt; messages.next(), Some(want));
+    }
+    assert_eq!(rt; messages.next(), None);
+    Ok(())
+}
