@@ -9,13 +9,13 @@ use crate::failure::Failure;
 use crate::report::Report;
 use document_reader::read_document;
 use language::value::DefaultScalarValue;
+use meta::default_check::DefaultCheck;
 use samples::build::Checks;
 use samples::checks::{
     check_boolean, check_complex_input, check_dog_command, check_id, check_int, check_pair_input,
     check_string, refuse_token,
 };
 use samples::{boxes, demo, pets};
-use schema::default_check::DefaultCheck;
 use schema::model::SchemaType;
 use std::alloc::Global;
 use std::io::{self, Read, Write};

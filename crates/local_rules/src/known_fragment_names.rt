@@ -7,7 +7,7 @@ ghost use Rattle.walk.proofs.Entering.{finding_keeps};
 ghost use Rattle.local_rules.specs.KnownFragmentNames.{unknown_fragment_message, unknown_fragments};
 
 use language::error::OutOfMemory;
-use schema::check::CheckedScalar;
+use meta::check::CheckedScalar;
 use std::alloc::{AllocError, Global};
 use walk::{Event, Fresh, Machine, Rule, ValidatorContext, Visitor};
 

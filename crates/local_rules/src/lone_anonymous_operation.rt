@@ -11,7 +11,7 @@ ghost use Rattle.local_rules.specs.LoneAnonymousOperation.{operations, anonymous
 
 use language::error::OutOfMemory;
 use language::tree::Definition;
-use schema::check::CheckedScalar;
+use meta::check::CheckedScalar;
 use std::alloc::Global;
 use walk::{Event, Fresh, Machine, Rule, ValidatorContext, Visitor};
 

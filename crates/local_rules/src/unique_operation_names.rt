@@ -9,7 +9,7 @@ ghost use Rattle.local_rules.specs.UniqueOperationNames.{operation_name, repeate
 
 use crate::first_places::FirstPlaces;
 use language::error::OutOfMemory;
-use schema::check::CheckedScalar;
+use meta::check::CheckedScalar;
 use std::alloc::{AllocError, Global};
 use walk::{Event, Fresh, Machine, Rule, ValidatorContext, Visitor};
 

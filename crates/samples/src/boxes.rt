@@ -5,7 +5,7 @@ use crate::build::{
 };
 use language::error::OutOfMemory;
 use language::types::Type;
-use schema::meta::{Field, MetaType};
+use meta::{Field, MetaType};
 use std::alloc::Global;
 
 /// Boxes in boxes, and a connection.

@@ -2,8 +2,8 @@
 use language::error::OutOfMemory;
 use language::types::Type;
 use language::value::DefaultScalarValue;
-use schema::default_check::DefaultCheck;
-use schema::meta::{Argument, Field, InterfaceMeta, MetaType, ObjectMeta, ScalarMetaOf, UnionMeta};
+use meta::default_check::DefaultCheck;
+use meta::{Argument, Field, InterfaceMeta, MetaType, ObjectMeta, ScalarMetaOf, UnionMeta};
 use std::alloc::Global;
 
 /// The check of each type of the lists that has one.

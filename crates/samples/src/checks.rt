@@ -2,12 +2,12 @@
 //!
 //! A check refuses with `not a value of T`, where `T` is its type's name.
 ghost use Rattle.std.specs.Prelude.{◌≡◌, codes};
-ghost use Rattle.schema.specs.Answers.{AnswersBy};
+ghost use Rattle.meta.specs.Answers.{AnswersBy};
 ghost use Rattle.samples.specs.Checks.{is_int, is_string, is_boolean, is_id, is_command, is_dog_command, is_object};
 
 use language::error::{CheckError, ParseError};
 use language::value::{DefaultScalarValue, InputValue};
-use schema::default_check::ScalarTokenKind;
+use meta::default_check::ScalarTokenKind;
 use std::alloc::Global;
 
 /// Accepts an integer.

@@ -2,7 +2,7 @@
 use crate::build::{Checks, common, object, plain_fields};
 use crate::documents::{Query, alone, dog, query, spread};
 use language::error::OutOfMemory;
-use schema::meta::MetaType;
+use meta::MetaType;
 use std::alloc::Global;
 
 /// A dog with a name.

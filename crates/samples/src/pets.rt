@@ -5,8 +5,8 @@ use crate::build::{
 };
 use language::error::OutOfMemory;
 use language::value::{DefaultScalarValue, InputValue};
-use schema::default_check::DefaultCheck;
-use schema::meta::{Argument, EnumMetaOf, EnumValue, Field, InputObjectMetaOf, MetaType};
+use meta::default_check::DefaultCheck;
+use meta::{Argument, EnumMetaOf, EnumValue, Field, InputObjectMetaOf, MetaType};
 use std::alloc::Global;
 
 /// Dogs, cats and humans, with arguments of every kind.

@@ -9,9 +9,9 @@ use Rattle.std.proofs.lemmas.List.Sums.{sum_by-cons}
 use Rattle.std.proofs.lemmas.Slice.Eq.{bytes_eq-Decides}
 use Rattle.schema.specs.declared.error.SchemaError.{SchemaError}
 use Rattle.schema.specs.declared.error.SchemaError.TheVariants as e
-use Rattle.schema.specs.declared.meta.kinds.MetaTypeOf.{MetaTypeOf}
+use Rattle.meta.specs.declared.kinds.MetaTypeOf.{MetaTypeOf}
 use Rattle.schema.specs.Accepted.{Roots, root_names, IsAccepted, IsTrueRefusal, is_named, is_listed, is_object_listed, is_input_listed}
-use Rattle.schema.specs.Kinds.{name_of_meta}
+use Rattle.meta.specs.Kinds.{name_of_meta}
 use Rattle.schema.specs.Named.{is_called, is_any_called, are_distinct}
 use Rattle.schema.specs.Names.{all_names, all_inputs, all_members}
 use Rattle.schema.proofs.Finds.{not-true, all-at}

@@ -11,13 +11,13 @@ use Rattle.std.proofs.lemmas.Slice.Eq.{bytes_eq-Decides}
 use Rattle.indexmap.specs.IndexMap.{insert_entry}
 use Rattle.schema.specs.declared.error.SchemaError.{SchemaError}
 use Rattle.schema.specs.declared.error.SchemaError.TheVariants as e
-use Rattle.schema.specs.declared.meta.kinds.MetaTypeOf.{MetaTypeOf}
+use Rattle.meta.specs.declared.kinds.MetaTypeOf.{MetaTypeOf}
 use Rattle.schema.specs.declared.model.directives.DirectiveType.{DirectiveType}
 use Rattle.schema.specs.Accepted.{Roots, IsAccepted, is_listed, is_input_listed}
 use Rattle.schema.specs.Catalog.{Catalog}
 use Rattle.schema.specs.Changes.{directive_types, with_directive, IsTrueOfArguments}
 use Rattle.schema.specs.Directives.{directive_name, directive_inputs}
-use Rattle.schema.specs.Kinds.{name_of_meta, is_input_meta}
+use Rattle.meta.specs.Kinds.{name_of_meta, is_input_meta}
 use Rattle.schema.specs.Named.{is_called, is_any_called, are_distinct, are_keyed}
 use Rattle.schema.proofs.AcceptedLemmas.{first-alone}
 use Rattle.schema.proofs.Finds.{all-at}

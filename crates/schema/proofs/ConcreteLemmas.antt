@@ -1,6 +1,6 @@
 -- The metadata that a type with nothing round it is.
 use Rattle.std.proofs.Common.{◌≡◌, Some, Option, option_map, Bor, sym, ap, ◌∙◌}
-use Rattle.schema.specs.declared.meta.kinds.MetaTypeOf.{MetaTypeOf}
+use Rattle.meta.specs.declared.kinds.MetaTypeOf.{MetaTypeOf}
 use Rattle.schema.specs.declared.model.types.TypeTypeOf.{out-roll-TypeTypeOf}
 use Rattle.schema.specs.declared.model.types.TypeTypeOf.TheVariants as v
 use Rattle.schema.specs.declared.model.types.TypeTypeOf.TheOpen.{TypeTypeOf-F}

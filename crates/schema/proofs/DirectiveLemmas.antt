@@ -2,7 +2,7 @@
 use Rattle.std.proofs.Common.{◌≡◌, ℕ, List, [], ◌∷◌, ◌++◌, true, not, ◌&&◌, ◌||◌, Option, Some, codes, map, refl, ap, subst, sym, ◌∙◌}
 use Rattle.std.specs.List.{flat_map, list_all}
 use Rattle.std.proofs.lemmas.Bool.{and_parts, and_from}
-use Rattle.schema.specs.declared.meta.kinds.MetaTypeOf.{MetaTypeOf}
+use Rattle.meta.specs.declared.kinds.MetaTypeOf.{MetaTypeOf}
 use Rattle.schema.specs.declared.model.directives.DirectiveType.{DirectiveType}
 use Rattle.schema.specs.Accepted.{Roots, IsAccepted, is_input_listed}
 use Rattle.schema.specs.Added.{DirectiveShape, argument_shape, directive_shape, standard_directives}

@@ -6,12 +6,12 @@ use Rattle.std.proofs.lemmas.Bool.{and_parts}
 use Rattle.std.proofs.lemmas.List.{take-append-drop}
 use Rattle.std.proofs.lemmas.List.Edits.{insert-append_right}
 use Rattle.std.proofs.lemmas.Slice.Eq.{bytes_eq-Decides}
-use Rattle.schema.specs.declared.meta.objects.ObjectMeta.{ObjectMeta}
-use Rattle.schema.specs.declared.meta.kinds.MetaTypeOf.{MetaTypeOf}
-use Rattle.schema.specs.declared.meta.kinds.MetaTypeOf.TheVariants as m
+use Rattle.meta.specs.declared.objects.ObjectMeta.{ObjectMeta}
+use Rattle.meta.specs.declared.kinds.MetaTypeOf.{MetaTypeOf}
+use Rattle.meta.specs.declared.kinds.MetaTypeOf.TheVariants as m
 use Rattle.schema.specs.Accepted.{is_named}
 use Rattle.schema.specs.Added.{HasAddedFields, IsExtended}
-use Rattle.schema.specs.Kinds.{is_object_meta}
+use Rattle.meta.specs.Kinds.{is_object_meta}
 use Rattle.schema.proofs.Finds.{rest_at}
 
 pub pushed-two : {A : Type 0} (xs ys zs : List A) (x y : A) → ys ≡ xs ++ x ∷ [] → zs ≡ ys ++ y ∷ [] → zs ≡ xs ++ x ∷ y ∷ []

@@ -12,7 +12,7 @@ use Rattle.std.proofs.lemmas.List.{get_or-map, length-map}
 use Rattle.std.proofs.lemmas.List.Sorted.{ranks_by, answers_always}
 use denote.Param.Members.{Mut}
 use Rattle.std.specs.Prelude.{string_bytes}
-use Rattle.schema.specs.declared.meta.kinds.MetaTypeOf.{MetaTypeOf}
+use Rattle.meta.specs.declared.kinds.MetaTypeOf.{MetaTypeOf}
 use Rattle.schema.specs.declared.model.directives.DirectiveType.{DirectiveType}
 use Rattle.schema.specs.declared.model.types.TypeTypeOf.{TypeTypeOf}
 use Rattle.schema.specs.Ordered.{kind_rank, name_bytes, type_cmp, directive_cmp, metas_of}

@@ -10,11 +10,11 @@ use Rattle.std.proofs.lemmas.List.Elements.{filter_map-append}
 use Rattle.std.proofs.lemmas.Bool.{and_parts, and_from, or_parts, or_left, or_right}
 use Rattle.std.proofs.lemmas.List.Folds.{Any-from_list_any, list_any-from_Any}
 use Rattle.std.proofs.lemmas.Slice.Eq.{bytes_eq-Decides}
-use Rattle.schema.specs.declared.meta.kinds.MetaTypeOf.{MetaTypeOf}
-use Rattle.schema.specs.declared.meta.kinds.MetaTypeOf.TheVariants as k
+use Rattle.meta.specs.declared.kinds.MetaTypeOf.{MetaTypeOf}
+use Rattle.meta.specs.declared.kinds.MetaTypeOf.TheVariants as k
 use Rattle.schema.specs.Accepted.{is_named, is_listed}
 use Rattle.schema.specs.Catalog.{Catalog, type_in}
-use Rattle.schema.specs.Kinds.{name_of_meta, is_abstract_meta}
+use Rattle.meta.specs.Kinds.{name_of_meta, is_abstract_meta}
 use Rattle.schema.specs.Named.{is_called, is_any_called, are_named, are_distinct}
 use Rattle.schema.specs.Names.{members_of}
 use Rattle.schema.specs.Possible.{is_among, do_meet, is_implementer, possible_names, types_named, have_one_name, do_overlap}

@@ -9,10 +9,10 @@ use Rattle.std.proofs.lemmas.List.Folds.{list_all-append}
 use Rattle.std.proofs.lemmas.List.Sums.{sum_by-cons}
 use Rattle.std.proofs.lemmas.Slice.Eq.{bytes_eq-Decides}
 use Rattle.language.specs.Types.{shape}
-use Rattle.schema.specs.declared.meta.fields.Field.{Field}
-use Rattle.schema.specs.declared.meta.kinds.MetaTypeOf.{MetaTypeOf}
+use Rattle.meta.specs.declared.fields.Field.{Field}
+use Rattle.meta.specs.declared.kinds.MetaTypeOf.{MetaTypeOf}
 use Rattle.schema.specs.Accepted.{is_named, is_listed}
-use Rattle.schema.specs.Kinds.{name_of_meta, fields_of, input_fields_of}
+use Rattle.meta.specs.Kinds.{name_of_meta, fields_of, input_fields_of}
 use Rattle.schema.specs.Names.{argument_type, field_inputs, field_names, inputs_in, names_in, members_of, interfaces_of, added_inputs, added_names, all_names, all_inputs, all_members}
 use Rattle.schema.specs.Repeated.{listed_again, repeated_name}
 use Rattle.schema.proofs.Finds.{found-passes, found-among, not-true}

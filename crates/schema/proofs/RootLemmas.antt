@@ -2,10 +2,10 @@
 use Rattle.std.proofs.Common.{◌≡◌, ℕ, List, [], ◌∷◌, ◌++◌, Bool, true, Option, Some, None, is_some, option_copied, Bor, ap, sym, refl, ◌∙◌}
 use Rattle.std.specs.List.{list_all}
 use Rattle.std.proofs.lemmas.Bool.{and_parts}
-use Rattle.schema.specs.declared.meta.kinds.MetaTypeOf.{MetaTypeOf}
+use Rattle.meta.specs.declared.kinds.MetaTypeOf.{MetaTypeOf}
 use Rattle.schema.specs.Accepted.{listed, is_listed}
 use Rattle.schema.specs.Catalog.{Catalog, type_in, root_in}
-use Rattle.schema.specs.Kinds.{name_of_meta}
+use Rattle.meta.specs.Kinds.{name_of_meta}
 use Rattle.schema.proofs.AcceptedLemmas.{find-called}
 use Rattle.schema.proofs.Refusals.{all-front, all-back}
 

@@ -12,10 +12,10 @@ use Rattle.std.proofs.Common.{inl, inr}
 use Rattle.language.specs.declared.types.TypeModifier.{TypeModifier}
 use Rattle.language.specs.declared.types.TypeModifier.TheVariants as m
 use Rattle.language.specs.Types.{TypeShape}
-use Rattle.schema.specs.declared.meta.kinds.MetaTypeOf.{MetaTypeOf}
-use Rattle.schema.specs.declared.meta.kinds.MetaTypeOf.TheVariants as k
+use Rattle.meta.specs.declared.kinds.MetaTypeOf.{MetaTypeOf}
+use Rattle.meta.specs.declared.kinds.MetaTypeOf.TheVariants as k
 use Rattle.schema.specs.Accepted.{Roots, IsAccepted, is_named, is_listed, is_object_listed}
-use Rattle.schema.specs.Kinds.{name_of_meta, is_object_meta, is_abstract_meta}
+use Rattle.meta.specs.Kinds.{name_of_meta, is_object_meta, is_abstract_meta}
 use Rattle.schema.specs.Names.{interfaces_of, members_of, all_members}
 use Rattle.schema.specs.Possible.{is_among, is_implementer, possible_names}
 use Rattle.schema.specs.Subtype.{may_be, is_name_below, IsBelow, equal, names, both_non_null, both_lists, non_null_below_name, non_null_below_list, are_layers_below, IsSubtype, is_subtype_of}

@@ -5,14 +5,14 @@ use Rattle.std.specs.Option.{option_map_or}
 use Rattle.std.proofs.lemmas.Bool.{and_parts, and_from}
 use Rattle.std.proofs.lemmas.Grind.{flat_map-append}
 use Rattle.language.specs.Types.{shape}
-use Rattle.schema.specs.declared.meta.arguments.Argument.{Argument}
-use Rattle.schema.specs.declared.meta.fields.Field.{Field}
-use Rattle.schema.specs.declared.meta.objects.ObjectMeta.{ObjectMeta}
-use Rattle.schema.specs.declared.meta.kinds.MetaTypeOf.{MetaTypeOf}
-use Rattle.schema.specs.declared.meta.kinds.MetaTypeOf.TheVariants as m
+use Rattle.meta.specs.declared.arguments.Argument.{Argument}
+use Rattle.meta.specs.declared.fields.Field.{Field}
+use Rattle.meta.specs.declared.objects.ObjectMeta.{ObjectMeta}
+use Rattle.meta.specs.declared.kinds.MetaTypeOf.{MetaTypeOf}
+use Rattle.meta.specs.declared.kinds.MetaTypeOf.TheVariants as m
 use Rattle.schema.specs.Accepted.{Roots, root_names, IsAccepted, is_named, is_listed, is_object_listed, is_input_listed}
 use Rattle.schema.specs.Added.{ArgumentShape, FieldShape, argument_shape, field_shape, schema_field, type_field, HasAddedFields, IsExtended}
-use Rattle.schema.specs.Kinds.{name_of_meta, is_object_meta, is_input_meta}
+use Rattle.meta.specs.Kinds.{name_of_meta, is_object_meta, is_input_meta}
 use Rattle.schema.specs.Named.{is_any_called, are_distinct}
 use Rattle.schema.specs.Names.{argument_type, field_inputs, field_names, inputs_in, names_in, members_of, added_inputs, added_names, all_names, all_inputs, all_members}
 use Rattle.schema.proofs.Refusals.{all-front, all-back, all-joined}

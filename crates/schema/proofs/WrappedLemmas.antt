@@ -7,7 +7,7 @@ use Rattle.std.specs.declared.alloc.Global.{Global}
 use Rattle.language.specs.declared.types.TypeModifier.{TypeModifier}
 use Rattle.language.specs.declared.types.TypeModifier.TheVariants as m
 use Rattle.language.specs.Types.{outermost}
-use Rattle.schema.specs.declared.meta.kinds.MetaTypeOf.{MetaTypeOf}
+use Rattle.meta.specs.declared.kinds.MetaTypeOf.{MetaTypeOf}
 use Rattle.schema.specs.declared.model.types.TypeTypeOf.{TypeTypeOf}
 use Rattle.schema.specs.declared.model.types.TypeTypeOf.TheVariants as v
 use Rattle.schema.specs.declared.model.types.TypeTypeOf.TheFolds.{fold-TypeTypeOf, fold-roll-TypeTypeOf}

@@ -4,8 +4,8 @@ use Rattle.std.specs.List.{list_any, list_all}
 use Rattle.std.specs.Str.{bytes_eq}
 use Rattle.schema.specs.declared.error.SchemaError.{SchemaError}
 use Rattle.schema.specs.declared.error.SchemaError.TheVariants as e
-use Rattle.schema.specs.declared.meta.kinds.MetaTypeOf.{MetaTypeOf}
-use Rattle.schema.specs.Kinds.{name_of_meta, is_object_meta, is_input_meta}
+use Rattle.meta.specs.declared.kinds.MetaTypeOf.{MetaTypeOf}
+use Rattle.meta.specs.Kinds.{name_of_meta, is_object_meta, is_input_meta}
 use Rattle.schema.specs.Named.{is_called, is_any_called, are_named, are_distinct}
 use Rattle.schema.specs.Names.{all_names, all_inputs, all_members}
 

@@ -1,15 +1,15 @@
 -- What a schema adds to a list of types: two fields of the root of queries, and four directives.
 use Rattle.std.specs.Prelude.{◌≡◌, ℕ, List, [], ◌∷◌, ◌++◌, Bool, false, Option, Some, None, is_some, codes, map, option_map, string_bytes}
 use Rattle.language.specs.Types.{TypeShape, shape, non_null_named}
-use Rattle.schema.specs.declared.meta.arguments.Argument.{Argument}
-use Rattle.schema.specs.declared.meta.fields.Field.{Field}
-use Rattle.schema.specs.declared.meta.objects.ObjectMeta.{ObjectMeta}
-use Rattle.schema.specs.declared.meta.kinds.MetaTypeOf.{MetaTypeOf}
-use Rattle.schema.specs.declared.meta.kinds.MetaTypeOf.TheVariants as m
+use Rattle.meta.specs.declared.arguments.Argument.{Argument}
+use Rattle.meta.specs.declared.fields.Field.{Field}
+use Rattle.meta.specs.declared.objects.ObjectMeta.{ObjectMeta}
+use Rattle.meta.specs.declared.kinds.MetaTypeOf.{MetaTypeOf}
+use Rattle.meta.specs.declared.kinds.MetaTypeOf.TheVariants as m
 use Rattle.schema.specs.declared.model.directives.DirectiveType.{DirectiveType}
 use Rattle.schema.specs.declared.model.directives.DirectiveLocation.{DirectiveLocation}
 use Rattle.schema.specs.declared.model.directives.DirectiveLocation.TheVariants as l
-use Rattle.schema.specs.Deprecation.{is_deprecated_status}
+use Rattle.meta.specs.Deprecation.{is_deprecated_status}
 
 -- What an argument, a field and a directive say, with no memory in it.
 pub record ArgumentShape : Type 0 where

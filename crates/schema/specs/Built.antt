@@ -1,6 +1,6 @@
 -- The schema that a list of types makes.
 use Rattle.std.specs.Prelude.{◌≡◌, List, None, map}
-use Rattle.schema.specs.declared.meta.kinds.MetaTypeOf.{MetaTypeOf}
+use Rattle.meta.specs.declared.kinds.MetaTypeOf.{MetaTypeOf}
 use Rattle.schema.specs.Accepted.{Roots}
 use Rattle.schema.specs.Added.{IsExtended, directive_shape, standard_directives}
 use Rattle.schema.specs.Catalog.{Catalog}

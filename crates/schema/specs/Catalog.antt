@@ -1,7 +1,7 @@
 -- What callers see of a schema: lists, with no map.
 use Rattle.std.specs.Prelude.{◌≡◌, ℕ, List, true, Option, find, option_and_then}
 use Rattle.std.specs.List.{list_all}
-use Rattle.schema.specs.declared.meta.kinds.MetaTypeOf.{MetaTypeOf}
+use Rattle.meta.specs.declared.kinds.MetaTypeOf.{MetaTypeOf}
 use Rattle.schema.specs.declared.model.directives.DirectiveType.{DirectiveType}
 use Rattle.schema.specs.Accepted.{Roots, IsAccepted, is_named, is_input_listed}
 use Rattle.schema.specs.Directives.{directive_name, directive_inputs}

@@ -2,7 +2,7 @@
 use Rattle.std.specs.Prelude.{◌≡◌, ⊤, ℕ, List, [], ◌∷◌, false, true, Contains, map, string_bytes, if◌then◌else◌}
 use Rattle.schema.specs.declared.error.SchemaError.{SchemaError}
 use Rattle.schema.specs.declared.error.SchemaError.TheVariants as e
-use Rattle.schema.specs.declared.meta.kinds.MetaTypeOf.{MetaTypeOf}
+use Rattle.meta.specs.declared.kinds.MetaTypeOf.{MetaTypeOf}
 use Rattle.schema.specs.declared.model.directives.DirectiveType.{DirectiveType}
 use Rattle.schema.specs.Accepted.{is_listed, is_input_listed}
 use Rattle.schema.specs.Directives.{directive_name}

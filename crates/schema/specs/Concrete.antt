@@ -1,6 +1,6 @@
 -- The metadata that a type of a schema is.
 use Rattle.std.specs.Prelude.{Option, Some, None}
-use Rattle.schema.specs.declared.meta.kinds.MetaTypeOf.{MetaTypeOf}
+use Rattle.meta.specs.declared.kinds.MetaTypeOf.{MetaTypeOf}
 use Rattle.schema.specs.declared.model.types.TypeTypeOf.{TypeTypeOf, out-TypeTypeOf}
 use Rattle.schema.specs.declared.model.types.TypeTypeOf.TheOpen as open_type
 

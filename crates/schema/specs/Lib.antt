@@ -1,17 +1,12 @@
 pub mod Accepted
 pub mod Added
-pub mod Answers
-pub mod Arguments
 pub mod Built
 pub mod Catalog
 pub mod Changes
 pub mod Codes
 pub mod Concrete
-pub mod Deprecation
 pub mod Directives
 pub mod ErrorTexts
-pub mod Kept
-pub mod Kinds
 pub mod Locations
 pub mod Named
 pub mod Names

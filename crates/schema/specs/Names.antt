@@ -2,12 +2,12 @@
 use Rattle.std.specs.Prelude.{ℕ, List, [], ◌∷◌, ◌++◌, codes, map, string_bytes}
 use Rattle.std.specs.List.{flat_map}
 use Rattle.language.specs.Types.{shape}
-use Rattle.schema.specs.declared.meta.arguments.Argument.{Argument}
-use Rattle.schema.specs.declared.meta.fields.Field.{Field}
-use Rattle.schema.specs.declared.meta.kinds.MetaTypeOf.{MetaTypeOf}
-use Rattle.schema.specs.declared.meta.kinds.MetaTypeOf.TheVariants as m
-use Rattle.schema.specs.Arguments.{arguments_of}
-use Rattle.schema.specs.Kinds.{fields_of, input_fields_of}
+use Rattle.meta.specs.declared.arguments.Argument.{Argument}
+use Rattle.meta.specs.declared.fields.Field.{Field}
+use Rattle.meta.specs.declared.kinds.MetaTypeOf.{MetaTypeOf}
+use Rattle.meta.specs.declared.kinds.MetaTypeOf.TheVariants as m
+use Rattle.meta.specs.Arguments.{arguments_of}
+use Rattle.meta.specs.Kinds.{fields_of, input_fields_of}
 
 -- the innermost name of the type of an argument or an input field
 abbrev pub argument_type : {S : Type 0} → Argument S → List ℕ

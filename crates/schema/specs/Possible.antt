@@ -3,10 +3,10 @@ use Rattle.std.specs.Prelude.{ℕ, List, Bool, true, false, ◌&&◌, ◌||◌, 
 use Rattle.std.specs.List.{list_any, filter, filter_map}
 use Rattle.std.specs.Option.{option_map_or}
 use Rattle.std.specs.Str.{bytes_eq}
-use Rattle.schema.specs.declared.meta.kinds.MetaTypeOf.{MetaTypeOf}
-use Rattle.schema.specs.declared.meta.kinds.MetaTypeOf.TheVariants as m
+use Rattle.meta.specs.declared.kinds.MetaTypeOf.{MetaTypeOf}
+use Rattle.meta.specs.declared.kinds.MetaTypeOf.TheVariants as m
 use Rattle.schema.specs.Accepted.{is_named}
-use Rattle.schema.specs.Kinds.{name_of_meta, is_object_meta}
+use Rattle.meta.specs.Kinds.{name_of_meta, is_object_meta}
 use Rattle.schema.specs.Names.{interfaces_of}
 
 -- the name is one of the list

@@ -1,8 +1,8 @@
 -- A name that stands again further on.
 use Rattle.std.specs.Prelude.{ℕ, List, Option, Some, None, if◌then◌else◌}
-use Rattle.schema.specs.declared.meta.kinds.MetaTypeOf.{MetaTypeOf}
+use Rattle.meta.specs.declared.kinds.MetaTypeOf.{MetaTypeOf}
 use Rattle.schema.specs.Accepted.{is_listed}
-use Rattle.schema.specs.Kinds.{name_of_meta}
+use Rattle.meta.specs.Kinds.{name_of_meta}
 
 module _ {S C : Type 0} where
   abbrev pub listed_again : List (MetaTypeOf S C) → Option (List ℕ) → Option (List ℕ)

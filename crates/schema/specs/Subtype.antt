@@ -5,9 +5,9 @@ use Rattle.std.specs.Str.{bytes_eq}
 use Rattle.language.specs.declared.types.TypeModifier.{TypeModifier}
 use Rattle.language.specs.declared.types.TypeModifier.TheVariants as m
 use Rattle.language.specs.Types.{TypeShape}
-use Rattle.schema.specs.declared.meta.kinds.MetaTypeOf.{MetaTypeOf}
+use Rattle.meta.specs.declared.kinds.MetaTypeOf.{MetaTypeOf}
 use Rattle.schema.specs.Accepted.{is_named, is_listed}
-use Rattle.schema.specs.Kinds.{is_abstract_meta}
+use Rattle.meta.specs.Kinds.{is_abstract_meta}
 use Rattle.schema.specs.Possible.{is_among, possible_names}
 
 module _ {S C : Type 0} (ts : List (MetaTypeOf S C)) where

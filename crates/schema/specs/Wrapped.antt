@@ -3,11 +3,11 @@ use Rattle.std.specs.Prelude.{◌≡◌, ℕ, List, [], ◌∷◌, ◌++◌, Opt
 use Rattle.language.specs.declared.types.TypeModifier.{TypeModifier}
 use Rattle.language.specs.declared.types.TypeModifier.TheVariants as m
 use Rattle.language.specs.Types.{TypeShape, printed}
-use Rattle.schema.specs.declared.meta.kinds.MetaTypeOf.{MetaTypeOf}
+use Rattle.meta.specs.declared.kinds.MetaTypeOf.{MetaTypeOf}
 use Rattle.schema.specs.declared.model.types.TypeTypeOf.{TypeTypeOf}
 use Rattle.schema.specs.declared.model.types.TypeTypeOf.TheFolds.{fold-TypeTypeOf}
 use Rattle.schema.specs.declared.model.types.TypeTypeOf.TheOpen as open_type
-use Rattle.schema.specs.Kinds.{name_of_meta}
+use Rattle.meta.specs.Kinds.{name_of_meta}
 
 -- Metadata, and the modifiers round it, innermost first.
 pub record WrappedMeta (S C : Type 0) : Type 0 where

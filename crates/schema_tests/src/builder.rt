@@ -1,132 +1,146 @@
-//! The rows of the builder, over the list `demo` as it is and changed.
-use crate::schemas::{demo_types, schema_of};
+//! Lists that are accepted and lists that are refused: the samples as they are and changed.
+use crate::schemas::{demo_types, pets_types};
 use language::types::Type;
 use language::value::DefaultScalarValue;
+use meta::{Argument, Field, InterfaceMeta, ListMeta, MetaType, ObjectMeta};
 use samples::build::union_of;
 use samples::checks::{check_string, refuse_token};
 use schema::error::SchemaError;
-use schema::meta::{Argument, Field, InterfaceMeta, ListMeta, MetaType, ObjectMeta};
 use schema::model::SchemaType;
 use std::alloc::Global;
 use std::test::Fail;
 
-/// Why the list with this root of queries is refused.
-fn refusal(alloc: Global, types: Vec<MetaType>, query: &str) -> Option<SchemaError> {
-    SchemaType::<DefaultScalarValue>::new(
+/// How a sample list is changed.
+#[derive(Clone, Copy)]
+enum Change {
+    Nothing,
+    /// The type of the name is left out.
+    Without(&'static str),
+    /// `Dog` is listed once more.
+    DogTwice,
+    /// The field `name` of `Dog` has an argument of the type `Dog`.
+    DogArgument,
+    /// A list stands among the types.
+    ListEntry,
+    /// The interface `Friend` and a union of it.
+    UnionOfInterface,
+    /// A union of the type of the name.
+    UnionOf(&'static str),
+}
+
+/// A list, the name of its root of queries, and what the builder says of it.
+type Row = (Change, &'static str, &'static str);
+
+/// Changes of `demo`.
+const DEMO: [Row; 8] = [
+    (Change::Nothing, "QueryRoot", "accepted"),
+    (
+        Change::Without("__Type"),
+        "QueryRoot",
+        "UnknownType(\"__Type\")",
+    ),
+    (Change::Nothing, "Nope", "MissingRoot(\"Nope\")"),
+    (Change::Nothing, "String", "QueryNotObject"),
+    (Change::DogTwice, "QueryRoot", "RepeatedType(\"Dog\")"),
+    (Change::DogArgument, "QueryRoot", "NotInputType(\"Dog\")"),
+    (Change::ListEntry, "QueryRoot", "UnnamedType"),
+    (
+        Change::UnionOfInterface,
+        "QueryRoot",
+        "UnionMemberNotObject(\"Friend\")",
+    ),
+];
+
+/// Changes of `pets`.
+const PETS: [Row; 3] = [
+    (Change::Nothing, "QueryRoot", "accepted"),
+    (
+        Change::Without("Boolean"),
+        "QueryRoot",
+        "UnknownType(\"Boolean\")",
+    ),
+    (
+        Change::UnionOf("Pet"),
+        "QueryRoot",
+        "UnionMemberNotObject(\"Pet\")",
+    ),
+];
+
+/// The object `Dog`, whose field `name` has an argument of the type, if any.
+fn dog(alloc: Global, argument_type: Option<&str>) -> Result<MetaType, SchemaError> {
+    let mut name = Field::<DefaultScalarValue>::new(
+        alloc,
+        "name",
+        Type::nullable(alloc, "String")?,
+    )?;
+    if let Some(argument_type) = argument_type {
+        name = name.argument(Argument::new(alloc, "x", Type::nullable(alloc, argument_type)?)?)?;
+    }
+    let mut fields = Vec::new(alloc);
+    fields.push(name)?;
+    Ok(ObjectMeta::new(alloc, "Dog", fields)?.into_meta())
+}
+
+fn interface(alloc: Global, name: &str) -> Result<MetaType, SchemaError> {
+    Ok(InterfaceMeta::new(alloc, name, Vec::new(alloc))?.into_meta())
+}
+
+fn list(alloc: Global) -> Result<MetaType, SchemaError> {
+    Ok(ListMeta::new(Type::non_null(alloc, "String")?, None).into_meta())
+}
+
+/// Changes the list.
+fn change(alloc: Global, types: &mut Vec<MetaType>, change: Change) -> Result<(), SchemaError> {
+    match change {
+        Change::Nothing => {}
+        Change::Without(name) => types.retain(|meta| meta.name() != Some(name)),
+        Change::DogTwice => types.push(dog(alloc, None)?)?,
+        Change::DogArgument => {
+            types.retain(|meta| meta.name() != Some("Dog"));
+            types.push(dog(alloc, Some("Dog"))?)?;
+        }
+        Change::ListEntry => types.push(list(alloc)?)?,
+        Change::UnionOfInterface => {
+            types.push(interface(alloc, "Friend")?)?;
+            types.push(union_of(alloc, "Friends", &["Friend"])?)?;
+        }
+        Change::UnionOf(name) => types.push(union_of(alloc, "Pets", &[name])?)?,
+    }
+    Ok(())
+}
+
+/// What the builder says of the list.
+fn said(alloc: Global, types: Vec<MetaType>, query: &str) -> Result<String, SchemaError> {
+    let made = SchemaType::<DefaultScalarValue>::new(
         alloc,
         types,
         query,
         "_EmptyMutation",
         "_EmptySubscription",
-    ).err()
+    );
+    match made {
+        Ok(_made) => Ok(String::from_str(alloc, "accepted")?),
+        Err(refused) => Ok(format!(in alloc; "{refused:?}")?),
+    }
 }
 
-/// The object `Dog` with this field.
-fn dog_of(alloc: Global, own: Field<DefaultScalarValue>) -> Result<MetaType, SchemaError> {
-    let mut fields = Vec::new(alloc);
-    fields.push(own)?;
-    Ok(ObjectMeta::new(alloc, "Dog", fields)?.into_meta())
-}
-
-/// The field `name: String` with an argument of this nullable type.
-fn name_with_argument(
-    alloc: Global,
-    type_name: &str,
-) -> Result<Field<DefaultScalarValue>, SchemaError> {
-    let argument = Argument::new(alloc, "x", Type::nullable(alloc, type_name)?)?;
-    Ok(Field::new(alloc, "name", Type::nullable(alloc, "String")?)?.argument(argument)?)
+/// What the builder says of the changed list.
+fn said_of_changed(alloc: Global, types: Vec<MetaType>, row: &Row) -> Result<String, SchemaError> {
+    let mut types = types;
+    change(alloc, &mut types, row.0)?;
+    said(alloc, types, row.1)
 }
 
 #[test]
-fn demo_is_accepted(rt: HostRuntime) -> Result<(), Fail> {
+fn lists_are_accepted_or_refused_by_name(rt: HostRuntime) -> Result<(), Fail> {
     let alloc = rt.alloc();
-    let schema = schema_of(alloc, demo_types(alloc, check_string, refuse_token)?)?;
-    assert!(rt; schema.concrete_type_by_name("Dog").is_some());
-    assert!(rt; schema.type_by_name("Cat").is_none());
-    assert!(rt; schema.mutation_type().is_none());
-    assert!(rt; schema.concrete_subscription_type().is_none());
-    let root = schema.concrete_query_type();
-    assert!(rt; root.field_by_name("__schema").is_some());
-    assert!(rt; root.field_by_name("__type").is_some());
-    assert!(rt; schema.directive_by_name("specifiedBy").is_some());
-    assert!(rt; schema.directive_by_name("flag").is_none());
+    for row in &DEMO {
+        let types = demo_types(alloc, check_string, refuse_token)?;
+        assert_eq!(rt; said_of_changed(alloc, types, row)?.as_str(), row.2);
+    }
+    for row in &PETS {
+        let types = pets_types(alloc, check_string, refuse_token)?;
+        assert_eq!(rt; said_of_changed(alloc, types, row)?.as_str(), row.2);
+    }
     Ok(())
 }
-
-#[test]
-fn roots_are_kept(rt: HostRuntime) -> Result<(), Fail> {
-    let alloc = rt.alloc();
-    let schema = SchemaType::<DefaultScalarValue>::new(
-        alloc,
-        demo_types(alloc, check_string, refuse_token)?,
-        "QueryRoot",
-        "Dog",
-        "__Type",
-    )?;
-    let mutation = schema.concrete_mutation_type().and_then(|meta| meta.name());
-    assert_eq!(rt; mutation, Some("Dog"));
-    let subscription = schema
-        .concrete_subscription_type()
-        .and_then(|meta| meta.name());
-    assert_eq!(rt; subscription, Some("__Type"));
-    Ok(())
-}
-
-#[test]
-fn names_are_refused(rt: HostRuntime) -> Result<(), Fail> {
-    let alloc = rt.alloc();
-    let mut types = demo_types(alloc, check_string, refuse_token)?;
-    types.retain(|meta| meta.name() != Some("__Type"));
-    assert_eq!(rt;
-        refusal(alloc, types, "QueryRoot"),
-        Some(SchemaError::UnknownType(String::from_str(alloc, "__Type")?))
-    );
-    assert_eq!(rt;
-        refusal(alloc, demo_types(alloc, check_string, refuse_token)?, "Nope"),
-        Some(SchemaError::MissingRoot(String::from_str(alloc, "Nope")?))
-    );
-    assert_eq!(rt;
-        refusal(alloc, demo_types(alloc, check_string, refuse_token)?, "String"),
-        Some(SchemaError::QueryNotObject)
-    );
-    Ok(())
-}
-
-#[test]
-fn entries_are_refused(rt: HostRuntime) -> Result<(), Fail> {
-    let alloc = rt.alloc();
-    let mut twice = demo_types(alloc, check_string, refuse_token)?;
-    twice.push(dog_of(alloc, Field::new(alloc, "name", Type::nullable(alloc, "String")?)?)?)?;
-    assert_eq!(rt;
-        refusal(alloc, twice, "QueryRoot"),
-        Some(SchemaError::RepeatedType(String::from_str(alloc, "Dog")?))
-    );
-    let mut unnamed = demo_types(alloc, check_string, refuse_token)?;
-    unnamed.push(ListMeta::new(Type::non_null(alloc, "String")?, None).into_meta())?;
-    assert_eq!(rt;
-        refusal(alloc, unnamed, "QueryRoot"),
-        Some(SchemaError::UnnamedType)
-    );
-    Ok(())
-}
-
-#[test]
-fn kinds_are_refused(rt: HostRuntime) -> Result<(), Fail> {
-    let alloc = rt.alloc();
-    let mut types = demo_types(alloc, check_string, refuse_token)?;
-    types.retain(|meta| meta.name() != Some("Dog"));
-    types.push(dog_of(alloc, name_with_argument(alloc, "Dog")?)?)?;
-    assert_eq!(rt;
-        refusal(alloc, types, "QueryRoot"),
-        Some(SchemaError::NotInputType(String::from_str(alloc, "Dog")?))
-    );
-    let mut types = demo_types(alloc, check_string, refuse_token)?;
-    types.push(InterfaceMeta::new(alloc, "Pet", Vec::new(alloc))?.into_meta())?;
-    types.push(union_of(alloc, "Pets", &["Pet"])?)?;
-    assert_eq!(rt;
-        refusal(alloc, types, "QueryRoot"),
-        Some(SchemaError::UnionMemberNotObject(String::from_str(alloc, "Pet")?))
-    );
-    Ok(())
-}
-

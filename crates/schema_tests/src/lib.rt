@@ -1,8 +1,10 @@
-//! Tests of the crate `schema`, over the sample lists.
+//! Tests of the crates `meta` and `schema`, over the sample lists.
 #![tactic(auto)]
 
 #[cfg(test)]
 mod builder;
+#[cfg(test)]
+mod changes;
 #[cfg(test)]
 mod metadata;
 #[cfg(test)]

@@ -2,10 +2,10 @@
 use crate::schemas::{demo_types, schema_of};
 use language::types::Type;
 use language::value::DefaultScalarValue;
+use meta::MetaType;
 use samples::build::union_of;
 use samples::checks::{check_string, refuse_token};
 use schema::error::SchemaError;
-use schema::meta::MetaType;
 use schema::model::{DirectiveType, SchemaType, TypeType};
 use std::alloc::Global;
 

@@ -1,14 +1,14 @@
 //! The schemas of the sample lists.
 ghost use Rattle.std.specs.Prelude.{◌≡◌};
-ghost use Rattle.schema.specs.Answers.{SameAnswer};
+ghost use Rattle.meta.specs.Answers.{SameAnswer};
 
 use language::value::DefaultScalarValue;
+use meta::MetaType;
+use meta::default_check::{DefaultCheck, InputValueParseFn, ScalarTokenParseFn};
 use samples::build::Checks;
 use samples::{demo, pets};
-use schema::default_check::{DefaultCheck, InputValueParseFn, ScalarTokenParseFn};
 use schema::error::SchemaError;
 use schema::model::SchemaType;
-use schema::meta::MetaType;
 use std::alloc::Global;
 
 /// The same check for each type of a list.

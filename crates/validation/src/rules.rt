@@ -10,7 +10,7 @@ ghost use Rattle.validation.specs.StageOne.{stage_one};
 use language::error::OutOfMemory;
 use language::tree::Definition;
 pub use local_rules::{known_fragment_names, lone_anonymous_operation, unique_operation_names};
-use schema::check::CheckedScalar;
+use meta::check::CheckedScalar;
 use walk::{MultiVisitorNil, ValidatorContext, visit_rules};
 
 /// Tries every rule on a document, in a context that was made for it, and appends the errors of the rules.

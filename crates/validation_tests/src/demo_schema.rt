@@ -1,11 +1,11 @@
 //! The schema of the list `demo`.
 ghost use Rattle.std.specs.Prelude.{◌≡◌};
-ghost use Rattle.schema.specs.Answers.{SameAnswer};
+ghost use Rattle.meta.specs.Answers.{SameAnswer};
 
 use language::value::DefaultScalarValue;
+use meta::default_check::{DefaultCheck, InputValueParseFn, ScalarTokenParseFn};
 use samples::build::Checks;
 use samples::demo;
-use schema::default_check::{DefaultCheck, InputValueParseFn, ScalarTokenParseFn};
 use schema::error::SchemaError;
 use schema::model::SchemaType;
 use std::alloc::Global;

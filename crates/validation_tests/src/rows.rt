@@ -1,13 +1,13 @@
 //! What each document is told.
 ghost use Rattle.std.specs.Prelude.{◌≡◌};
-ghost use Rattle.schema.specs.Answers.{SameAnswer};
+ghost use Rattle.meta.specs.Answers.{SameAnswer};
 
 use crate::demo_schema::demo_schema;
 use language::error::OutOfMemory;
+use meta::default_check::{InputValueParseFn, ScalarTokenParseFn};
 use samples::checks::{check_string, refuse_token};
 use samples::demo;
 use samples::documents::{Query, alone, dog, name, name_field, query};
-use schema::default_check::{InputValueParseFn, ScalarTokenParseFn};
 use schema::error::SchemaError;
 use schema::model::SchemaType;
 use std::alloc::Global;

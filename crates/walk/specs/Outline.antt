@@ -19,7 +19,7 @@ use Rattle.language.specs.declared.tree.InlineFragment.{InlineFragment}
 use Rattle.language.specs.declared.value.InputValue.{InputValue}
 use Rattle.language.specs.declared.value.InputValue.TheOpen as opened_value
 use Rattle.language.specs.declared.value.InputValue.TheFolds.{para-InputValue}
-use Rattle.schema.specs.declared.meta.arguments.Argument.{Argument}
+use Rattle.meta.specs.declared.arguments.Argument.{Argument}
 use Rattle.schema.specs.Catalog.{Catalog}
 use Rattle.walk.specs.Node
 use Rattle.walk.specs.Node.{Node, Placed, ArgumentEntry, ObjectEntry, VariableEntry}

@@ -5,10 +5,10 @@ use Rattle.std.specs.Str.{bytes_eq}
 use Rattle.language.specs.Types.{TypeShape, shape, name_of, non_null_named}
 use Rattle.language.specs.declared.tree.OperationType.{OperationType}
 use Rattle.language.specs.declared.tree.OperationType.TheVariants as kind
-use Rattle.schema.specs.declared.meta.kinds.MetaTypeOf.{MetaTypeOf}
-use Rattle.schema.specs.declared.meta.fields.Field.{Field}
-use Rattle.schema.specs.declared.meta.arguments.Argument.{Argument}
-use Rattle.schema.specs.Kinds.{name_of_meta, field_named, input_field_named}
+use Rattle.meta.specs.declared.kinds.MetaTypeOf.{MetaTypeOf}
+use Rattle.meta.specs.declared.fields.Field.{Field}
+use Rattle.meta.specs.declared.arguments.Argument.{Argument}
+use Rattle.meta.specs.Kinds.{name_of_meta, field_named, input_field_named}
 use Rattle.schema.specs.Catalog.{Catalog, type_in, root_in, directive_in}
 
 module _ {S C : Type 0} where

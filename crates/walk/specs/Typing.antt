@@ -7,8 +7,8 @@ use Rattle.language.specs.declared.tree.Fragment.{Fragment}
 use Rattle.language.specs.declared.tree.VariableDefinition.{VariableDefinition}
 use Rattle.language.specs.declared.tree.Field.{Field}
 use Rattle.language.specs.declared.tree.InlineFragment.{InlineFragment}
-use Rattle.schema.specs.declared.meta.kinds.MetaTypeOf.{MetaTypeOf}
-use Rattle.schema.specs.declared.meta.arguments.Argument.{Argument}
+use Rattle.meta.specs.declared.kinds.MetaTypeOf.{MetaTypeOf}
+use Rattle.meta.specs.declared.arguments.Argument.{Argument}
 use Rattle.schema.specs.Catalog.{Catalog}
 use Rattle.walk.specs.SchemaView.{named_type, root_literal, field_literal, input_field_literal, argument_literal}
 

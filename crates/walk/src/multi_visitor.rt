@@ -10,7 +10,7 @@ use crate::ValidatorContext;
 use crate::event::Event;
 use crate::visitor::{Fresh, Machine, Visitor};
 use language::error::OutOfMemory;
-use schema::check::CheckedScalar;
+use meta::check::CheckedScalar;
 
 /// No visitor.
 #[derive(Drop)]

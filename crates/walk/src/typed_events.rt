@@ -18,8 +18,8 @@ use language::tree::{
 };
 use language::types::BorrowedType;
 use language::value::InputValue;
-use schema::check::CheckedScalar;
-use schema::meta::{Argument, MetaTypeOf};
+use meta::check::CheckedScalar;
+use meta::{Argument, MetaTypeOf};
 use schema::model::SchemaTypeOf;
 use std::alloc::{AllocError, Global};
 

@@ -8,7 +8,7 @@ ghost use Rattle.walk.specs.Step.{StepOf, Stepped, KeepsPlace};
 use crate::ValidatorContext;
 use crate::event::Event;
 use language::error::OutOfMemory;
-use schema::check::CheckedScalar;
+use meta::check::CheckedScalar;
 
 /// What may happen at an event.
 pub trait Machine<S, C> {

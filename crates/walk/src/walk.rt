@@ -17,7 +17,7 @@ use crate::typed_events::{PlannedEvent, TypesOf, events_of_definition};
 use crate::visitor::{Machine, Visitor};
 use language::error::OutOfMemory;
 use language::tree::Definition;
-use schema::check::CheckedScalar;
+use meta::check::CheckedScalar;
 
 // Tells a visitor of one event, at these types.
 fn tell_one<'a, S: CheckedScalar, V: Visitor<'a, S>>(

@@ -2,9 +2,9 @@
 use Rattle.std.specs.Prelude.{◌≡◌, ℕ, List, [], ◌∷◌, Option, Some, None, option_and_then}
 use Rattle.language.specs.Types.{TypeShape}
 use Rattle.language.specs.declared.value.InputValue.{InputValue}
-use Rattle.schema.specs.Answers.{Answers, Accepts, RefusesWith}
+use Rattle.meta.specs.Answers.{Answers, Accepts, RefusesWith}
 use Rattle.schema.specs.Catalog.{Catalog}
-use Rattle.schema.specs.Kinds.{check_of_meta}
+use Rattle.meta.specs.Kinds.{check_of_meta}
 use Rattle.walk.specs.ContextState.{DocumentScope}
 use Rattle.walk.specs.ErrorValue.{ErrorValue}
 use Rattle.walk.specs.Node.{Node, Placed, argument}

@@ -10,7 +10,7 @@ ghost use Rattle.walk_tests.specs.AskedChecks.{check_at, IsFault, refusals};
 
 use language::error::{CheckError, OutOfMemory};
 use language::value::InputValue;
-use schema::check::CheckedScalar;
+use meta::check::CheckedScalar;
 use std::alloc::Global;
 use walk::{Event, Fresh, Machine, Rule, ValidatorContext, Visitor};
 

@@ -5,8 +5,8 @@ use language::scalar::ScalarValue;
 use language::tree::Operation;
 use language::types::BorrowedType;
 use language::value::DefaultScalarValue;
-use schema::default_check::DefaultCheck;
-use schema::meta::MetaType;
+use meta::MetaType;
+use meta::default_check::DefaultCheck;
 use std::alloc::{AllocError, Global};
 use walk::{Event, Machine, ValidatorContext, Visitor};
 

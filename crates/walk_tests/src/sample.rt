@@ -9,10 +9,9 @@ use language::tree::{
 };
 use language::types::Type;
 use language::value::{DefaultScalarValue, InputValue};
-use schema::default_check::{DefaultCheck, ScalarTokenKind};
+use meta::default_check::{DefaultCheck, ScalarTokenKind};
+use meta::{Argument, InputObjectMetaOf, MetaType, ObjectMeta, ScalarMetaOf};
 use schema::error::SchemaError;
-use schema::meta;
-use schema::meta::{Argument, InputObjectMetaOf, MetaType, ObjectMeta, ScalarMetaOf};
 use schema::model::SchemaType;
 use std::alloc::Global;
 

@@ -7,7 +7,7 @@ use language::position::SourcePosition;
 use language::tree::Definition;
 use language::types::BorrowedType;
 use language::value::DefaultScalarValue;
-use schema::default_check::DefaultCheck;
+use meta::default_check::DefaultCheck;
 use schema::model::SchemaType;
 use std::alloc::Global;
 use std::test::Fail;

@@ -2,7 +2,7 @@
 ghost use Rattle.std.specs.Prelude.{◌≡◌, IfErr, OnOk, true, find, option_map};
 ghost use Rattle.std.specs.List.{list_all};
 ghost use Rattle.schema.specs.Accepted.{Roots, IsAccepted, IsTrueRefusal, is_listed, is_object_listed, is_input_listed, root_names};
-ghost use Rattle.schema.specs.Kinds.{name_of_meta};
+ghost use Rattle.meta.specs.Kinds.{name_of_meta};
 ghost use Rattle.schema.specs.Named.{are_named, are_distinct};
 ghost use Rattle.schema.specs.Names.{all_names, all_inputs, all_members};
 ghost use Rattle.schema.specs.RootNames.{roots_asked};
@@ -14,7 +14,7 @@ use crate::build::listed::{NameTest, NotInput, NotObject, Unlisted, is_object_ty
 use crate::build::repeated::{are_all_named, first_repeated};
 use crate::build::roots::{RootNames, first_root};
 use crate::error::SchemaError;
-use crate::meta::kinds::MetaTypeOf;
+use meta::kinds::MetaTypeOf;
 use std::alloc::Global;
 
 fn check_entries<S, C>(alloc: Global, types: &[MetaTypeOf<S, C>]) -> Result<(), SchemaError>

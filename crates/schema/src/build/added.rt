@@ -2,11 +2,11 @@
 ghost use Rattle.std.specs.Prelude.{◌≡◌, IfOk, [], ◌∷◌, codes, map};
 ghost use Rattle.schema.specs.Added.{argument_shape, field_shape, directive_shape, required, schema_field, type_field, with_argument, conditional, deprecated_shape, specified_by_shape, standard_directives};
 
-use crate::meta::arguments::Argument;
-use crate::meta::fields::Field;
 use crate::model::directives::{DirectiveLocation, DirectiveType};
 use language::error::OutOfMemory;
 use language::types::Type;
+use meta::arguments::Argument;
+use meta::fields::Field;
 use std::alloc::Global;
 
 /// `name: type_name!`

@@ -3,12 +3,12 @@ ghost use Rattle.std.specs.Prelude.{◌≡◌, ◌<◌, ◌&&◌, IfErr, IfOk, t
 ghost use Rattle.std.specs.List.{HoldsAt};
 ghost use Rattle.schema.specs.Accepted.{is_named, is_object_listed};
 ghost use Rattle.schema.specs.Added.{HasAddedFields, IsExtended};
-ghost use Rattle.schema.specs.Kinds.{is_object_meta};
+ghost use Rattle.meta.specs.Kinds.{is_object_meta};
 
 use crate::build::added::{make_schema_field, make_type_field};
 use crate::error::SchemaError;
-use crate::meta::kinds::MetaTypeOf;
-use crate::meta::objects::ObjectMeta;
+use meta::kinds::MetaTypeOf;
+use meta::objects::ObjectMeta;
 use std::alloc::Global;
 
 fn extend_object<S: Drop>(

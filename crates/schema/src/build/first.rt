@@ -2,12 +2,12 @@
 ghost use Rattle.std.specs.Prelude.{◌≡◌, ◌++◌, find, map, option_map, string_bytes};
 ghost use Rattle.std.specs.List.{flat_map};
 ghost use Rattle.schema.specs.Names.{argument_type, field_inputs, field_names, inputs_in, names_in, members_of, interfaces_of, added_inputs, added_names};
-ghost use Rattle.schema.specs.Kinds.{fields_of, input_fields_of};
+ghost use Rattle.meta.specs.Kinds.{fields_of, input_fields_of};
 
 use crate::build::listed::NameTest;
-use crate::meta::arguments::Argument;
-use crate::meta::fields::Field;
-use crate::meta::kinds::MetaTypeOf;
+use meta::arguments::Argument;
+use meta::fields::Field;
+use meta::kinds::MetaTypeOf;
 
 fn first_text<'t, T: NameTest>(test: &T, texts: &'t [String]) -> Option<&'t str>
     ensures { option_map (λ s. s.now) result ≡ find (T.fails_at test.now) (map string_bytes texts.now) }

@@ -2,13 +2,13 @@
 ghost use Rattle.std.specs.Prelude.{◌≡◌, ℕ, List, Option, IfErr, IfOk, IfSome, IsSome, OnOk, None, true, [], ◌∷◌, ◌++◌, option_map, string_bytes};
 ghost use Rattle.indexmap.specs.IndexMap.{values, get_by_text};
 ghost use Rattle.schema.specs.Directives.{directive_name};
-ghost use Rattle.schema.specs.Kinds.{name_of_meta};
+ghost use Rattle.meta.specs.Kinds.{name_of_meta};
 ghost use Rattle.schema.specs.Named.{is_called, are_named, are_distinct, are_keyed};
 
 use crate::error::SchemaError;
-use crate::meta::kinds::MetaTypeOf;
 use crate::model::directives::DirectiveType;
 use indexmap::IndexMap;
+use meta::kinds::MetaTypeOf;
 use std::alloc::Global;
 
 /// What may have a name.

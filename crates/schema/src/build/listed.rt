@@ -2,7 +2,7 @@
 ghost use Rattle.std.specs.Prelude.{◌≡◌, ℕ, List, Bool, not};
 ghost use Rattle.schema.specs.Accepted.{is_listed, is_object_listed, is_input_listed};
 
-use crate::meta::kinds::MetaTypeOf;
+use meta::kinds::MetaTypeOf;
 
 /// Whether a type of the list has the name.
 pub fn is_type_listed<S, C>(types: &[MetaTypeOf<S, C>], name: &str) -> bool

@@ -2,11 +2,11 @@
 ghost use Rattle.std.specs.Prelude.{◌≡◌, ◌≤◌, IfSome, None, true, count_by, option_map};
 ghost use Rattle.schema.specs.Accepted.{is_named};
 ghost use Rattle.schema.specs.Repeated.{repeated_name};
-ghost use Rattle.schema.specs.Kinds.{name_of_meta};
+ghost use Rattle.meta.specs.Kinds.{name_of_meta};
 ghost use Rattle.schema.specs.Named.{are_named, are_distinct};
 
 use crate::build::listed::is_type_listed;
-use crate::meta::kinds::MetaTypeOf;
+use meta::kinds::MetaTypeOf;
 
 pub fn are_all_named<S, C>(types: &[MetaTypeOf<S, C>]) -> bool
     ensures { result ≡ are_named name_of_meta types.now }

@@ -2,9 +2,9 @@
 ghost use Rattle.std.specs.Prelude.{◌≡◌, IfOk, None, Some, option_map, string_bytes};
 ghost use Rattle.schema.specs.Locations.{location_words};
 
-use crate::meta::arguments::Argument;
 use language::error::OutOfMemory;
 use language::value::DefaultScalarValue;
+use meta::arguments::Argument;
 use std::alloc::Global;
 use std::fmt;
 

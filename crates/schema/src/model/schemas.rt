@@ -4,7 +4,7 @@ ghost use Rattle.std.specs.List.{list_all};
 ghost use Rattle.indexmap.specs.IndexMap.{values};
 ghost use Rattle.schema.specs.Accepted.{IsAccepted, is_input_listed};
 ghost use Rattle.schema.specs.Directives.{directive_name, directive_inputs};
-ghost use Rattle.schema.specs.Kinds.{name_of_meta};
+ghost use Rattle.meta.specs.Kinds.{name_of_meta};
 ghost use Rattle.schema.specs.Named.{are_keyed};
 
 mod changes;
@@ -18,14 +18,14 @@ use crate::build::directives::directives_by_name;
 use crate::build::extend::with_added_fields;
 use crate::build::keyed::map_by_name;
 use crate::build::roots::RootNames;
-use crate::check::CheckedScalar;
 use crate::error::SchemaError;
-use crate::meta::kinds::MetaTypeOf;
 use crate::model::directives::DirectiveType;
 use crate::model::types::TypeTypeOf;
-use crate::texts::copy_text;
 use indexmap::IndexMap;
 use language::value::DefaultScalarValue;
+use meta::check::CheckedScalar;
+use meta::kinds::MetaTypeOf;
+use meta::texts::copy_text;
 use std::alloc::Global;
 use std::marker::Model;
 
@@ -142,7 +142,7 @@ impl<S, C> SchemaTypeOf<S, C> {
     ghost use Rattle.std.specs.Prelude.{◌≡◌, ◌↔◌, Some, IsSome, true, option_copied, option_map};
     ghost use Rattle.schema.specs.Catalog.{type_in, root_in, directive_in};
     ghost use Rattle.schema.specs.Concrete.{concrete_of};
-    ghost use Rattle.schema.specs.Kinds.{is_object_meta};
+    ghost use Rattle.meta.specs.Kinds.{is_object_meta};
 
     /// The type of the name, with nothing round it.
     pub fn type_by_name(&self, name: &str) -> Option<TypeTypeOf<'_, S, C>>

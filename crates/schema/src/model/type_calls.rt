@@ -4,10 +4,10 @@ ghost use Rattle.language.specs.Types.{outermost, printed};
 ghost use Rattle.schema.specs.Concrete.{concrete_of};
 ghost use Rattle.schema.specs.Wrapped.{wrap_meta, wrapped_of, items_of, wrapped_shape};
 
-use crate::meta::kinds::MetaTypeOf;
 use crate::model::types::TypeTypeOf;
 use language::error::OutOfMemory;
 use language::types::TypeModifier;
+use meta::kinds::MetaTypeOf;
 use std::alloc::Global;
 use std::fmt;
 

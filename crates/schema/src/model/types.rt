@@ -1,6 +1,6 @@
 //! Types of a schema, with what stands round them.
-use crate::check::CheckedScalar;
-use crate::meta::kinds::MetaTypeOf;
+use meta::check::CheckedScalar;
+use meta::kinds::MetaTypeOf;
 
 /// A type of a schema: its metadata, or a non-null type or a list of a type, of so many items if a
 /// number is expected.

@@ -11,12 +11,12 @@ ghost use Rattle.schema.specs.Names.{argument_type};
 use crate::build::first::first_argument;
 use crate::build::listed::NameTest;
 use crate::error::SchemaError;
-use crate::meta::arguments::Argument;
 use crate::model::directives::DirectiveType;
 use crate::model::schemas::SchemaTypeOf;
-use crate::texts::as_text;
 use indexmap::IndexMap;
 use language::error::OutOfMemory;
+use meta::arguments::Argument;
+use meta::texts::as_text;
 use std::alloc::Global;
 
 /// The schema has no type of the name.

@@ -3,13 +3,13 @@ ghost use Rattle.std.specs.Prelude.{◌≡◌, ℕ, List, ◌++◌, IfOk, OnOk, 
 ghost use Rattle.std.specs.List.{filter};
 ghost use Rattle.std.specs.Option.{option_copied};
 ghost use Rattle.schema.specs.Catalog.{type_in};
-ghost use Rattle.schema.specs.Kinds.{name_of_meta, is_abstract_meta};
+ghost use Rattle.meta.specs.Kinds.{name_of_meta, is_abstract_meta};
 ghost use Rattle.schema.specs.Possible.{is_implementer, possible_names, types_named};
 
-use crate::meta::kinds::MetaTypeOf;
 use crate::model::schemas::SchemaTypeOf;
 use crate::model::schemas::possible::implements;
 use language::error::OutOfMemory;
+use meta::kinds::MetaTypeOf;
 use std::alloc::Global;
 
 fn push_if_found<'a, S, C>(

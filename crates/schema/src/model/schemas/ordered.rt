@@ -3,11 +3,11 @@ ghost use Rattle.std.specs.Prelude.{◌≡◌, IfOk, OnOk, map, IsPermutation, I
 ghost use Rattle.schema.specs.Ordered.{kind_rank, name_bytes, type_cmp, directive_cmp, metas_of};
 ghost use Rattle.schema.specs.Wrapped.{plain_meta, wrapped_of};
 
-use crate::meta::kinds::MetaTypeOf;
 use crate::model::directives::DirectiveType;
 use crate::model::schemas::SchemaTypeOf;
 use crate::model::types::TypeTypeOf;
 use language::error::OutOfMemory;
+use meta::kinds::MetaTypeOf;
 use std::alloc::Global;
 use std::cmp::Ordering;
 

@@ -1,11 +1,11 @@
 //! What a type may be where a document runs, and which types overlap.
 ghost use Rattle.std.specs.Prelude.{◌≡◌, true, map, string_bytes};
 ghost use Rattle.std.specs.List.{list_any};
-ghost use Rattle.schema.specs.Kinds.{is_abstract_meta};
+ghost use Rattle.meta.specs.Kinds.{is_abstract_meta};
 ghost use Rattle.schema.specs.Possible.{is_among, do_meet, is_implementer, implementer_names, possible_names, is_possible_for, have_one_name, do_overlap};
 
-use crate::meta::kinds::MetaTypeOf;
 use crate::model::schemas::SchemaTypeOf;
+use meta::kinds::MetaTypeOf;
 
 fn is_text_among(texts: &[String], name: &str) -> bool
     ensures { result ≡ is_among (map string_bytes texts.now) name.now }

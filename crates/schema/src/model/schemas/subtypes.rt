@@ -2,13 +2,13 @@
 ghost use Rattle.std.specs.Prelude.{◌≡◌, ◌↔◌, IsTrue, ◌&&◌, reverse};
 ghost use Rattle.language.specs.Types.{TypeShape, borrowed_shape};
 ghost use Rattle.schema.specs.Accepted.{is_listed};
-ghost use Rattle.schema.specs.Kinds.{is_abstract_meta};
+ghost use Rattle.meta.specs.Kinds.{is_abstract_meta};
 ghost use Rattle.schema.specs.Possible.{is_among, possible_names};
 ghost use Rattle.schema.specs.Subtype.{may_be, is_name_below, are_layers_below, IsSubtype, is_subtype_of};
 
-use crate::meta::kinds::MetaTypeOf;
 use crate::model::schemas::SchemaTypeOf;
 use language::types::{BorrowedType, TypeModifier};
+use meta::kinds::MetaTypeOf;
 
 /// Whether modifiers stand below others round names that do so or not.
 fn are_modifiers_below(

@@ -1,7 +1,7 @@
 use Rattle.std.proofs.Common.{◌≤◌, ◌&&◌, ◌∙◌, ap, sym, subst, arith}
 use Rattle.std.specs.Prelude.{count_by}
 use Rattle.schema.specs.Accepted.{is_named}
-use Rattle.schema.specs.Kinds.{name_of_meta}
+use Rattle.meta.specs.Kinds.{name_of_meta}
 use Rattle.schema.specs.Named.{are_distinct}
 use Rattle.schema.proofs.Refusals.{twice, alone, count-rest}
 use Rattle.schema.proofs.build.repeated.first_repeated.Goals as goal

@@ -1,6 +1,6 @@
 use Rattle.std.proofs.Common.{◌≡◌, Some, None, true, option_copied, ap, sym, subst, ◌∙◌}
 use Rattle.schema.specs.Catalog.{type_in}
-use Rattle.schema.specs.Kinds.{name_of_meta, is_object_meta}
+use Rattle.meta.specs.Kinds.{name_of_meta, is_object_meta}
 use Rattle.schema.proofs.AcceptedLemmas.{find-kind}
 use Rattle.schema.proofs.model.schemas.SchemaTypeOf.concrete_query_type.Goals as goal
 

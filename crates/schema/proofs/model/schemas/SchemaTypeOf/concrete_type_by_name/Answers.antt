@@ -1,5 +1,5 @@
 use Rattle.std.proofs.Common.{◌∙◌}
-use Rattle.schema.specs.Kinds.{name_of_meta}
+use Rattle.meta.specs.Kinds.{name_of_meta}
 use Rattle.schema.proofs.KeyedLemmas.{lookup-find}
 use Rattle.schema.proofs.model.schemas.SchemaTypeOf.concrete_type_by_name.Goals as goal
 

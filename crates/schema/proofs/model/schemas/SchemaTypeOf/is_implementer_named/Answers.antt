@@ -1,6 +1,6 @@
 use Rattle.std.proofs.Common.{◌≡◌, Option, None, Some, option_copied, false, ap, sym, ◌∙◌}
 use Rattle.std.specs.Option.{option_map_or}
-use Rattle.schema.specs.Kinds.{name_of_meta}
+use Rattle.meta.specs.Kinds.{name_of_meta}
 use Rattle.schema.specs.Possible.{is_implementer}
 use Rattle.schema.proofs.PossibleLemmas.{among-filter}
 use Rattle.schema.proofs.model.schemas.SchemaTypeOf.is_implementer_named.Goals as goal

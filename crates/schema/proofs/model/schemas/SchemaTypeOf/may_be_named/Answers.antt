@@ -1,6 +1,6 @@
 use Rattle.std.proofs.Common.{◌&&◌, false, ap, ◌∙◌}
 use Rattle.std.specs.Option.{option_map_or}
-use Rattle.schema.specs.Kinds.{is_abstract_meta}
+use Rattle.meta.specs.Kinds.{is_abstract_meta}
 use Rattle.schema.specs.Possible.{is_among, possible_names}
 use Rattle.schema.proofs.model.schemas.SchemaTypeOf.may_be_named.Goals as goal
 

@@ -1,6 +1,6 @@
 use Rattle.std.proofs.Common.{◌≡◌, true, false, is_some, ap, sym}
 use Rattle.schema.specs.Catalog.{type_in}
-use Rattle.schema.specs.Kinds.{name_of_meta}
+use Rattle.meta.specs.Kinds.{name_of_meta}
 use Rattle.schema.proofs.AcceptedLemmas.{find-called}
 use Rattle.schema.proofs.model.schemas.SchemaTypeOf.plain_type.Goals as goal
 

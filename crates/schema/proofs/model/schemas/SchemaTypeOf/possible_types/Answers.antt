@@ -1,6 +1,6 @@
 use Rattle.std.proofs.Common.{◌≡◌, Some, map}
 use Rattle.std.proofs.lemmas.Result.{IfOk-weaker}
-use Rattle.schema.specs.Kinds.{name_of_meta}
+use Rattle.meta.specs.Kinds.{name_of_meta}
 use Rattle.schema.specs.Possible.{possible_names, types_named}
 use Rattle.schema.proofs.PossibleLemmas.{possible-names}
 use Rattle.schema.proofs.model.schemas.SchemaTypeOf.possible_types.Goals as goal

@@ -1,7 +1,7 @@
 use Rattle.std.proofs.Common.{◌≡◌, map, string_bytes, ap, sym, ◌∙◌}
 use Rattle.std.specs.List.{filter}
 use Rattle.std.proofs.lemmas.Result.{IfOk-weaker}
-use Rattle.schema.specs.Kinds.{name_of_meta}
+use Rattle.meta.specs.Kinds.{name_of_meta}
 use Rattle.schema.specs.Possible.{is_implementer, possible_names, types_named}
 use Rattle.schema.proofs.PossibleLemmas.{refound}
 use Rattle.schema.proofs.model.schemas.SchemaTypeOf.types_of_possible_names.Goals as goal

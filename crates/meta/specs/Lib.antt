@@ -1,0 +1,5 @@
+pub mod Answers
+pub mod Arguments
+pub mod Deprecation
+pub mod Kept
+pub mod Kinds

@@ -1,0 +1,91 @@
+//! Enums.
+ghost use Rattle.std.specs.Prelude.{◌≡◌, IfOk, None, Some, option_map, string_bytes};
+ghost use Rattle.meta.specs.Answers.{SameAnswer};
+ghost use Rattle.meta.specs.Kept.{enum_check};
+
+use crate::check::CheckedScalar;
+use crate::default_check::{DefaultCheck, InputValueParseFn};
+use crate::enum_values::EnumValue;
+use crate::kinds::MetaTypeOf;
+use language::error::OutOfMemory;
+use std::alloc::Global;
+
+/// Metadata of an enum (section 3.9), whose values the check tells.
+#[derive(Drop)]
+pub struct EnumMetaOf<C> {
+    pub name: String,
+    pub description: Option<String>,
+    pub values: Vec<EnumValue>,
+    check: C,
+}
+
+/// Metadata of an enum, with the checks that its kind of scalars has.
+pub type EnumMeta<S> = EnumMetaOf<<S as CheckedScalar>::Check>;
+
+impl EnumMetaOf<DefaultCheck> {
+    /// An enum of this name with these values, and no description.
+    ///
+    /// The caller's check has to work on any value. It has to answer a value the same each time, with
+    /// the same text where it refuses, unless it runs out of memory.
+    pub fn new(
+        alloc: Global,
+        name: &str,
+        values: Vec<EnumValue>,
+        check: InputValueParseFn,
+    ) -> Result<Self, OutOfMemory>
+        requires callable { (a : _) (v : _) → InputValueParseFn.pre check a v }
+        requires one_answer { (a b : _) (v w : _) (r s : _) → v.now ≡ w.now → InputValueParseFn.post check a v r → InputValueParseFn.post check b w s → SameAnswer r s }
+        ensures name { IfOk result (λ m. string_bytes m.name ≡ name.now) }
+        ensures description { IfOk result (λ m. m.description ≡ None) }
+        ensures values { IfOk result (λ m. m.values ≡ values) }
+        ensures check { IfOk result (λ m. (enum_check m).run ≡ check) }
+    {
+        EnumMetaOf::with_check(alloc, name, values, DefaultCheck::new(check))
+    }
+}
+
+impl<C: Drop> EnumMetaOf<C> {
+    /// An enum of this name with these values that keeps this check, and no description.
+    pub fn with_check(
+        alloc: Global,
+        name: &str,
+        values: Vec<EnumValue>,
+        check: C,
+    ) -> Result<Self, OutOfMemory>
+        ensures name { IfOk result (λ m. string_bytes m.name ≡ name.now) }
+        ensures description { IfOk result (λ m. m.description ≡ None) }
+        ensures values { IfOk result (λ m. m.values ≡ values) }
+        ensures check { IfOk result (λ m. enum_check m ≡ check) }
+    {
+        Ok(EnumMetaOf {
+            name: String::from_str(alloc, name)?,
+            description: None,
+            values,
+            check,
+        })
+    }
+
+    /// Replaces the description.
+    pub fn description(mut self, text: &str) -> Result<Self, OutOfMemory>
+        ensures text { IfOk result (λ m. option_map string_bytes m.description ≡ Some text.now) }
+        ensures others { IfOk result (λ m. m ≡ record self { description = m.description }) }
+    {
+        self.description = Some(String::from_str(*self.name.allocator(), text)?);
+        Ok(self)
+    }
+}
+
+impl<C> EnumMetaOf<C> {
+    pub fn into_meta<S>(self) -> MetaTypeOf<S, C>
+        ensures { result ≡ MetaTypeOf.Enum self }
+    {
+        MetaTypeOf::Enum(self)
+    }
+
+    /// The check of the enum.
+    pub fn input_value_parse_fn(&self) -> &C
+        ensures { result.now ≡ enum_check self.now }
+    {
+        &self.check
+    }
+}

@@ -1,0 +1,92 @@
+//! Input objects.
+ghost use Rattle.std.specs.Prelude.{◌≡◌, IfOk, None, Some, option_map, string_bytes};
+ghost use Rattle.meta.specs.Answers.{SameAnswer};
+ghost use Rattle.meta.specs.Kept.{input_object_check};
+
+use crate::arguments::Argument;
+use crate::check::CheckedScalar;
+use crate::default_check::{DefaultCheck, InputValueParseFn};
+use crate::kinds::MetaTypeOf;
+use language::error::OutOfMemory;
+use language::value::DefaultScalarValue;
+use std::alloc::Global;
+
+/// Metadata of an input object (section 3.10), whose values the check tells.
+#[derive(Drop)]
+pub struct InputObjectMetaOf<S, C> {
+    pub name: String,
+    pub description: Option<String>,
+    pub input_fields: Vec<Argument<S>>,
+    check: C,
+}
+
+/// Metadata of an input object, with the checks that its kind of scalars has.
+pub type InputObjectMeta<S> = InputObjectMetaOf<S, <S as CheckedScalar>::Check>;
+
+impl InputObjectMetaOf<DefaultScalarValue, DefaultCheck> {
+    /// An input object of this name with these fields, and no description.
+    ///
+    /// The caller's check has to work on any value. It has to answer a value the same each time, with
+    /// the same text where it refuses, unless it runs out of memory.
+    pub fn new(
+        alloc: Global,
+        name: &str,
+        input_fields: Vec<Argument<DefaultScalarValue>>,
+        check: InputValueParseFn,
+    ) -> Result<Self, OutOfMemory>
+        requires callable { (a : _) (v : _) → InputValueParseFn.pre check a v }
+        requires one_answer { (a b : _) (v w : _) (r s : _) → v.now ≡ w.now → InputValueParseFn.post check a v r → InputValueParseFn.post check b w s → SameAnswer r s }
+        ensures name { IfOk result (λ m. string_bytes m.name ≡ name.now) }
+        ensures description { IfOk result (λ m. m.description ≡ None) }
+        ensures input_fields { IfOk result (λ m. m.input_fields ≡ input_fields) }
+        ensures check { IfOk result (λ m. (input_object_check m).run ≡ check) }
+    {
+        InputObjectMetaOf::with_check(alloc, name, input_fields, DefaultCheck::new(check))
+    }
+}
+
+impl<S: Drop, C: Drop> InputObjectMetaOf<S, C> {
+    /// An input object of this name with these fields that keeps this check, and no description.
+    pub fn with_check(
+        alloc: Global,
+        name: &str,
+        input_fields: Vec<Argument<S>>,
+        check: C,
+    ) -> Result<Self, OutOfMemory>
+        ensures name { IfOk result (λ m. string_bytes m.name ≡ name.now) }
+        ensures description { IfOk result (λ m. m.description ≡ None) }
+        ensures input_fields { IfOk result (λ m. m.input_fields ≡ input_fields) }
+        ensures check { IfOk result (λ m. input_object_check m ≡ check) }
+    {
+        Ok(InputObjectMetaOf {
+            name: String::from_str(alloc, name)?,
+            description: None,
+            input_fields,
+            check,
+        })
+    }
+
+    /// Replaces the description.
+    pub fn description(mut self, text: &str) -> Result<Self, OutOfMemory>
+        ensures text { IfOk result (λ m. option_map string_bytes m.description ≡ Some text.now) }
+        ensures others { IfOk result (λ m. m ≡ record self { description = m.description }) }
+    {
+        self.description = Some(String::from_str(*self.name.allocator(), text)?);
+        Ok(self)
+    }
+}
+
+impl<S, C> InputObjectMetaOf<S, C> {
+    pub fn into_meta(self) -> MetaTypeOf<S, C>
+        ensures { result ≡ MetaTypeOf.InputObject self }
+    {
+        MetaTypeOf::InputObject(self)
+    }
+
+    /// The check of the input object.
+    pub fn input_value_parse_fn(&self) -> &C
+        ensures { result.now ≡ input_object_check self.now }
+    {
+        &self.check
+    }
+}

@@ -1,0 +1,63 @@
+//! Interfaces.
+ghost use Rattle.std.specs.Prelude.{◌≡◌, IfOk, None, Some, [], map, option_map, string_bytes};
+ghost use Rattle.language.specs.Types.{shape};
+
+use crate::fields::Field;
+use crate::kinds::MetaTypeOf;
+use crate::texts::innermost_names;
+use language::error::OutOfMemory;
+use language::types::Type;
+use std::alloc::Global;
+
+/// Metadata of an interface (section 3.7).
+#[derive(Drop)]
+pub struct InterfaceMeta<S> {
+    pub name: String,
+    pub description: Option<String>,
+    pub fields: Vec<Field<S>>,
+    /// The names of the interfaces that it implements, in their order.
+    pub interface_names: Vec<String>,
+}
+
+impl<S: Drop> InterfaceMeta<S> {
+    /// An interface of this name with these fields, no description and no interfaces.
+    pub fn new(alloc: Global, name: &str, fields: Vec<Field<S>>) -> Result<Self, OutOfMemory>
+        ensures name { IfOk result (λ m. string_bytes m.name ≡ name.now) }
+        ensures description { IfOk result (λ m. m.description ≡ None) }
+        ensures fields { IfOk result (λ m. m.fields ≡ fields) }
+        ensures interfaces { IfOk result (λ m. m.interface_names.items ≡ []) }
+    {
+        Ok(InterfaceMeta {
+            name: String::from_str(alloc, name)?,
+            description: None,
+            fields,
+            interface_names: Vec::new(alloc),
+        })
+    }
+
+    /// Replaces the description.
+    pub fn description(mut self, text: &str) -> Result<Self, OutOfMemory>
+        ensures text { IfOk result (λ m. option_map string_bytes m.description ≡ Some text.now) }
+        ensures others { IfOk result (λ m. m ≡ record self { description = m.description }) }
+    {
+        self.description = Some(String::from_str(*self.name.allocator(), text)?);
+        Ok(self)
+    }
+
+    /// Replaces the interfaces by the innermost names of the types.
+    pub fn interfaces(mut self, interfaces: Vec<Type>) -> Result<Self, OutOfMemory>
+        ensures interfaces { IfOk result (λ m. map string_bytes m.interface_names.items ≡ map (λ t. (shape t).name) interfaces.items) }
+        ensures others { IfOk result (λ m. m ≡ record self { interface_names = m.interface_names }) }
+    {
+        self.interface_names = innermost_names(*self.name.allocator(), interfaces.as_slice())?;
+        Ok(self)
+    }
+}
+
+impl<S> InterfaceMeta<S> {
+    pub fn into_meta<C>(self) -> MetaTypeOf<S, C>
+        ensures { result ≡ MetaTypeOf.Interface self }
+    {
+        MetaTypeOf::Interface(self)
+    }
+}

@@ -1,0 +1,230 @@
+//! Metadata of any kind.
+ghost use Rattle.std.specs.Prelude.{◌≡◌, IfOk, IsSome, Some, option_map, option_copied};
+ghost use Rattle.language.specs.Types.{shape};
+ghost use Rattle.meta.specs.Kinds.{name_of_meta, description_of_meta, url_of_meta, kind_of_meta, field_named, input_field_named, type_of_meta, check_of_meta, is_composite_meta, is_leaf_meta, is_abstract_meta, is_input_meta, is_builtin_meta, is_builtin_name, list_type_of};
+
+use crate::arguments::Argument;
+use crate::check::CheckedScalar;
+use crate::enums::EnumMetaOf;
+use crate::fields::Field;
+use crate::inputs::InputObjectMetaOf;
+use crate::interfaces::InterfaceMeta;
+use crate::named::first_named;
+use crate::objects::ObjectMeta;
+use crate::scalars::ScalarMetaOf;
+use crate::texts::as_text;
+use crate::unions::UnionMeta;
+use crate::wrappers::{ListMeta, NullableMeta, PlaceholderMeta};
+use language::error::OutOfMemory;
+use language::types::Type;
+use language::value::DefaultScalarValue;
+use std::alloc::Global;
+
+/// The kinds of types that introspection tells apart.
+#[derive(Clone, Debug, PartialEq, Eq, Drop)]
+pub enum TypeKind {
+    Scalar,
+    List,
+    Object,
+    Enum,
+    Interface,
+    Union,
+    InputObject,
+}
+
+/// Metadata of a type.
+#[derive(Drop)]
+pub enum MetaTypeOf<S, C> {
+    Scalar(ScalarMetaOf<C>),
+    List(ListMeta),
+    Nullable(NullableMeta),
+    Object(ObjectMeta<S>),
+    Enum(EnumMetaOf<C>),
+    Interface(InterfaceMeta<S>),
+    Union(UnionMeta),
+    InputObject(InputObjectMetaOf<S, C>),
+    Placeholder(PlaceholderMeta),
+}
+
+/// Metadata of a type, with the checks that its kind of scalars has.
+pub type MetaType<S = DefaultScalarValue> = MetaTypeOf<S, <S as CheckedScalar>::Check>;
+
+impl<S, C> MetaTypeOf<S, C> {
+    /// The name; none for a list, a nullable type and a placeholder.
+    pub fn name(&self) -> Option<&str>
+        ensures { option_map (λ s. s.now) result ≡ name_of_meta self.now }
+    {
+        match self {
+            MetaTypeOf::Scalar(meta) => Some(meta.name.as_str()),
+            MetaTypeOf::List(_) => None,
+            MetaTypeOf::Nullable(_) => None,
+            MetaTypeOf::Object(meta) => Some(meta.name.as_str()),
+            MetaTypeOf::Enum(meta) => Some(meta.name.as_str()),
+            MetaTypeOf::Interface(meta) => Some(meta.name.as_str()),
+            MetaTypeOf::Union(meta) => Some(meta.name.as_str()),
+            MetaTypeOf::InputObject(meta) => Some(meta.name.as_str()),
+            MetaTypeOf::Placeholder(_) => None,
+        }
+    }
+
+    /// The description, if there is one; none for a list, a nullable type and a placeholder.
+    pub fn description(&self) -> Option<&str>
+        ensures { option_map (λ s. s.now) result ≡ description_of_meta self.now }
+    {
+        match self {
+            MetaTypeOf::Scalar(meta) => as_text(&meta.description),
+            MetaTypeOf::List(_) => None,
+            MetaTypeOf::Nullable(_) => None,
+            MetaTypeOf::Object(meta) => as_text(&meta.description),
+            MetaTypeOf::Enum(meta) => as_text(&meta.description),
+            MetaTypeOf::Interface(meta) => as_text(&meta.description),
+            MetaTypeOf::Union(meta) => as_text(&meta.description),
+            MetaTypeOf::InputObject(meta) => as_text(&meta.description),
+            MetaTypeOf::Placeholder(_) => None,
+        }
+    }
+
+    /// The URL of the text that specifies a scalar, if there is one.
+    pub fn specified_by_url(&self) -> Option<&str>
+        ensures { option_map (λ s. s.now) result ≡ url_of_meta self.now }
+    {
+        match self {
+            MetaTypeOf::Scalar(meta) => as_text(&meta.specified_by_url),
+            _ => None,
+        }
+    }
+
+    /// The kind of a type that is neither nullable nor a placeholder.
+    pub fn type_kind(&self) -> TypeKind
+        requires { IsSome (kind_of_meta self.now) }
+        ensures { Some result ≡ kind_of_meta self.now }
+    {
+        match self {
+            MetaTypeOf::Scalar(_) => TypeKind::Scalar,
+            MetaTypeOf::List(_) => TypeKind::List,
+            MetaTypeOf::Object(_) => TypeKind::Object,
+            MetaTypeOf::Enum(_) => TypeKind::Enum,
+            MetaTypeOf::Interface(_) => TypeKind::Interface,
+            MetaTypeOf::Union(_) => TypeKind::Union,
+            MetaTypeOf::InputObject(_) => TypeKind::InputObject,
+            MetaTypeOf::Nullable(_) => unreachable!(),
+            MetaTypeOf::Placeholder(_) => unreachable!(),
+        }
+    }
+
+    /// The first field of the name, of an object or an interface.
+    pub fn field_by_name(&self, name: &str) -> Option<&Field<S>>
+        ensures { option_copied result ≡ field_named name.now self.now }
+    {
+        match self {
+            MetaTypeOf::Object(meta) => first_named(meta.fields.as_slice(), name),
+            MetaTypeOf::Interface(meta) => first_named(meta.fields.as_slice(), name),
+            _ => None,
+        }
+    }
+
+    /// The first field of the name, of an input object.
+    pub fn input_field_by_name(&self, name: &str) -> Option<&Argument<S>>
+        ensures { option_copied result ≡ input_field_named name.now self.now }
+    {
+        match self {
+            MetaTypeOf::InputObject(meta) => first_named(meta.input_fields.as_slice(), name),
+            _ => None,
+        }
+    }
+
+    /// The type: a named kind is non-null; a list is the non-null list of its type, with its size;
+    /// a nullable type is its type without an outer non-null; a placeholder is its type.
+    pub fn as_type(&self, alloc: Global) -> Result<Type, OutOfMemory>
+        ensures { IfOk result (λ t. shape t ≡ type_of_meta self.now) }
+    {
+        match self {
+            MetaTypeOf::Scalar(meta) => Type::non_null(alloc, meta.name.as_str()),
+            MetaTypeOf::List(meta) => list_type(meta),
+            MetaTypeOf::Nullable(meta) => Ok(meta.of_type.clone()?.into_nullable()),
+            MetaTypeOf::Object(meta) => Type::non_null(alloc, meta.name.as_str()),
+            MetaTypeOf::Enum(meta) => Type::non_null(alloc, meta.name.as_str()),
+            MetaTypeOf::Interface(meta) => Type::non_null(alloc, meta.name.as_str()),
+            MetaTypeOf::Union(meta) => Type::non_null(alloc, meta.name.as_str()),
+            MetaTypeOf::InputObject(meta) => Type::non_null(alloc, meta.name.as_str()),
+            MetaTypeOf::Placeholder(meta) => Ok(meta.of_type.clone()?),
+        }
+    }
+
+    /// What tells the values of a scalar, an enum or an input object; none for another kind.
+    pub fn input_value_parse_fn(&self) -> Option<&C>
+        ensures { option_copied result ≡ check_of_meta self.now }
+    {
+        match self {
+            MetaTypeOf::Scalar(meta) => Some(meta.input_value_parse_fn()),
+            MetaTypeOf::Enum(meta) => Some(meta.input_value_parse_fn()),
+            MetaTypeOf::InputObject(meta) => Some(meta.input_value_parse_fn()),
+            _ => None,
+        }
+    }
+
+    /// Whether a selection set may stand below it: an object, an interface or a union.
+    pub fn is_composite(&self) -> bool
+        ensures { result ≡ is_composite_meta self.now }
+    {
+        matches!(
+            self,
+            MetaTypeOf::Object(_) | MetaTypeOf::Interface(_) | MetaTypeOf::Union(_)
+        )
+    }
+
+    /// Whether it is a scalar or an enum.
+    pub fn is_leaf(&self) -> bool
+        ensures { result ≡ is_leaf_meta self.now }
+    {
+        matches!(self, MetaTypeOf::Scalar(_) | MetaTypeOf::Enum(_))
+    }
+
+    /// Whether it is an interface or a union.
+    pub fn is_abstract(&self) -> bool
+        ensures { result ≡ is_abstract_meta self.now }
+    {
+        matches!(self, MetaTypeOf::Interface(_) | MetaTypeOf::Union(_))
+    }
+
+    /// Whether an argument may have it: a scalar, an enum or an input object.
+    pub fn is_input(&self) -> bool
+        ensures { result ≡ is_input_meta self.now }
+    {
+        matches!(
+            self,
+            MetaTypeOf::Scalar(_) | MetaTypeOf::Enum(_) | MetaTypeOf::InputObject(_)
+        )
+    }
+
+    /// Whether the name begins with `__` or is one of the types that every schema may have.
+    pub fn is_builtin(&self) -> bool
+        ensures { result ≡ is_builtin_meta self.now }
+    {
+        match self.name() {
+            Some(name) => is_builtin_type_name(name),
+            None => false,
+        }
+    }
+}
+
+/// The non-null list of its type.
+fn list_type(meta: &ListMeta) -> Result<Type, OutOfMemory>
+    ensures { IfOk result (λ t. shape t ≡ list_type_of meta.now) }
+{
+    let items = meta.of_type.clone()?;
+    items.wrap_list(meta.expected_size)?.wrap_non_null()
+}
+
+fn is_builtin_type_name(name: &str) -> bool
+    ensures { result ≡ is_builtin_name name.now }
+{
+    name.starts_with("__")
+        || name == "Boolean"
+        || name == "String"
+        || name == "Int"
+        || name == "Float"
+        || name == "ID"
+        || name == "_EmptyMutation"
+        || name == "_EmptySubscription"
+}
