@@ -3,8 +3,8 @@ use Rattle.std.specs.Prelude.{ℕ, List, [], ◌∷◌, ◌++◌, if◌then◌el
 use Rattle.walk.specs.ContextState.{DocumentScope}
 use Rattle.walk.specs.ErrorValue.{ErrorValue}
 use Rattle.walk.specs.Names.{is_among}
-use Rattle.walk.specs.Node.{Node, Name, fragment_spread}
-use Rattle.walk.specs.Occurrence.{Occurrence}
+use Rattle.events.specs.Node.{Node, Name, fragment_spread}
+use Rattle.events.specs.Occurrence.{Occurrence}
 
 abbrev pub unknown_fragment_message : List ℕ → List ℕ
 unknown_fragment_message name = (codes "Unknown fragment: \"" ++ name) ++ codes "\""

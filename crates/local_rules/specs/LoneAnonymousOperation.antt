@@ -6,8 +6,8 @@ use Rattle.language.specs.declared.tree.Definition.TheVariants as definition
 use Rattle.language.specs.declared.tree.Operation.{Operation}
 use Rattle.walk.specs.ContextState.{DocumentScope}
 use Rattle.walk.specs.ErrorValue.{ErrorValue}
-use Rattle.walk.specs.Node.{Node, Name, Placed, document}
-use Rattle.walk.specs.Occurrence.{Occurrence}
+use Rattle.events.specs.Node.{Node, Name, Placed, document}
+use Rattle.events.specs.Occurrence.{Occurrence}
 
 abbrev pub anonymous_message : List ℕ
 anonymous_message = codes "This anonymous operation must be the only defined operation"

@@ -3,8 +3,8 @@ use Rattle.std.specs.Prelude.{◌≡◌, ℕ, List, [], ◌∷◌, Option, None,
 use Rattle.std.specs.List.{flat_map}
 use Rattle.std.specs.Str.{bytes_eq}
 use Rattle.walk.specs.ErrorValue.{ErrorValue}
-use Rattle.walk.specs.Node.{Node}
-use Rattle.walk.specs.Occurrence.{Occurrence, occurrences}
+use Rattle.events.specs.Node.{Node}
+use Rattle.events.specs.Occurrence.{Occurrence, occurrences}
 use Rattle.walk.specs.Step.{StepOf}
 use Rattle.walk.specs.Rule.{Collection}
 use Rattle.walk.specs.Entering.{keeping_step}

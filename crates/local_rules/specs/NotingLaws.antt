@@ -6,8 +6,8 @@ use Rattle.std.specs.Str.{bytes_eq}
 use Rattle.std.specs.List.{flat_map}
 use Rattle.walk.specs.ContextState.{scope_of}
 use Rattle.walk.specs.ErrorValue.{ErrorValue}
-use Rattle.walk.specs.Node.{Node}
-use Rattle.walk.specs.Occurrence.{Occurrence, occurrences}
+use Rattle.events.specs.Node.{Node}
+use Rattle.events.specs.Occurrence.{Occurrence, occurrences}
 use Rattle.walk.specs.Entering.{found_keeping}
 use Rattle.walk.specs.Rule.{AllowsFrom, exactly}
 use Rattle.walk.proofs.Entering.{keeping_keeps}

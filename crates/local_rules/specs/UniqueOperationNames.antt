@@ -1,7 +1,7 @@
 -- Later operations of a name.
 use Rattle.std.specs.Prelude.{ℕ, List, ◌++◌, Option, None, codes}
 use Rattle.std.specs.Option.{option_map}
-use Rattle.walk.specs.Node.{Node, operation_definition}
+use Rattle.events.specs.Node.{Node, operation_definition}
 use Rattle.local_rules.specs.Names.{Named}
 
 abbrev pub repeated_operation_message : List ℕ → List ℕ

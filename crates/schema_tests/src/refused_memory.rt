@@ -9,16 +9,6 @@ use schema::error::SchemaError;
 use schema::model::{DirectiveType, SchemaType, TypeType};
 use std::alloc::Global;
 
-/// The schema of `demo` and the union `Pets` of dogs.
-fn demo_and_union(
-    alloc: Global,
-    types: Vec<MetaType>,
-) -> Result<SchemaType<DefaultScalarValue>, SchemaError> {
-    let mut types = types;
-    types.push(union_of(alloc, "Pets", &["Dog"])?)?;
-    schema_of(alloc, types)
-}
-
 /// How many types may stand for the union, and how long the printed form of `[Dog!]` is.
 fn said_of_types(
     alloc: Global,
@@ -42,7 +32,7 @@ fn said_of_schema(
     alloc: Global,
     types: Vec<MetaType>,
 ) -> Result<(usize, usize, (usize, usize)), SchemaError> {
-    let mut schema = demo_and_union(alloc, types)?;
+    let mut schema = schema_of(alloc, types)?;
     let flag = DirectiveType::new(alloc, "flag", Vec::new(alloc), Vec::new(alloc), false)?;
     if let Err(refused) = schema.add_directive(flag) {
         return match schema.directive_list(alloc)?.len() {
@@ -60,9 +50,15 @@ fn said_of_schema(
 #[test]
 fn a_refused_request_changes_no_answer(rt: HostRuntime) {
     let alloc = rt.alloc();
-    let Ok(types) = demo_types(alloc, check_string, refuse_token) else {
+    let (Ok(mut types), Ok(dogs)) = (
+        demo_types(alloc, check_string, refuse_token),
+        union_of(alloc, "Pets", &["Dog"]),
+    ) else {
         return;
     };
+    if types.push(dogs).is_err() {
+        return;
+    }
     match said_of_schema(alloc, types) {
         Ok(said) => assert_eq!(rt; said, (7, 5, (1, 6))),
         Err(refused) => assert_eq!(rt; refused, SchemaError::OutOfMemory),

@@ -4,9 +4,9 @@ use Rattle.std.proofs.lemmas.List.Sorted.{IsPermutation-refl}
 use Rattle.std.specs.List.{flat_map}
 use Rattle.walk.specs.ErrorValue.{ErrorValue}
 use Rattle.walk.specs.ContextState.{DocumentScope, scope_of}
-use Rattle.walk.specs.Outline.{Outline, empty, entry, outline_of_document}
-use Rattle.walk.specs.TypedEvent.{entering, leaving, TypedEvent, events_of}
-use Rattle.walk.specs.Occurrence.{Occurrence, occurrences_of, occurrences}
+use Rattle.events.specs.Outline.{Outline, empty, entry, outline_of_document}
+use Rattle.events.specs.TypedEvent.{entering, leaving, TypedEvent, events_of}
+use Rattle.events.specs.Occurrence.{Occurrence, occurrences_of, occurrences}
 use Rattle.walk.specs.Step.{Run}
 use Rattle.walk.specs.Rule.{AllowsFrom, exactly, any_value}
 use Rattle.walk.specs.Entering.{entering_step, finding_step, found, relating_step, given, EachGives, keeping_step, found_keeping, kept_findings}

@@ -1,10 +1,6 @@
 pub mod Entering
-pub mod Events
-pub mod Lists
 pub mod NameSets
 pub mod Orders
 pub mod Runs
-pub mod SelectionOutlines
 pub mod Sums
-pub mod ValueOutlines
 pub mod Walks

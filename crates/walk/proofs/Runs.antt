@@ -2,13 +2,13 @@
 use Rattle.std.proofs.Common.{◌≡◌, ℕ, ◌+◌, ◌<◌, get_or, ◌-◌, List, [], ◌∷◌, ◌++◌, length, take, slice_get, Some, refl, ap, sym, ◌∙◌, subst, append_assoc, arith, length-append, Result, Ok, Err, OnErr, OnOk, IfOk}
 use Rattle.std.proofs.lemmas.List.{append-nil, take_more, map-append}
 use Rattle.walk.specs.declared.multi_visitor.MultiVisitorCons.{MultiVisitorCons}
-use Rattle.walk.specs.declared.typed_events.PlannedEventOf.{PlannedEventOf}
-use Rattle.walk.specs.EventValue.{planned, all_planned}
+use Rattle.events.specs.declared.typed_events.PlannedEventOf.{PlannedEventOf}
+use Rattle.events.specs.EventValue.{planned, all_planned}
 use Rattle.walk.specs.Pair.{pair_step}
 use Rattle.walk.specs.ErrorValue.{ErrorValue}
-use Rattle.walk.specs.Typing.{Typing}
+use Rattle.events.specs.Typing.{Typing}
 use Rattle.walk.specs.ContextState.{ContextState, scope_of_context, with_errors, typing, last_typing, pushed, popped, or_untyped}
-use Rattle.walk.specs.TypedEvent.{TypedEvent}
+use Rattle.events.specs.TypedEvent.{TypedEvent}
 use Rattle.walk.specs.Step.{StepOf, Run, Stepped, Ran, KeepsPlace}
 
 module _ {E V R : Type 0} (step : E → V → V → List R → Type 0) where

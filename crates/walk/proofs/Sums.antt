@@ -4,7 +4,7 @@ use Rattle.std.proofs.lemmas.List.Sorted.{IsPermutation-refl, IsPermutation-tran
 use Rattle.language.specs.declared.tree.Definition.{Definition}
 use Rattle.walk.specs.ErrorValue.{ErrorValue}
 use Rattle.walk.specs.ContextState.{ContextState, DocumentScope}
-use Rattle.walk.specs.Typing.{Typing}
+use Rattle.events.specs.Typing.{Typing}
 use Rattle.walk.specs.Rule.{Collection, exactly, sum_of, all_exactly, Appended}
 
 module _ {S C : Type 0} (scope : DocumentScope S C) (t : Typing S C) (doc : List (Definition S)) where

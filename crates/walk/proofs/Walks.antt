@@ -4,16 +4,16 @@ use Rattle.std.specs.List.{flat_map}
 use Rattle.std.proofs.lemmas.List.{take_all}
 use Rattle.language.specs.declared.tree.Definition.{Definition}
 use Rattle.schema.specs.Catalog.{Catalog}
-use Rattle.walk.specs.Typing.{Typing}
-use Rattle.walk.specs.Node
+use Rattle.events.specs.Typing.{Typing}
+use Rattle.events.specs.Node
 use Rattle.walk.specs.ContextState.{ContextState, typing, scope_of}
 use Rattle.walk.specs.Names.{fragment_names}
 use Rattle.walk.specs.Rule.{Allowance, AllowsFrom, Appended}
-use Rattle.walk.specs.Outline.{each, outline_of_definition}
-use Rattle.walk.specs.TypedEvent.{TypedEvent, entering, leaving, events_of, typed_events}
+use Rattle.events.specs.Outline.{each, outline_of_definition}
+use Rattle.events.specs.TypedEvent.{TypedEvent, entering, leaving, events_of, typed_events}
 use Rattle.walk.specs.Step.{StepOf, Run, Stepped, Ran}
-use Rattle.walk.proofs.Events.{events-each}
-use Rattle.walk.proofs.Lists.{flat_map_more}
+use Rattle.events.proofs.Events.{events-each}
+use Rattle.events.proofs.Lists.{flat_map_more}
 use Rattle.walk.proofs.Runs.{Ran-append, Ran-one}
 
 module _ {S C V : Type 0} (step : StepOf S C V) where

@@ -4,7 +4,7 @@ use Rattle.language.specs.declared.tree.Definition.{Definition}
 use Rattle.schema.specs.Catalog.{Catalog}
 use Rattle.walk.specs.ErrorValue.{ErrorValue}
 use Rattle.walk.specs.Names.{fragment_names}
-use Rattle.walk.specs.Typing.{Typing, untyped}
+use Rattle.events.specs.Typing.{Typing, untyped}
 
 -- the schema, the names of the document's fragments, the types that were pushed, what was reported, and whether it has failed
 pub record ContextState (S C : Type 0) : Type 0 where

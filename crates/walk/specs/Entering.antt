@@ -3,10 +3,10 @@ use Rattle.std.specs.Prelude.{◌≡◌, List, [], ◌∷◌, ◌++◌}
 use Rattle.std.specs.List.{flat_map}
 use Rattle.walk.specs.ErrorValue.{ErrorValue}
 use Rattle.walk.specs.ContextState.{DocumentScope}
-use Rattle.walk.specs.Node.{Node}
-use Rattle.walk.specs.Typing.{Typing}
-use Rattle.walk.specs.TypedEvent.{Side, entering, leaving, TypedEvent}
-use Rattle.walk.specs.Occurrence.{Occurrence, occurrences}
+use Rattle.events.specs.Node.{Node}
+use Rattle.events.specs.Typing.{Typing}
+use Rattle.events.specs.TypedEvent.{Side, entering, leaving, TypedEvent}
+use Rattle.events.specs.Occurrence.{Occurrence, occurrences}
 use Rattle.walk.specs.Step.{StepOf}
 use Rattle.walk.specs.Rule.{Allowance, Collection}
 

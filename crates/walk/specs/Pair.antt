@@ -4,7 +4,7 @@ use Rattle.walk.specs.declared.multi_visitor.MultiVisitorCons.{MultiVisitorCons}
 use Rattle.walk.specs.declared.multi_visitor.MultiVisitorNil.{MultiVisitorNil}
 use Rattle.walk.specs.ErrorValue.{ErrorValue}
 use Rattle.walk.specs.ContextState.{DocumentScope}
-use Rattle.walk.specs.TypedEvent.{TypedEvent}
+use Rattle.events.specs.TypedEvent.{TypedEvent}
 use Rattle.walk.specs.Step.{StepOf, Run}
 
 -- first the newer visitor's step, and then the other's

@@ -6,8 +6,8 @@ use Rattle.schema.specs.Catalog.{Catalog}
 use Rattle.walk.specs.declared.multi_visitor.MultiVisitorCons.{MultiVisitorCons}
 use Rattle.walk.specs.ErrorValue.{ErrorValue}
 use Rattle.walk.specs.ContextState.{ContextState, DocumentScope, scope_of, with_errors}
-use Rattle.walk.specs.Typing.{Typing}
-use Rattle.walk.specs.TypedEvent.{typed_events}
+use Rattle.events.specs.Typing.{Typing}
+use Rattle.events.specs.TypedEvent.{typed_events}
 use Rattle.walk.specs.Step.{StepOf, Run}
 
 -- which lists of errors may be reported of each document, which stands at the types given

@@ -3,7 +3,7 @@ use Rattle.std.proofs.Common.{◌≡◌, List, [], ◌∷◌, ◌++◌, ap, sym,
 use Rattle.walk.specs.declared.multi_visitor.MultiVisitorNil.{MultiVisitorNil}
 use Rattle.walk.specs.ErrorValue.{ErrorValue}
 use Rattle.walk.specs.ContextState.{DocumentScope, scope_of}
-use Rattle.walk.specs.TypedEvent.{TypedEvent, typed_events}
+use Rattle.events.specs.TypedEvent.{TypedEvent, typed_events}
 use Rattle.walk.specs.Step.{StepOf, Run}
 use Rattle.walk.specs.Pair.{pair_step, no_step}
 use Rattle.walk.specs.Rule.{Allowance, AllowsFrom, together, nothing, pair_fresh, any_value}

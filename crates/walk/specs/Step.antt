@@ -2,7 +2,7 @@
 use Rattle.std.specs.Prelude.{◌≡◌, List, [], ◌∷◌, ◌++◌, true}
 use Rattle.walk.specs.ErrorValue.{ErrorValue}
 use Rattle.walk.specs.ContextState.{ContextState, DocumentScope, scope_of_context, with_errors}
-use Rattle.walk.specs.TypedEvent.{TypedEvent}
+use Rattle.events.specs.TypedEvent.{TypedEvent}
 
 -- what a visitor may do at an event: its state before and after, and the errors that it appends
 abbrev pub StepOf : Type 0 → Type 0 → Type 0 → Type 1

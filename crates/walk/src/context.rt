@@ -6,13 +6,13 @@ ghost use Rattle.std.specs.Option.{option_copied, option_map};
 ghost use Rattle.language.specs.Types.{borrowed_shape};
 ghost use Rattle.walk.specs.ContextState.{ContextState, typing, pushed, popped, with_errors, failing, fresh_context, has_some};
 ghost use Rattle.walk.specs.ErrorValue.{error_cmp};
-ghost use Rattle.walk.specs.EventValue.{typing_of};
+ghost use Rattle.events.specs.EventValue.{typing_of};
 ghost use Rattle.walk.specs.Names.{is_among};
-ghost use Rattle.walk.specs.Typing.{at_type, at_input, at_set};
+ghost use Rattle.events.specs.Typing.{at_type, at_input, at_set};
 
 use crate::RuleError;
 use crate::fragment_names::FragmentNames;
-use crate::typed_events::TypesOf;
+use events::TypesOf;
 use language::error::OutOfMemory;
 use language::position::SourcePosition;
 use language::tree::Definition;
@@ -44,7 +44,7 @@ impl<'a, S, C> Model for ValidatorContextOf<'a, S, C> {
     ghost use Rattle.std.specs.Prelude.{map};
     ghost use Rattle.walk.specs.Codes.{coded_state};
     ghost use Rattle.walk.specs.ContextState.{ContextState};
-    ghost use Rattle.walk.specs.EventValue.{typing_of};
+    ghost use Rattle.events.specs.EventValue.{typing_of};
     ghost use Rattle.walk.specs.FragmentSet.{known_names};
 
     ghost Value = { ContextState S C };

@@ -3,7 +3,7 @@
 ghost use Rattle.walk.specs.ContextState.{ContextState, LeavesTypes};
 ghost use Rattle.walk.specs.ErrorValue.{EqualMeansSame};
 ghost use Rattle.walk.specs.Pair.{PairSplits};
-ghost use Rattle.walk.specs.Typing.{Typing};
+ghost use Rattle.events.specs.Typing.{Typing};
 
 use crate::visitor::Machine;
 

@@ -2,18 +2,16 @@
 #![tactic(auto)]
 
 pub mod context;
-pub mod event;
 mod fragment_names;
 pub mod laws;
 pub mod multi_visitor;
 pub mod rule;
 pub mod rule_error;
-mod typed_events;
 pub mod visitor;
 pub mod walk;
 
 pub use context::{ValidatorContext, ValidatorContextOf};
-pub use event::Event;
+pub use events::Event;
 pub use language::error::OutOfMemory;
 pub use multi_visitor::{MultiVisitorCons, MultiVisitorNil};
 pub use rule::Rule;

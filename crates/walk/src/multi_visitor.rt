@@ -2,13 +2,13 @@
 
 ghost use Rattle.std.specs.Prelude.{◌≡◌, IfOk, IsOk, OnErr};
 ghost use Rattle.walk.specs.ContextState.{typing};
-ghost use Rattle.walk.specs.EventValue.{typed_event};
+ghost use Rattle.events.specs.EventValue.{typed_event};
 ghost use Rattle.walk.specs.Pair.{no_step, pair_step};
 ghost use Rattle.walk.specs.Step.{KeepsPlace, Stepped};
 
 use crate::ValidatorContext;
-use crate::event::Event;
 use crate::visitor::{Fresh, Machine, Visitor};
+use events::Event;
 use language::error::OutOfMemory;
 use meta::check::CheckedScalar;
 

@@ -2,11 +2,11 @@
 
 ghost use Rattle.std.specs.Prelude.{IfOk, OnErr};
 ghost use Rattle.walk.specs.ContextState.{typing};
-ghost use Rattle.walk.specs.EventValue.{typed_event};
+ghost use Rattle.events.specs.EventValue.{typed_event};
 ghost use Rattle.walk.specs.Step.{StepOf, Stepped, KeepsPlace};
 
 use crate::ValidatorContext;
-use crate::event::Event;
+use events::Event;
 use language::error::OutOfMemory;
 use meta::check::CheckedScalar;
 

@@ -7,9 +7,9 @@ use Rattle.schema.specs.Catalog.{Catalog}
 use Rattle.meta.specs.Kinds.{check_of_meta}
 use Rattle.walk.specs.ContextState.{DocumentScope}
 use Rattle.walk.specs.ErrorValue.{ErrorValue}
-use Rattle.walk.specs.Node.{Node, Placed, argument}
-use Rattle.walk.specs.Occurrence.{Occurrence}
-use Rattle.walk.specs.SchemaView.{named_type}
+use Rattle.events.specs.Node.{Node, Placed, argument}
+use Rattle.events.specs.Occurrence.{Occurrence}
+use Rattle.events.specs.SchemaView.{named_type}
 
 module _ {S C : Type 0} where
   -- the check of the type that is expected

@@ -1,5 +1,5 @@
 use Rattle.std.proofs.Common.{take}
-use Rattle.walk.specs.EventValue.{all_planned}
+use Rattle.events.specs.EventValue.{all_planned}
 use Rattle.walk.specs.Step.{Ran}
 use Rattle.walk.proofs.walk.tell_all.Given as goal
 

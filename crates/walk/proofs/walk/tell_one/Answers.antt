@@ -1,5 +1,5 @@
 use Rattle.std.proofs.lemmas.Result.{IfOk-weaker}
-use Rattle.walk.specs.EventValue.{typed_event, typing_of}
+use Rattle.events.specs.EventValue.{typed_event, typing_of}
 use Rattle.walk.proofs.Runs.{Stepped-pushed}
 use Rattle.walk.proofs.walk.tell_one.Goals as goal
 

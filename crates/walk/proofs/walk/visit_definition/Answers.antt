@@ -1,7 +1,7 @@
 use Rattle.std.proofs.Common.{◌≡◌, ap, ◌∙◌}
-use Rattle.walk.specs.EventValue.{typing_of, all_planned}
-use Rattle.walk.specs.Outline.{outline_of_definition}
-use Rattle.walk.specs.TypedEvent.{events_of}
+use Rattle.events.specs.EventValue.{typing_of, all_planned}
+use Rattle.events.specs.Outline.{outline_of_definition}
+use Rattle.events.specs.TypedEvent.{events_of}
 use Rattle.walk.proofs.Walks.{IfOk-ran}
 use Rattle.walk.proofs.walk.visit_definition.Goals as goal
 

@@ -1,7 +1,7 @@
 use Rattle.std.proofs.lemmas.Result.{IfOk-weaker}
-use Rattle.walk.specs.EventValue.{typing_of}
-use Rattle.walk.specs.Outline.{outline_of_definition}
-use Rattle.walk.specs.TypedEvent.{events_of}
+use Rattle.events.specs.EventValue.{typing_of}
+use Rattle.events.specs.Outline.{outline_of_definition}
+use Rattle.events.specs.TypedEvent.{events_of}
 use Rattle.walk.proofs.Runs.{Ran-one}
 use Rattle.walk.proofs.Walks.{Ran-each, Ran-document}
 use Rattle.walk.proofs.walk.walk_with.Goals as goal

@@ -1,10 +1,10 @@
 use Rattle.std.proofs.Common.{◌∷◌, take}
 use Rattle.std.specs.List.{flat_map}
 use Rattle.walk.specs.ContextState.{typing}
-use Rattle.walk.specs.Node
-use Rattle.walk.specs.Outline.{outline_of_definition}
-use Rattle.walk.specs.TypedEvent.{entering, events_of}
-use Rattle.walk.specs.EventValue.{typing_of}
+use Rattle.events.specs.Node
+use Rattle.events.specs.Outline.{outline_of_definition}
+use Rattle.events.specs.TypedEvent.{entering, events_of}
+use Rattle.events.specs.EventValue.{typing_of}
 use Rattle.walk.specs.Step.{Ran}
 use Rattle.walk.proofs.walk.walk_with.Given as goal
 

@@ -1,5 +1,5 @@
 use Rattle.std.proofs.lemmas.Result.{IfOk-weaker}
-use Rattle.walk.specs.EventValue.{typed_event}
+use Rattle.events.specs.EventValue.{typed_event}
 use Rattle.walk.proofs.Runs.{Stepped-pair}
 use Rattle.walk.proofs.multi_visitor.MultiVisitorConsVisitor.on.Goals as goal
 

@@ -1,0 +1,4 @@
+pub mod Events
+pub mod Lists
+pub mod SelectionOutlines
+pub mod ValueOutlines

@@ -1,0 +1,12 @@
+use Rattle.std.proofs.Common.{◌≡◌, ◌++◌, take}
+use Rattle.std.specs.List.{flat_map}
+use Rattle.std.specs.Option.{option_copied}
+use Rattle.events.specs.Outline.{outline_of_argument}
+use Rattle.events.specs.TypedEvent.{events_of}
+use Rattle.events.specs.EventValue.{typing_of, all_planned}
+use Rattle.events.proofs.typed_events.events_of_arguments.Given as goal
+
+-- the events so far are those from before the loop and those of the entries that were seen
+abbrev pub invariant-loop-argument : goal.invariant-loop-argument
+invariant-loop-argument g l =
+    all_planned l.events.items ≡ all_planned l.initial.events.items ++ flat_map (λ x. events_of (outline_of_argument l.schema (option_copied l.arguments) (typing_of l.types) x)) (take l.argument-index l.argument-items)

@@ -1,0 +1,8 @@
+//! The events of a document, each with the types at its node, and the places that definitions speak of.
+#![tactic(auto)]
+
+pub mod event;
+pub mod typed_events;
+
+pub use event::Event;
+pub use typed_events::{PlannedEvent, PlannedEventOf, TypesOf, events_of_definition};
