@@ -1,3 +1,4 @@
+pub mod Failures
 pub mod Report
 pub mod Statuses
 pub mod Told

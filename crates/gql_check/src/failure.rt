@@ -1,4 +1,7 @@
 //! Why the program tells nothing of a document.
+ghost use Rattle.std.specs.Prelude.{Some};
+ghost use Rattle.gql_check.specs.Failures.{failure_text};
+
 use document_reader::ReadError;
 use language::error::OutOfMemory;
 use language::position::SourcePosition;
@@ -39,6 +42,8 @@ impl Failure {
 }
 
 impl fmt::Display for Failure {
+    ghost output = { λ e. Some (failure_text e) };
+
     fn fmt<W: fmt::Write>(&self, f: &mut fmt::Formatter<W>) -> fmt::Result {
         match self {
             Failure::Syntax(place) => write!(f, "syntax at {place}"),
@@ -52,24 +57,44 @@ impl fmt::Display for Failure {
 }
 
 impl From<AllocError> for Failure {
+    ghost use Rattle.std.specs.Prelude.{◌≡◌};
+    ghost use Rattle.gql_check.specs.declared.failure.Failure.TheVariants as f;
+
+    ghost from_gives = { λ _ r. r ≡ f.OutOfMemory };
+
     fn from(_: AllocError) -> Self {
         Failure::OutOfMemory
     }
 }
 
 impl<T: Drop> From<AllocFailed<T>> for Failure {
+    ghost use Rattle.std.specs.Prelude.{◌≡◌};
+    ghost use Rattle.gql_check.specs.declared.failure.Failure.TheVariants as f;
+
+    ghost from_gives = { λ _ r. r ≡ f.OutOfMemory };
+
     fn from(_: AllocFailed<T>) -> Self {
         Failure::OutOfMemory
     }
 }
 
 impl From<OutOfMemory> for Failure {
+    ghost use Rattle.std.specs.Prelude.{◌≡◌};
+    ghost use Rattle.gql_check.specs.declared.failure.Failure.TheVariants as f;
+
+    ghost from_gives = { λ _ r. r ≡ f.OutOfMemory };
+
     fn from(_: OutOfMemory) -> Self {
         Failure::OutOfMemory
     }
 }
 
 impl From<ReadError> for Failure {
+    ghost use Rattle.std.specs.Prelude.{◌≡◌};
+    ghost use Rattle.gql_check.specs.Failures.{failure_of_read};
+
+    ghost from_gives = { λ e r. r ≡ failure_of_read e };
+
     fn from(error: ReadError) -> Self {
         match error {
             ReadError::Fault(place) => Failure::Syntax(place),
@@ -79,6 +104,11 @@ impl From<ReadError> for Failure {
 }
 
 impl From<io::Error> for Failure {
+    ghost use Rattle.std.specs.Prelude.{◌≡◌, ◌⊎◌};
+    ghost use Rattle.gql_check.specs.declared.failure.Failure.TheVariants as f;
+
+    ghost from_gives = { λ _ r. (r ≡ f.OutOfMemory) ⊎ (r ≡ f.InputOutput) };
+
     fn from(error: io::Error) -> Self {
         match error.kind() {
             io::ErrorKind::OutOfMemory => Failure::OutOfMemory,
@@ -89,6 +119,11 @@ impl From<io::Error> for Failure {
 
 /// The sample lists are accepted, so want of memory alone refuses one.
 impl From<SchemaError> for Failure {
+    ghost use Rattle.std.specs.Prelude.{◌≡◌};
+    ghost use Rattle.gql_check.specs.declared.failure.Failure.TheVariants as f;
+
+    ghost from_gives = { λ _ r. r ≡ f.OutOfMemory };
+
     fn from(_: SchemaError) -> Self {
         Failure::OutOfMemory
     }

@@ -1,6 +1,7 @@
 //! The program's work, over any reader and any writers.
 ghost use Rattle.std.specs.Prelude.{◌≡◌, ◌≤◌, ◌⊎◌, IfOk, OnOk, if◌then◌else◌, string_bytes};
 ghost use Rattle.std.specs.Io.KnownBytes.{Appends};
+ghost use Rattle.gql_check.specs.Failures.{TellsFailure};
 ghost use Rattle.gql_check.specs.Report.{TellsReport};
 ghost use Rattle.gql_check.specs.Statuses.{status_of};
 ghost use Rattle.gql_check.specs.Told.{IsReport};
@@ -50,6 +51,7 @@ pub fn run<R: Read, W: Write, E: Write>(
     ensures status { result ≤ 5 }
     ensures told { result ≤ 1 → TellsReport (W.contents output.old) (W.contents output.new) result }
     ensures silent { 2 ≤ result → result ≤ 4 → output.new ≡ output.old }
+    ensures failed { 2 ≤ result → result ≤ 4 → TellsFailure (E.contents faults.old) (E.contents faults.new) result }
 {
     match report_on(alloc, words, input) {
         Ok(report) => write_report(&report, output, faults),
@@ -82,6 +84,7 @@ pub fn tell<E: Write>(failure: Failure, faults: &mut E) -> u8
     ensures value { (result ≡ status_of failure) ⊎ (result ≡ 5) }
     ensures least { 2 ≤ result }
     ensures most { result ≤ 5 }
+    ensures told { result ≤ 4 → TellsFailure (E.contents faults.old) (E.contents faults.new) result }
 {
     if writeln!(faults, "check: {failure}").is_err() || faults.flush().is_err() {
         return Failure::InputOutput.status();
