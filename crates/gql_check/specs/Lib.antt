@@ -2,3 +2,4 @@ pub mod Failures
 pub mod Report
 pub mod Statuses
 pub mod Told
+pub mod Words

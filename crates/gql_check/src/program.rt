@@ -1,14 +1,16 @@
 //! The program's work, over any reader and any writers.
-ghost use Rattle.std.specs.Prelude.{◌≡◌, ◌≤◌, ◌⊎◌, IfOk, OnOk, if◌then◌else◌, string_bytes};
+ghost use Rattle.std.specs.Prelude.{◌≡◌, ◌≤◌, ◌⊎◌, Err, IfErr, IfOk, None, OnOk, false, true, if◌then◌else◌, map, string_bytes};
 ghost use Rattle.std.specs.Io.KnownBytes.{Appends};
 ghost use Rattle.gql_check.specs.Failures.{TellsFailure};
 ghost use Rattle.gql_check.specs.Report.{TellsReport};
 ghost use Rattle.gql_check.specs.Statuses.{status_of};
 ghost use Rattle.gql_check.specs.Told.{IsReport};
+ghost use Rattle.gql_check.specs.Words.{is_usage, sample_asked, sample_named};
 
 use crate::failure::Failure;
 use crate::report::Report;
 use document_reader::read_document;
+use language::tree::Definition;
 use language::value::DefaultScalarValue;
 use meta::default_check::DefaultCheck;
 use samples::build::Checks;
@@ -52,6 +54,8 @@ pub fn run<R: Read, W: Write, E: Write>(
     ensures told { result ≤ 1 → TellsReport (W.contents output.old) (W.contents output.new) result }
     ensures silent { 2 ≤ result → result ≤ 4 → output.new ≡ output.old }
     ensures failed { 2 ≤ result → result ≤ 4 → TellsFailure (E.contents faults.old) (E.contents faults.new) result }
+    ensures unknown { sample_asked (map string_bytes words.now) ≡ None → 4 ≤ result }
+    ensures usage { result ≡ 4 → sample_asked (map string_bytes words.now) ≡ None }
 {
     match report_on(alloc, words, input) {
         Ok(report) => write_report(&report, output, faults),
@@ -93,7 +97,10 @@ pub fn tell<E: Write>(failure: Failure, faults: &mut E) -> u8
 }
 
 fn report_on<R: Read>(alloc: Global, words: &[String], input: &mut R) -> Result<Report, Failure>
-    ensures { IfOk result IsReport }
+    ensures report { IfOk result IsReport }
+    ensures unknown { sample_asked (map string_bytes words.now) ≡ None → IfOk result (λ _. ⊥) }
+    ensures usage { sample_asked (map string_bytes words.now) ≡ None → IfErr result (λ e. is_usage e ≡ true) }
+    ensures other { IfErr result (λ e. is_usage e ≡ true → sample_asked (map string_bytes words.now) ≡ None) }
 {
     let sample = sample_of(words).ok_or(Failure::Usage)?;
     let text = text_for(alloc, sample, input)?;
@@ -101,7 +108,9 @@ fn report_on<R: Read>(alloc: Global, words: &[String], input: &mut R) -> Result<
 }
 
 /// The whole input, which `demo` doesn't read.
-fn text_for<R: Read>(alloc: Global, sample: Sample, input: &mut R) -> Result<Vec<u8>, Failure> {
+fn text_for<R: Read>(alloc: Global, sample: Sample, input: &mut R) -> Result<Vec<u8>, Failure>
+    ensures { IfErr result (λ e. is_usage e ≡ false) }
+{
     match sample {
         Sample::Demo => Ok(Vec::new(alloc)),
         Sample::Pets | Sample::Boxes => {
@@ -112,21 +121,33 @@ fn text_for<R: Read>(alloc: Global, sample: Sample, input: &mut R) -> Result<Vec
     }
 }
 
-fn sample_of(words: &[String]) -> Option<Sample> {
+fn sample_of(words: &[String]) -> Option<Sample>
+    ensures { result ≡ sample_asked (map string_bytes words.now) }
+{
     match words {
-        [word] => match word.as_str() {
-            "demo" => Some(Sample::Demo),
-            "pets" => Some(Sample::Pets),
-            "boxes" => Some(Sample::Boxes),
-            _ => None,
-        },
+        [word] => sample_named(word.as_str()),
         _ => None,
     }
 }
 
-/// Reads the text as a document and validates it against a sample schema. The document of `demo` is built in code.
+fn sample_named(word: &str) -> Option<Sample>
+    ensures { result ≡ sample_named word.now }
+{
+    if word == "demo" {
+        Some(Sample::Demo)
+    } else if word == "pets" {
+        Some(Sample::Pets)
+    } else if word == "boxes" {
+        Some(Sample::Boxes)
+    } else {
+        None
+    }
+}
+
+/// Validates the document of the text against a sample schema. The document of `demo` is built in code.
 fn check(alloc: Global, sample: Sample, text: Vec<u8>) -> Result<Report, Failure>
-    ensures { IfOk result IsReport }
+    ensures report { IfOk result IsReport }
+    ensures other { IfErr result (λ e. is_usage e ≡ false) }
 {
     let checks = Checks {
         int: DefaultCheck::with_token(check_int, refuse_token),
@@ -149,10 +170,21 @@ fn check(alloc: Global, sample: Sample, text: Vec<u8>) -> Result<Report, Failure
         "_EmptyMutation",
         "_EmptySubscription",
     )?;
-    let document = match sample {
-        Sample::Demo => demo::document(alloc)?,
-        Sample::Pets | Sample::Boxes => read_document(alloc, text.as_slice())?,
-    };
-    let report = Report::on(alloc, &schema, document)?;
-    Ok(report)
+    match document_for(alloc, sample, text.as_slice()) {
+        Ok(document) => Report::on(alloc, &schema, document),
+        Err(failure) => Err(failure),
+    }
+}
+
+fn document_for(
+    alloc: Global,
+    sample: Sample,
+    text: &[u8],
+) -> Result<Vec<Definition<'_, DefaultScalarValue>>, Failure>
+    ensures { IfErr result (λ e. is_usage e ≡ false) }
+{
+    match sample {
+        Sample::Demo => Ok(demo::document(alloc)?),
+        Sample::Pets | Sample::Boxes => Ok(read_document(alloc, text)?),
+    }
 }

@@ -1,7 +1,8 @@
 //! What is told of a document.
-ghost use Rattle.std.specs.Prelude.{◌≡◌, ◌==◌, IfOk, length, string_bytes};
+ghost use Rattle.std.specs.Prelude.{◌≡◌, ◌==◌, IfErr, IfOk, false, length, string_bytes};
 ghost use Rattle.gql_check.specs.Report.{error_lines};
 
+use crate::failure::Failure;
 use language::error::OutOfMemory;
 use language::tree::Definition;
 use language::value::DefaultScalarValue;
@@ -22,6 +23,7 @@ pub struct Report {
 impl Report {
     ghost use Rattle.gql_check.specs.Report.{report_text};
     ghost use Rattle.gql_check.specs.Told.{IsReport};
+    ghost use Rattle.gql_check.specs.Words.{is_usage};
 
     /// Validates a document by all rules. A context borrows a document for as long as the document's own names live, so
     /// its memory is never given back: the program ends after it.
@@ -29,11 +31,12 @@ impl Report {
         alloc: Global,
         schema: &'a SchemaType<DefaultScalarValue>,
         document: Vec<Definition<'a, DefaultScalarValue>>,
-    ) -> Result<Report, OutOfMemory>
-        ensures { IfOk result IsReport }
+    ) -> Result<Report, Failure>
+        ensures report { IfOk result IsReport }
+        ensures other { IfErr result (λ e. is_usage e ≡ false) }
     {
         let document = document.leak();
-        Report::on_lent(alloc, schema, document)
+        Ok(Report::on_lent(alloc, schema, document)?)
     }
 
     fn on_lent<'a>(
