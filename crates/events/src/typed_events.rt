@@ -43,11 +43,7 @@ pub type PlannedEvent<'a, S> = PlannedEventOf<'a, S, <S as CheckedScalar>::Check
 
 impl<'a, S, C> TypesOf<'a, S, C> {
     /// The types at a node where a type is written.
-    pub fn at_type(
-        self,
-        schema: &'a SchemaTypeOf<S, C>,
-        literal: Option<BorrowedType<'a>>,
-    ) -> Self
+    pub fn at_type(self, schema: &'a SchemaTypeOf<S, C>, literal: Option<BorrowedType<'a>>) -> Self
         ensures { typing_of result ≡ at_type schema.now (typing_of self.entry) (option_map borrowed_shape literal.entry) }
     {
         let current = match literal {
