@@ -171,9 +171,20 @@ fn check(alloc: Global, sample: Sample, text: Vec<u8>) -> Result<Report, Failure
         "_EmptySubscription",
     )?;
     match document_for(alloc, sample, text.as_slice()) {
-        Ok(document) => Report::on(alloc, &schema, document),
+        Ok(document) => report_of(alloc, &schema, document.as_slice()),
         Err(failure) => Err(failure),
     }
+}
+
+fn report_of<'a>(
+    alloc: Global,
+    schema: &'a SchemaType<DefaultScalarValue>,
+    document: &'a [Definition<'_, DefaultScalarValue>],
+) -> Result<Report, Failure>
+    ensures report { IfOk result IsReport }
+    ensures other { IfErr result (λ e. is_usage e ≡ false) }
+{
+    Ok(Report::on(alloc, schema, document)?)
 }
 
 fn document_for(

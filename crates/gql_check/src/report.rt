@@ -2,7 +2,6 @@
 ghost use Rattle.std.specs.Prelude.{◌≡◌, ◌==◌, IfErr, IfOk, false, length, string_bytes};
 ghost use Rattle.gql_check.specs.Report.{error_lines};
 
-use crate::failure::Failure;
 use language::error::OutOfMemory;
 use language::tree::Definition;
 use language::value::DefaultScalarValue;
@@ -22,29 +21,15 @@ pub struct Report {
 
 impl Report {
     ghost use Rattle.gql_check.specs.Report.{report_text};
-    ghost use Rattle.gql_check.specs.Told.{IsReport};
-    ghost use Rattle.gql_check.specs.Words.{is_usage};
+    ghost use Rattle.gql_check.specs.Told.{IsReportOn};
 
-    /// Validates a document by all rules. A context borrows a document for as long as the document's own names live, so
-    /// its memory is never given back: the program ends after it.
+    /// Validates a document by all rules.
     pub fn on<'a>(
         alloc: Global,
         schema: &'a SchemaType<DefaultScalarValue>,
-        document: Vec<Definition<'a, DefaultScalarValue>>,
-    ) -> Result<Report, Failure>
-        ensures report { IfOk result IsReport }
-        ensures other { IfErr result (λ e. is_usage e ≡ false) }
-    {
-        let document = document.leak();
-        Ok(Report::on_lent(alloc, schema, document)?)
-    }
-
-    fn on_lent<'a>(
-        alloc: Global,
-        schema: &'a SchemaType<DefaultScalarValue>,
-        document: &'a [Definition<'a, DefaultScalarValue>],
+        document: &'a [Definition<'_, DefaultScalarValue>],
     ) -> Result<Report, OutOfMemory>
-        ensures { IfOk result IsReport }
+        ensures { IfOk result (λ report. IsReportOn schema.now document.now report) }
     {
         let mut ctx = ValidatorContext::new(alloc, schema, document)?;
         let compared = visit_all_rules(&mut ctx, document)?;

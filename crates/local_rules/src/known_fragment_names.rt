@@ -39,10 +39,10 @@ impl<S, C> Rule<S, C> for KnownFragmentNames {
 }
 
 impl<'a, S: CheckedScalar> Visitor<'a, S> for KnownFragmentNames {
-    fn on(
+    fn on<'t>(
         &mut self,
         ctx: &mut ValidatorContext<'a, S>,
-        event: &Event<'a, S>,
+        event: &Event<'a, 't, S>,
     ) -> Result<(), OutOfMemory> {
         if let Event::EnterFragmentSpread(spread) = event {
             let name = &spread.item.name;

@@ -41,10 +41,10 @@ impl<S, C> Rule<S, C> for LoneAnonymousOperation {
 }
 
 impl<'a, S: CheckedScalar> Visitor<'a, S> for LoneAnonymousOperation {
-    fn on(
+    fn on<'t>(
         &mut self,
         ctx: &mut ValidatorContext<'a, S>,
-        event: &Event<'a, S>,
+        event: &Event<'a, 't, S>,
     ) -> Result<(), OutOfMemory> {
         if let Event::EnterDocument(document) = *event {
             if operation_count(document) > 1 {
@@ -69,9 +69,9 @@ fn operation_count<S>(document: &[Definition<S>]) -> usize
 }
 
 // Reports each operation without a name.
-fn report_anonymous<'a, S: CheckedScalar>(
+fn report_anonymous<'a, 't, S: CheckedScalar>(
     ctx: &mut ValidatorContext<'a, S>,
-    document: &[Definition<'a, S>],
+    document: &[Definition<'t, S>],
 ) -> Result<(), OutOfMemory>
     ensures ok { IfOk result (λ _. ctx.new ≡ with_errors ctx.old (flat_map anonymous (operations document.now))) }
     ensures err { OnErr result (KeepsPlace ctx.old ctx.new) }

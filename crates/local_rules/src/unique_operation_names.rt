@@ -45,10 +45,10 @@ impl<'a, S, C> Rule<S, C> for UniqueOperationNames<'a> {
 }
 
 impl<'a, S: CheckedScalar> Visitor<'a, S> for UniqueOperationNames<'a> {
-    fn on(
+    fn on<'t>(
         &mut self,
         ctx: &mut ValidatorContext<'a, S>,
-        event: &Event<'a, S>,
+        event: &Event<'a, 't, S>,
     ) -> Result<(), OutOfMemory> {
         if let Event::EnterOperationDefinition(operation) = event {
             if let Some(name) = &operation.item.name {

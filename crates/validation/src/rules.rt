@@ -17,9 +17,9 @@ use walk::{MultiVisitorNil, ValidatorContext, visit_rules};
 ///
 /// It walks over the document once. The answer is the number of pairs of fragments that were compared; no rule that compares
 /// any is there yet, so it is 0.
-pub fn visit_all_rules<'a, S: CheckedScalar>(
+pub fn visit_all_rules<'a, 't, S: CheckedScalar>(
     ctx: &mut ValidatorContext<'a, S>,
-    document: &'a [Definition<'a, S>],
+    document: &'a [Definition<'t, S>],
 ) -> Result<u128, OutOfMemory>
     requires known { ctx.old.known ≡ fragment_names document.now }
     ensures appended { OnOk result (Appended (exactly (sum_of stage_one) (scope_of ctx.old.schema document.now) (typing ctx.old) document.now) ctx.old ctx.new) }

@@ -16,22 +16,19 @@ use validation::ValidatorContext;
 use validation::rules::visit_all_rules;
 
 // What is told of a document that a test built.
-//
-// A context borrows a document for as long as the document's own names live, so what a test builds is never freed.
-fn told<'a>(
+fn told(
     alloc: Global,
-    schema: &'a SchemaType,
-    document: Vec<Query<'a>>,
+    schema: &SchemaType,
+    document: Vec<Query<'_>>,
 ) -> Result<String, OutOfMemory> {
-    let document = document.leak();
-    told_of(alloc, schema, document)
+    told_of(alloc, schema, document.as_slice())
 }
 
 // The errors, a line each, and then the number of pairs that were compared.
 fn told_of<'a>(
     alloc: Global,
     schema: &'a SchemaType,
-    document: &'a [Query<'a>],
+    document: &'a [Query<'_>],
 ) -> Result<String, OutOfMemory> {
     let mut ctx = ValidatorContext::new(alloc, schema, document)?;
     let compared = visit_all_rules(&mut ctx, document)?;

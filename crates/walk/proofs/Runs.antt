@@ -80,7 +80,7 @@ module _ {S C V : Type 0} (step : StepOf S C V) where
   KeepsPlace-ran ms a b w w' w'' (es, r, e) k =
       let P : ContextState S C → Type 0 = λ z. KeepsPlace z w'' in
       let q : KeepsPlace (with_errors w es) w'' = subst P e k in
-      record { schema = q.schema; known = q.known; typings = q.typings; stays = q.stays }
+      record { allocator = q.allocator; schema = q.schema; known = q.known; typings = q.typings; stays = q.stays }
 
   -- a run, and a step more at the next of these events
   pub Ran-planned : (ps : List (PlannedEventOf S C)) (i : ℕ) (p : PlannedEventOf S C) (a b c : V) (w w' w'' : ContextState S C) → i < length ps → p ≡ get_or ps i p → Ran step (all_planned (take i ps)) a b w w' → Stepped step (planned p) b c w' w'' → Ran step (all_planned (take (i + 1) ps)) a c w w''

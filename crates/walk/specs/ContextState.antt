@@ -1,4 +1,5 @@
 -- What a context holds, as callers see it.
+use Rattle.std.specs.Global.{Global}
 use Rattle.std.specs.Prelude.{◌≡◌, ℕ, ◌-◌, List, [], ◌∷◌, ◌++◌, Option, Some, None, Bool, true, false, slice_get, length, take}
 use Rattle.language.specs.declared.tree.Definition.{Definition}
 use Rattle.schema.specs.Catalog.{Catalog}
@@ -6,8 +7,10 @@ use Rattle.walk.specs.ErrorValue.{ErrorValue}
 use Rattle.walk.specs.Names.{fragment_names}
 use Rattle.events.specs.Typing.{Typing, untyped}
 
--- the schema, the names of the document's fragments, the types that were pushed, what was reported, and whether it has failed
+-- what it allocates by, the schema, the names of the document's fragments, the types that were pushed, what was reported, and
+-- whether it has failed
 pub record ContextState (S C : Type 0) : Type 0 where
+  pub allocator : Global
   pub schema : Catalog S C
   pub known : List (List ℕ)
   pub typings : List (Typing S C)
@@ -55,8 +58,8 @@ module _ {S C : Type 0} where
   scope_of schema doc = record { schema = schema; known = fragment_names doc }
 
   -- a context that was made for a document: no types, and nothing reported
-  abbrev pub fresh_context : Catalog S C → List (Definition S) → ContextState S C
-  fresh_context schema doc = record { schema = schema; known = fragment_names doc; typings = []; errors = []; failed = false }
+  abbrev pub fresh_context : Global → Catalog S C → List (Definition S) → ContextState S C
+  fresh_context alloc schema doc = record { allocator = alloc; schema = schema; known = fragment_names doc; typings = []; errors = []; failed = false }
 
 module _ {S C : Type 0} where
   -- types that are pushed and popped leave a context as it was, but for what was reported between

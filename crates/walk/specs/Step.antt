@@ -24,6 +24,7 @@ Ran step events a b old new = (es : List ErrorValue) × Run (step (scope_of_cont
 
 -- whatever was reported, the types are those from before, and a context that had failed has failed
 pub record KeepsPlace {S C : Type 0} (old new : ContextState S C) : Type 0 where
+  pub allocator : new.allocator ≡ old.allocator
   pub schema : new.schema ≡ old.schema
   pub known : new.known ≡ old.known
   pub typings : new.typings ≡ old.typings

@@ -51,17 +51,17 @@ impl<'a, S, C> Model for ValidatorContextOf<'a, S, C> {
 
     ghost coded = { Prim.hlevel coded_state };
 
-    ghost view = { λ c. record { schema = c.schema.now; known = known_names c.fragment_names; typings = map typing_of c.types.items; errors = c.errors.items; failed = c.failed } };
+    ghost view = { λ c. record { allocator = c.alloc; schema = c.schema.now; known = known_names c.fragment_names; typings = map typing_of c.types.items; errors = c.errors.items; failed = c.failed } };
 }
 
 impl<'a, S, C> ValidatorContextOf<'a, S, C> {
     /// A context for a document, in which no types are pushed and nothing is reported.
-    pub fn new(
+    pub fn new<'t>(
         alloc: Global,
         schema: &'a SchemaTypeOf<S, C>,
-        document: &'a [Definition<'a, S>],
+        document: &'a [Definition<'t, S>],
     ) -> Result<ValidatorContextOf<'a, S, C>, OutOfMemory>
-        ensures { IfOk result (λ ctx. ctx ≡ fresh_context schema.now document.now) }
+        ensures { IfOk result (λ ctx. ctx ≡ fresh_context alloc schema.now document.now) }
     {
         let fragment_names = FragmentNames::new(alloc, document)?;
         Ok(ValidatorContextOf {
@@ -75,7 +75,9 @@ impl<'a, S, C> ValidatorContextOf<'a, S, C> {
     }
 
     /// What the context allocates by.
-    pub fn allocator(&self) -> Global {
+    pub fn allocator(&self) -> Global
+        ensures { result ≡ self.now.allocator }
+    {
         self.alloc
     }
 

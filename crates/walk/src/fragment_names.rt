@@ -23,9 +23,9 @@ impl<'a> FragmentNames<'a> {
     ghost use Rattle.walk.specs.FragmentSet.{known_names};
 
     /// The names of the fragments of the document.
-    pub(crate) fn new<S>(
+    pub(crate) fn new<'t, S>(
         alloc: Global,
-        document: &'a [Definition<'a, S>],
+        document: &'a [Definition<'t, S>],
     ) -> Result<FragmentNames<'a>, OutOfMemory>
         ensures { IfOk result (λ f. known_names f ≡ fragment_names document.now) }
     {

@@ -40,10 +40,10 @@ impl<S: CheckedScalar> Rule<S, S::Check> for AskedChecks {
 }
 
 impl<'a, S: CheckedScalar> Visitor<'a, S> for AskedChecks {
-    fn on(
+    fn on<'t>(
         &mut self,
         ctx: &mut ValidatorContext<'a, S>,
-        event: &Event<'a, S>,
+        event: &Event<'a, 't, S>,
     ) -> Result<(), OutOfMemory> {
         if let Event::EnterArgument(argument) = event {
             if let Some(check) = check_of(ctx) {

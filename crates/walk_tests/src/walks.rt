@@ -163,7 +163,7 @@ type Visitors = MultiVisitorCons<Recorder, MultiVisitorNil>;
 fn recorded<'a>(
     alloc: Global,
     ctx: &mut ValidatorContext<'a, DefaultScalarValue>,
-    document: &'a [Definition<'a, DefaultScalarValue>],
+    document: &'a [Definition<'_, DefaultScalarValue>],
 ) -> Result<Visitors, OutOfMemory> {
     let recorder = Recorder {
         text: String::new(alloc),
@@ -174,22 +174,10 @@ fn recorded<'a>(
 }
 
 /// The same in a fresh context. After a refusal it says whether the context refuses each later call.
-///
-/// A context borrows a document for as long as the document's own names live, so what a test builds is never freed.
 fn recorded_afresh<'a>(
     alloc: Global,
     schema: &'a Schema,
-    document: Vec<Definition<'a, DefaultScalarValue>>,
-) -> Result<Visitors, bool> {
-    let document = document.leak();
-    recorded_of_lent(alloc, schema, document)
-}
-
-/// The same of a document that is lent.
-fn recorded_of_lent<'a>(
-    alloc: Global,
-    schema: &'a Schema,
-    document: &'a [Definition<'a, DefaultScalarValue>],
+    document: &'a [Definition<'_, DefaultScalarValue>],
 ) -> Result<Visitors, bool> {
     match ValidatorContext::new(alloc, schema, document) {
         Ok(mut ctx) => match recorded(alloc, &mut ctx, document) {
@@ -204,7 +192,7 @@ fn recorded_of_lent<'a>(
 fn refuses_all<'a>(
     alloc: Global,
     mut ctx: ValidatorContext<'a, DefaultScalarValue>,
-    document: &'a [Definition<'a, DefaultScalarValue>],
+    document: &'a [Definition<'_, DefaultScalarValue>],
 ) -> bool {
     let reports = ctx.report_error("m", &[]).is_err();
     let appends = ctx.append_errors(Vec::new(alloc)).is_err();
@@ -227,7 +215,7 @@ fn every_kind_of_node_is_told(rt: HostRuntime) -> Result<(), Fail> {
     };
     let schema = sample_schema(alloc, checks)?;
     let document = sample_document(alloc)?;
-    let recorded = recorded_afresh(alloc, &schema, document);
+    let recorded = recorded_afresh(alloc, &schema, document.as_slice());
     let Ok(visitors) = recorded else {
         return Err(Fail::from("memory was refused"));
     };
@@ -255,7 +243,7 @@ fn a_refused_request_changes_no_walk(rt: HostRuntime) {
     let Ok(document) = sample_document(alloc) else {
         return;
     };
-    match recorded_afresh(alloc, &schema, document) {
+    match recorded_afresh(alloc, &schema, document.as_slice()) {
         Ok(visitors) => assert_eq!(rt; visitors.newest().text.as_str(), WALK),
         Err(refuses) => assert!(rt; refuses),
     }

@@ -1,0 +1,18 @@
+use Rattle.std.proofs.Common.{sym, subst, IsPermutation, IsSorted}
+use Rattle.gql_check.proofs.Reports.{told_all}
+use Rattle.walk.specs.ErrorValue.{error_cmp}
+use Rattle.gql_check.proofs.report.Report.on.Goals as goal
+
+-- the errors are those of the context
+pub returns : goal.returns
+returns g c = record {
+  is_report = record {
+    errors = c.as_slice.result.now;
+    pairs = c.in_ok-compared.compared;
+    sorted = subst (IsSorted error_cmp) (sym c.as_slice.ensures.value) c.in_ok-errors.ensures.sorted;
+    text = c.in_ok-report.ensures.text;
+    is_clean = c.in_ok-report.ensures.is_clean;
+  };
+  all = subst (IsPermutation _) (sym c.as_slice.ensures.value) (told_all _ _ c.args.document.now _ _ _ c.in_ok-ctx.ensures c.in_ok-compared.ensures.appended c.in_ok-errors.ensures.all);
+  compared = c.in_ok-compared.ensures.compared;
+}
