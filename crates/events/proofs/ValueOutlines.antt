@@ -1,9 +1,8 @@
 -- The outline of each kind of value.
-use Rattle.std.proofs.Common.{◌≡◌, ℕ, List, [], ◌∷◌, map, sym, ap, ◌∙◌, refl, String, string_bytes}
+use Rattle.std.proofs.Common.{◌≡◌, List, [], ◌∷◌, map, sym, ap, ◌∙◌, refl, String, string_bytes}
 use Rattle.std.specs.Prelude.{Vec}
 use Rattle.std.specs.declared.alloc.Global.{Global}
 use Rattle.language.specs.declared.position.Span.{Span}
-use Rattle.language.specs.declared.position.Spanning.{Spanning}
 use Rattle.language.specs.declared.value.InputValue.{InputValue}
 use Rattle.language.specs.declared.value.InputValue.TheVariants as v
 use Rattle.language.specs.declared.value.InputValue.TheOpen as opened

@@ -1,5 +1,5 @@
 -- A document as an outline: its nodes in their order, each with its types and what stands in it.
-use Rattle.std.specs.Prelude.{ℕ, List, [], ◌∷◌, Option, Some, None, map, string_bytes, String}
+use Rattle.std.specs.Prelude.{List, [], ◌∷◌, Option, Some, None, map, string_bytes, String}
 use Rattle.std.specs.declared.vec.Vec.{Vec}
 use Rattle.std.specs.declared.alloc.Global.{Global}
 use Rattle.language.specs.declared.position.Span.{Span}
@@ -21,7 +21,6 @@ use Rattle.language.specs.declared.value.InputValue.TheOpen as opened_value
 use Rattle.language.specs.declared.value.InputValue.TheFolds.{para-InputValue}
 use Rattle.meta.specs.declared.arguments.Argument.{Argument}
 use Rattle.schema.specs.Catalog.{Catalog}
-use Rattle.events.specs.Node
 use Rattle.events.specs.Node.{Node, Placed, ArgumentEntry, ObjectEntry, VariableEntry}
 use Rattle.events.specs.SchemaView.{field_arguments, directive_arguments}
 use Rattle.events.specs.Typing.{Typing, at_operation, at_fragment, at_set, at_field, at_inline, at_variable, at_argument, at_items, at_object_field}

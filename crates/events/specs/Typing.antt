@@ -1,5 +1,5 @@
 -- The types at a node, each given by a rule on the node above it.
-use Rattle.std.specs.Prelude.{ℕ, List, Option, Some, None, option_and_then, string_bytes}
+use Rattle.std.specs.Prelude.{ℕ, List, Option, Some, None, option_and_then}
 use Rattle.std.specs.Option.{option_map}
 use Rattle.language.specs.Types.{TypeShape, shape, list_inner_of, non_null_named}
 use Rattle.language.specs.declared.tree.Operation.{Operation}

@@ -4,15 +4,13 @@ use mathlib.Core.Path.{fun_ext}
 use Rattle.std.proofs.lemmas.List.{append-nil}
 use Rattle.std.specs.Str.{bytes_eq}
 use Rattle.std.specs.List.{flat_map}
-use Rattle.walk.specs.ContextState.{scope_of}
-use Rattle.walk.specs.ErrorValue.{ErrorValue}
 use Rattle.events.specs.Node.{Node}
 use Rattle.events.specs.Occurrence.{Occurrence, occurrences}
 use Rattle.walk.specs.Entering.{found_keeping}
 use Rattle.walk.specs.Rule.{AllowsFrom, exactly}
 use Rattle.walk.proofs.Entering.{keeping_keeps}
 use Rattle.local_rules.specs.Names.{Named, Places}
-use Rattle.local_rules.specs.Repeats.{first_place, repeats, repeats_after}
+use Rattle.local_rules.specs.Repeats.{first_place, repeats_after}
 use Rattle.local_rules.specs.Noting.{noted, noted_if, nothing_noted, or_else, to_list, repeat_if, repeated, noting_step, NothingNoted}
 
 -- to note one more name is to have one more at the end

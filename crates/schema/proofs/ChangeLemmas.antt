@@ -1,8 +1,8 @@
 -- Changes of a schema.
-use Rattle.std.proofs.Common.{◌≡◌, ℕ, List, [], ◌∷◌, ◌++◌, Bool, true, false, cond, not, ◌&&◌, ◌||◌, Option, Some, None, map, string_bytes, refl, ap, subst, sym, ◌∙◌}
-use Rattle.std.specs.Prelude.{find, String, Result, Ok, Err, IfErr, OnOk, OnErr, is_ok, IsOkUnless, Contains}
+use Rattle.std.proofs.Common.{◌≡◌, ℕ, List, [], ◌∷◌, Bool, true, false, cond, not, ◌&&◌, ◌||◌, Option, Some, map, string_bytes, refl, ap, sym, ◌∙◌}
+use Rattle.std.specs.Prelude.{find, String, Result, Ok, Err, IfErr, OnOk, OnErr, is_ok, IsOkUnless}
 use Rattle.std.specs.declared.alloc.Global.{Global}
-use Rattle.std.specs.List.{flat_map, list_any, list_all}
+use Rattle.std.specs.List.{list_any, list_all}
 use Rattle.std.specs.Option.{option_map_or}
 use Rattle.std.specs.Str.{bytes_eq}
 use Rattle.std.specs.String.{string_eq}

@@ -1,7 +1,7 @@
 -- The subtype relation and its test; both are reflexive and transitive.
-use Rattle.std.proofs.Common.{◌≡◌, ℕ, List, [], ◌∷◌, ◌++◌, Bool, true, false, cond, ◌&&◌, ◌||◌, Option, Some, None, is_some, ◌<◌, zero, suc, length, get_or, arith, map, reverse, string_bytes, refl, ap, subst, sym, ◌∙◌}
+use Rattle.std.proofs.Common.{◌≡◌, ℕ, List, [], ◌∷◌, Bool, true, false, cond, ◌&&◌, ◌||◌, Option, Some, None, is_some, ◌<◌, zero, suc, length, get_or, arith, map, reverse, string_bytes, refl, ap, subst, sym, ◌∙◌}
 use Rattle.std.specs.Prelude.{find, Contains, ◌↔◌}
-use Rattle.std.specs.List.{flat_map, list_any, list_all}
+use Rattle.std.specs.List.{flat_map, list_any}
 use Rattle.std.specs.Option.{option_map_or}
 use Rattle.std.specs.Str.{bytes_eq}
 use Rattle.std.proofs.lemmas.Bool.{and_parts, or_cases, or_left}

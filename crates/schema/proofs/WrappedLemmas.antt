@@ -1,6 +1,6 @@
 -- The metadata and the modifiers of a type, level by level.
-use Rattle.std.proofs.Common.{◌≡◌, ℕ, ◌+◌, ◌-◌, List, [], ◌∷◌, ◌++◌, length, length-append, Option, Some, None, Bor, option_map, reverse, refl, ap, sym, ◌∙◌, arith}
-use Rattle.std.specs.Prelude.{slice_get, unwrap_or, fold}
+use Rattle.std.proofs.Common.{◌≡◌, ℕ, ◌-◌, List, [], ◌∷◌, ◌++◌, length, length-append, Option, Some, Bor, option_map, reverse, refl, ap, sym, ◌∙◌, arith}
+use Rattle.std.specs.Prelude.{slice_get}
 use Rattle.std.proofs.lemmas.List.{reverse-append, reverse-reverse}
 use Rattle.std.specs.Prelude.{Box}
 use Rattle.std.specs.declared.alloc.Global.{Global}
@@ -10,7 +10,7 @@ use Rattle.language.specs.Types.{outermost}
 use Rattle.meta.specs.declared.kinds.MetaTypeOf.{MetaTypeOf}
 use Rattle.schema.specs.declared.model.types.TypeTypeOf.{TypeTypeOf}
 use Rattle.schema.specs.declared.model.types.TypeTypeOf.TheVariants as v
-use Rattle.schema.specs.declared.model.types.TypeTypeOf.TheFolds.{fold-TypeTypeOf, fold-roll-TypeTypeOf}
+use Rattle.schema.specs.declared.model.types.TypeTypeOf.TheFolds.{fold-roll-TypeTypeOf}
 use Rattle.schema.specs.declared.model.types.TypeTypeOf.TheOpen.{TypeTypeOf-F}
 use Rattle.schema.specs.Wrapped.{WrappedMeta, modifiers_of_items, plain_meta, wrap_meta, wrapped_layer, wrapped_of, items_of}
 

@@ -1,11 +1,11 @@
 -- A run through the events of an outline, by steps where nodes are entered, is a run through its occurrences.
-use Rattle.std.proofs.Common.{◌≡◌, List, [], ◌∷◌, ◌++◌, refl, ap, sym, ◌∙◌, subst, append_assoc, IsPermutation}
+use Rattle.std.proofs.Common.{◌≡◌, List, [], ◌∷◌, ◌++◌, ap, sym, ◌∙◌, subst, IsPermutation}
 use Rattle.std.proofs.lemmas.List.Sorted.{IsPermutation-refl}
 use Rattle.std.specs.List.{flat_map}
 use Rattle.walk.specs.ErrorValue.{ErrorValue}
 use Rattle.walk.specs.ContextState.{DocumentScope, scope_of}
 use Rattle.events.specs.Outline.{Outline, empty, entry, outline_of_document}
-use Rattle.events.specs.TypedEvent.{entering, leaving, TypedEvent, events_of}
+use Rattle.events.specs.TypedEvent.{leaving, TypedEvent, events_of}
 use Rattle.events.specs.Occurrence.{Occurrence, occurrences_of, occurrences}
 use Rattle.walk.specs.Step.{Run}
 use Rattle.walk.specs.Rule.{AllowsFrom, exactly, any_value}

@@ -1,5 +1,5 @@
 -- Laws of runs.
-use Rattle.std.proofs.Common.{◌≡◌, ℕ, ◌+◌, ◌<◌, get_or, ◌-◌, List, [], ◌∷◌, ◌++◌, length, take, slice_get, Some, refl, ap, sym, ◌∙◌, subst, append_assoc, arith, length-append, Result, Ok, Err, OnErr, OnOk, IfOk}
+use Rattle.std.proofs.Common.{◌≡◌, ℕ, ◌+◌, ◌<◌, get_or, ◌-◌, List, [], ◌∷◌, ◌++◌, length, take, slice_get, Some, refl, ap, sym, ◌∙◌, subst, append_assoc, arith, length-append, Result, Ok, Err, OnErr, OnOk}
 use Rattle.std.proofs.lemmas.List.{append-nil, take_more, map-append}
 use Rattle.walk.specs.declared.multi_visitor.MultiVisitorCons.{MultiVisitorCons}
 use Rattle.events.specs.declared.typed_events.PlannedEventOf.{PlannedEventOf}
@@ -7,7 +7,7 @@ use Rattle.events.specs.EventValue.{planned, all_planned}
 use Rattle.walk.specs.Pair.{pair_step}
 use Rattle.walk.specs.ErrorValue.{ErrorValue}
 use Rattle.events.specs.Typing.{Typing}
-use Rattle.walk.specs.ContextState.{ContextState, scope_of_context, with_errors, typing, last_typing, pushed, popped, or_untyped}
+use Rattle.walk.specs.ContextState.{ContextState, scope_of_context, with_errors, typing, pushed, popped, or_untyped}
 use Rattle.events.specs.TypedEvent.{TypedEvent}
 use Rattle.walk.specs.Step.{StepOf, Run, Stepped, Ran, KeepsPlace}
 

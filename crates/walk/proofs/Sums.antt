@@ -1,5 +1,5 @@
 -- Rules that each report their collection report the sum of these.
-use Rattle.std.proofs.Common.{◌≡◌, List, [], ◌∷◌, ◌++◌, sym, subst, IsPermutation}
+use Rattle.std.proofs.Common.{List, [], ◌∷◌, sym, subst, IsPermutation}
 use Rattle.std.proofs.lemmas.List.Sorted.{IsPermutation-refl, IsPermutation-trans, IsPermutation-append_left, IsPermutation-append_right}
 use Rattle.language.specs.declared.tree.Definition.{Definition}
 use Rattle.walk.specs.ErrorValue.{ErrorValue}

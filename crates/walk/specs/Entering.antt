@@ -5,7 +5,7 @@ use Rattle.walk.specs.ErrorValue.{ErrorValue}
 use Rattle.walk.specs.ContextState.{DocumentScope}
 use Rattle.events.specs.Node.{Node}
 use Rattle.events.specs.Typing.{Typing}
-use Rattle.events.specs.TypedEvent.{Side, entering, leaving, TypedEvent}
+use Rattle.events.specs.TypedEvent.{Side, entering, leaving}
 use Rattle.events.specs.Occurrence.{Occurrence, occurrences}
 use Rattle.walk.specs.Step.{StepOf}
 use Rattle.walk.specs.Rule.{Allowance, Collection}

@@ -1,4 +1,4 @@
-use Rattle.std.proofs.Common.{ℕ, ◌+◌, ◌*◌}
+use Rattle.std.proofs.Common.{◌+◌, ◌*◌}
 use Rattle.document_reader.proofs.selections.+selections.Given as goal
 
 abbrev pub decreases-read_after_dots : goal.decreases-read_after_dots

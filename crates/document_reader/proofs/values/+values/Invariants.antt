@@ -1,4 +1,4 @@
-use Rattle.std.proofs.Common.{ℕ, ◌+◌, ◌*◌}
+use Rattle.std.proofs.Common.{◌+◌, ◌*◌}
 use Rattle.document_reader.proofs.values.+values.Given as goal
 
 abbrev pub decreases-read_entries : goal.decreases-read_entries

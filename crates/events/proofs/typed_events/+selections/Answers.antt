@@ -1,14 +1,12 @@
-use Rattle.std.proofs.Common.{Some, ◌++◌, ap, sym, ◌∙◌}
-use Rattle.std.specs.Option.{option_copied}
+use Rattle.std.proofs.Common.{◌++◌, ap, sym, ◌∙◌}
 use Rattle.std.proofs.lemmas.Result.{on_ok_weaker}
 use Rattle.events.specs.Node
 use Rattle.events.specs.SchemaView.{field_arguments}
-use Rattle.events.specs.Outline.{beside, each, if_there, outline_of_value, outline_of_argument, outline_of_arguments, outline_of_directive, outline_of_directives, outline_of_variable_definition, outline_of_variable_definitions, outline_of_set, outline_of_set_if_there, outline_of_selection, outline_in_field}
+use Rattle.events.specs.Outline.{beside, each, outline_of_arguments, outline_of_directives, outline_of_set, outline_of_set_if_there, outline_of_selection, outline_in_field}
 use Rattle.events.specs.TypedEvent.{events_of}
 use Rattle.events.specs.EventValue.{typing_of, all_planned}
 use Rattle.events.proofs.Lists.{flat_map_step}
 use Rattle.events.proofs.Events.{each_whole, around, around_two, three_parts, two_and_nothing, retyped}
-use Rattle.events.specs.Typing.{at_set}
 use Rattle.events.proofs.SelectionOutlines.{of_field, of_spread, of_inline}
 use Rattle.events.proofs.typed_events.+selections.Goals as goal
 

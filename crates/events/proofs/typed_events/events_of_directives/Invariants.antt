@@ -1,6 +1,5 @@
 use Rattle.std.proofs.Common.{◌≡◌, ◌++◌, take}
 use Rattle.std.specs.List.{flat_map}
-use Rattle.std.specs.Option.{option_copied}
 use Rattle.events.specs.Outline.{outline_of_directive}
 use Rattle.events.specs.TypedEvent.{events_of}
 use Rattle.events.specs.EventValue.{typing_of, all_planned}

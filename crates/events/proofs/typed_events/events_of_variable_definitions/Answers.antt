@@ -1,13 +1,9 @@
-use Rattle.std.proofs.Common.{Some, ◌++◌, ap, sym, ◌∙◌}
-use Rattle.std.specs.Option.{option_copied}
-use Rattle.std.proofs.lemmas.Result.{on_ok_weaker}
-use Rattle.events.specs.Node
-use Rattle.events.specs.SchemaView.{directive_arguments}
-use Rattle.events.specs.Outline.{each, if_there, outline_of_value, outline_of_argument, outline_of_arguments, outline_of_directive, outline_of_directives, outline_of_variable_definition, outline_of_variable_definitions, outline_of_set}
+use Rattle.std.proofs.Common.{◌++◌, ap, sym, ◌∙◌}
+use Rattle.events.specs.Outline.{each, outline_of_variable_definition, outline_of_variable_definitions}
 use Rattle.events.specs.TypedEvent.{events_of}
 use Rattle.events.specs.EventValue.{typing_of, all_planned}
 use Rattle.events.proofs.Lists.{flat_map_step}
-use Rattle.events.proofs.Events.{each_whole, around, around_two, around_three, retyped}
+use Rattle.events.proofs.Events.{each_whole}
 use Rattle.events.proofs.typed_events.events_of_variable_definitions.Goals as goal
 
 pub loop-definition-preserved : goal.loop-definition-preserved

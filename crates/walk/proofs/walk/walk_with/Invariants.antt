@@ -1,6 +1,5 @@
 use Rattle.std.proofs.Common.{◌∷◌, take}
 use Rattle.std.specs.List.{flat_map}
-use Rattle.walk.specs.ContextState.{typing}
 use Rattle.events.specs.Node
 use Rattle.events.specs.Outline.{outline_of_definition}
 use Rattle.events.specs.TypedEvent.{entering, events_of}

@@ -1,10 +1,8 @@
 use Rattle.std.proofs.Common.{◌≡◌, ◌⊎◌, ◌∙◌, ap, subst}
 use Rattle.std.specs.Prelude.{OnOk, OnErr}
 use Rattle.std.specs.Fn.{FnOnceReturnsAtMut}
-use Rattle.std.specs.Option.{option_map}
-use Rattle.language.specs.Types.{borrowed_shape}
-use Rattle.walk.specs.ContextState.{ContextState, typing, pushed, popped, failing}
-use Rattle.events.specs.Typing.{at_type, at_set, at_input}
+use Rattle.walk.specs.ContextState.{ContextState, pushed, popped, failing}
+use Rattle.events.specs.Typing.{at_set}
 use Rattle.walk.proofs.context.ValidatorContextOf.with_pushed_parent_type.Goals as goal
 
 -- f was called at these types

@@ -4,7 +4,7 @@ use Rattle.std.specs.Fn.{FnOnceReturnsAtMut}
 use Rattle.std.specs.Option.{option_map}
 use Rattle.language.specs.Types.{borrowed_shape}
 use Rattle.walk.specs.ContextState.{ContextState, typing, pushed, popped, failing}
-use Rattle.events.specs.Typing.{at_type, at_set, at_input}
+use Rattle.events.specs.Typing.{at_type}
 use Rattle.walk.proofs.context.ValidatorContextOf.with_pushed_type.Goals as goal
 
 -- f was called at these types

@@ -1,5 +1,4 @@
-use Rattle.std.proofs.Common.{◌≡◌, drop, map, string_bytes}
-use Rattle.indexmap.specs.IndexMap.{values}
+use Rattle.std.proofs.Common.{◌≡◌}
 use Rattle.schema.specs.Possible.{do_meet, implementer_names, possible_names}
 use Rattle.schema.proofs.model.schemas.SchemaTypeOf.is_any_implementer_possible.Given as goal
 

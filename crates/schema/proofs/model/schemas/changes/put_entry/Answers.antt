@@ -1,6 +1,4 @@
 use Rattle.std.proofs.Common.{ap, ◌∙◌}
-use Rattle.schema.specs.Directives.{directive_name}
-use Rattle.schema.specs.Named.{are_keyed}
 use Rattle.std.specs.Prelude.{map}
 use Rattle.schema.proofs.ChangeLemmas.{with-inserted, keyed-inserted}
 use Rattle.schema.proofs.model.schemas.changes.put_entry.Goals as goal
