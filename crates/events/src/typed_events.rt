@@ -34,12 +34,12 @@ pub struct TypesOf<'a, S, C> {
 
 /// An event that a visitor is to be told of, with the types at its node.
 #[derive(Drop)]
-pub struct PlannedEventOf<'a, 't, S, C> {
-    pub event: Event<'a, 't, S>,
+pub struct PlannedEventOf<'a, S, C> {
+    pub event: Event<'a, S>,
     pub types: TypesOf<'a, S, C>,
 }
 
-pub type PlannedEvent<'a, 't, S> = PlannedEventOf<'a, 't, S, <S as CheckedScalar>::Check>;
+pub type PlannedEvent<'a, S> = PlannedEventOf<'a, S, <S as CheckedScalar>::Check>;
 
 impl<'a, S, C> TypesOf<'a, S, C> {
     /// The types at a node where a type is written.
@@ -210,10 +210,10 @@ impl<'a, S, C> TypesOf<'a, S, C> {
     }
 
     // At an inline fragment with this condition, or with none.
-    fn at_condition<'t>(
+    fn at_condition(
         self,
         schema: &'a SchemaTypeOf<S, C>,
-        condition: &'a Option<Spanning<&'t str>>,
+        condition: &'a Option<Spanning<&'a str>>,
     ) -> Self
         ensures { typing_of result ≡ at_condition schema.now (typing_of self.entry) (option_map (λ c. c.item.now) condition.now) }
     {
@@ -224,7 +224,7 @@ impl<'a, S, C> TypesOf<'a, S, C> {
     }
 
     // At the definition of a variable of a type.
-    fn at_variable<'t>(self, variable: &'a VariableDefinition<'t, S>) -> Self
+    fn at_variable(self, variable: &'a VariableDefinition<'a, S>) -> Self
         ensures { typing_of result ≡ at_variable (typing_of self.entry) variable.now }
     {
         self.at_input(Some(variable.var_type.item.as_borrowed()))
@@ -253,9 +253,9 @@ impl<'a, S, C> TypesOf<'a, S, C> {
 }
 
 // One more event.
-fn push_event<'a, 't, S, C>(
-    events: &mut Vec<PlannedEventOf<'a, 't, S, C>>,
-    event: Event<'a, 't, S>,
+fn push_event<'a, S, C>(
+    events: &mut Vec<PlannedEventOf<'a, S, C>>,
+    event: Event<'a, S>,
     types: TypesOf<'a, S, C>,
 ) -> Result<(), AllocError>
     ensures { OnOk result (all_planned events.new.items ≡ all_planned events.old.items ++ typed_event event.entry (typing_of types.entry) ∷ []) }
@@ -265,10 +265,10 @@ fn push_event<'a, 't, S, C>(
 }
 
 // A node with nothing in it is entered and left.
-fn push_both<'a, 't, S, C>(
-    events: &mut Vec<PlannedEventOf<'a, 't, S, C>>,
-    enter: Event<'a, 't, S>,
-    exit: Event<'a, 't, S>,
+fn push_both<'a, S, C>(
+    events: &mut Vec<PlannedEventOf<'a, S, C>>,
+    enter: Event<'a, S>,
+    exit: Event<'a, S>,
     types: TypesOf<'a, S, C>,
 ) -> Result<(), AllocError>
     ensures { OnOk result (all_planned events.new.items ≡ all_planned events.old.items ++ typed_event enter.entry (typing_of types.entry) ∷ typed_event exit.entry (typing_of types.entry) ∷ []) }
@@ -279,12 +279,12 @@ fn push_both<'a, 't, S, C>(
 
 // The events of a value.
 #[cycle(values)]
-fn events_of_value<'a, 't, S, C>(
+fn events_of_value<'a, S, C>(
     schema: &'a SchemaTypeOf<S, C>,
     item: &'a InputValue<S>,
     span: &'a Span,
     types: TypesOf<'a, S, C>,
-    events: &mut Vec<PlannedEventOf<'a, 't, S, C>>,
+    events: &mut Vec<PlannedEventOf<'a, S, C>>,
 ) -> Result<(), AllocError>
     ensures { OnOk result (all_planned events.new.items ≡ all_planned events.old.items ++ events_of (outline_of_bare_value schema.now item.now span.now (typing_of types.entry))) }
 {
@@ -383,11 +383,11 @@ fn events_of_value<'a, 't, S, C>(
 
 // The events of the items of a list, at their types.
 #[cycle(values)]
-fn events_of_items<'a, 't, S, C>(
+fn events_of_items<'a, S, C>(
     schema: &'a SchemaTypeOf<S, C>,
     items: &'a [Spanning<InputValue<S>>],
     types: TypesOf<'a, S, C>,
-    events: &mut Vec<PlannedEventOf<'a, 't, S, C>>,
+    events: &mut Vec<PlannedEventOf<'a, S, C>>,
 ) -> Result<(), AllocError>
     ensures { OnOk result (all_planned events.new.items ≡ all_planned events.old.items ++ events_of (each (outline_of_value schema.now (typing_of types.entry)) items.now)) }
 {
@@ -398,12 +398,12 @@ fn events_of_items<'a, 't, S, C>(
 }
 
 // The events of an argument, whose type is looked up among these.
-fn events_of_argument<'a, 't, S, C>(
+fn events_of_argument<'a, S, C>(
     schema: &'a SchemaTypeOf<S, C>,
     arguments: Option<&'a [Argument<S>]>,
-    argument: &'a (Spanning<&'t str>, Spanning<InputValue<S>>),
+    argument: &'a (Spanning<&'a str>, Spanning<InputValue<S>>),
     types: TypesOf<'a, S, C>,
-    events: &mut Vec<PlannedEventOf<'a, 't, S, C>>,
+    events: &mut Vec<PlannedEventOf<'a, S, C>>,
 ) -> Result<(), AllocError>
     ensures { OnOk result (all_planned events.new.items ≡ all_planned events.old.items ++ events_of (outline_of_argument schema.now (option_copied arguments.entry) (typing_of types.entry) argument.now)) }
 {
@@ -415,12 +415,12 @@ fn events_of_argument<'a, 't, S, C>(
 }
 
 // The events of the arguments, where there are some.
-fn events_of_arguments<'a, 't, S, C>(
+fn events_of_arguments<'a, S, C>(
     schema: &'a SchemaTypeOf<S, C>,
     arguments: Option<&'a [Argument<S>]>,
-    written: &'a Option<Spanning<Arguments<'t, S>>>,
+    written: &'a Option<Spanning<Arguments<'a, S>>>,
     types: TypesOf<'a, S, C>,
-    events: &mut Vec<PlannedEventOf<'a, 't, S, C>>,
+    events: &mut Vec<PlannedEventOf<'a, S, C>>,
 ) -> Result<(), AllocError>
     ensures { OnOk result (all_planned events.new.items ≡ all_planned events.old.items ++ events_of (outline_of_arguments schema.now (option_copied arguments.entry) (typing_of types.entry) written.now)) }
 {
@@ -434,11 +434,11 @@ fn events_of_arguments<'a, 't, S, C>(
 }
 
 // The events of a directive.
-fn events_of_directive<'a, 't, S, C>(
+fn events_of_directive<'a, S, C>(
     schema: &'a SchemaTypeOf<S, C>,
-    directive: &'a Spanning<Directive<'t, S>>,
+    directive: &'a Spanning<Directive<'a, S>>,
     types: TypesOf<'a, S, C>,
-    events: &mut Vec<PlannedEventOf<'a, 't, S, C>>,
+    events: &mut Vec<PlannedEventOf<'a, S, C>>,
 ) -> Result<(), AllocError>
     ensures { OnOk result (all_planned events.new.items ≡ all_planned events.old.items ++ events_of (outline_of_directive schema.now (typing_of types.entry) directive.now)) }
 {
@@ -449,11 +449,11 @@ fn events_of_directive<'a, 't, S, C>(
 }
 
 // The events of the directives, where there are some.
-fn events_of_directives<'a, 't, S, C>(
+fn events_of_directives<'a, S, C>(
     schema: &'a SchemaTypeOf<S, C>,
-    written: &'a Option<Vec<Spanning<Directive<'t, S>>>>,
+    written: &'a Option<Vec<Spanning<Directive<'a, S>>>>,
     types: TypesOf<'a, S, C>,
-    events: &mut Vec<PlannedEventOf<'a, 't, S, C>>,
+    events: &mut Vec<PlannedEventOf<'a, S, C>>,
 ) -> Result<(), AllocError>
     ensures { OnOk result (all_planned events.new.items ≡ all_planned events.old.items ++ events_of (outline_of_directives schema.now (typing_of types.entry) written.now)) }
 {
@@ -467,11 +467,11 @@ fn events_of_directives<'a, 't, S, C>(
 }
 
 // The events of a definition of a variable.
-fn events_of_variable_definition<'a, 't, S, C>(
+fn events_of_variable_definition<'a, S, C>(
     schema: &'a SchemaTypeOf<S, C>,
-    definition: &'a (Spanning<&'t str>, VariableDefinition<'t, S>),
+    definition: &'a (Spanning<&'a str>, VariableDefinition<'a, S>),
     types: TypesOf<'a, S, C>,
-    events: &mut Vec<PlannedEventOf<'a, 't, S, C>>,
+    events: &mut Vec<PlannedEventOf<'a, S, C>>,
 ) -> Result<(), AllocError>
     ensures { OnOk result (all_planned events.new.items ≡ all_planned events.old.items ++ events_of (outline_of_variable_definition schema.now (typing_of types.entry) definition.now)) }
 {
@@ -484,11 +484,11 @@ fn events_of_variable_definition<'a, 't, S, C>(
 }
 
 // The events of a default value, where there is one.
-fn events_of_default_value<'a, 't, S, C>(
+fn events_of_default_value<'a, S, C>(
     schema: &'a SchemaTypeOf<S, C>,
     value: &'a Option<Spanning<InputValue<S>>>,
     types: TypesOf<'a, S, C>,
-    events: &mut Vec<PlannedEventOf<'a, 't, S, C>>,
+    events: &mut Vec<PlannedEventOf<'a, S, C>>,
 ) -> Result<(), AllocError>
     ensures { OnOk result (all_planned events.new.items ≡ all_planned events.old.items ++ events_of (if_there (outline_of_value schema.now (typing_of types.entry)) value.now)) }
 {
@@ -499,11 +499,11 @@ fn events_of_default_value<'a, 't, S, C>(
 }
 
 // The events of the definitions of variables, where there are some.
-fn events_of_variable_definitions<'a, 't, S, C>(
+fn events_of_variable_definitions<'a, S, C>(
     schema: &'a SchemaTypeOf<S, C>,
-    written: &'a Option<Spanning<VariableDefinitions<'t, S>>>,
+    written: &'a Option<Spanning<VariableDefinitions<'a, S>>>,
     types: TypesOf<'a, S, C>,
-    events: &mut Vec<PlannedEventOf<'a, 't, S, C>>,
+    events: &mut Vec<PlannedEventOf<'a, S, C>>,
 ) -> Result<(), AllocError>
     ensures { OnOk result (all_planned events.new.items ≡ all_planned events.old.items ++ events_of (outline_of_variable_definitions schema.now (typing_of types.entry) written.now)) }
 {
@@ -518,11 +518,11 @@ fn events_of_variable_definitions<'a, 't, S, C>(
 
 // The events of a selection set.
 #[cycle(selections)]
-fn events_of_set<'a, 't, S, C>(
+fn events_of_set<'a, S, C>(
     schema: &'a SchemaTypeOf<S, C>,
-    set: &'a [Selection<'t, S>],
+    set: &'a [Selection<'a, S>],
     types: TypesOf<'a, S, C>,
-    events: &mut Vec<PlannedEventOf<'a, 't, S, C>>,
+    events: &mut Vec<PlannedEventOf<'a, S, C>>,
 ) -> Result<(), AllocError>
     ensures { OnOk result (all_planned events.new.items ≡ all_planned events.old.items ++ events_of (outline_of_set schema.now (typing_of types.entry) set.now)) }
 {
@@ -536,11 +536,11 @@ fn events_of_set<'a, 't, S, C>(
 
 // The events of a selection.
 #[cycle(selections)]
-fn events_of_selection<'a, 't, S, C>(
+fn events_of_selection<'a, S, C>(
     schema: &'a SchemaTypeOf<S, C>,
-    selection: &'a Selection<'t, S>,
+    selection: &'a Selection<'a, S>,
     types: TypesOf<'a, S, C>,
-    events: &mut Vec<PlannedEventOf<'a, 't, S, C>>,
+    events: &mut Vec<PlannedEventOf<'a, S, C>>,
 ) -> Result<(), AllocError>
     ensures { OnOk result (all_planned events.new.items ≡ all_planned events.old.items ++ events_of (outline_of_selection schema.now (typing_of types.entry) selection.now)) }
 {
@@ -552,11 +552,11 @@ fn events_of_selection<'a, 't, S, C>(
 }
 
 // The events of a fragment spread.
-fn events_of_spread<'a, 't, S, C>(
+fn events_of_spread<'a, S, C>(
     schema: &'a SchemaTypeOf<S, C>,
-    spread: &'a Spanning<FragmentSpread<'t, S>>,
+    spread: &'a Spanning<FragmentSpread<'a, S>>,
     types: TypesOf<'a, S, C>,
-    events: &mut Vec<PlannedEventOf<'a, 't, S, C>>,
+    events: &mut Vec<PlannedEventOf<'a, S, C>>,
 ) -> Result<(), AllocError>
     ensures { OnOk result (all_planned events.new.items ≡ all_planned events.old.items ++ events_of (outline_of_spread schema.now (typing_of types.entry) spread.now)) }
 {
@@ -567,11 +567,11 @@ fn events_of_spread<'a, 't, S, C>(
 
 // The events of a field.
 #[cycle(selections)]
-fn events_of_field<'a, 't, S, C>(
+fn events_of_field<'a, S, C>(
     schema: &'a SchemaTypeOf<S, C>,
-    field: &'a Spanning<Field<'t, S>>,
+    field: &'a Spanning<Field<'a, S>>,
     types: TypesOf<'a, S, C>,
-    events: &mut Vec<PlannedEventOf<'a, 't, S, C>>,
+    events: &mut Vec<PlannedEventOf<'a, S, C>>,
 ) -> Result<(), AllocError>
     ensures { OnOk result (all_planned events.new.items ≡ all_planned events.old.items ++ events_of (outline_of_field schema.now (typing_of types.entry) field.now)) }
 {
@@ -583,11 +583,11 @@ fn events_of_field<'a, 't, S, C>(
 
 // The events of what stands in a field, at its types.
 #[cycle(selections)]
-fn events_in_field<'a, 't, S, C>(
+fn events_in_field<'a, S, C>(
     schema: &'a SchemaTypeOf<S, C>,
-    field: &'a Field<'t, S>,
+    field: &'a Field<'a, S>,
     types: TypesOf<'a, S, C>,
-    events: &mut Vec<PlannedEventOf<'a, 't, S, C>>,
+    events: &mut Vec<PlannedEventOf<'a, S, C>>,
 ) -> Result<(), AllocError>
     ensures { OnOk result (all_planned events.new.items ≡ all_planned events.old.items ++ events_of (outline_in_field schema.now (typing_of types.entry) field.now)) }
 {
@@ -602,11 +602,11 @@ fn events_in_field<'a, 't, S, C>(
 
 // The events of an inline fragment.
 #[cycle(selections)]
-fn events_of_inline<'a, 't, S, C>(
+fn events_of_inline<'a, S, C>(
     schema: &'a SchemaTypeOf<S, C>,
-    fragment: &'a Spanning<InlineFragment<'t, S>>,
+    fragment: &'a Spanning<InlineFragment<'a, S>>,
     types: TypesOf<'a, S, C>,
-    events: &mut Vec<PlannedEventOf<'a, 't, S, C>>,
+    events: &mut Vec<PlannedEventOf<'a, S, C>>,
 ) -> Result<(), AllocError>
     ensures { OnOk result (all_planned events.new.items ≡ all_planned events.old.items ++ events_of (outline_of_inline schema.now (typing_of types.entry) fragment.now)) }
 {
@@ -623,11 +623,11 @@ fn events_of_inline<'a, 't, S, C>(
 }
 
 // The events of an operation.
-fn events_of_operation<'a, 't, S, C>(
+fn events_of_operation<'a, S, C>(
     schema: &'a SchemaTypeOf<S, C>,
-    operation: &'a Spanning<Operation<'t, S>>,
+    operation: &'a Spanning<Operation<'a, S>>,
     types: TypesOf<'a, S, C>,
-    events: &mut Vec<PlannedEventOf<'a, 't, S, C>>,
+    events: &mut Vec<PlannedEventOf<'a, S, C>>,
 ) -> Result<(), AllocError>
     ensures { OnOk result (all_planned events.new.items ≡ all_planned events.old.items ++ events_of (outline_of_operation schema.now (typing_of types.entry) operation.now)) }
 {
@@ -645,11 +645,11 @@ fn events_of_operation<'a, 't, S, C>(
 }
 
 // The events of a definition of a fragment.
-fn events_of_fragment<'a, 't, S, C>(
+fn events_of_fragment<'a, S, C>(
     schema: &'a SchemaTypeOf<S, C>,
-    fragment: &'a Spanning<Fragment<'t, S>>,
+    fragment: &'a Spanning<Fragment<'a, S>>,
     types: TypesOf<'a, S, C>,
-    events: &mut Vec<PlannedEventOf<'a, 't, S, C>>,
+    events: &mut Vec<PlannedEventOf<'a, S, C>>,
 ) -> Result<(), AllocError>
     ensures { OnOk result (all_planned events.new.items ≡ all_planned events.old.items ++ events_of (outline_of_fragment schema.now (typing_of types.entry) fragment.now)) }
 {
@@ -666,11 +666,11 @@ fn events_of_fragment<'a, 't, S, C>(
 }
 
 // The events of a definition.
-fn push_definition<'a, 't, S, C>(
+fn push_definition<'a, S, C>(
     schema: &'a SchemaTypeOf<S, C>,
-    definition: &'a Definition<'t, S>,
+    definition: &'a Definition<'a, S>,
     types: TypesOf<'a, S, C>,
-    events: &mut Vec<PlannedEventOf<'a, 't, S, C>>,
+    events: &mut Vec<PlannedEventOf<'a, S, C>>,
 ) -> Result<(), AllocError>
     ensures { OnOk result (all_planned events.new.items ≡ all_planned events.old.items ++ events_of (outline_of_definition schema.now (typing_of types.entry) definition.now)) }
 {
@@ -681,12 +681,12 @@ fn push_definition<'a, 't, S, C>(
 }
 
 /// The events of a definition that stands at these types, in the order of a walk.
-pub fn events_of_definition<'a, 't, S, C>(
+pub fn events_of_definition<'a, S, C>(
     alloc: Global,
     schema: &'a SchemaTypeOf<S, C>,
-    definition: &'a Definition<'t, S>,
+    definition: &'a Definition<'a, S>,
     types: TypesOf<'a, S, C>,
-) -> Result<Vec<PlannedEventOf<'a, 't, S, C>>, AllocError>
+) -> Result<Vec<PlannedEventOf<'a, S, C>>, AllocError>
     ensures { IfOk result (λ events. all_planned events.items ≡ events_of (outline_of_definition schema.now (typing_of types.entry) definition.now)) }
 {
     let mut events = Vec::new(alloc);

@@ -1,5 +1,5 @@
 -- What a report holds.
-use Rattle.std.specs.Prelude.{◌≡◌, ◌==◌, ℕ, List, length, string_bytes, IsPermutation, IsSorted}
+use Rattle.std.specs.Prelude.{◌≡◌, ◌==◌, ℕ, List, length, string_bytes, IsSorted}
 use Rattle.gql_check.specs.Report.{report_text}
 use Rattle.gql_check.specs.declared.report.Report.{Report}
 use Rattle.language.specs.declared.tree.Definition.{Definition}
@@ -18,5 +18,5 @@ pub record IsReport (report : Report) : Type 0 where
 -- the report on a document: its errors are what the rules report of the document, and no pair was compared
 pub record IsReportOn {S C : Type 0} (schema : Catalog S C) (document : List (Definition S)) (report : Report) : Type 0 where
   pub is_report : IsReport report
-  pub all : IsPermutation (reported schema document) is_report.errors
+  pub all : reported schema document is_report.errors
   pub compared : is_report.pairs ≡ 0

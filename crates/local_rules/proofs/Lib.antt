@@ -1,1 +1,4 @@
+pub mod ConditionsSeen
 pub mod FirstNoted
+pub mod RepeatsSeen
+pub mod Told

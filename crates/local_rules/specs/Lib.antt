@@ -1,8 +1,14 @@
+pub mod ConditionsKept
 pub mod KnownFragmentNames
 pub mod LoneAnonymousOperation
 pub mod Names
 pub mod Noting
 pub mod NotingLaws
 pub mod Places
+pub mod PossibleSpreads
 pub mod Repeats
+pub mod SpreadsKept
+pub mod UniqueArgumentNames
+pub mod UniqueInputFieldNames
 pub mod UniqueOperationNames
+pub mod UnspreadFragments

@@ -1,12 +1,12 @@
 -- Operations without a name that are not alone.
-use Rattle.std.specs.Prelude.{ℕ, List, [], ◌∷◌, Option, Some, None, nat_lt, length, if◌then◌else◌, codes}
+use Rattle.std.specs.Prelude.{Bool, ℕ, List, [], ◌∷◌, Option, Some, None, nat_lt, length, if◌then◌else◌, codes}
 use Rattle.std.specs.List.{flat_map}
 use Rattle.language.specs.declared.tree.Definition.{Definition}
 use Rattle.language.specs.declared.tree.Definition.TheVariants as definition
 use Rattle.language.specs.declared.tree.Operation.{Operation}
 use Rattle.walk.specs.ContextState.{DocumentScope}
 use Rattle.walk.specs.ErrorValue.{ErrorValue}
-use Rattle.events.specs.Node.{Node, Name, Placed, document}
+use Rattle.events.specs.Node.{Node, Name, Placed, operation_definition}
 use Rattle.events.specs.Occurrence.{Occurrence}
 
 abbrev pub anonymous_message : List ℕ
@@ -28,10 +28,14 @@ nameless o (Some name) = []
 abbrev pub anonymous : {S : Type 0} → Placed (Operation S) → List ErrorValue
 anonymous o = nameless o o.item.name
 
-abbrev pub lone_anonymous : {S : Type 0} → Node S → List ErrorValue
-lone_anonymous (document doc) = if nat_lt 1 (length (operations doc)) then flat_map anonymous (operations doc) else []
-lone_anonymous _ = []
+-- whether a document has two operations or more
+abbrev pub has_several : {S C : Type 0} → DocumentScope S C → List (Definition S) → Bool
+has_several scope doc = nat_lt 1 (length (operations doc))
 
--- at the document: where it has two operations or more, each that has no name
-abbrev pub lone_anonymous_operations : {S C : Type 0} → DocumentScope S C → Occurrence S C → List ErrorValue
-lone_anonymous_operations scope o = lone_anonymous o.node
+abbrev pub anonymous_at : {S : Type 0} → Node S → List ErrorValue
+anonymous_at (operation_definition o) = anonymous o
+anonymous_at _ = []
+
+-- at an operation: where there are several, it is reported if it has no name
+abbrev pub anonymous_among : {S C : Type 0} → DocumentScope S C → Bool → Occurrence S C → List ErrorValue
+anonymous_among scope several o = if several then anonymous_at o.node else []

@@ -7,14 +7,14 @@ use Rattle.std.specs.List.{flat_map}
 use Rattle.events.specs.Node.{Node}
 use Rattle.events.specs.Occurrence.{Occurrence, occurrences}
 use Rattle.walk.specs.Entering.{found_keeping}
-use Rattle.walk.specs.Rule.{AllowsFrom, exactly}
+use Rattle.walk.specs.Rule.{AllowsFrom, always, exactly}
 use Rattle.walk.proofs.Entering.{keeping_keeps}
 use Rattle.local_rules.specs.Names.{Named, Places}
 use Rattle.local_rules.specs.Repeats.{first_place, repeats_after}
 use Rattle.local_rules.specs.Noting.{noted, noted_if, nothing_noted, or_else, to_list, repeat_if, repeated, noting_step, NothingNoted}
 
 -- to note one more name is to have one more at the end
-first_place-more : (earlier : List Named) (n : Named) (name : List ℕ) → noted (first_place earlier) n name ≡ first_place (earlier ++ n ∷ []) name
+pub first_place-more : (earlier : List Named) (n : Named) (name : List ℕ) → noted (first_place earlier) n name ≡ first_place (earlier ++ n ∷ []) name
 first_place-more [] n name = refl
 first_place-more (m ∷ earlier) n name =
     elim (bytes_eq m.0 name) as (λ b. or_else (cond b (Some m.1) (first_place earlier name)) (cond (bytes_eq n.0 name) (Some n.1) None) ≡ cond b (Some m.1) (first_place (earlier ++ n ∷ []) name))
@@ -40,7 +40,7 @@ module _ {S C : Type 0} (message : List ℕ → List ℕ) (name : Node S → Opt
       ∙ repeats-more message earlier (name o.node) (names os)
 
 -- each run from a fresh value reports just the names that stand again
-pub noting_keeps : {S C V : Type 0} (message : List ℕ → List ℕ) (places : V → Places) (name : Node S → Option Named) → AllowsFrom (noting_step {S = S} {C = C} places message name) (NothingNoted places) (exactly (repeated message name))
+pub noting_keeps : {S C V : Type 0} (message : List ℕ → List ℕ) (places : V → Places) (name : Node S → Option Named) → AllowsFrom (noting_step {S = S} {C = C} places message name) (NothingNoted places) (always (exactly (repeated message name)))
 noting_keeps {S} {C} message places name start fresh schema t doc end es r =
     subst (λ z. IsPermutation z es) (found_repeats {S = S} {C = C} message name (occurrences schema t doc) [])
     (keeping_keeps places (λ scope o. noted_if (name o.node)) (λ scope o. repeat_if message (name o.node)) nothing_noted start fresh schema t doc end es r)

@@ -27,6 +27,16 @@ impl<'a> FirstPlaces<'a> {
         }
     }
 
+    /// The place where a name was noted first, if it was.
+    pub fn place(&self, name: &str) -> Option<SourcePosition>
+        ensures { result ≡ places_of self.now name.now }
+    {
+        match self.places.get(name) {
+            Some(first) => Some(*first),
+            None => None,
+        }
+    }
+
     /// Notes a name at a place, and answers the place where it was noted first, if it was noted before.
     pub fn note(
         &mut self,

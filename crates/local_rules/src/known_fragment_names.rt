@@ -2,7 +2,7 @@
 
 ghost use Rattle.std.specs.Prelude.{◌≡◌, IfOk, string_bytes};
 ghost use Rattle.walk.specs.Entering.{finding_step, found};
-ghost use Rattle.walk.specs.Rule.{any_value, exactly};
+ghost use Rattle.walk.specs.Rule.{always, any_value, exactly};
 ghost use Rattle.walk.proofs.Entering.{finding_keeps};
 ghost use Rattle.local_rules.specs.KnownFragmentNames.{unknown_fragment_message, unknown_fragments};
 
@@ -33,16 +33,16 @@ impl<S, C> Machine<S, C> for KnownFragmentNames {
 }
 
 impl<S, C> Rule<S, C> for KnownFragmentNames {
-    ghost allows = { exactly (found unknown_fragments) };
+    ghost allows = { always (exactly (found unknown_fragments)) };
 
     ghost keeps = { finding_keeps unknown_fragments };
 }
 
 impl<'a, S: CheckedScalar> Visitor<'a, S> for KnownFragmentNames {
-    fn on<'t>(
+    fn on(
         &mut self,
         ctx: &mut ValidatorContext<'a, S>,
-        event: &Event<'a, 't, S>,
+        event: &Event<'a, S>,
     ) -> Result<(), OutOfMemory> {
         if let Event::EnterFragmentSpread(spread) = event {
             let name = &spread.item.name;

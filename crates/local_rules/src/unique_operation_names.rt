@@ -1,7 +1,7 @@
 //! No two operations of a document have one name (GraphQL, section 5.2.1.1).
 
 ghost use Rattle.std.specs.Prelude.{◌≡◌, IfOk, string_bytes};
-ghost use Rattle.walk.specs.Rule.{exactly};
+ghost use Rattle.walk.specs.Rule.{always, exactly};
 ghost use Rattle.local_rules.specs.Noting.{noting_step, repeated, NothingNoted};
 ghost use Rattle.local_rules.specs.NotingLaws.{noting_keeps};
 ghost use Rattle.local_rules.specs.Places.{places_of};
@@ -39,16 +39,16 @@ impl<'a, S, C> Machine<S, C> for UniqueOperationNames<'a> {
 }
 
 impl<'a, S, C> Rule<S, C> for UniqueOperationNames<'a> {
-    ghost allows = { exactly (repeated repeated_operation_message operation_name) };
+    ghost allows = { always (exactly (repeated repeated_operation_message operation_name)) };
 
     ghost keeps = { noting_keeps repeated_operation_message (λ a. places_of a.names) operation_name };
 }
 
 impl<'a, S: CheckedScalar> Visitor<'a, S> for UniqueOperationNames<'a> {
-    fn on<'t>(
+    fn on(
         &mut self,
         ctx: &mut ValidatorContext<'a, S>,
-        event: &Event<'a, 't, S>,
+        event: &Event<'a, S>,
     ) -> Result<(), OutOfMemory> {
         if let Event::EnterOperationDefinition(operation) = event {
             if let Some(name) = &operation.item.name {

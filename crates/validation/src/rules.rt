@@ -3,7 +3,7 @@
 ghost use Rattle.std.specs.Prelude.{◌≡◌, IfOk, OnOk, OnErr, IsErr, true};
 ghost use Rattle.walk.specs.ContextState.{typing, scope_of};
 ghost use Rattle.walk.specs.Names.{fragment_names};
-ghost use Rattle.walk.specs.Rule.{Appended, exactly, sum_of};
+ghost use Rattle.walk.specs.Rule.{Appended, sum_of};
 ghost use Rattle.walk.specs.Step.{KeepsPlace};
 ghost use Rattle.validation.specs.StageOne.{stage_one};
 
@@ -13,7 +13,7 @@ pub use local_rules::{known_fragment_names, lone_anonymous_operation, unique_ope
 use meta::check::CheckedScalar;
 use walk::{MultiVisitorNil, ValidatorContext, visit_rules};
 
-/// Tries every rule on a document, in a context that was made for it, and appends the errors of the rules.
+/// Tries every rule on a document, and appends the errors of the rules, in a context that was made for it.
 ///
 /// It walks over the document once. The answer is the number of pairs of fragments that were compared; no rule that compares
 /// any is there yet, so it is 0.
@@ -21,8 +21,7 @@ pub fn visit_all_rules<'a, 't, S: CheckedScalar>(
     ctx: &mut ValidatorContext<'a, S>,
     document: &'a [Definition<'t, S>],
 ) -> Result<u128, OutOfMemory>
-    requires known { ctx.old.known ≡ fragment_names document.now }
-    ensures appended { OnOk result (Appended (exactly (sum_of stage_one) (scope_of ctx.old.schema document.now) (typing ctx.old) document.now) ctx.old ctx.new) }
+    ensures appended { OnOk result (ctx.old.known ≡ fragment_names document.now → Appended (sum_of stage_one (scope_of ctx.old.schema document.now) (typing ctx.old) document.now) ctx.old ctx.new) }
     ensures compared { IfOk result (λ pairs. pairs ≡ 0) }
     ensures err { OnErr result (KeepsPlace ctx.old ctx.new) }
     ensures failed { OnErr result (ctx.new.failed ≡ true) }

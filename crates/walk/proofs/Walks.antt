@@ -44,9 +44,9 @@ module _ {S C V : Type 0} (step : StepOf S C V) where
       subst (λ z. Ran step (typed_events w.schema z doc) a c w w'') e (subst (λ z. Ran step (enter ∷ (z ++ leave ∷ [])) a c w w'') all q)
 
 -- in a context that knows the fragments of the document, fresh rules append what they are allowed
-pub ran_appends : {S C V : Type 0} (step : StepOf S C V) (fresh : V → Type 0) (allows : Allowance S C) (a b : V) (w w' : ContextState S C) (doc : List (Definition S))
+pub ran_appends : {S C V : Type 0} (step : StepOf S C V) (fresh : V → Type 0) (allows : V → Allowance S C) (a b : V) (w w' : ContextState S C) (doc : List (Definition S))
     → AllowsFrom step fresh allows → w.known ≡ fragment_names doc → fresh a → Ran step (typed_events w.schema (typing w) doc) a b w w'
-    → Appended (allows (scope_of w.schema doc) (typing w) doc) w w'
+    → Appended (allows b (scope_of w.schema doc) (typing w) doc) w w'
 ran_appends step fresh allows a b w w' doc keeps known f (es, r, e) =
     let r' = subst (λ k. Run (step (record { schema = w.schema; known = k })) (typed_events w.schema (typing w) doc) a b es) known r in
     (es, keeps a f w.schema (typing w) doc b es r', e)

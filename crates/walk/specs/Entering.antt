@@ -3,12 +3,23 @@ use Rattle.std.specs.Prelude.{◌≡◌, List, [], ◌∷◌, ◌++◌}
 use Rattle.std.specs.List.{flat_map}
 use Rattle.walk.specs.ErrorValue.{ErrorValue}
 use Rattle.walk.specs.ContextState.{DocumentScope}
-use Rattle.events.specs.Node.{Node}
+use Rattle.language.specs.declared.tree.Definition.{Definition}
+use Rattle.events.specs.Node.{Node, document}
 use Rattle.events.specs.Typing.{Typing}
 use Rattle.events.specs.TypedEvent.{Side, entering, leaving}
 use Rattle.events.specs.Occurrence.{Occurrence, occurrences}
 use Rattle.walk.specs.Step.{StepOf}
-use Rattle.walk.specs.Rule.{Allowance, Collection}
+use Rattle.walk.specs.Rule.{Allowance, Collection, exactly}
+
+-- what is done where the document is left, and nothing where another node is
+abbrev pub at_close : {S V : Type 0} → (V → V → List ErrorValue → Type 0) → Node S → V → V → List ErrorValue → Type 0
+at_close close (document doc) a b es = close a b es
+at_close close _ a b es = (b ≡ a) × (es ≡ [])
+
+-- what is made of the document where it is entered
+abbrev pub made_at : {S K : Type 0} → (List (Definition S) → K) → Node S → K → K
+made_at make (document doc) k = make doc
+made_at make _ k = k
 
 module _ {S C : Type 0} where
   -- what a rule does at an occurrence: its state before and after, and what it reports
@@ -35,6 +46,24 @@ module _ {S C : Type 0} where
   abbrev pub keeping_step : {V K : Type 0} → (V → K) → (DocumentScope S C → Occurrence S C → K → K) → (DocumentScope S C → Occurrence S C → K → List ErrorValue) → StepOf S C V
   keeping_step kept next finds = entering_step (λ scope o a b es. (kept b ≡ next scope o (kept a)) × (es ≡ finds scope o (kept a)))
 
+  -- A rule that keeps something, and reports by it where the document is left, too.
+  abbrev pub closing_side : {V : Type 0} → (Occurrence S C → V → V → List ErrorValue → Type 0) → (V → V → List ErrorValue → Type 0) → Side → Node S → Typing S C → V → V → List ErrorValue → Type 0
+  closing_side step close entering node types a b es = step (record { node = node; types = types }) a b es
+  closing_side step close leaving node types a b es = at_close close node a b es
+
+  abbrev pub closing_step : {V K : Type 0} → (V → K) → (DocumentScope S C → Occurrence S C → K → K) → (DocumentScope S C → Occurrence S C → K → List ErrorValue) → (DocumentScope S C → K → V → List ErrorValue → Type 0) → StepOf S C V
+  closing_step kept next finds close scope event a b es =
+      closing_side (λ o c d fs. (kept d ≡ next scope o (kept c)) × (fs ≡ finds scope o (kept c))) (λ c d fs. close scope (kept c) d fs) event.side event.node event.types a b es
+
+  -- A rule that makes something of the document where it is entered, and reads it from then on.
+  abbrev pub prepared_step : {V K : Type 0} → (V → K) → (DocumentScope S C → List (Definition S) → K) → (DocumentScope S C → K → Occurrence S C → List ErrorValue) → StepOf S C V
+  prepared_step kept make finds =
+      entering_step (λ scope o a b es. (kept b ≡ made_at (make scope) o.node (kept a)) × (es ≡ finds scope (kept b) o))
+
+  -- what is found at each occurrence of the document by what is made of it
+  abbrev pub found_by : {K : Type 0} → (DocumentScope S C → List (Definition S) → K) → (DocumentScope S C → K → Occurrence S C → List ErrorValue) → Collection S C
+  found_by make finds scope t doc = flat_map (finds scope (make scope doc)) (occurrences scope.schema t doc)
+
 -- each of the list in turn gives some part
 abbrev pub EachGives : {O R : Type 0} → (O → List R → Type 0) → List O → List R → Type 0
 EachGives gives [] es = es ≡ []
@@ -45,6 +74,11 @@ abbrev pub found_keeping : {O K R : Type 0} → (O → K → K) → (O → K →
 found_keeping next finds k [] = []
 found_keeping next finds k (o ∷ os) = finds o k ++ found_keeping next finds (next o k) os
 
+-- what is kept after the list
+abbrev pub kept_after : {O K : Type 0} → (O → K → K) → K → List O → K
+kept_after next k [] = k
+kept_after next k (o ∷ os) = kept_after next (next o k) os
+
 module _ {S C : Type 0} where
   -- what the occurrences of a document give
   abbrev pub given : (DocumentScope S C → Occurrence S C → List ErrorValue → Type 0) → Allowance S C
@@ -53,3 +87,25 @@ module _ {S C : Type 0} where
   -- what is found at the occurrences of a document by what is kept, at first k
   abbrev pub kept_findings : {K : Type 0} → (DocumentScope S C → Occurrence S C → K → K) → (DocumentScope S C → Occurrence S C → K → List ErrorValue) → K → Collection S C
   kept_findings next finds k scope t doc = found_keeping (next scope) (finds scope) k (occurrences scope.schema t doc)
+
+  -- the same, and what is kept at the end
+  abbrev pub kept_to : {V K : Type 0} → (V → K) → (DocumentScope S C → Occurrence S C → K → K) → (DocumentScope S C → Occurrence S C → K → List ErrorValue) → K → V → Allowance S C
+  kept_to kept next finds k end scope t doc es =
+      (kept end ≡ kept_after (next scope) k (occurrences scope.schema t doc)) × exactly (kept_findings next finds k) scope t doc es
+
+  -- what is found by what is kept, and then what is given at the end
+  abbrev pub closing : {V K : Type 0} → (DocumentScope S C → Occurrence S C → K → K) → (DocumentScope S C → Occurrence S C → K → List ErrorValue) → (DocumentScope S C → K → V → List ErrorValue → Type 0) → K → V → Allowance S C
+  closing next finds close k end scope t doc es =
+      (late : List ErrorValue) × close scope (kept_after (next scope) k (occurrences scope.schema t doc)) end late × (es ≡ kept_findings next finds k scope t doc ++ late)
+
+  -- nothing is found on the way
+  abbrev pub nothing_on_the_way : {K : Type 0} → DocumentScope S C → Occurrence S C → K → List ErrorValue
+  nothing_on_the_way scope o k = []
+
+  -- just what is given at the end, in some order
+  abbrev pub closing_findings : {K : Type 0} → (DocumentScope S C → Occurrence S C → K → K) → (DocumentScope S C → K → List ErrorValue) → K → Collection S C
+  closing_findings next late k scope t doc = late scope (kept_after (next scope) k (occurrences scope.schema t doc))
+
+  -- just these, whatever the end
+  abbrev pub just : {V K : Type 0} → (DocumentScope S C → K → List ErrorValue) → DocumentScope S C → K → V → List ErrorValue → Type 0
+  just late scope k b es = es ≡ late scope k

@@ -1,6 +1,5 @@
 -- What rules may report of documents.
 use Rattle.std.specs.Prelude.{◌≡◌, List, [], ◌∷◌, ◌++◌, IsPermutation}
-use Rattle.std.specs.List.{flat_map}
 use Rattle.language.specs.declared.tree.Definition.{Definition}
 use Rattle.schema.specs.Catalog.{Catalog}
 use Rattle.walk.specs.declared.multi_visitor.MultiVisitorCons.{MultiVisitorCons}
@@ -32,21 +31,39 @@ module _ {S C : Type 0} where
   abbrev pub nothing : Allowance S C
   nothing scope t doc es = es ≡ []
 
-  -- all that these collect
-  abbrev pub sum_of : List (Collection S C) → Collection S C
-  sum_of collections scope t doc = flat_map (λ c. c scope t doc) collections
+  -- what all of these allow together
+  abbrev pub sum_of : List (Allowance S C) → Allowance S C
+  sum_of [] = nothing
+  sum_of (allowance ∷ rest) = together allowance (sum_of rest)
 
-  -- each of these, exactly, together
-  abbrev pub all_exactly : List (Collection S C) → Allowance S C
-  all_exactly [] = nothing
-  all_exactly (c ∷ rest) = together (exactly c) (all_exactly rest)
+  -- each of these allows that nothing is reported
+  abbrev pub AllowNothing : List (Allowance S C) → DocumentScope S C → Typing S C → List (Definition S) → Type 0
+  AllowNothing [] scope t doc = Unit {0}
+  AllowNothing (allowance ∷ rest) scope t doc = allowance scope t doc [] × AllowNothing rest scope t doc
 
-  -- what each run from a fresh value reports of a document is allowed
-  abbrev pub AllowsFrom : {V : Type 0} → StepOf S C V → (V → Type 0) → Allowance S C → Type 0
+  -- where nothing may be reported, nothing else may
+  abbrev pub Settled : Allowance S C → Type 0
+  Settled allowance =
+      (scope : DocumentScope S C) (t : Typing S C) (doc : List (Definition S)) (es : List ErrorValue) → allowance scope t doc [] → allowance scope t doc es → es ≡ []
+
+  abbrev pub AllSettled : List (Allowance S C) → Type 0
+  AllSettled [] = Unit {0}
+  AllSettled (allowance ∷ rest) = Settled allowance × AllSettled rest
+
+  -- whatever state a rule ends in
+  abbrev pub always : {V : Type 0} → Allowance S C → V → Allowance S C
+  always allowance end = allowance
+
+  -- what the two allow at the ends of both
+  abbrev pub pair_allows : {V W : Type 0} → (V → Allowance S C) → (W → Allowance S C) → MultiVisitorCons V W → Allowance S C
+  pair_allows newer other end = together (newer end.0) (other end.1)
+
+  -- what each run from a fresh value reports of a document is allowed at its end
+  abbrev pub AllowsFrom : {V : Type 0} → StepOf S C V → (V → Type 0) → (V → Allowance S C) → Type 0
   AllowsFrom {V} step fresh allows =
       (start : V) → fresh start → (schema : Catalog S C) (t : Typing S C) (doc : List (Definition S)) (end : V) (es : List ErrorValue)
       → Run (step (scope_of schema doc)) (typed_events schema t doc) start end es
-      → allows (scope_of schema doc) t doc es
+      → allows end (scope_of schema doc) t doc es
 
   -- errors of which P holds were appended, and nothing else has changed
   abbrev pub Appended : (List ErrorValue → Type 0) → ContextState S C → ContextState S C → Type 0

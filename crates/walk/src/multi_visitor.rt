@@ -84,10 +84,10 @@ impl<S, C, A: Machine<S, C>, B: Machine<S, C>> Machine<S, C> for MultiVisitorCon
 }
 
 impl<'a, S: CheckedScalar> Visitor<'a, S> for MultiVisitorNil {
-    fn on<'t>(
+    fn on(
         &mut self,
         ctx: &mut ValidatorContext<'a, S>,
-        event: &Event<'a, 't, S>,
+        event: &Event<'a, S>,
     ) -> Result<(), OutOfMemory>
         ensures always { IsOk result }
         ensures stepped { IfOk result (λ _. Stepped no_step (typed_event event.now (typing ctx.old)) self.old self.new ctx.old ctx.new) }
@@ -99,10 +99,10 @@ impl<'a, S: CheckedScalar> Visitor<'a, S> for MultiVisitorNil {
 
 impl<'a, S: CheckedScalar, A: Visitor<'a, S>, B: Visitor<'a, S>> Visitor<'a, S>
     for MultiVisitorCons<A, B> {
-    fn on<'t>(
+    fn on(
         &mut self,
         ctx: &mut ValidatorContext<'a, S>,
-        event: &Event<'a, 't, S>,
+        event: &Event<'a, S>,
     ) -> Result<(), OutOfMemory> {
         self.0.on(ctx, event)?;
         self.1.on(ctx, event)

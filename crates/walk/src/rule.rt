@@ -1,6 +1,6 @@
 //! Rules: visitors of which it is known what they report.
 
-ghost use Rattle.walk.specs.Rule.{Allowance, AllowsFrom, together, nothing, pair_fresh, any_value};
+ghost use Rattle.walk.specs.Rule.{Allowance, AllowsFrom, always, nothing, pair_allows, pair_fresh, any_value};
 ghost use Rattle.walk.specs.RuleLaws.{nil_keeps, pair_keeps};
 
 use crate::multi_visitor::{MultiVisitorCons, MultiVisitorNil};
@@ -8,8 +8,8 @@ use crate::visitor::{Fresh, Machine};
 
 /// A machine of which it is known what a walk with a fresh value of it reports of each document.
 pub trait Rule<S, C>: Machine<S, C> + Fresh {
-    // The lists of errors that may be reported.
-    ghost allows: { Allowance S C };
+    // The lists of errors that may be reported where it ends in a state.
+    ghost allows: { Self → Allowance S C };
 
     // What a walk from a fresh value reports is one of them.
     ghost keeps: { AllowsFrom Self.step Self.fresh allows };
@@ -24,13 +24,13 @@ impl<A: Fresh, B: Fresh> Fresh for MultiVisitorCons<A, B> {
 }
 
 impl<S, C> Rule<S, C> for MultiVisitorNil {
-    ghost allows = { nothing };
+    ghost allows = { always nothing };
 
     ghost keeps = { nil_keeps };
 }
 
 impl<S, C, A: Rule<S, C>, B: Rule<S, C>> Rule<S, C> for MultiVisitorCons<A, B> {
-    ghost allows = { together A.allows B.allows };
+    ghost allows = { pair_allows A.allows B.allows };
 
     ghost keeps = { pair_keeps A.step B.step A.fresh B.fresh A.allows B.allows A.keeps B.keeps };
 }

@@ -22,10 +22,10 @@ pub trait Visitor<'a, S: CheckedScalar>: Machine<S, S::Check> {
     ///
     /// On success the step of the machine was made, and nothing of the context changed but that its errors were appended; on
     /// failure the types are those from before.
-    fn on<'t>(
+    fn on(
         &mut self,
         ctx: &mut ValidatorContext<'a, S>,
-        event: &Event<'a, 't, S>,
+        event: &Event<'a, S>,
     ) -> Result<(), OutOfMemory>
         ensures stepped { IfOk result (λ _. Stepped Self.step (typed_event event.now (typing ctx.old)) self.old self.new ctx.old ctx.new) }
         ensures err { OnErr result (KeepsPlace ctx.old ctx.new) };

@@ -15,14 +15,15 @@ use crate::rule::Rule;
 use crate::visitor::{Machine, Visitor};
 use events::{Event, PlannedEvent, TypesOf, events_of_definition};
 use language::error::OutOfMemory;
+use language::shorten::shorten;
 use language::tree::Definition;
 use meta::check::CheckedScalar;
 
 // Tells a visitor of one event, at these types.
-fn tell_one<'a, 't, S: CheckedScalar, V: Visitor<'a, S>>(
+fn tell_one<'a, S: CheckedScalar, V: Visitor<'a, S>>(
     v: &mut V,
     ctx: &mut ValidatorContext<'a, S>,
-    event: &Event<'a, 't, S>,
+    event: &Event<'a, S>,
     types: TypesOf<'a, S, S::Check>,
 ) -> Result<(), OutOfMemory>
     ensures stepped { IfOk result (λ _. Stepped V.step (typed_event event.now (typing_of types.entry)) v.old v.new ctx.old ctx.new) }
@@ -40,10 +41,10 @@ fn tell_one<'a, 't, S: CheckedScalar, V: Visitor<'a, S>>(
 }
 
 // Tells a visitor of these events.
-fn tell_all<'a, 't, S: CheckedScalar, V: Visitor<'a, S>>(
+fn tell_all<'a, S: CheckedScalar, V: Visitor<'a, S>>(
     v: &mut V,
     ctx: &mut ValidatorContext<'a, S>,
-    events: &[PlannedEvent<'a, 't, S>],
+    events: &[PlannedEvent<'a, S>],
 ) -> Result<(), OutOfMemory>
     ensures ran { IfOk result (λ _. Ran V.step (all_planned events.now) v.old v.new ctx.old ctx.new) }
     ensures err { OnErr result (KeepsPlace ctx.old ctx.new) }
@@ -56,10 +57,10 @@ fn tell_all<'a, 't, S: CheckedScalar, V: Visitor<'a, S>>(
 }
 
 // Tells a visitor of the events of a definition, which stands at these types.
-fn visit_definition<'a, 't, S: CheckedScalar, V: Visitor<'a, S>>(
+fn visit_definition<'a, S: CheckedScalar, V: Visitor<'a, S>>(
     v: &mut V,
     ctx: &mut ValidatorContext<'a, S>,
-    definition: &'a Definition<'t, S>,
+    definition: &'a Definition<'a, S>,
     types: TypesOf<'a, S, S::Check>,
 ) -> Result<(), OutOfMemory>
     ensures ran { IfOk result (λ _. Ran V.step (events_of (outline_of_definition ctx.old.schema (typing_of types.entry) definition.now)) v.old v.new ctx.old ctx.new) }
@@ -78,10 +79,10 @@ fn visit_definition<'a, 't, S: CheckedScalar, V: Visitor<'a, S>>(
 /// Tells a visitor of all events of a document, in their order, each at the types of its node.
 ///
 /// It takes memory for the events of one definition at a time, and stops at the first refusal.
-pub fn walk_with<'a, 't, S: CheckedScalar, V: Visitor<'a, S>>(
+pub fn walk_with<'a, S: CheckedScalar, V: Visitor<'a, S>>(
     v: &mut V,
     ctx: &mut ValidatorContext<'a, S>,
-    document: &'a [Definition<'t, S>],
+    document: &'a [Definition<'a, S>],
 ) -> Result<(), OutOfMemory>
     ensures ran { IfOk result (λ _. Ran V.step (typed_events ctx.old.schema (typing ctx.old) document.now) v.old v.new ctx.old ctx.new) }
     ensures err { OnErr result (KeepsPlace ctx.old ctx.new) }
@@ -107,21 +108,22 @@ pub fn visit<'a, 't, A: Visitor<'a, S>, B: Visitor<'a, S>, S: CheckedScalar>(
     ensures failed { OnErr result (ctx.new.failed ≡ true) }
     ensures stays { ctx.old.failed ≡ true → IsErr result }
 {
-    walk_with(v, ctx, document)
+    walk_with(v, ctx, shorten(document))
 }
 
-/// Walks over a document with rules that are fresh, in a context that was made for this document.
+/// Walks over a document with rules that are fresh.
+///
+/// In a context that was made for this document the rules append what they are allowed to, in the states that they end in.
 pub fn visit_rules<'a, 't, S: CheckedScalar, R: Visitor<'a, S> + Rule<S, S::Check>>(
     rules: &mut R,
     ctx: &mut ValidatorContext<'a, S>,
     document: &'a [Definition<'t, S>],
 ) -> Result<(), OutOfMemory>
-    requires known { ctx.old.known ≡ fragment_names document.now }
     requires fresh { R.fresh rules.old }
-    ensures appended { OnOk result (Appended (R.allows (scope_of ctx.old.schema document.now) (typing ctx.old) document.now) ctx.old ctx.new) }
+    ensures appended { OnOk result (ctx.old.known ≡ fragment_names document.now → Appended (R.allows rules.new (scope_of ctx.old.schema document.now) (typing ctx.old) document.now) ctx.old ctx.new) }
     ensures err { OnErr result (KeepsPlace ctx.old ctx.new) }
     ensures failed { OnErr result (ctx.new.failed ≡ true) }
     ensures stays { ctx.old.failed ≡ true → IsErr result }
 {
-    walk_with(rules, ctx, document)
+    walk_with(rules, ctx, shorten(document))
 }

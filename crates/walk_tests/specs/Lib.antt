@@ -1,1 +1,4 @@
 pub mod AskedChecks
+pub mod CountedSpreads
+pub mod KeptFields
+pub mod MixedList

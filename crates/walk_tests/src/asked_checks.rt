@@ -4,7 +4,7 @@ ghost use Rattle.std.specs.Prelude.{◌≡◌, IfOk, string_bytes};
 ghost use Rattle.std.specs.Option.{option_copied, option_map};
 ghost use Rattle.walk.specs.ContextState.{typing};
 ghost use Rattle.walk.specs.Entering.{relating_step, given};
-ghost use Rattle.walk.specs.Rule.{any_value};
+ghost use Rattle.walk.specs.Rule.{always, any_value};
 ghost use Rattle.walk.proofs.Entering.{relating_keeps};
 ghost use Rattle.walk_tests.specs.AskedChecks.{check_at, IsFault, refusals};
 
@@ -34,16 +34,16 @@ impl<S: CheckedScalar> Machine<S, S::Check> for AskedChecks {
 }
 
 impl<S: CheckedScalar> Rule<S, S::Check> for AskedChecks {
-    ghost allows = { given (refusals S.may_answer) };
+    ghost allows = { always (given (refusals S.may_answer)) };
 
     ghost keeps = { relating_keeps (refusals S.may_answer) };
 }
 
 impl<'a, S: CheckedScalar> Visitor<'a, S> for AskedChecks {
-    fn on<'t>(
+    fn on(
         &mut self,
         ctx: &mut ValidatorContext<'a, S>,
-        event: &Event<'a, 't, S>,
+        event: &Event<'a, S>,
     ) -> Result<(), OutOfMemory> {
         if let Event::EnterArgument(argument) = event {
             if let Some(check) = check_of(ctx) {

@@ -1,9 +1,12 @@
-//! Tests of the crate `walk`: errors, walks over every kind of node, and a rule that asks checks.
+//! Tests of the crate `walk`: errors, walks over every kind of node, and rules that ask checks, count and keep nodes.
 #![tactic(auto)]
 
 pub mod asked_checks;
+pub mod counted_spreads;
 #[cfg(test)]
 mod errors;
+pub mod kept_fields;
+pub mod mixed_list;
 #[cfg(test)]
 mod recorder;
 #[cfg(test)]

@@ -10,7 +10,7 @@ use meta::default_check::DefaultCheck;
 use std::alloc::{AllocError, Global};
 use walk::{Event, Machine, ValidatorContext, Visitor};
 
-type Heard<'a, 't> = Event<'a, 't, DefaultScalarValue>;
+type Heard<'a> = Event<'a, DefaultScalarValue>;
 
 /// Writes a line for each event: its name, of what node, and there the type, the type as it was written, the parent type and
 /// the input type as it was written.
@@ -27,10 +27,10 @@ impl Machine<DefaultScalarValue, DefaultCheck> for Recorder {
 }
 
 impl<'a> Visitor<'a, DefaultScalarValue> for Recorder {
-    fn on<'t>(
+    fn on(
         &mut self,
         ctx: &mut ValidatorContext<'a, DefaultScalarValue>,
-        event: &Heard<'a, 't>,
+        event: &Heard<'a>,
     ) -> Result<(), OutOfMemory> {
         let alloc = *self.text.allocator();
         let types = shown_types(alloc, ctx)?;
@@ -84,7 +84,7 @@ fn name_in<'e>(operation: &'e Operation<'_, DefaultScalarValue>) -> &'e str {
 }
 
 /// The name of an event, and what its node is called.
-fn told<'e>(event: &'e Heard<'_, '_>) -> (&'static str, &'e str) {
+fn told<'e>(event: &'e Heard<'_>) -> (&'static str, &'e str) {
     match event {
         Event::EnterDocument(_) => ("enter_document", ""),
         Event::EnterOperationDefinition(o) => ("enter_operation_definition", name_in(&o.item)),

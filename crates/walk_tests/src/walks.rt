@@ -1,5 +1,6 @@
 //! A walk over every kind of node, and the calls of a context.
 
+use crate::kept_fields::count_and_free;
 use crate::recorder::{Recorder, shown_types};
 use crate::sample::{Checks, check_any, no_token, sample_document, sample_schema};
 use language::error::OutOfMemory;
@@ -224,6 +225,23 @@ fn every_kind_of_node_is_told(rt: HostRuntime) -> Result<(), Fail> {
         assert_eq!(rt; said, want);
     }
     assert_eq!(rt; heard, WALK);
+    Ok(())
+}
+
+/// A rule keeps the fields of a document that is freed after the walk: the walk above enters twelve.
+#[test]
+fn fields_are_kept(rt: HostRuntime) -> Result<(), Fail> {
+    let alloc = rt.alloc();
+    let checks = Checks {
+        string: DefaultCheck::with_token(check_any, no_token),
+        boolean: DefaultCheck::with_token(check_any, no_token),
+        int: DefaultCheck::with_token(check_any, no_token),
+        pair: DefaultCheck::new(check_any),
+    };
+    let schema = sample_schema(alloc, checks)?;
+    let document = sample_document(alloc)?;
+    let count = count_and_free(alloc, &schema, document)?;
+    assert_eq!(rt; count, 12);
     Ok(())
 }
 

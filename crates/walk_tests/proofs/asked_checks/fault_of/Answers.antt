@@ -1,4 +1,4 @@
-use Rattle.std.proofs.Common.{◌≡◌, Err, refl, subst}
+use Rattle.std.proofs.Common.{Err, refl, subst}
 use Rattle.walk_tests.proofs.asked_checks.fault_of.Goals as goal
 
 -- the text of the refusal is its own

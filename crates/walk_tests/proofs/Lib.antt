@@ -1,0 +1,2 @@
+pub mod MoreFields
+pub mod Settled
