@@ -7,10 +7,10 @@ use Rattle.walk.specs.ErrorValue.{ErrorValue}
 use Rattle.events.specs.Typing.{untyped}
 use Rattle.language.specs.declared.tree.Definition.{Definition}
 use Rattle.schema.specs.Catalog.{Catalog}
-use Rattle.local_rules.specs.KnownFragmentNames.{unknown_fragments}
-use Rattle.local_rules.specs.LoneAnonymousOperation.{has_several, anonymous_among}
-use Rattle.local_rules.specs.Noting.{repeated}
-use Rattle.local_rules.specs.UniqueOperationNames.{operation_name, repeated_operation_message}
+use Rattle.fragment_rules.specs.KnownFragmentNames.{unknown_fragments}
+use Rattle.operation_rules.specs.LoneAnonymousOperation.{has_several, anonymous_among}
+use Rattle.rule_parts.specs.Noting.{repeated}
+use Rattle.operation_rules.specs.UniqueOperationNames.{operation_name, repeated_operation_message}
 
 -- spreads of unknown fragments, operations without a name that are not alone, later operations of a name
 abbrev pub stage_one : {S C : Type 0} → List (Allowance S C)

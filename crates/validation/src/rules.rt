@@ -7,10 +7,11 @@ ghost use Rattle.walk.specs.Rule.{Appended, sum_of};
 ghost use Rattle.walk.specs.Step.{KeepsPlace};
 ghost use Rattle.validation.specs.StageOne.{stage_one};
 
+pub use fragment_rules::known_fragment_names;
 use language::error::OutOfMemory;
 use language::tree::Definition;
-pub use local_rules::{known_fragment_names, lone_anonymous_operation, unique_operation_names};
 use meta::check::CheckedScalar;
+pub use operation_rules::{lone_anonymous_operation, unique_operation_names};
 use walk::{MultiVisitorNil, ValidatorContext, visit_rules};
 
 /// Tries every rule on a document, and appends the errors of the rules, in a context that was made for it.

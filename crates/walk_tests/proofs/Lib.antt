@@ -1,2 +1,1 @@
 pub mod MoreFields
-pub mod Settled

@@ -1,4 +1,3 @@
 pub mod AskedChecks
 pub mod CountedSpreads
 pub mod KeptFields
-pub mod MixedList

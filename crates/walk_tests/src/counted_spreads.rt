@@ -1,14 +1,19 @@
 //! The smallest rule that keeps a count. It shows that what a rule allows can speak of the state that it ends in; no document
 //! is judged by it.
 
-ghost use Rattle.std.specs.Prelude.{◌≡◌};
+ghost use Rattle.std.specs.Prelude.{◌≡◌, IfOk};
+ghost use Rattle.walk.specs.ContextState.{typing, scope_of};
 ghost use Rattle.walk.specs.Entering.{keeping_step, kept_to, nothing_on_the_way};
 ghost use Rattle.walk.proofs.Entering.{keeping_keeps_to};
-ghost use Rattle.walk_tests.specs.CountedSpreads.{next_count};
+ghost use Rattle.walk.specs.Names.{fragment_names};
+ghost use Rattle.walk_tests.specs.CountedSpreads.{next_count, spread_count};
 
 use language::error::OutOfMemory;
+use language::tree::Definition;
 use meta::check::CheckedScalar;
-use walk::{Event, Fresh, Machine, Rule, ValidatorContext, Visitor};
+use walk::{
+    Event, Fresh, Machine, MultiVisitorNil, Rule, ValidatorContext, Visitor, visit_rules,
+};
 
 /// Counts the spreads of fragments, and reports nothing.
 #[derive(Drop)]
@@ -48,4 +53,16 @@ impl<'a, S: CheckedScalar> Visitor<'a, S> for CountedSpreads {
         }
         Ok(())
     }
+}
+
+/// Counts the spreads of a document.
+pub fn count_spreads<'a, 't, S: CheckedScalar>(
+    ctx: &mut ValidatorContext<'a, S>,
+    document: &'a [Definition<'t, S>],
+) -> Result<u64, OutOfMemory>
+    ensures { IfOk result (λ count. ctx.old.known ≡ fragment_names document.now → count ≡ spread_count (scope_of ctx.old.schema document.now) (typing ctx.old) document.now) }
+{
+    let mut rules = MultiVisitorNil.with_rule(factory());
+    visit_rules(&mut rules, ctx, document)?;
+    Ok(rules.newest().count)
 }

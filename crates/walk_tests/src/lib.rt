@@ -6,7 +6,6 @@ pub mod counted_spreads;
 #[cfg(test)]
 mod errors;
 pub mod kept_fields;
-pub mod mixed_list;
 #[cfg(test)]
 mod recorder;
 #[cfg(test)]

@@ -1,0 +1,2 @@
+pub mod UniqueArgumentNames
+pub mod UniqueInputFieldNames

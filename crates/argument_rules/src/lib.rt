@@ -1,0 +1,5 @@
+//! The rules on arguments, on keys of objects and on directives (GraphQL, sections 5.4, 5.6.3 and 5.7), each in a module of its own.
+#![tactic(auto)]
+
+pub mod unique_argument_names;
+pub mod unique_input_field_names;

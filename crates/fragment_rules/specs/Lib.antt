@@ -1,0 +1,3 @@
+pub mod ConditionsKept
+pub mod KnownFragmentNames
+pub mod PossibleSpreads

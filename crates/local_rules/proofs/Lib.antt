@@ -1,4 +1,0 @@
-pub mod ConditionsSeen
-pub mod FirstNoted
-pub mod RepeatsSeen
-pub mod Told

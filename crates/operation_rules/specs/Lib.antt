@@ -1,0 +1,2 @@
+pub mod LoneAnonymousOperation
+pub mod UniqueOperationNames

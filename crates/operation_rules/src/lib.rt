@@ -1,0 +1,5 @@
+//! The rules on operations (GraphQL, sections 5.2 and 5.8), each in a module of its own.
+#![tactic(auto)]
+
+pub mod lone_anonymous_operation;
+pub mod unique_operation_names;

@@ -1,0 +1,3 @@
+pub mod FirstNoted
+pub mod RepeatsSeen
+pub mod Told

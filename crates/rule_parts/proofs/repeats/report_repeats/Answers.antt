@@ -1,0 +1,6 @@
+use Rattle.rule_parts.proofs.RepeatsSeen.{seen_more}
+use Rattle.rule_parts.proofs.repeats.report_repeats.Goals as goal
+
+pub loop-entry-preserved : goal.loop-entry-preserved
+loop-entry-preserved g c =
+    seen_more _ g.N.HasName.named c.deref-entry-items.result.now c.loop-entry.entry-index c.entry-item.result _ _ _ _ _ _ _ c.loop-entry-test.true c.entry-item.is c.loop-entry.invariant c.name.ensures c.place.ensures c.in_ok-report_repeat.ensures.kept c.in_ok-report_repeat.ensures.ok
