@@ -56,6 +56,9 @@ popped-pushed w t = ap (λ ts. record w { typings = ts }) (take-pushed w.typings
 pub popped-reported : {S C : Type 0} (w : ContextState S C) (t : Typing S C) (es : List ErrorValue) → popped (with_errors (pushed w t) es) ≡ with_errors w es
 popped-reported w t es = ap (λ ts. record w { typings = ts; errors = w.errors ++ es }) (take-pushed w.typings t)
 
+pub popped-left : {S C : Type 0} (w left : ContextState S C) (t : Typing S C) → left.typings ≡ (pushed w t).typings → (popped left).typings ≡ w.typings
+popped-left w left t e = ap (λ ts. take (length ts - 1) ts) e ∙ take-pushed w.typings t
+
 module _ {S C V : Type 0} (step : StepOf S C V) where
   pub Ran-none : (a : V) (w : ContextState S C) → Ran step [] a a w w
   Ran-none a w = ([], (refl, refl), ap (λ es. record w { errors = es }) (sym (append-nil w.errors)))

@@ -1,14 +1,17 @@
 -- Runs through the events of a document.
 use Rattle.std.proofs.Common.{◌≡◌, ℕ, ◌+◌, ◌<◌, ◌≤◌, List, [], ◌∷◌, ◌++◌, length, get_or, take, ap, sym, ◌∙◌, subst, Result, IfOk}
 use Rattle.std.specs.List.{flat_map}
-use Rattle.std.proofs.lemmas.List.{take_all}
+use Rattle.std.proofs.lemmas.List.{append-nil, take_all}
 use Rattle.language.specs.declared.tree.Definition.{Definition}
 use Rattle.schema.specs.Catalog.{Catalog}
 use Rattle.events.specs.Typing.{Typing}
 use Rattle.events.specs.Node
-use Rattle.walk.specs.ContextState.{ContextState, typing, scope_of}
-use Rattle.walk.specs.Names.{fragment_names}
-use Rattle.walk.specs.Rule.{Allowance, AllowsFrom, Appended}
+use Rattle.walk.specs.ContextState.{ContextState, DocumentScope, scope_of_context, typing}
+use Rattle.walk.specs.ErrorValue.{ErrorValue}
+use Rattle.walk.specs.Pair.{pair_step, no_step}
+use Rattle.walk.specs.Rule.{Allowance, AllowsFrom, WalksAppend, of_newest}
+use Rattle.walk.specs.declared.multi_visitor.MultiVisitorCons.{MultiVisitorCons}
+use Rattle.walk.specs.declared.multi_visitor.MultiVisitorNil.{MultiVisitorNil}
 use Rattle.events.specs.Outline.{each, outline_of_definition}
 use Rattle.events.specs.TypedEvent.{TypedEvent, entering, leaving, events_of, typed_events}
 use Rattle.walk.specs.Step.{StepOf, Run, Stepped, Ran}
@@ -43,10 +46,19 @@ module _ {S C V : Type 0} (step : StepOf S C V) where
       let q = Ran-append step (enter ∷ flat_map (λ d. events_of (outline_of_definition w.schema t d)) (take i doc)) (leave ∷ []) a b c w w' w'' r (Ran-one step leave b c w' w'' s) in
       subst (λ z. Ran step (typed_events w.schema z doc) a c w w'') e (subst (λ z. Ran step (enter ∷ (z ++ leave ∷ [])) a c w w'') all q)
 
--- in a context that knows the fragments of the document, fresh rules append what they are allowed
-pub ran_appends : {S C V : Type 0} (step : StepOf S C V) (fresh : V → Type 0) (allows : V → Allowance S C) (a b : V) (w w' : ContextState S C) (doc : List (Definition S))
-    → AllowsFrom step fresh allows → w.known ≡ fragment_names doc → fresh a → Ran step (typed_events w.schema (typing w) doc) a b w w'
-    → Appended (allows b (scope_of w.schema doc) (typing w) doc) w w'
-ran_appends step fresh allows a b w w' doc keeps known f (es, r, e) =
+-- fresh rules append what they are allowed
+pub fresh_append : {S C V : Type 0} (step : StepOf S C V) (fresh : V → Type 0) (allows : V → Allowance S C) → AllowsFrom step fresh allows → WalksAppend step fresh allows
+fresh_append step fresh allows keeps a b w w' doc f known (es, r, e) =
     let r' = subst (λ k. Run (step (record { schema = w.schema; known = k })) (typed_events w.schema (typing w) doc) a b es) known r in
     (es, keeps a f w.schema (typing w) doc b es r', e)
+
+-- a visitor with no other in its list runs by itself
+alone_runs : {S C V : Type 0} (step : StepOf S C V) (scope : DocumentScope S C) (ms : List (TypedEvent S C)) (a b : MultiVisitorCons V MultiVisitorNil) (es : List ErrorValue) → Run (pair_step step no_step scope) ms a b es → Run (step scope) ms a.0 b.0 es
+alone_runs step scope [] a b es r = (ap (λ z. z.0) r.0, r.1)
+alone_runs step scope (m ∷ ms) a b es (mid, first, rest, (f, g, s, t, e₁), r, e) =
+    (mid.0, f, rest, s, alone_runs step scope ms mid b rest r, e ∙ ap (λ z. z ++ rest) (e₁ ∙ ap (λ z. f ++ z) t.1 ∙ append-nil f))
+
+-- so a list of one rule appends what that rule is allowed
+pub one_appends : {S C V : Type 0} (step : StepOf S C V) (fresh : V → Type 0) (allows : V → Allowance S C) → AllowsFrom step fresh allows → WalksAppend (pair_step step no_step) (of_newest fresh) (of_newest allows)
+one_appends step fresh allows keeps a b w w' doc f known (es, r, e) =
+    fresh_append step fresh allows keeps a.0 b.0 w w' doc f known (es, alone_runs step (scope_of_context w) (typed_events w.schema (typing w) doc) a b es r, e)

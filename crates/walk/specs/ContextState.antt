@@ -62,9 +62,13 @@ module _ {S C : Type 0} where
   fresh_context alloc schema doc = record { allocator = alloc; schema = schema; known = fragment_names doc; typings = []; errors = []; failed = false }
 
 module _ {S C : Type 0} where
-  -- types that are pushed and popped leave a context as it was, but for what was reported between
+  -- types that are pushed and popped leave a context as it was, but for what was reported between; whatever is done between, the types
+  -- are those from before if it left them as it found them
   abbrev pub LeavesTypes : ContextState S C → Typing S C → Type 0
-  LeavesTypes w t = (popped (pushed w t) ≡ w) × ((es : List ErrorValue) → popped (with_errors (pushed w t) es) ≡ with_errors w es)
+  LeavesTypes w t =
+      (popped (pushed w t) ≡ w)
+      × ((es : List ErrorValue) → popped (with_errors (pushed w t) es) ≡ with_errors w es)
+      × ((left : ContextState S C) → left.typings ≡ (pushed w t).typings → (popped left).typings ≡ w.typings)
 
 -- whether there is an error
 abbrev pub has_some : {X : Type 0} → List X → Bool

@@ -4,10 +4,11 @@ use Rattle.language.specs.declared.tree.Definition.{Definition}
 use Rattle.schema.specs.Catalog.{Catalog}
 use Rattle.walk.specs.declared.multi_visitor.MultiVisitorCons.{MultiVisitorCons}
 use Rattle.walk.specs.ErrorValue.{ErrorValue}
-use Rattle.walk.specs.ContextState.{ContextState, DocumentScope, scope_of, with_errors}
+use Rattle.walk.specs.ContextState.{ContextState, DocumentScope, scope_of, typing, with_errors}
+use Rattle.walk.specs.Names.{fragment_names}
 use Rattle.events.specs.Typing.{Typing}
 use Rattle.events.specs.TypedEvent.{typed_events}
-use Rattle.walk.specs.Step.{StepOf, Run}
+use Rattle.walk.specs.Step.{StepOf, Run, Ran}
 
 -- which lists of errors may be reported of each document, which stands at the types given
 abbrev pub Allowance : Type 0 → Type 0 → Type 1
@@ -69,9 +70,20 @@ module _ {S C : Type 0} where
   abbrev pub Appended : (List ErrorValue → Type 0) → ContextState S C → ContextState S C → Type 0
   Appended P old new = (es : List ErrorValue) × P es × (new ≡ with_errors old es)
 
+  -- a walk from a fresh value appends what is allowed at its end, in each context that was made for the document
+  abbrev pub WalksAppend : {V : Type 0} → StepOf S C V → (V → Type 0) → (V → Allowance S C) → Type 0
+  WalksAppend {V} step fresh allows =
+      (start end : V) (old new : ContextState S C) (doc : List (Definition S))
+      → fresh start → old.known ≡ fragment_names doc → Ran step (typed_events old.schema (typing old) doc) start end old new
+      → Appended (allows end (scope_of old.schema doc) (typing old) doc) old new
+
 -- both of a pair are fresh
 abbrev pub pair_fresh : {V W : Type 0} → (V → Type 0) → (W → Type 0) → MultiVisitorCons V W → Type 0
 pair_fresh newer other a = newer a.0 × other a.1
+
+-- what is said of the visitor that was added last
+abbrev pub of_newest : {V W : Type 0} {X : Type 1} → (V → X) → MultiVisitorCons V W → X
+of_newest f a = f a.0
 
 -- any value is
 abbrev pub any_value : {V : Type 0} → V → Type 0

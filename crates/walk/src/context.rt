@@ -1,10 +1,10 @@
 //! What visitors know and report in a walk.
 
-ghost use Rattle.std.specs.Prelude.{◌≡◌, ◌⊎◌, ◌++◌, ◌∷◌, [], true, false, IsErr, OnOk, OnErr, map, IfOk, IsPermutation, IsSorted};
-ghost use Rattle.std.specs.Fn.{FnOnceReturnsAtMut};
+ghost use Rattle.std.specs.Prelude.{◌≡◌, ◌++◌, ◌∷◌, [], true, false, IsErr, OnOk, OnErr, map, IfOk, IsPermutation, IsSorted};
 ghost use Rattle.std.specs.Option.{option_copied, option_map};
 ghost use Rattle.language.specs.Types.{borrowed_shape};
-ghost use Rattle.walk.specs.ContextState.{ContextState, typing, pushed, popped, with_errors, failing, fresh_context, has_some};
+ghost use Rattle.walk.specs.Calls.{CalledAt};
+ghost use Rattle.walk.specs.ContextState.{typing, pushed, popped, with_errors, failing, fresh_context, has_some};
 ghost use Rattle.walk.specs.ErrorValue.{error_cmp};
 ghost use Rattle.events.specs.EventValue.{typing_of};
 ghost use Rattle.walk.specs.Names.{is_among};
@@ -233,36 +233,34 @@ impl<'a, S, C> ValidatorContextOf<'a, S, C> {
     }
 
     // Calls f at these types, or not at all where they can't be pushed.
-    fn with_types<R, F: FnOnce(&mut ValidatorContextOf<'a, S, C>) -> Result<R, OutOfMemory> + Drop>(
+    fn with_types<R, F: FnOnce(&mut ValidatorContextOf<'a, S, C>) -> R + Drop>(
         &mut self,
         types: TypesOf<'a, S, C>,
         f: F,
     ) -> Result<R, OutOfMemory>
         requires { F.IsAlwaysCallable f }
-        ensures ok { OnOk result ((after : ContextState S C) × FnOnceReturnsAtMut F.FnOnce f (pushed self.old (typing_of types.entry)) result after × (self.new ≡ popped after)) }
-        ensures err { OnErr result ((self.new ≡ failing self.old) ⊎ ((after : ContextState S C) × FnOnceReturnsAtMut F.FnOnce f (pushed self.old (typing_of types.entry)) result after × (self.new ≡ failing (popped after)))) }
+        ensures ok { IfOk result (CalledAt F.FnOnce f (pushed self.old (typing_of types.entry)) self.new) }
+        ensures err { OnErr result (self.new ≡ failing self.old) }
         ensures stays { self.old.failed ≡ true → IsErr result }
     {
         self.push_types(types)?;
-        let done = f(self);
+        let answer = f(self);
         self.pop_types();
-        if done.is_err() {
-            self.fail();
-        }
-        done
+        Ok(answer)
     }
 
     /// Calls f once with the context, in which this type, as it is written, is the type at hand.
     ///
-    /// Where the push is refused f is not called. What f answers is handed on, and what was pushed is taken off again; after a
-    /// refusal, f's own too, the context has failed.
-    pub fn with_pushed_type<
-        R,
-        F: FnOnce(&mut ValidatorContextOf<'a, S, C>) -> Result<R, OutOfMemory> + Drop,
-    >(&mut self, t: Option<BorrowedType<'a>>, f: F) -> Result<R, OutOfMemory>
+    /// What f answers is handed on, and what was pushed is taken off again. Where the push is refused f is not called, and the
+    /// context has failed. A refusal of a call that f makes is told by the context, which has failed then, too.
+    pub fn with_pushed_type<R, F: FnOnce(&mut ValidatorContextOf<'a, S, C>) -> R + Drop>(
+        &mut self,
+        t: Option<BorrowedType<'a>>,
+        f: F,
+    ) -> Result<R, OutOfMemory>
         requires { F.IsAlwaysCallable f }
-        ensures ok { OnOk result ((after : ContextState S C) × FnOnceReturnsAtMut F.FnOnce f (pushed self.old (at_type self.old.schema (typing self.old) (option_map borrowed_shape t.entry))) result after × (self.new ≡ popped after)) }
-        ensures err { OnErr result ((self.new ≡ failing self.old) ⊎ ((after : ContextState S C) × FnOnceReturnsAtMut F.FnOnce f (pushed self.old (at_type self.old.schema (typing self.old) (option_map borrowed_shape t.entry))) result after × (self.new ≡ failing (popped after)))) }
+        ensures ok { IfOk result (CalledAt F.FnOnce f (pushed self.old (at_type self.old.schema (typing self.old) (option_map borrowed_shape t.entry))) self.new) }
+        ensures err { OnErr result (self.new ≡ failing self.old) }
         ensures stays { self.old.failed ≡ true → IsErr result }
     {
         let types = self.types().at_type(self.schema, t);
@@ -271,15 +269,15 @@ impl<'a, S, C> ValidatorContextOf<'a, S, C> {
 
     /// Calls f once with the context, in which the type at hand is the parent type.
     ///
-    /// Where the push is refused f is not called. What f answers is handed on, and what was pushed is taken off again; after a
-    /// refusal, f's own too, the context has failed.
-    pub fn with_pushed_parent_type<
-        R,
-        F: FnOnce(&mut ValidatorContextOf<'a, S, C>) -> Result<R, OutOfMemory> + Drop,
-    >(&mut self, f: F) -> Result<R, OutOfMemory>
+    /// What f answers is handed on, and what was pushed is taken off again. Where the push is refused f is not called, and the
+    /// context has failed. A refusal of a call that f makes is told by the context, which has failed then, too.
+    pub fn with_pushed_parent_type<R, F: FnOnce(&mut ValidatorContextOf<'a, S, C>) -> R + Drop>(
+        &mut self,
+        f: F,
+    ) -> Result<R, OutOfMemory>
         requires { F.IsAlwaysCallable f }
-        ensures ok { OnOk result ((after : ContextState S C) × FnOnceReturnsAtMut F.FnOnce f (pushed self.old (at_set (typing self.old))) result after × (self.new ≡ popped after)) }
-        ensures err { OnErr result ((self.new ≡ failing self.old) ⊎ ((after : ContextState S C) × FnOnceReturnsAtMut F.FnOnce f (pushed self.old (at_set (typing self.old))) result after × (self.new ≡ failing (popped after)))) }
+        ensures ok { IfOk result (CalledAt F.FnOnce f (pushed self.old (at_set (typing self.old))) self.new) }
+        ensures err { OnErr result (self.new ≡ failing self.old) }
         ensures stays { self.old.failed ≡ true → IsErr result }
     {
         let types = self.types().at_set();
@@ -288,15 +286,16 @@ impl<'a, S, C> ValidatorContextOf<'a, S, C> {
 
     /// Calls f once with the context, in which an input of this type is expected.
     ///
-    /// Where the push is refused f is not called. What f answers is handed on, and what was pushed is taken off again; after a
-    /// refusal, f's own too, the context has failed.
-    pub fn with_pushed_input_type<
-        R,
-        F: FnOnce(&mut ValidatorContextOf<'a, S, C>) -> Result<R, OutOfMemory> + Drop,
-    >(&mut self, t: Option<BorrowedType<'a>>, f: F) -> Result<R, OutOfMemory>
+    /// What f answers is handed on, and what was pushed is taken off again. Where the push is refused f is not called, and the
+    /// context has failed. A refusal of a call that f makes is told by the context, which has failed then, too.
+    pub fn with_pushed_input_type<R, F: FnOnce(&mut ValidatorContextOf<'a, S, C>) -> R + Drop>(
+        &mut self,
+        t: Option<BorrowedType<'a>>,
+        f: F,
+    ) -> Result<R, OutOfMemory>
         requires { F.IsAlwaysCallable f }
-        ensures ok { OnOk result ((after : ContextState S C) × FnOnceReturnsAtMut F.FnOnce f (pushed self.old (at_input (typing self.old) (option_map borrowed_shape t.entry))) result after × (self.new ≡ popped after)) }
-        ensures err { OnErr result ((self.new ≡ failing self.old) ⊎ ((after : ContextState S C) × FnOnceReturnsAtMut F.FnOnce f (pushed self.old (at_input (typing self.old) (option_map borrowed_shape t.entry))) result after × (self.new ≡ failing (popped after)))) }
+        ensures ok { IfOk result (CalledAt F.FnOnce f (pushed self.old (at_input (typing self.old) (option_map borrowed_shape t.entry))) self.new) }
+        ensures err { OnErr result (self.new ≡ failing self.old) }
         ensures stays { self.old.failed ≡ true → IsErr result }
     {
         let types = self.types().at_input(t);

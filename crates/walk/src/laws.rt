@@ -2,9 +2,11 @@
 
 ghost use Rattle.walk.specs.ContextState.{ContextState, LeavesTypes};
 ghost use Rattle.walk.specs.ErrorValue.{EqualMeansSame};
-ghost use Rattle.walk.specs.Pair.{PairSplits};
+ghost use Rattle.walk.specs.Pair.{PairSplits, no_step, pair_step};
+ghost use Rattle.walk.specs.Rule.{WalksAppend, of_newest};
 ghost use Rattle.events.specs.Typing.{Typing};
 
+use crate::rule::Rule;
 use crate::visitor::Machine;
 
 /// Each run of two visitors as one is a run of each of them through the same events, and what the two append is a permutation
@@ -13,7 +15,17 @@ pub fn pair_runs<S, C, A: Machine<S, C>, B: Machine<S, C>>()
     ensures { PairSplits A.step B.step }
 {}
 
-/// Types that are pushed and then popped leave a context as it was; what was reported between stays.
+/// What a walk with fresh rules appends, in a context that was made for the document: what they allow, in the states that they end in.
+///
+/// A list of rules is a rule, so R may be any list that `with` makes of them, and `visit` tells that such a walk was made. For a rule that
+/// is alone in its list, `MultiVisitorNil.with(rule)`, `alone` says it in that rule's words.
+pub fn rules_append<S, C, R: Rule<S, C>>()
+    ensures list { WalksAppend R.step R.fresh R.allows }
+    ensures alone { WalksAppend (pair_step R.step no_step) (of_newest R.fresh) (of_newest R.allows) }
+{}
+
+/// Types that are pushed and then popped leave a context as it was; what was reported between stays. Whatever a call between does, the
+/// types are those from before if it left them as it found them.
 pub fn pushes_are_undone<S, C>()
     ensures { (w : ContextState S C) (t : Typing S C) → LeavesTypes w t }
 {}

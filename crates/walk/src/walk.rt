@@ -98,6 +98,8 @@ pub fn walk_with<'a, S: CheckedScalar, V: Visitor<'a, S>>(
 }
 
 /// Walks over a document with the visitors of the list, of which the newest hears of each event first.
+///
+/// What the errors are that rules append in such a walk is said by `laws::rules_append`.
 pub fn visit<'a, 't, A: Visitor<'a, S>, B: Visitor<'a, S>, S: CheckedScalar>(
     v: &mut MultiVisitorCons<A, B>,
     ctx: &mut ValidatorContext<'a, S>,

@@ -1,19 +1,13 @@
-use Rattle.std.proofs.Common.{◌≡◌, ◌⊎◌, ◌∙◌, ap, subst}
-use Rattle.std.specs.Prelude.{OnOk, OnErr}
-use Rattle.std.specs.Fn.{FnOnceReturnsAtMut}
-use Rattle.walk.specs.ContextState.{ContextState, pushed, popped, failing}
+use Rattle.std.proofs.Common.{◌∙◌, ap, subst}
+use Rattle.std.specs.Prelude.{IfOk}
+use Rattle.walk.specs.Calls.{CalledAt}
+use Rattle.walk.specs.ContextState.{pushed}
 use Rattle.events.specs.Typing.{at_set}
 use Rattle.walk.proofs.context.ValidatorContextOf.with_pushed_parent_type.Goals as goal
 
 -- f was called at these types
 pub returns-clause-ok : goal.returns-clause-ok
 returns-clause-ok g c =
-    subst (λ z. OnOk c.with_types.result ((after : ContextState g.row.S.Denot g.row.C.Denot) × FnOnceReturnsAtMut g.F.FnOnce c.args.f (pushed c.args.self.now z) c.with_types.result after × (c.with_types.new.self ≡ popped after)))
+    subst (λ z. IfOk c.with_types.result (CalledAt g.F.FnOnce c.args.f (pushed c.args.self.now z) c.with_types.new.self))
     (c.at_set-types.ensures ∙ ap at_set c.types.ensures)
     c.with_types.ensures.ok
-
-pub returns-clause-err : goal.returns-clause-err
-returns-clause-err g c =
-    subst (λ z. OnErr c.with_types.result ((c.with_types.new.self ≡ failing c.args.self.now) ⊎ ((after : ContextState g.row.S.Denot g.row.C.Denot) × FnOnceReturnsAtMut g.F.FnOnce c.args.f (pushed c.args.self.now z) c.with_types.result after × (c.with_types.new.self ≡ failing (popped after)))))
-    (c.at_set-types.ensures ∙ ap at_set c.types.ensures)
-    c.with_types.ensures.err

@@ -1,21 +1,15 @@
-use Rattle.std.proofs.Common.{◌≡◌, ◌⊎◌, ◌∙◌, ap, subst}
-use Rattle.std.specs.Prelude.{OnOk, OnErr}
-use Rattle.std.specs.Fn.{FnOnceReturnsAtMut}
+use Rattle.std.proofs.Common.{◌∙◌, ap, subst}
+use Rattle.std.specs.Prelude.{IfOk}
 use Rattle.std.specs.Option.{option_map}
 use Rattle.language.specs.Types.{borrowed_shape}
-use Rattle.walk.specs.ContextState.{ContextState, typing, pushed, popped, failing}
+use Rattle.walk.specs.Calls.{CalledAt}
+use Rattle.walk.specs.ContextState.{typing, pushed}
 use Rattle.events.specs.Typing.{at_type}
 use Rattle.walk.proofs.context.ValidatorContextOf.with_pushed_type.Goals as goal
 
 -- f was called at these types
 pub returns-clause-ok : goal.returns-clause-ok
 returns-clause-ok g c =
-    subst (λ z. OnOk c.with_types.result ((after : ContextState g.row.S.Denot g.row.C.Denot) × FnOnceReturnsAtMut g.F.FnOnce c.args.f (pushed c.args.self.now z) c.with_types.result after × (c.with_types.new.self ≡ popped after)))
+    subst (λ z. IfOk c.with_types.result (CalledAt g.F.FnOnce c.args.f (pushed c.args.self.now z) c.with_types.new.self))
     (c.at_type-types.ensures ∙ ap (λ t. at_type c.self.inside.schema.now t (option_map borrowed_shape c.args.t)) c.types.ensures ∙ ap (λ w. at_type w.schema (typing c.args.self.now) (option_map borrowed_shape c.args.t)) c.self.view_is)
     c.with_types.ensures.ok
-
-pub returns-clause-err : goal.returns-clause-err
-returns-clause-err g c =
-    subst (λ z. OnErr c.with_types.result ((c.with_types.new.self ≡ failing c.args.self.now) ⊎ ((after : ContextState g.row.S.Denot g.row.C.Denot) × FnOnceReturnsAtMut g.F.FnOnce c.args.f (pushed c.args.self.now z) c.with_types.result after × (c.with_types.new.self ≡ failing (popped after)))))
-    (c.at_type-types.ensures ∙ ap (λ t. at_type c.self.inside.schema.now t (option_map borrowed_shape c.args.t)) c.types.ensures ∙ ap (λ w. at_type w.schema (typing c.args.self.now) (option_map borrowed_shape c.args.t)) c.self.view_is)
-    c.with_types.ensures.err
