@@ -1,9 +1,9 @@
 //! The rules, each in its module, and the call that tries them all.
 
-ghost use Rattle.std.specs.Prelude.{◌≡◌, IfOk, OnOk, OnErr, IsErr, true};
+ghost use Rattle.std.specs.Prelude.{◌≡◌, ◌↔◌, IfOk, OnOk, OnErr, IsErr, true};
 ghost use Rattle.walk.specs.ContextState.{typing, scope_of};
 ghost use Rattle.walk.specs.Names.{fragment_names};
-ghost use Rattle.walk.specs.Rule.{Appended, sum_of};
+ghost use Rattle.walk.specs.Rule.{AllowNothing, Appended, sum_of};
 ghost use Rattle.walk.specs.Step.{KeepsPlace};
 ghost use Rattle.validation.specs.StageOne.{stage_one};
 
@@ -12,7 +12,33 @@ use language::error::OutOfMemory;
 use language::tree::Definition;
 use meta::check::CheckedScalar;
 pub use operation_rules::{lone_anonymous_operation, unique_operation_names};
-use walk::{MultiVisitorNil, ValidatorContext, visit_rules};
+use std::alloc::Global;
+use walk::{Fresh, MultiVisitorCons, MultiVisitorNil, ValidatorContext, visit_rules};
+
+use known_fragment_names::KnownFragmentNames;
+use lone_anonymous_operation::LoneAnonymousOperation;
+use unique_operation_names::UniqueOperationNames;
+
+// The rules of one group, the newest first.
+type OfOperations<'a> = MultiVisitorCons<LoneAnonymousOperation, MultiVisitorCons<UniqueOperationNames<'a>, MultiVisitorNil>>;
+
+type OfFragments = MultiVisitorCons<KnownFragmentNames, MultiVisitorNil>;
+
+// The rules on operations and their variables.
+fn of_operations<'a>(alloc: Global) -> OfOperations<'a>
+    ensures { ⟦<OfOperations<'a> as Fresh>⟧.fresh result }
+{
+    MultiVisitorNil
+        .with_rule(unique_operation_names::factory(alloc))
+        .with_rule(lone_anonymous_operation::factory(alloc))
+}
+
+// The rules on fragments.
+fn of_fragments(alloc: Global) -> OfFragments
+    ensures { ⟦<OfFragments as Fresh>⟧.fresh result }
+{
+    MultiVisitorNil.with_rule(known_fragment_names::factory(alloc))
+}
 
 /// Tries every rule on a document, and appends the errors of the rules, in a context that was made for it.
 ///
@@ -23,6 +49,7 @@ pub fn visit_all_rules<'a, 't, S: CheckedScalar>(
     document: &'a [Definition<'t, S>],
 ) -> Result<u128, OutOfMemory>
     ensures appended { OnOk result (ctx.old.known ≡ fragment_names document.now → Appended (sum_of stage_one (scope_of ctx.old.schema document.now) (typing ctx.old) document.now) ctx.old ctx.new) }
+    ensures silent { OnOk result (ctx.old.known ≡ fragment_names document.now → (ctx.new.errors ≡ ctx.old.errors) ↔ AllowNothing stage_one (scope_of ctx.old.schema document.now) (typing ctx.old) document.now) }
     ensures compared { IfOk result (λ pairs. pairs ≡ 0) }
     ensures err { OnErr result (KeepsPlace ctx.old ctx.new) }
     ensures failed { OnErr result (ctx.new.failed ≡ true) }
@@ -30,9 +57,8 @@ pub fn visit_all_rules<'a, 't, S: CheckedScalar>(
 {
     let alloc = ctx.allocator();
     let mut rules = MultiVisitorNil
-        .with_rule(unique_operation_names::factory(alloc))
-        .with_rule(lone_anonymous_operation::factory(alloc))
-        .with_rule(known_fragment_names::factory(alloc));
+        .with_rule(of_operations(alloc))
+        .with_rule(of_fragments(alloc));
     visit_rules(&mut rules, ctx, document)?;
     Ok(0)
 }

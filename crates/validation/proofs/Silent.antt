@@ -1,0 +1,19 @@
+-- No error is reported just if each rule allows none.
+use Rattle.std.proofs.Common.{List, [], ◌∷◌}
+use Rattle.walk.specs.Rule.{AllSettled}
+use Rattle.walk.proofs.Sums.{exactly_settled}
+use Rattle.validation.specs.StageOne.{of_fragments, of_operations, stage_one, groups, all_of}
+use Rattle.validation.proofs.Groups.{settled_append}
+
+module _ {S C : Type 0} where
+  operations_settled : AllSettled (of_operations {S = S} {C = C})
+  operations_settled = (exactly_settled _, (exactly_settled _, tt))
+
+  fragments_settled : AllSettled (of_fragments {S = S} {C = C})
+  fragments_settled = (exactly_settled _, tt)
+
+  -- each rule of stage one is settled
+  pub stage_one_settled : AllSettled (stage_one {S = S} {C = C})
+  stage_one_settled =
+      settled_append of_fragments (all_of (of_operations ∷ [])) fragments_settled
+      (settled_append of_operations [] operations_settled tt)
