@@ -9,7 +9,7 @@ use Rattle.std.specs.Str.{bytes_eq}
 use Rattle.language.specs.declared.tree.Definition.{Definition}
 use Rattle.meta.specs.declared.kinds.MetaTypeOf.{MetaTypeOf}
 use Rattle.schema.specs.Catalog.{Catalog}
-use Rattle.fragment_rules.specs.PossibleSpreads.{TypesByName, conditions_in, with_definition, with_type}
+use Rattle.fragment_rules.specs.PossibleFragmentSpreads.{TypesByName, conditions_in, with_definition, with_type}
 
 module _ {S C : Type 0} (schema : Catalog S C) where
   conditions-last : (types : TypesByName S C) (ds : List (Definition S)) (d : Definition S) → conditions_in schema types (ds ++ d ∷ []) ≡ with_definition schema (conditions_in schema types ds) d

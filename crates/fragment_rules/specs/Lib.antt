@@ -1,3 +1,6 @@
 pub mod ConditionsKept
+pub mod FragmentsOnCompositeTypes
 pub mod KnownFragmentNames
-pub mod PossibleSpreads
+pub mod KnownTypeNames
+pub mod PossibleFragmentSpreads
+pub mod UniqueFragmentNames

@@ -2,7 +2,7 @@
 
 ghost use Rattle.std.specs.Prelude.{◌≡◌, IfOk, option_copied};
 ghost use Rattle.fragment_rules.specs.ConditionsKept.{conditions_of};
-ghost use Rattle.fragment_rules.specs.PossibleSpreads.{conditions_in, no_conditions, with_definition};
+ghost use Rattle.fragment_rules.specs.PossibleFragmentSpreads.{conditions_in, no_conditions, with_definition};
 
 use language::error::OutOfMemory;
 use language::tree::Definition;

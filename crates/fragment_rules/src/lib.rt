@@ -1,6 +1,9 @@
-//! The rules on fragments (GraphQL, section 5.5), each in a module of its own.
+//! The rules on fragments (GraphQL, section 5.5) and on the types that a document names, each in a module of its own.
 #![tactic(auto)]
 
 mod conditions;
+pub mod fragments_on_composite_types;
 pub mod known_fragment_names;
-pub mod possible_spreads;
+pub mod known_type_names;
+pub mod possible_fragment_spreads;
+pub mod unique_fragment_names;

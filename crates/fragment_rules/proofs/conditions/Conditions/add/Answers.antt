@@ -5,7 +5,7 @@ use Rattle.std.specs.BTreeMap.{get_by}
 use Rattle.std.specs.Cmp.Lexicographic.{slice_cmp}
 use Rattle.schema.specs.Catalog.{type_in}
 use Rattle.fragment_rules.specs.ConditionsKept.{conditions_of}
-use Rattle.fragment_rules.specs.PossibleSpreads.{with_definition, with_type}
+use Rattle.fragment_rules.specs.PossibleFragmentSpreads.{with_definition, with_type}
 use Rattle.fragment_rules.proofs.ConditionsSeen.{inserted}
 use Rattle.fragment_rules.proofs.conditions.Conditions.add.Goals as goal
 

@@ -1,4 +1,4 @@
-use Rattle.fragment_rules.specs.PossibleSpreads.{no_conditions}
+use Rattle.fragment_rules.specs.PossibleFragmentSpreads.{no_conditions}
 use Rattle.fragment_rules.proofs.ConditionsSeen.{conditions_more}
 use Rattle.fragment_rules.proofs.conditions.Conditions.of.Goals as goal
 

@@ -1,6 +1,6 @@
 use Rattle.std.proofs.Common.{◌≡◌, take}
 use Rattle.fragment_rules.specs.ConditionsKept.{conditions_of}
-use Rattle.fragment_rules.specs.PossibleSpreads.{conditions_in, no_conditions}
+use Rattle.fragment_rules.specs.PossibleFragmentSpreads.{conditions_in, no_conditions}
 use Rattle.fragment_rules.proofs.conditions.Conditions.of.Given as goal
 
 -- those of the definitions that were seen
