@@ -4,6 +4,7 @@
 ghost use Rattle.std.specs.Prelude.{◌≡◌, codes};
 ghost use Rattle.meta.specs.Answers.{AnswersBy};
 ghost use Rattle.samples.specs.Checks.{is_int, is_string, is_boolean, is_id, is_command, is_dog_command, is_object};
+ghost use Rattle.samples.specs.Tokens.{RefusesToken};
 
 use language::error::{CheckError, ParseError};
 use language::value::{DefaultScalarValue, InputValue};
@@ -98,11 +99,13 @@ pub fn check_pair_input(
     }
 }
 
-/// Refuses every token.
+/// Refuses every token: no call of these crates asks a scalar for one.
 pub fn refuse_token(
     alloc: Global,
     _kind: ScalarTokenKind,
     _text: &str,
-) -> Result<DefaultScalarValue, ParseError> {
+) -> Result<DefaultScalarValue, ParseError>
+    ensures { RefusesToken (codes "no tokens are read") result }
+{
     Err(ParseError::Refused(String::from_str(alloc, "no tokens are read")?))
 }
