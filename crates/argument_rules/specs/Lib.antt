@@ -1,2 +1,6 @@
+pub mod Bearers
+pub mod KnownArgumentNames
+pub mod KnownDirectives
+pub mod ProvidedNonNullArguments
 pub mod UniqueArgumentNames
 pub mod UniqueInputFieldNames

@@ -1,5 +1,9 @@
 //! The rules on arguments, on keys of objects and on directives (GraphQL, sections 5.4, 5.6.3 and 5.7), each in a module of its own.
 #![tactic(auto)]
 
+mod bearers;
+pub mod known_argument_names;
+pub mod known_directives;
+pub mod provided_non_null_arguments;
 pub mod unique_argument_names;
 pub mod unique_input_field_names;

@@ -1,0 +1,3 @@
+pub mod DisableIntrospection
+pub mod FieldsOnCorrectType
+pub mod ScalarLeafs
