@@ -2,18 +2,27 @@
 use Rattle.std.proofs.Common.{List, [], ◌∷◌}
 use Rattle.walk.specs.Rule.{AllSettled}
 use Rattle.walk.proofs.Sums.{exactly_settled}
-use Rattle.validation.specs.StageOne.{of_fragments, of_operations, stage_one, groups, all_of}
+use Rattle.validation.specs.StageOne.{of_arguments, of_fields, of_fragments, of_operations, stage_one, all_of}
 use Rattle.validation.proofs.Groups.{settled_append}
 
+-- a word for each rule, in the order of its group
 module _ {S C : Type 0} where
   operations_settled : AllSettled (of_operations {S = S} {C = C})
   operations_settled = (exactly_settled _, (exactly_settled _, tt))
 
+  fields_settled : AllSettled (of_fields {S = S} {C = C})
+  fields_settled = (exactly_settled _, (exactly_settled _, tt))
+
+  arguments_settled : AllSettled (of_arguments {S = S} {C = C})
+  arguments_settled = (exactly_settled _, (exactly_settled _, (exactly_settled _, (exactly_settled _, (exactly_settled _, tt)))))
+
   fragments_settled : AllSettled (of_fragments {S = S} {C = C})
-  fragments_settled = (exactly_settled _, tt)
+  fragments_settled = (exactly_settled _, (exactly_settled _, (exactly_settled _, (exactly_settled _, (exactly_settled _, tt)))))
 
   -- each rule of stage one is settled
   pub stage_one_settled : AllSettled (stage_one {S = S} {C = C})
   stage_one_settled =
-      settled_append of_fragments (all_of (of_operations ∷ [])) fragments_settled
-      (settled_append of_operations [] operations_settled tt)
+      settled_append of_fragments (all_of (of_arguments ∷ of_fields ∷ of_operations ∷ [])) fragments_settled
+      (settled_append of_arguments (all_of (of_fields ∷ of_operations ∷ [])) arguments_settled
+      (settled_append of_fields (all_of (of_operations ∷ [])) fields_settled
+      (settled_append of_operations [] operations_settled tt)))

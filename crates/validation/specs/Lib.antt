@@ -1,1 +1,2 @@
+pub mod RootRules
 pub mod StageOne

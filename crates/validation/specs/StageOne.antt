@@ -8,25 +8,59 @@ use Rattle.events.specs.Typing.{untyped}
 use Rattle.language.specs.declared.tree.Definition.{Definition}
 use Rattle.schema.specs.Catalog.{Catalog}
 use Rattle.rule_parts.specs.Noting.{repeated}
-use Rattle.fragment_rules.specs.KnownFragmentNames.{unknown_fragments}
 use Rattle.operation_rules.specs.LoneAnonymousOperation.{has_several, anonymous_among}
 use Rattle.operation_rules.specs.UniqueOperationNames.{operation_name, repeated_operation_message}
+use Rattle.field_rules.specs.FieldsOnCorrectType.{fields_of_wrong_type}
+use Rattle.field_rules.specs.ScalarLeafs.{wrong_sets}
+use Rattle.argument_rules.specs.KnownArgumentNames.{unknown_arguments}
+use Rattle.argument_rules.specs.KnownDirectives.{unsuitable_directives}
+use Rattle.argument_rules.specs.ProvidedNonNullArguments.{missing_arguments}
+use Rattle.argument_rules.specs.UniqueArgumentNames.{repeated_arguments}
+use Rattle.argument_rules.specs.UniqueInputFieldNames.{repeated_keys}
+use Rattle.fragment_rules.specs.FragmentsOnCompositeTypes.{fragments_on_other_types}
+use Rattle.fragment_rules.specs.KnownFragmentNames.{unknown_fragments}
+use Rattle.fragment_rules.specs.KnownTypeNames.{unknown_types}
+use Rattle.fragment_rules.specs.PossibleFragmentSpreads.{conditions, impossible_spreads}
+use Rattle.fragment_rules.specs.UniqueFragmentNames.{fragment_name, repeated_fragment_message}
 
 module _ {S C : Type 0} where
-  -- operations and their variables
+  -- operations (GraphQL, section 5.2)
   abbrev pub of_operations : List (Allowance S C)
   of_operations =
-      exactly (found_by has_several anonymous_among)
-      ∷ exactly (repeated repeated_operation_message operation_name)
+      exactly (repeated repeated_operation_message operation_name)
+      ∷ exactly (found_by has_several anonymous_among)
       ∷ []
 
-  -- fragments
+  -- fields (5.3)
+  abbrev pub of_fields : List (Allowance S C)
+  of_fields =
+      exactly (found wrong_sets)
+      ∷ exactly (found fields_of_wrong_type)
+      ∷ []
+
+  -- arguments, keys of objects and directives (5.4, 5.6.3, 5.7)
+  abbrev pub of_arguments : List (Allowance S C)
+  of_arguments =
+      exactly (found repeated_keys)
+      ∷ exactly (found repeated_arguments)
+      ∷ exactly (found missing_arguments)
+      ∷ exactly (found unsuitable_directives)
+      ∷ exactly (found unknown_arguments)
+      ∷ []
+
+  -- fragments, and the names of types (5.5)
   abbrev pub of_fragments : List (Allowance S C)
-  of_fragments = exactly (found unknown_fragments) ∷ []
+  of_fragments =
+      exactly (repeated repeated_fragment_message fragment_name)
+      ∷ exactly (found_by conditions impossible_spreads)
+      ∷ exactly (found unknown_types)
+      ∷ exactly (found unknown_fragments)
+      ∷ exactly (found fragments_on_other_types)
+      ∷ []
 
   -- the rules in groups, the newest first
   abbrev pub groups : List (List (Allowance S C))
-  groups = of_fragments ∷ of_operations ∷ []
+  groups = of_fragments ∷ of_arguments ∷ of_fields ∷ of_operations ∷ []
 
   -- what each rule of these groups allows
   abbrev pub all_of : List (List (Allowance S C)) → List (Allowance S C)

@@ -4,8 +4,10 @@
 
 pub mod ast;
 pub mod parser;
+mod root_node;
 pub mod rules;
 
+pub use crate::root_node::{RootNode, RootNodeOf, visit_root_rules};
 pub use crate::rules::visit_all_rules;
 pub use language::error::OutOfMemory;
 pub use schema;

@@ -7,37 +7,87 @@ ghost use Rattle.walk.specs.Rule.{AllowNothing, Appended, sum_of};
 ghost use Rattle.walk.specs.Step.{KeepsPlace};
 ghost use Rattle.validation.specs.StageOne.{stage_one};
 
-pub use fragment_rules::known_fragment_names;
 use language::error::OutOfMemory;
 use language::tree::Definition;
 use meta::check::CheckedScalar;
-pub use operation_rules::{lone_anonymous_operation, unique_operation_names};
 use std::alloc::Global;
 use walk::{Fresh, MultiVisitorCons, MultiVisitorNil, ValidatorContext, visit_rules};
 
-use known_fragment_names::KnownFragmentNames;
-use lone_anonymous_operation::LoneAnonymousOperation;
-use unique_operation_names::UniqueOperationNames;
+pub use argument_rules::{
+    known_argument_names, known_directives, provided_non_null_arguments, unique_argument_names,
+    unique_input_field_names,
+};
+pub use field_rules::{disable_introspection, fields_on_correct_type, scalar_leafs};
+pub use fragment_rules::{
+    fragments_on_composite_types, known_fragment_names, known_type_names,
+    possible_fragment_spreads, unique_fragment_names,
+};
+pub use operation_rules::{lone_anonymous_operation, unique_operation_names};
 
-// The rules of one group, the newest first.
-type OfOperations<'a> = MultiVisitorCons<LoneAnonymousOperation, MultiVisitorCons<UniqueOperationNames<'a>, MultiVisitorNil>>;
+use argument_rules::known_argument_names::KnownArgumentNames;
+use argument_rules::known_directives::KnownDirectives;
+use argument_rules::provided_non_null_arguments::ProvidedNonNullArguments;
+use argument_rules::unique_argument_names::UniqueArgumentNames;
+use argument_rules::unique_input_field_names::UniqueInputFieldNames;
+use field_rules::fields_on_correct_type::FieldsOnCorrectType;
+use field_rules::scalar_leafs::ScalarLeafs;
+use fragment_rules::fragments_on_composite_types::FragmentsOnCompositeTypes;
+use fragment_rules::known_fragment_names::KnownFragmentNames;
+use fragment_rules::known_type_names::KnownTypeNames;
+use fragment_rules::possible_fragment_spreads::PossibleFragmentSpreads;
+use fragment_rules::unique_fragment_names::UniqueFragmentNames;
+use operation_rules::lone_anonymous_operation::LoneAnonymousOperation;
+use operation_rules::unique_operation_names::UniqueOperationNames;
 
-type OfFragments = MultiVisitorCons<KnownFragmentNames, MultiVisitorNil>;
+// A list of rules, the newest first. One long list of all rules is dear to prove, so they come in groups.
+type OfOperations<'a> = MultiVisitorCons<UniqueOperationNames<'a>, MultiVisitorCons<LoneAnonymousOperation, MultiVisitorNil>>;
 
-// The rules on operations and their variables.
+type OfFields = MultiVisitorCons<ScalarLeafs, MultiVisitorCons<FieldsOnCorrectType, MultiVisitorNil>>;
+
+type OfArguments = MultiVisitorCons<UniqueInputFieldNames, MultiVisitorCons<UniqueArgumentNames, MultiVisitorCons<ProvidedNonNullArguments, MultiVisitorCons<KnownDirectives, MultiVisitorCons<KnownArgumentNames, MultiVisitorNil>>>>>;
+
+type OfFragments<'a, S> = MultiVisitorCons<UniqueFragmentNames<'a>, MultiVisitorCons<PossibleFragmentSpreads<'a, S>, MultiVisitorCons<KnownTypeNames, MultiVisitorCons<KnownFragmentNames, MultiVisitorCons<FragmentsOnCompositeTypes, MultiVisitorNil>>>>>;
+
+// The rules on operations.
 fn of_operations<'a>(alloc: Global) -> OfOperations<'a>
     ensures { ⟦<OfOperations<'a> as Fresh>⟧.fresh result }
 {
     MultiVisitorNil
-        .with_rule(unique_operation_names::factory(alloc))
         .with_rule(lone_anonymous_operation::factory(alloc))
+        .with_rule(unique_operation_names::factory(alloc))
 }
 
-// The rules on fragments.
-fn of_fragments(alloc: Global) -> OfFragments
-    ensures { ⟦<OfFragments as Fresh>⟧.fresh result }
+// The rules on fields.
+fn of_fields(alloc: Global) -> OfFields
+    ensures { ⟦<OfFields as Fresh>⟧.fresh result }
 {
-    MultiVisitorNil.with_rule(known_fragment_names::factory(alloc))
+    MultiVisitorNil
+        .with_rule(fields_on_correct_type::factory(alloc))
+        .with_rule(scalar_leafs::factory(alloc))
+}
+
+// The rules on arguments, keys of objects and directives.
+fn of_arguments(alloc: Global) -> OfArguments
+    ensures { ⟦<OfArguments as Fresh>⟧.fresh result }
+{
+    MultiVisitorNil
+        .with_rule(known_argument_names::factory(alloc))
+        .with_rule(known_directives::factory(alloc))
+        .with_rule(provided_non_null_arguments::factory(alloc))
+        .with_rule(unique_argument_names::factory(alloc))
+        .with_rule(unique_input_field_names::factory(alloc))
+}
+
+// The rules on fragments and on the names of types.
+fn of_fragments<'a, S: CheckedScalar>(alloc: Global) -> OfFragments<'a, S>
+    ensures { ⟦<OfFragments<'a, S> as Fresh>⟧.fresh result }
+{
+    MultiVisitorNil
+        .with_rule(fragments_on_composite_types::factory(alloc))
+        .with_rule(known_fragment_names::factory(alloc))
+        .with_rule(known_type_names::factory(alloc))
+        .with_rule(possible_fragment_spreads::factory(alloc))
+        .with_rule(unique_fragment_names::factory(alloc))
 }
 
 /// Tries every rule on a document, and appends the errors of the rules, in a context that was made for it.
@@ -58,6 +108,8 @@ pub fn visit_all_rules<'a, 't, S: CheckedScalar>(
     let alloc = ctx.allocator();
     let mut rules = MultiVisitorNil
         .with_rule(of_operations(alloc))
+        .with_rule(of_fields(alloc))
+        .with_rule(of_arguments(alloc))
         .with_rule(of_fragments(alloc));
     visit_rules(&mut rules, ctx, document)?;
     Ok(0)

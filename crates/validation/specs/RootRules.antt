@@ -1,0 +1,21 @@
+-- What is reported of the documents that are sent to a root node.
+use Rattle.std.specs.Prelude.{Bool, true, false, List, ◌∷◌}
+use Rattle.language.specs.declared.tree.Definition.{Definition}
+use Rattle.schema.specs.Catalog.{Catalog}
+use Rattle.events.specs.Typing.{untyped}
+use Rattle.walk.specs.ContextState.{scope_of}
+use Rattle.walk.specs.Entering.{found}
+use Rattle.walk.specs.ErrorValue.{ErrorValue}
+use Rattle.walk.specs.Rule.{Allowance, exactly, sum_of}
+use Rattle.field_rules.specs.DisableIntrospection.{introspection_fields}
+use Rattle.validation.specs.StageOne.{stage_one}
+
+module _ {S C : Type 0} where
+  -- the rules, and the one on introspection where that is disabled
+  abbrev pub root_rules : Bool → List (Allowance S C)
+  root_rules true = exactly (found introspection_fields) ∷ stage_one
+  root_rules false = stage_one
+
+  -- these errors they may report of a document
+  abbrev pub root_reported : Bool → Catalog S C → List (Definition S) → List ErrorValue → Type 0
+  root_reported disabled schema document errors = sum_of (root_rules disabled) (scope_of schema document) untyped document errors

@@ -1,0 +1,118 @@
+//! A schema, with what the documents that are sent to it may ask.
+
+ghost use Rattle.std.specs.Prelude.{◌≡◌, IfOk, OnOk, OnErr, IsErr, IsSorted, true, false};
+ghost use Rattle.language.specs.declared.tree.Definition.{Definition};
+ghost use Rattle.walk.specs.ContextState.{typing, scope_of};
+ghost use Rattle.walk.specs.Entering.{found};
+ghost use Rattle.walk.specs.ErrorValue.{error_cmp};
+ghost use Rattle.walk.specs.Names.{fragment_names};
+ghost use Rattle.walk.specs.Rule.{Appended, exactly, sum_of};
+ghost use Rattle.walk.specs.Step.{KeepsPlace};
+ghost use Rattle.field_rules.specs.DisableIntrospection.{introspection_fields};
+ghost use Rattle.validation.specs.RootRules.{root_reported, root_rules};
+
+use crate::rules::{disable_introspection, visit_all_rules};
+use language::error::OutOfMemory;
+use language::tree::Definition;
+use language::value::DefaultScalarValue;
+use meta::check::CheckedScalar;
+use schema::model::SchemaTypeOf;
+use std::alloc::Global;
+use walk::{MultiVisitorNil, RuleError, ValidatorContext, visit_rules};
+
+/// A schema, and whether documents may ask for the schema itself (GraphQL, section 4.1).
+#[derive(Drop)]
+pub struct RootNodeOf<S, C> {
+    pub schema: SchemaTypeOf<S, C>,
+    pub introspection_disabled: bool,
+}
+
+/// The root node of a schema, with the checks that its kind of scalars has.
+pub type RootNode<S = DefaultScalarValue> = RootNodeOf<S, <S as CheckedScalar>::Check>;
+
+impl<S, C> RootNodeOf<S, C> {
+    /// The root node of a schema, for which introspection is allowed.
+    pub fn new(schema: SchemaTypeOf<S, C>) -> RootNodeOf<S, C>
+        ensures { result ≡ record { schema = schema; introspection_disabled = false } }
+    {
+        RootNodeOf {
+            schema,
+            introspection_disabled: false,
+        }
+    }
+
+    /// From now on a field `__schema` or `__type` is an error.
+    pub fn disable_introspection(self) -> RootNodeOf<S, C>
+        ensures { result ≡ record self { introspection_disabled = true } }
+    {
+        RootNodeOf {
+            schema: self.schema,
+            introspection_disabled: true,
+        }
+    }
+
+    /// From now on it is none.
+    pub fn enable_introspection(self) -> RootNodeOf<S, C>
+        ensures { result ≡ record self { introspection_disabled = false } }
+    {
+        RootNodeOf {
+            schema: self.schema,
+            introspection_disabled: false,
+        }
+    }
+}
+
+impl<S: CheckedScalar> RootNodeOf<S, S::Check> {
+    /// Judges a document by every rule, and by that on introspection where it is disabled; the errors are in ascending order.
+    ///
+    /// Want of memory is the only error.
+    pub fn validate<'a>(
+        &'a self,
+        alloc: Global,
+        document: &'a [Definition<'_, S>],
+    ) -> Result<Vec<RuleError>, OutOfMemory>
+        ensures all { IfOk result (λ errors. root_reported self.now.introspection_disabled self.now.schema document.now errors.items) }
+        ensures sorted { IfOk result (λ errors. IsSorted error_cmp errors.items) }
+    {
+        let mut ctx = ValidatorContext::new(alloc, &self.schema, document)?;
+        visit_root_rules(&mut ctx, document, self.introspection_disabled)?;
+        ctx.into_errors()
+    }
+}
+
+/// Tries every rule on a document, and that on introspection where it is disabled.
+///
+/// The answer is that of `visit_all_rules`: how many pairs of fragments were compared.
+pub fn visit_root_rules<'a, S: CheckedScalar>(
+    ctx: &mut ValidatorContext<'a, S>,
+    document: &'a [Definition<'_, S>],
+    introspection_disabled: bool,
+) -> Result<u128, OutOfMemory>
+    ensures appended { OnOk result (ctx.old.known ≡ fragment_names document.now → Appended (sum_of (root_rules introspection_disabled) (scope_of ctx.old.schema document.now) (typing ctx.old) document.now) ctx.old ctx.new) }
+    ensures compared { IfOk result (λ pairs. pairs ≡ 0) }
+    ensures err { OnErr result (KeepsPlace ctx.old ctx.new) }
+    ensures failed { OnErr result (ctx.new.failed ≡ true) }
+    ensures stays { ctx.old.failed ≡ true → IsErr result }
+{
+    let compared = visit_all_rules(ctx, document)?;
+    if introspection_disabled {
+        return after_introspection(ctx, document, compared);
+    }
+    Ok(compared)
+}
+
+// Reports introspection, and answers a count.
+fn after_introspection<'a, S: CheckedScalar>(
+    ctx: &mut ValidatorContext<'a, S>,
+    document: &'a [Definition<'_, S>],
+    compared: u128,
+) -> Result<u128, OutOfMemory>
+    ensures appended { OnOk result (ctx.old.known ≡ fragment_names document.now → Appended (exactly (found introspection_fields) (scope_of ctx.old.schema document.now) (typing ctx.old) document.now) ctx.old ctx.new) }
+    ensures compared { IfOk result (λ pairs. pairs ≡ compared) }
+    ensures err { OnErr result (KeepsPlace ctx.old ctx.new) }
+    ensures failed { OnErr result (ctx.new.failed ≡ true) }
+{
+    let mut rule = MultiVisitorNil.with_rule(disable_introspection::factory(ctx.allocator()));
+    visit_rules(&mut rule, ctx, document)?;
+    Ok(compared)
+}
