@@ -110,7 +110,11 @@ fn type_text(alloc: Global, t: BorrowedType<'_>) -> Result<String, AllocError>
     format!(in alloc; "{t}")
 }
 
-fn no_subfields_message(alloc: Global, field: &str, t: BorrowedType<'_>) -> Result<String, AllocError>
+fn no_subfields_message(
+    alloc: Global,
+    field: &str,
+    t: BorrowedType<'_>,
+) -> Result<String, AllocError>
     ensures { IfOk result (λ message. string_bytes message ≡ no_subfields_message field.now (printed (borrowed_shape t.entry))) }
 {
     let t = type_text(alloc, t)?;
@@ -123,7 +127,11 @@ fn no_subfields_message(alloc: Global, field: &str, t: BorrowedType<'_>) -> Resu
     between(alloc, before.as_str(), t.as_str(), " has no subfields")
 }
 
-fn subfields_needed_message(alloc: Global, field: &str, t: BorrowedType<'_>) -> Result<String, AllocError>
+fn subfields_needed_message(
+    alloc: Global,
+    field: &str,
+    t: BorrowedType<'_>,
+) -> Result<String, AllocError>
     ensures { IfOk result (λ message. string_bytes message ≡ subfields_needed_message field.now (printed (borrowed_shape t.entry))) }
 {
     let t = type_text(alloc, t)?;
