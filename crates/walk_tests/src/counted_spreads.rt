@@ -11,9 +11,8 @@ ghost use Rattle.walk_tests.specs.CountedSpreads.{next_count, spread_count};
 use language::error::OutOfMemory;
 use language::tree::Definition;
 use meta::check::CheckedScalar;
-use walk::{
-    Event, Fresh, Machine, MultiVisitorNil, Rule, ValidatorContext, Visitor, visit_rules,
-};
+use walk::laws::rules_append;
+use walk::{Event, Fresh, Machine, MultiVisitorNil, Rule, ValidatorContext, Visitor, visit};
 
 /// Counts the spreads of fragments, and reports nothing.
 #[derive(Drop)]
@@ -62,7 +61,8 @@ pub fn count_spreads<'a, 't, S: CheckedScalar>(
 ) -> Result<u64, OutOfMemory>
     ensures { IfOk result (λ count. ctx.old.known ≡ fragment_names document.now → count ≡ spread_count (scope_of ctx.old.schema document.now) (typing ctx.old) document.now) }
 {
-    let mut rules = MultiVisitorNil.with_rule(factory());
-    visit_rules(&mut rules, ctx, document)?;
+    rules_append::<S, S::Check, CountedSpreads>();
+    let mut rules = MultiVisitorNil.with(factory());
+    visit(&mut rules, ctx, document)?;
     Ok(rules.newest().count)
 }

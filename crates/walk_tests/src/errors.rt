@@ -16,6 +16,12 @@ fn prints_its_places(rt: HostRuntime) -> Result<(), Fail> {
         "Unknown fragment: \"A\". At 0:11, 2:3"
     );
     assert_eq!(rt; error.message(), "Unknown fragment: \"A\"");
+    let far = RuleError::new(
+        rt.alloc(),
+        "m",
+        &[SourcePosition::new(1_234_567, 1000, 12_345)],
+    )?;
+    assert_eq!(rt; far.to_string(rt.alloc())?.as_str(), "m. At 1000:12345");
     assert_eq!(rt; error.locations().len(), 2);
     let nowhere = RuleError::new(rt.alloc(), "m", &[])?;
     assert_eq!(rt; nowhere.to_string(rt.alloc())?.as_str(), "m. At ");

@@ -1,4 +1,4 @@
-//! Tests of the crate `walk`: errors, walks over every kind of node, and rules that ask checks, count and keep nodes.
+//! Tests of the crate `walk`: errors, walks over every kind of node, rules that ask checks, count and keep nodes, and a linter.
 #![tactic(auto)]
 
 pub mod asked_checks;
@@ -6,6 +6,7 @@ pub mod counted_spreads;
 #[cfg(test)]
 mod errors;
 pub mod kept_fields;
+pub mod linter;
 #[cfg(test)]
 mod recorder;
 #[cfg(test)]

@@ -197,9 +197,9 @@ fn refuses_all<'a>(
 ) -> bool {
     let reports = ctx.report_error("m", &[]).is_err();
     let appends = ctx.append_errors(Vec::new(alloc)).is_err();
-    let pushes = ctx.with_pushed_type(None, |_ctx| Ok(())).is_err();
-    let pushes_parent = ctx.with_pushed_parent_type(|_ctx| Ok(())).is_err();
-    let pushes_input = ctx.with_pushed_input_type(None, |_ctx| Ok(())).is_err();
+    let pushes = ctx.with_pushed_type(None, |_ctx| ()).is_err();
+    let pushes_parent = ctx.with_pushed_parent_type(|_ctx| ()).is_err();
+    let pushes_input = ctx.with_pushed_input_type(None, |_ctx| ()).is_err();
     let walks = recorded(alloc, &mut ctx, document).is_err();
     let ends = ctx.into_errors().is_err();
     reports && appends && pushes && pushes_parent && pushes_input && walks && ends
@@ -275,11 +275,11 @@ fn types_in_turn<'a>(
     let mut ctx = ValidatorContext::new(alloc, schema, &[])?;
     let dog = Some(BorrowedType::non_null("Dog"));
     let int = Some(BorrowedType::nullable("Int"));
-    let pushed = ctx.with_pushed_type(dog, |ctx| shown_types(alloc, ctx))?;
+    let pushed = ctx.with_pushed_type(dog, |ctx| shown_types(alloc, ctx))??;
     let parent = ctx.with_pushed_type(dog, |ctx| {
         ctx.with_pushed_parent_type(|ctx| shown_types(alloc, ctx))
-    })?;
-    let input = ctx.with_pushed_input_type(int, |ctx| shown_types(alloc, ctx))?;
+    })???;
+    let input = ctx.with_pushed_input_type(int, |ctx| shown_types(alloc, ctx))??;
     let after = shown_types(alloc, &ctx)?;
     Ok((pushed, parent, input, after))
 }
