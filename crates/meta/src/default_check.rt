@@ -43,7 +43,7 @@ pub struct DefaultCheck {
 
 impl DefaultCheck {
     ghost use Rattle.std.specs.Prelude.{◌≡◌, None, Some};
-    ghost use Rattle.meta.specs.Kept.{function_of, token_function_of};
+    ghost use Rattle.meta.specs.Functions.{function_of, token_function_of};
 
     /// The check of an enum or an input object. It has no error.
     pub fn new(run: InputValueParseFn) -> Self
@@ -74,7 +74,7 @@ impl CheckedScalar for DefaultScalarValue {
     ghost use Rattle.std.proofs.Common.{sym, ◌∙◌};
     ghost use Rattle.std.proofs.Math.Logic.{∥∥₁_elim};
     ghost use Rattle.meta.specs.Answers.{SameAnswer-prop};
-    ghost use Rattle.meta.specs.Kept.{function_of};
+    ghost use Rattle.meta.specs.Functions.{function_of};
 
     type Check = DefaultCheck;
 

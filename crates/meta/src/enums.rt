@@ -1,7 +1,8 @@
 //! Enums.
 ghost use Rattle.std.specs.Prelude.{◌≡◌, IfOk, None, Some, option_map, string_bytes};
 ghost use Rattle.meta.specs.Answers.{SameAnswer};
-ghost use Rattle.meta.specs.Kept.{enum_check, function_of};
+ghost use Rattle.meta.specs.Functions.{function_of};
+ghost use Rattle.meta.specs.Kept.{enum_check};
 
 use crate::check::CheckedScalar;
 use crate::default_check::{DefaultCheck, InputValueParseFn};

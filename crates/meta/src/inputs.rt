@@ -1,7 +1,8 @@
 //! Input objects.
 ghost use Rattle.std.specs.Prelude.{◌≡◌, IfOk, None, Some, option_map, string_bytes};
 ghost use Rattle.meta.specs.Answers.{SameAnswer};
-ghost use Rattle.meta.specs.Kept.{input_object_check, function_of};
+ghost use Rattle.meta.specs.Functions.{function_of};
+ghost use Rattle.meta.specs.Kept.{input_object_check};
 
 use crate::arguments::Argument;
 use crate::check::CheckedScalar;
