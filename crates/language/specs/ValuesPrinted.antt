@@ -23,9 +23,11 @@ quoted_or (Some bs) other = codes "\"" ++ bs ++ codes "\""
 quoted_or None other = other
 
 module _ {S : Type 0} (text : S → List ℕ) (str_of : S → Option (List ℕ)) where
+  -- a string between plain quotes, any other scalar by its own text
   abbrev pub printed_scalar : S → List ℕ
   printed_scalar s = quoted_or (str_of s) (text s)
 
+  -- a key and what stands beside it
   abbrev pub keyed : List ℕ → List ℕ → List ℕ
   keyed key bs = key ++ codes ": " ++ bs
 
@@ -38,15 +40,23 @@ module _ {S : Type 0} (text : S → List ℕ) (str_of : S → Option (List ℕ))
   printed_step (InputValue-F.List vs) = codes "[" ++ comma_separated (map (λ v. v.item) vs.items) ++ codes "]"
   printed_step (InputValue-F.Object es) = codes "{" ++ comma_separated (map (λ e. keyed (string_bytes e.0.item) e.1.item) es.items) ++ codes "}"
 
-  -- the bytes of a value
+  -- The bytes of a value. By cases:
+  --   null            null
+  --   a scalar        `printed_scalar`: a string between plain quotes, any other by its own text
+  --   an enum value   its name
+  --   a variable      $ and its name
+  --   a list          its items between [ and ], with a comma and a blank between each two
+  --   an object       its entries, each `key: value`, between { and } in the same way
   abbrev pub printed_value : InputValue S → List ℕ
   printed_value = fold-InputValue S (List ℕ) printed_step
 
+  -- the items of a list, between its brackets
   abbrev pub printed_values : List (Spanning (InputValue S) Span) → List ℕ
   printed_values vs = comma_separated (map (λ v. printed_value v.item) vs)
 
   abbrev pub printed_entry : List ℕ → InputValue S → List ℕ
   printed_entry key v = keyed key (printed_value v)
 
+  -- the entries of an object, between its braces
   abbrev pub printed_entries : List (Entry (InputValue S)) → List ℕ
   printed_entries es = comma_separated (map (λ e. printed_entry (string_bytes e.0.item) e.1.item) es)

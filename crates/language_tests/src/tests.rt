@@ -60,6 +60,8 @@ fn positions_print_line_and_column_and_are_ordered(rt: HostRuntime) -> Result<()
     let alloc = rt.alloc();
     let place = SourcePosition::new(7, 2, 3);
     assert_eq!(rt; place.to_string(alloc)?.as_str(), "2:3");
+    let far = SourcePosition::new(20_000, 12, 1234);
+    assert_eq!(rt; far.to_string(alloc)?.as_str(), "12:1234");
     assert_eq!(rt; (place.index(), place.line(), place.column()), (7, 2, 3));
     for (small, large) in [
         (SourcePosition::new(1, 9, 9), SourcePosition::new(2, 0, 0)),

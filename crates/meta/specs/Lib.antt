@@ -1,5 +1,6 @@
 pub mod Answers
 pub mod Arguments
 pub mod Deprecation
+pub mod Functions
 pub mod Kept
 pub mod Kinds

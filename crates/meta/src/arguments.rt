@@ -7,7 +7,8 @@ use language::types::Type;
 use language::value::InputValue;
 use std::alloc::Global;
 
-/// An argument of a field or a directive, or a field of an input object.
+/// An argument of a field (section 3.6.1) or a directive (section 3.13), or a field of an input
+/// object (section 3.10).
 #[derive(Clone, Debug, Drop)]
 pub struct Argument<S> {
     pub name: String,
@@ -17,7 +18,8 @@ pub struct Argument<S> {
 }
 
 impl<S> Argument<S> {
-    /// An argument of this name and this type, with no description and no default value.
+    /// An argument of this name and this type, with no description and no default value (section
+    /// 3.6.1). Its one error is `OutOfMemory`.
     pub fn new(alloc: Global, name: &str, arg_type: Type) -> Result<Self, OutOfMemory>
         ensures name { IfOk result (λ a. string_bytes a.name ≡ name.now) }
         ensures arg_type { IfOk result (λ a. a.arg_type ≡ arg_type) }
@@ -32,7 +34,7 @@ impl<S> Argument<S> {
         })
     }
 
-    /// Replaces the description.
+    /// Replaces the description (section 3.2). Its one error is `OutOfMemory`.
     pub fn description(mut self, text: &str) -> Result<Self, OutOfMemory>
     where
         S: Drop,
@@ -43,7 +45,7 @@ impl<S> Argument<S> {
         Ok(self)
     }
 
-    /// Replaces the default value.
+    /// Replaces the default value (section 3.6.1). It has no error.
     pub fn default_value(mut self, value: InputValue<S>) -> Self
     where
         S: Drop,
@@ -53,7 +55,7 @@ impl<S> Argument<S> {
         self
     }
 
-    /// Whether the name begins with `__`.
+    /// Whether the name begins with `__` (section 4.1).
     pub fn is_builtin(&self) -> bool
         ensures { result ≡ starts_with nat_eq (string_bytes self.now.name) (codes "__") }
     {

@@ -1,5 +1,5 @@
 //! The checks of the scalars at hand: functions of the caller.
-ghost use Rattle.std.specs.Prelude.{◌≡◌, None, Some};
+ghost use Rattle.std.specs.Prelude.{◌≡◌};
 ghost use Rattle.meta.specs.Answers.{SameAnswer};
 
 use crate::check::CheckedScalar;
@@ -16,9 +16,11 @@ pub type InputValueParseFn = for<'b> fn(
 /// What a token of a document is written as.
 #[derive(Clone, Copy, Debug, PartialEq, Eq)]
 pub enum ScalarTokenKind {
-    /// A string, whose text is given without its quotes.
+    /// A string, whose text is given without its quotes (section 3.5.3).
     String,
+    /// A number with a point or an exponent (section 3.5.2).
     Float,
+    /// A number of digits, with or without a sign (section 3.5.1).
     Int,
 }
 
@@ -33,29 +35,32 @@ pub type ScalarTokenParseFn = for<'b> fn(
 /// token function, which no call of this crate asks.
 #[derive(Drop)]
 pub struct DefaultCheck {
-    pub run: InputValueParseFn,
-    pub token: Option<ScalarTokenParseFn>,
+    run: InputValueParseFn,
+    token: Option<ScalarTokenParseFn>,
     ghost callable: { (a : _) (v : _) → InputValueParseFn.pre run a v },
     ghost one_answer: { ∥ ((a b : _) (v w : _) (r s : _) → v.now ≡ w.now → InputValueParseFn.post run a v r → InputValueParseFn.post run b w s → SameAnswer r s) ∥₁ },
 }
 
 impl DefaultCheck {
-    /// The check of an enum or an input object.
+    ghost use Rattle.std.specs.Prelude.{◌≡◌, None, Some};
+    ghost use Rattle.meta.specs.Functions.{function_of, token_function_of};
+
+    /// The check of an enum or an input object. It has no error.
     pub fn new(run: InputValueParseFn) -> Self
         requires callable { (a : _) (v : _) → InputValueParseFn.pre run a v }
         requires one_answer { (a b : _) (v w : _) (r s : _) → v.now ≡ w.now → InputValueParseFn.post run a v r → InputValueParseFn.post run b w s → SameAnswer r s }
-        ensures run { result.run ≡ run }
-        ensures token { result.token ≡ None }
+        ensures run { function_of result ≡ run }
+        ensures token { token_function_of result ≡ None }
     {
         DefaultCheck { run, token: None }
     }
 
-    /// The check of a scalar, with its token function.
+    /// The check of a scalar, with its token function. It has no error.
     pub fn with_token(run: InputValueParseFn, token: ScalarTokenParseFn) -> Self
         requires callable { (a : _) (v : _) → InputValueParseFn.pre run a v }
         requires one_answer { (a b : _) (v w : _) (r s : _) → v.now ≡ w.now → InputValueParseFn.post run a v r → InputValueParseFn.post run b w s → SameAnswer r s }
-        ensures run { result.run ≡ run }
-        ensures token { result.token ≡ Some token }
+        ensures run { function_of result ≡ run }
+        ensures token { token_function_of result ≡ Some token }
     {
         DefaultCheck {
             run,
@@ -69,10 +74,11 @@ impl CheckedScalar for DefaultScalarValue {
     ghost use Rattle.std.proofs.Common.{sym, ◌∙◌};
     ghost use Rattle.std.proofs.Math.Logic.{∥∥₁_elim};
     ghost use Rattle.meta.specs.Answers.{SameAnswer-prop};
+    ghost use Rattle.meta.specs.Functions.{function_of};
 
     type Check = DefaultCheck;
 
-    ghost may_answer = { λ c v r. (a : _) × (w : _) × (w.now ≡ v) × InputValueParseFn.post c.run a w r };
+    ghost may_answer = { λ c v r. (a : _) × (w : _) × (w.now ≡ v) × InputValueParseFn.post (function_of c) a w r };
 
     ghost one_answer = { λ c v r s p q. ∥∥₁_elim c.one_answer (SameAnswer-prop r s) (λ f. f p.0 q.0 p.1 q.1 r s (p.2 ∙ sym q.2) p.3 q.3) };
 

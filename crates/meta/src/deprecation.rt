@@ -7,12 +7,14 @@ use crate::texts::as_text;
 /// Whether a field or an enum value is still to be used (section 3.13.3).
 #[derive(Clone, Debug, PartialEq, Eq, Hash, Drop)]
 pub enum DeprecationStatus {
+    /// It is to be used.
     Current,
     /// It is not to be used any more, with the reason, if one is given.
     Deprecated(Option<String>),
 }
 
 impl DeprecationStatus {
+    /// Whether it is not to be used any more.
     pub fn is_deprecated(&self) -> bool
         ensures { result ≡ is_deprecated_status self.now }
     {

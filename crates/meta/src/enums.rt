@@ -1,6 +1,7 @@
 //! Enums.
 ghost use Rattle.std.specs.Prelude.{◌≡◌, IfOk, None, Some, option_map, string_bytes};
 ghost use Rattle.meta.specs.Answers.{SameAnswer};
+ghost use Rattle.meta.specs.Functions.{function_of};
 ghost use Rattle.meta.specs.Kept.{enum_check};
 
 use crate::check::CheckedScalar;
@@ -26,7 +27,7 @@ impl EnumMetaOf<DefaultCheck> {
     /// An enum of this name with these values, and no description.
     ///
     /// The caller's check has to work on any value. It has to answer a value the same each time, with
-    /// the same text where it refuses, unless it runs out of memory.
+    /// the same text where it refuses, unless it runs out of memory. Its one error is `OutOfMemory`.
     pub fn new(
         alloc: Global,
         name: &str,
@@ -38,14 +39,15 @@ impl EnumMetaOf<DefaultCheck> {
         ensures name { IfOk result (λ m. string_bytes m.name ≡ name.now) }
         ensures description { IfOk result (λ m. m.description ≡ None) }
         ensures values { IfOk result (λ m. m.values ≡ values) }
-        ensures check { IfOk result (λ m. (enum_check m).run ≡ check) }
+        ensures check { IfOk result (λ m. function_of (enum_check m) ≡ check) }
     {
         EnumMetaOf::with_check(alloc, name, values, DefaultCheck::new(check))
     }
 }
 
 impl<C: Drop> EnumMetaOf<C> {
-    /// An enum of this name with these values that keeps this check, and no description.
+    /// An enum of this name with these values that keeps this check, and no description (section
+    /// 3.9). Its one error is `OutOfMemory`.
     pub fn with_check(
         alloc: Global,
         name: &str,
@@ -65,7 +67,7 @@ impl<C: Drop> EnumMetaOf<C> {
         })
     }
 
-    /// Replaces the description.
+    /// Replaces the description (section 3.2). Its one error is `OutOfMemory`.
     pub fn description(mut self, text: &str) -> Result<Self, OutOfMemory>
         ensures text { IfOk result (λ m. option_map string_bytes m.description ≡ Some text.now) }
         ensures others { IfOk result (λ m. m ≡ record self { description = m.description }) }
@@ -76,6 +78,7 @@ impl<C: Drop> EnumMetaOf<C> {
 }
 
 impl<C> EnumMetaOf<C> {
+    /// The enum among the types of a schema (section 3.9). It has no error.
     pub fn into_meta<S>(self) -> MetaTypeOf<S, C>
         ensures { result ≡ MetaTypeOf.Enum self }
     {

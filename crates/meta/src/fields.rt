@@ -1,5 +1,5 @@
 //! Fields of objects and interfaces.
-ghost use Rattle.std.specs.Prelude.{◌≡◌, IfOk, IsTrue, ◌↔◌, None, Some, true, codes, nat_eq, option_map, string_bytes, ◌∷◌, [], ◌++◌};
+ghost use Rattle.std.specs.Prelude.{◌≡◌, IfOk, IsOk, None, Some, true, codes, nat_eq, option_map, string_bytes, ◌∷◌, [], ◌++◌};
 ghost use Rattle.std.specs.List.{starts_with};
 ghost use Rattle.meta.specs.Deprecation.{is_deprecated_status, reason_of};
 ghost use Rattle.meta.specs.Arguments.{arguments_of};
@@ -11,7 +11,7 @@ use language::error::OutOfMemory;
 use language::types::Type;
 use std::alloc::Global;
 
-/// A field of an object or an interface.
+/// A field of an object (section 3.6) or an interface (section 3.7).
 #[derive(Clone, Debug, Drop)]
 pub struct Field<S> {
     pub name: String,
@@ -23,7 +23,8 @@ pub struct Field<S> {
 }
 
 impl<S> Field<S> {
-    /// A field of this name and this type, with no description and no arguments, and not deprecated.
+    /// A field of this name and this type, with no description and no arguments, and not deprecated
+    /// (section 3.6). Its one error is `OutOfMemory`.
     pub fn new(alloc: Global, name: &str, field_type: Type) -> Result<Self, OutOfMemory>
         ensures name { IfOk result (λ f. string_bytes f.name ≡ name.now) }
         ensures field_type { IfOk result (λ f. f.field_type ≡ field_type) }
@@ -40,7 +41,7 @@ impl<S> Field<S> {
         })
     }
 
-    /// Replaces the description.
+    /// Replaces the description (section 3.2). Its one error is `OutOfMemory`.
     pub fn description(mut self, text: &str) -> Result<Self, OutOfMemory>
     where
         S: Drop,
@@ -51,7 +52,8 @@ impl<S> Field<S> {
         Ok(self)
     }
 
-    /// Adds an argument at the end, also where one has its name.
+    /// Adds an argument at the end, also where one has its name (section 3.6.1). Its one error is
+    /// `OutOfMemory`.
     pub fn argument(self, argument: Argument<S>) -> Result<Self, OutOfMemory>
     where
         S: Drop,
@@ -79,20 +81,22 @@ impl<S> Field<S> {
         })
     }
 
-    /// Says that the field is deprecated, with the reason, if one is given.
+    /// Says that the field is deprecated, with the reason, if one is given (section 3.6.2). Its one
+    /// error is `OutOfMemory`, and with no reason it has none.
     pub fn deprecated(mut self, reason: Option<&str>) -> Result<Self, OutOfMemory>
     where
         S: Drop,
         ensures deprecated { IfOk result (λ f. is_deprecated_status f.deprecation_status ≡ true) }
         ensures reason { IfOk result (λ f. reason_of f.deprecation_status ≡ option_map (λ t. t.now) reason.entry) }
         ensures others { IfOk result (λ f. f ≡ record self { deprecation_status = f.deprecation_status }) }
+        ensures succeeds { reason.entry ≡ None → IsOk result }
     {
         let reason = copy_text(*self.name.allocator(), reason)?;
         self.deprecation_status = DeprecationStatus::Deprecated(reason);
         Ok(self)
     }
 
-    /// Whether the name begins with `__`.
+    /// Whether the name begins with `__` (section 4.1).
     pub fn is_builtin(&self) -> bool
         ensures { result ≡ starts_with nat_eq (string_bytes self.now.name) (codes "__") }
     {

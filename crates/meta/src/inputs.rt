@@ -1,6 +1,7 @@
 //! Input objects.
 ghost use Rattle.std.specs.Prelude.{◌≡◌, IfOk, None, Some, option_map, string_bytes};
 ghost use Rattle.meta.specs.Answers.{SameAnswer};
+ghost use Rattle.meta.specs.Functions.{function_of};
 ghost use Rattle.meta.specs.Kept.{input_object_check};
 
 use crate::arguments::Argument;
@@ -27,7 +28,7 @@ impl InputObjectMetaOf<DefaultScalarValue, DefaultCheck> {
     /// An input object of this name with these fields, and no description.
     ///
     /// The caller's check has to work on any value. It has to answer a value the same each time, with
-    /// the same text where it refuses, unless it runs out of memory.
+    /// the same text where it refuses, unless it runs out of memory. Its one error is `OutOfMemory`.
     pub fn new(
         alloc: Global,
         name: &str,
@@ -39,14 +40,15 @@ impl InputObjectMetaOf<DefaultScalarValue, DefaultCheck> {
         ensures name { IfOk result (λ m. string_bytes m.name ≡ name.now) }
         ensures description { IfOk result (λ m. m.description ≡ None) }
         ensures input_fields { IfOk result (λ m. m.input_fields ≡ input_fields) }
-        ensures check { IfOk result (λ m. (input_object_check m).run ≡ check) }
+        ensures check { IfOk result (λ m. function_of (input_object_check m) ≡ check) }
     {
         InputObjectMetaOf::with_check(alloc, name, input_fields, DefaultCheck::new(check))
     }
 }
 
 impl<S: Drop, C: Drop> InputObjectMetaOf<S, C> {
-    /// An input object of this name with these fields that keeps this check, and no description.
+    /// An input object of this name with these fields that keeps this check, and no description
+    /// (section 3.10). Its one error is `OutOfMemory`.
     pub fn with_check(
         alloc: Global,
         name: &str,
@@ -66,7 +68,7 @@ impl<S: Drop, C: Drop> InputObjectMetaOf<S, C> {
         })
     }
 
-    /// Replaces the description.
+    /// Replaces the description (section 3.2). Its one error is `OutOfMemory`.
     pub fn description(mut self, text: &str) -> Result<Self, OutOfMemory>
         ensures text { IfOk result (λ m. option_map string_bytes m.description ≡ Some text.now) }
         ensures others { IfOk result (λ m. m ≡ record self { description = m.description }) }
@@ -77,6 +79,7 @@ impl<S: Drop, C: Drop> InputObjectMetaOf<S, C> {
 }
 
 impl<S, C> InputObjectMetaOf<S, C> {
+    /// The input object among the types of a schema (section 3.10). It has no error.
     pub fn into_meta(self) -> MetaTypeOf<S, C>
         ensures { result ≡ MetaTypeOf.InputObject self }
     {

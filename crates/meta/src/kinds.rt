@@ -20,29 +20,45 @@ use language::types::Type;
 use language::value::DefaultScalarValue;
 use std::alloc::Global;
 
-/// The kinds of types that introspection tells apart.
+/// The kinds of types that introspection tells apart (section 4.2.2).
 #[derive(Clone, Debug, PartialEq, Eq, Drop)]
 pub enum TypeKind {
+    /// A scalar (section 3.5).
     Scalar,
+    /// A list (section 3.11).
     List,
+    /// An object (section 3.6).
     Object,
+    /// An enum (section 3.9).
     Enum,
+    /// An interface (section 3.7).
     Interface,
+    /// A union (section 3.8).
     Union,
+    /// An input object (section 3.10).
     InputObject,
 }
 
-/// Metadata of a type.
+/// Metadata of a type (section 3.4).
 #[derive(Drop)]
 pub enum MetaTypeOf<S, C> {
+    /// A scalar (section 3.5).
     Scalar(ScalarMetaOf<C>),
+    /// A list (section 3.11).
     List(ListMeta),
+    /// A type that may be null (section 3.12).
     Nullable(NullableMeta),
+    /// An object (section 3.6).
     Object(ObjectMeta<S>),
+    /// An enum (section 3.9).
     Enum(EnumMetaOf<C>),
+    /// An interface (section 3.7).
     Interface(InterfaceMeta<S>),
+    /// A union (section 3.8).
     Union(UnionMeta),
+    /// An input object (section 3.10).
     InputObject(InputObjectMetaOf<S, C>),
+    /// A type whose own metadata is not made yet; a schema refuses it.
     Placeholder(PlaceholderMeta),
 }
 
@@ -134,7 +150,8 @@ impl<S, C> MetaTypeOf<S, C> {
     }
 
     /// The type: a named kind is non-null; a list is the non-null list of its type, with its size;
-    /// a nullable type is its type without an outer non-null; a placeholder is its type.
+    /// a nullable type is its type without an outer non-null; a placeholder is its type (section
+    /// 3.4.1). Its one error is `OutOfMemory`.
     pub fn as_type(&self, alloc: Global) -> Result<Type, OutOfMemory>
         ensures { IfOk result (λ t. shape t ≡ type_of_meta self.now) }
     {
@@ -163,7 +180,8 @@ impl<S, C> MetaTypeOf<S, C> {
         }
     }
 
-    /// Whether a selection set may stand below it: an object, an interface or a union.
+    /// Whether a selection set may stand below it: an object, an interface or a union (sections 3.6
+    /// to 3.8).
     pub fn is_composite(&self) -> bool
         ensures { result ≡ is_composite_meta self.now }
     {
@@ -187,7 +205,7 @@ impl<S, C> MetaTypeOf<S, C> {
         matches!(self, MetaTypeOf::Interface(_) | MetaTypeOf::Union(_))
     }
 
-    /// Whether an argument may have it: a scalar, an enum or an input object.
+    /// Whether an argument may have it: a scalar, an enum or an input object (section 3.4.2).
     pub fn is_input(&self) -> bool
         ensures { result ≡ is_input_meta self.now }
     {

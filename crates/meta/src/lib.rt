@@ -1,4 +1,4 @@
-//! Metadata of types (GraphQL, October 2021, section 3.4), and the checks of their values.
+//! Metadata of types (GraphQL, October 2021, sections 3.4 to 3.13), and the checks of their values.
 #![tactic(auto)]
 
 pub mod arguments;
@@ -19,6 +19,7 @@ pub mod unions;
 pub mod wrappers;
 
 pub use arguments::Argument;
+pub use default_check::{DefaultCheck, InputValueParseFn, ScalarTokenKind, ScalarTokenParseFn};
 pub use deprecation::DeprecationStatus;
 pub use enum_values::EnumValue;
 pub use enums::{EnumMeta, EnumMetaOf};

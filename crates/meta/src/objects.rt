@@ -20,7 +20,8 @@ pub struct ObjectMeta<S> {
 }
 
 impl<S: Drop> ObjectMeta<S> {
-    /// An object of this name with these fields, no description and no interfaces.
+    /// An object of this name with these fields, no description and no interfaces (section 3.6).
+    /// Its one error is `OutOfMemory`.
     pub fn new(alloc: Global, name: &str, fields: Vec<Field<S>>) -> Result<Self, OutOfMemory>
         ensures name { IfOk result (λ m. string_bytes m.name ≡ name.now) }
         ensures description { IfOk result (λ m. m.description ≡ None) }
@@ -35,7 +36,7 @@ impl<S: Drop> ObjectMeta<S> {
         })
     }
 
-    /// Replaces the description.
+    /// Replaces the description (section 3.2). Its one error is `OutOfMemory`.
     pub fn description(mut self, text: &str) -> Result<Self, OutOfMemory>
         ensures text { IfOk result (λ m. option_map string_bytes m.description ≡ Some text.now) }
         ensures others { IfOk result (λ m. m ≡ record self { description = m.description }) }
@@ -44,7 +45,8 @@ impl<S: Drop> ObjectMeta<S> {
         Ok(self)
     }
 
-    /// Replaces the interfaces by the innermost names of the types.
+    /// Replaces the interfaces by the innermost names of the types (section 3.6). Its one error is
+    /// `OutOfMemory`.
     pub fn interfaces(mut self, interfaces: Vec<Type>) -> Result<Self, OutOfMemory>
         ensures interfaces { IfOk result (λ m. map string_bytes m.interface_names.items ≡ map (λ t. (shape t).name) interfaces.items) }
         ensures others { IfOk result (λ m. m ≡ record self { interface_names = m.interface_names }) }
@@ -55,6 +57,7 @@ impl<S: Drop> ObjectMeta<S> {
 }
 
 impl<S> ObjectMeta<S> {
+    /// The object among the types of a schema (section 3.6). It has no error.
     pub fn into_meta<C>(self) -> MetaTypeOf<S, C>
         ensures { result ≡ MetaTypeOf.Object self }
     {

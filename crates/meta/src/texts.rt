@@ -1,5 +1,5 @@
 //! Texts that a type keeps.
-ghost use Rattle.std.specs.Prelude.{◌≡◌, IfOk, map, option_map, string_bytes};
+ghost use Rattle.std.specs.Prelude.{◌≡◌, IfOk, IsOk, None, map, option_map, string_bytes};
 ghost use Rattle.language.specs.Types.{shape};
 
 use language::error::OutOfMemory;
@@ -16,9 +16,10 @@ pub fn as_text(text: &Option<String>) -> Option<&str>
     }
 }
 
-/// A copy of the text, if there is one.
+/// A copy of the text, if there is one; none is answered without memory.
 pub fn copy_text(alloc: Global, text: Option<&str>) -> Result<Option<String>, OutOfMemory>
-    ensures { IfOk result (λ t. option_map string_bytes t ≡ option_map (λ s. s.now) text.entry) }
+    ensures value { IfOk result (λ t. option_map string_bytes t ≡ option_map (λ s. s.now) text.entry) }
+    ensures succeeds { text.entry ≡ None → IsOk result }
 {
     match text {
         Some(given) => Ok(Some(String::from_str(alloc, given)?)),

@@ -18,7 +18,8 @@ pub struct UnionMeta {
 }
 
 impl UnionMeta {
-    /// A union of this name, of the innermost names of the types, with no description.
+    /// A union of this name, of the innermost names of the types, with no description (section 3.8).
+    /// Its one error is `OutOfMemory`.
     pub fn new(alloc: Global, name: &str, types: Vec<Type>) -> Result<Self, OutOfMemory>
         ensures name { IfOk result (λ m. string_bytes m.name ≡ name.now) }
         ensures description { IfOk result (λ m. m.description ≡ None) }
@@ -31,7 +32,7 @@ impl UnionMeta {
         })
     }
 
-    /// Replaces the description.
+    /// Replaces the description (section 3.2). Its one error is `OutOfMemory`.
     pub fn description(mut self, text: &str) -> Result<Self, OutOfMemory>
         ensures text { IfOk result (λ m. option_map string_bytes m.description ≡ Some text.now) }
         ensures others { IfOk result (λ m. m ≡ record self { description = m.description }) }
@@ -40,6 +41,7 @@ impl UnionMeta {
         Ok(self)
     }
 
+    /// The union among the types of a schema (section 3.8). It has no error.
     pub fn into_meta<S, C>(self) -> MetaTypeOf<S, C>
         ensures { result ≡ MetaTypeOf.Union self }
     {

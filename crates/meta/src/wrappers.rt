@@ -14,7 +14,8 @@ pub struct ListMeta {
 }
 
 impl ListMeta {
-    /// The lists of this type, of so many items if a number is expected.
+    /// The lists of this type, of so many items if a number is expected (section 3.11). It has no
+    /// error.
     pub fn new(of_type: Type, expected_size: Option<usize>) -> Self
         ensures of_type { result.of_type ≡ of_type }
         ensures expected_size { result.expected_size ≡ expected_size }
@@ -25,6 +26,7 @@ impl ListMeta {
         }
     }
 
+    /// The list as metadata of any kind (section 3.11). It has no error; a schema refuses it.
     pub fn into_meta<S, C>(self) -> MetaTypeOf<S, C>
         ensures { result ≡ MetaTypeOf.List self }
     {
@@ -32,20 +34,21 @@ impl ListMeta {
     }
 }
 
-/// Metadata of a type that may be null.
+/// Metadata of a type that may be null (section 3.12).
 #[derive(Drop)]
 pub struct NullableMeta {
     pub of_type: Type,
 }
 
 impl NullableMeta {
-    /// This type, or null.
+    /// This type, or null (section 3.12). It has no error.
     pub fn new(of_type: Type) -> Self
         ensures { result.of_type ≡ of_type }
     {
         NullableMeta { of_type }
     }
 
+    /// The nullable type as metadata of any kind (section 3.12). It has no error; a schema refuses it.
     pub fn into_meta<S, C>(self) -> MetaTypeOf<S, C>
         ensures { result ≡ MetaTypeOf.Nullable self }
     {

@@ -10,7 +10,7 @@ invariant_of-result g c =
     let mutation = option_map string_bytes c.in_ok-mutation.mutation in
     let subscription = option_map string_bytes c.in_ok-subscription.subscription in
     let types = values c.in_ok-types.types in
-    let accepted = accepted-at (roots_asked c.args.roots) c.args.types.items types query mutation subscription c.requires c.in_ok-query.ensures.ok c.in_ok-mutation.ensures c.in_ok-subscription.ensures c.in_ok-types.ensures.listed in (
+    let accepted = accepted-at (roots_asked c.args.roots) c.args.types.items types query mutation subscription c.requires c.in_ok-query.ensures.ok c.in_ok-mutation.ensures.value c.in_ok-subscription.ensures.value c.in_ok-types.ensures.listed in (
       accepted,
       (
         directives-input (record { query = query; mutation = mutation; subscription = subscription }) types (values c.in_ok-directives.directives) accepted c.in_ok-directives.ensures.standard,
