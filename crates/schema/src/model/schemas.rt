@@ -5,7 +5,7 @@ ghost use Rattle.indexmap.specs.IndexMap.{values};
 ghost use Rattle.schema.specs.Accepted.{IsAccepted, is_input_listed};
 ghost use Rattle.schema.specs.Directives.{directive_name, directive_inputs};
 ghost use Rattle.meta.specs.Kinds.{name_of_meta};
-ghost use Rattle.schema.specs.Named.{are_keyed};
+ghost use Rattle.schema.specs.Named.{are_distinct, are_keyed};
 
 mod changes;
 mod lists;
@@ -42,6 +42,7 @@ pub struct SchemaTypeOf<S, C> {
     ghost directive_inputs_input: { list_all (is_input_listed (values types)) (directive_inputs (values directives)) ≡ true },
     ghost keyed: { are_keyed name_of_meta types.entries ≡ true },
     ghost directives_keyed: { are_keyed directive_name directives.entries ≡ true },
+    ghost directives_distinct: { are_distinct directive_name (values directives) ≡ true },
 }
 
 /// A schema, with the checks that its kind of scalars has.
@@ -65,6 +66,7 @@ impl<S, C> Model for SchemaTypeOf<S, C> {
       directives = values s.directives;
       accepted = s.accepted;
       directive_inputs_input = s.directive_inputs_input;
+      directives_distinct = s.directives_distinct;
     } };
 }
 
@@ -92,6 +94,7 @@ impl<S: Drop, C: Drop> SchemaTypeOf<S, C> {
         ensures built { IfOk result (λ s. IsSchemaOf (roots_of query.now mutation.now subscription.now) types.items s) }
         ensures refused { IfErr result (λ e. IsTrueRefusal (roots_of query.now mutation.now subscription.now) types.items e) }
         ensures memory_alone { IsAccepted (roots_of query.now mutation.now subscription.now) types.items → IsOkUnless result SchemaError.OutOfMemory }
+        ensures no_refusal { OnOk result ((e : SchemaError) → IsTrueRefusal (roots_of query.now mutation.now subscription.now) types.items e → e ≡ SchemaError.OutOfMemory) }
     {
         Self::from_list(alloc, types, RootNames::new(query, mutation, subscription))
     }
