@@ -36,10 +36,10 @@ module _ {T : Type 0} (name_of : T → Option (List ℕ)) where
   distinct-few [] few = refl
   distinct-few (t ∷ ts) few =
       let fewer = λ (n : List ℕ).
-          let here : count_by (is_called name_of n) (t ∷ ts) ≡ cond (is_called name_of n t) 1 0 + count_by (is_called name_of n) ts = sum_by-cons (λ y. cond (is_called name_of n y) 1 0) t ts in
-          let most : count_by (is_called name_of n) (t ∷ ts) ≤ 1 = few n in
-          let less : count_by (is_called name_of n) ts ≤ 1 = omega (arith, here, most) in
-          less in
+      let here : count_by (is_called name_of n) (t ∷ ts) ≡ cond (is_called name_of n t) 1 0 + count_by (is_called name_of n) ts = sum_by-cons (λ y. cond (is_called name_of n y) 1 0) t ts in
+      let most : count_by (is_called name_of n) (t ∷ ts) ≤ 1 = few n in
+      let less : count_by (is_called name_of n) ts ≤ 1 = omega (arith, here, most) in
+      less in
       and_from (option_map_or (λ n. not (is_any_called name_of ts n)) (name_of t) true) (are_distinct name_of ts) (alone (name_of t) t ts refl few) (distinct-few ts fewer)
 
   -- in another order
@@ -47,8 +47,8 @@ module _ {T : Type 0} (name_of : T → Option (List ℕ)) where
   distinct-permuted xs ys h p =
       distinct-few ys
       (λ n. let same : count_by (is_called name_of n) ys ≡ count_by (is_called name_of n) xs = sum_by-IsPermutation (λ t. cond (is_called name_of n t) 1 0) xs ys p in
-          let most : count_by (is_called name_of n) xs ≤ 1 = at-most-one name_of xs n h in
-          omega (arith, same, most))
+      let most : count_by (is_called name_of n) xs ≤ 1 = at-most-one name_of xs n h in
+      omega (arith, same, most))
 
 or_again : (a r : Bool) → (a || r) ≡ ((a || r) || a)
 or_again true r = refl

@@ -13,7 +13,11 @@ use language::types::BorrowedType;
 use std::alloc::Global;
 
 impl<S: Drop, C: Drop> SchemaTypeOf<S, C> {
-    /// The type of the schema that the type names, with its modifiers round it, innermost first.
+    /// The type of the schema that the type names, with its modifiers round it, innermost first
+    /// (section 3.4.1).
+    ///
+    /// The innermost name has to be known, which `is_known` tells. The one refusal is for want of
+    /// memory; a plain name takes none.
     pub fn make_type(
         &self,
         alloc: Global,

@@ -29,7 +29,7 @@ use meta::texts::copy_text;
 use std::alloc::Global;
 use std::marker::Model;
 
-/// A schema (section 3.3).
+/// A schema (section 3.3). Its types all have different names, and so have its directives.
 #[derive(Drop)]
 pub struct SchemaTypeOf<S, C> {
     description: Option<String>,
@@ -77,12 +77,15 @@ impl<S: Drop, C: Drop> SchemaTypeOf<S, C> {
     ghost use Rattle.schema.specs.Built.{IsSchemaOf};
     ghost use Rattle.schema.specs.RootNames.{roots_asked};
 
-    /// The schema of a list of types with these roots, to which the fields `__schema` and `__type`
-    /// of the root of queries and the directives `skip`, `include`, `deprecated` and `specifiedBy`
-    /// are added. The names `_EmptyMutation` and `_EmptySubscription` mean that there is no such root.
+    /// The schema of a list of types with these roots (section 3.3), to which the fields `__schema`
+    /// and `__type` of the root of queries and the directives `skip`, `include`, `deprecated` and
+    /// `specifiedBy` are added. The names `_EmptyMutation` and `_EmptySubscription` mean that there
+    /// is no such root.
     ///
-    /// A refusal but for want of memory is true of the list; which one is named where several are
-    /// true is left open.
+    /// Refuses with `MissingRoot`, `QueryNotObject`, `UnnamedType`, `RepeatedType`, `UnknownType`,
+    /// `UnionMemberNotObject` or `NotInputType` where that is true of the list; which one is named
+    /// where several are true is left open. A list of which none is true is refused with
+    /// `OutOfMemory` alone, where a request for memory was refused.
     pub fn new(
         alloc: Global,
         types: Vec<MetaTypeOf<S, C>>,

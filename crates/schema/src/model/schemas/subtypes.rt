@@ -35,8 +35,8 @@ fn are_modifiers_below(
 }
 
 impl<S, C> SchemaTypeOf<S, C> {
-    /// Whether the first type is a subtype of the second, so that its values may stand where the
-    /// second is asked for. Expected sizes of lists don't matter.
+    /// Whether the first type is a subtype of the second (sections 3.6 and 5.8.5), so that its values
+    /// may stand where the second is asked for. Expected sizes of lists don't matter.
     ///
     /// Each type is a subtype of itself, and a subtype of a subtype is one, whether the names are
     /// known or not.
