@@ -1,5 +1,5 @@
 -- Which names stand below which.
-use Rattle.std.proofs.Common.{◌≡◌, ℕ, List, [], ◌∷◌, Bool, true, false, cond, ◌&&◌, ◌||◌, Option, Some, None, is_some, ◌<◌, zero, suc, length, get_or, arith, map, string_bytes, refl, ap, subst, sym, ◌∙◌}
+use Rattle.std.proofs.Common.{◌≡◌, ℕ, List, [], ◌∷◌, Bool, true, false, cond, ◌&&◌, ◌||◌, Option, Some, None, is_some, ◌<◌, zero, suc, length, get_or, arith, map, string_bytes, refl, subst, sym, ◌∙◌}
 use Rattle.std.specs.Prelude.{find, Contains}
 use Rattle.std.specs.List.{flat_map, list_any}
 use Rattle.std.specs.Option.{option_map_or}
