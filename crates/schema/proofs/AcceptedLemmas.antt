@@ -1,6 +1,6 @@
 -- What an accepted list of types has.
 use Rattle.std.proofs.Common.{◌≡◌, ℕ, ◌+◌, ◌≤◌, List, [], ◌∷◌, Bool, true, false, cond, not, ◌&&◌, ◌||◌, Option, Some, None, is_some, lit≤, string_bytes, refl, ap, subst, ◌∙◌, arith}
-use Rattle.std.specs.Prelude.{find, count_by, Result, Ok, Err, IfErr, IsOkUnless}
+use Rattle.std.specs.Prelude.{find, count_by, Result, Ok, Err, IfErr, OnOk, IsOkUnless}
 use Rattle.std.specs.List.{list_any}
 use Rattle.std.specs.Option.{option_map_or}
 use Rattle.std.specs.Str.{bytes_eq}
@@ -112,3 +112,7 @@ accepted-memory roots ts a (e.NotInputType n) h = let input : is_input_listed ts
 pub refused-memory : {T S C : Type 0} (roots : Roots) (ts : List (MetaTypeOf S C)) (r : Result T SchemaError) → IfErr r (IsTrueRefusal roots ts) → IsAccepted roots ts → IsOkUnless r e.OutOfMemory
 refused-memory roots ts (Ok x) h a = tt
 refused-memory roots ts (Err x) h a = accepted-memory roots ts a x h
+
+pub ok-memory : {T S C : Type 0} (roots : Roots) (ts : List (MetaTypeOf S C)) (r : Result T SchemaError) → OnOk r (IsAccepted roots ts) → OnOk r ((x : SchemaError) → IsTrueRefusal roots ts x → x ≡ e.OutOfMemory)
+ok-memory roots ts (Ok t) a = accepted-memory roots ts a
+ok-memory roots ts (Err t) a = tt

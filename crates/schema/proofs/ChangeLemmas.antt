@@ -73,6 +73,7 @@ module _ {S C : Type 0} where
     directives = h i;
     accepted = is_prop→PathP (λ j. IsAccepted (g j) (f j)) (λ j. IsAccepted-prop (g j) (f j)) c.accepted d.accepted i;
     directive_inputs_input = is_prop→PathP (λ j. list_all (is_input_listed (f j)) (directive_inputs (h j)) ≡ true) (λ j. true-prop (list_all (is_input_listed (f j)) (directive_inputs (h j)))) c.directive_inputs_input d.directive_inputs_input i;
+    directives_distinct = is_prop→PathP (λ j. are_distinct directive_name (h j) ≡ true) (λ j. true-prop (are_distinct directive_name (h j))) c.directives_distinct d.directives_distinct i;
   }
 
 module _ {S : Type 0} (k : String Global) (d : DirectiveType S) (same : string_bytes k ≡ string_bytes d.name) where

@@ -2,9 +2,11 @@ pub mod AcceptedLemmas
 pub mod ChangeLemmas
 pub mod ConcreteLemmas
 pub mod DirectiveLemmas
+pub mod DistinctLemmas
 pub mod ExtendLemmas
 pub mod Finds
 pub mod KeyedLemmas
+pub mod NamesBelow
 pub mod OrderLemmas
 pub mod PossibleLemmas
 pub mod Refusals

@@ -1,50 +1,50 @@
--- The subtype relation and its test; both are reflexive and transitive.
-use Rattle.std.proofs.Common.{◌≡◌, ℕ, List, [], ◌∷◌, Bool, true, false, cond, ◌&&◌, ◌||◌, Option, Some, None, is_some, ◌<◌, zero, suc, length, get_or, arith, map, reverse, string_bytes, refl, ap, subst, sym, ◌∙◌}
-use Rattle.std.specs.Prelude.{find, Contains, ◌↔◌}
-use Rattle.std.specs.List.{flat_map, list_any}
-use Rattle.std.specs.Option.{option_map_or}
-use Rattle.std.specs.Str.{bytes_eq}
-use Rattle.std.proofs.lemmas.Bool.{and_parts, or_cases, or_left}
-use Rattle.std.proofs.lemmas.List.Elements.{Contains-append_left, Contains-append_right}
-use Rattle.std.proofs.lemmas.List.Folds.{Any-from_list_any}
-use Rattle.std.proofs.lemmas.Slice.Eq.{bytes_eq-Decides}
-use Rattle.std.proofs.Common.{inl, inr}
+-- The subtype relation and the test of the code; the relation is reflexive and transitive.
+use Rattle.std.proofs.Common.{◌≡◌, ℕ, List, [], ◌∷◌, ◌++◌, Bool, true, Some, Option, reverse, refl, ap, subst, sym, ◌∙◌}
+use Rattle.std.specs.Prelude.{◌↔◌}
+use Rattle.std.proofs.lemmas.List.{reverse-append, reverse-reverse}
 use Rattle.language.specs.declared.types.TypeModifier.{TypeModifier}
 use Rattle.language.specs.declared.types.TypeModifier.TheVariants as m
-use Rattle.language.specs.Types.{TypeShape}
+use Rattle.language.specs.Types.{TypeShape, nullable_named, wrapped_by, list_of, outermost, IsNonNull}
 use Rattle.meta.specs.declared.kinds.MetaTypeOf.{MetaTypeOf}
-use Rattle.meta.specs.declared.kinds.MetaTypeOf.TheVariants as k
-use Rattle.schema.specs.Accepted.{Roots, IsAccepted, is_named, is_listed, is_object_listed}
-use Rattle.meta.specs.Kinds.{name_of_meta, is_object_meta, is_abstract_meta}
-use Rattle.schema.specs.Names.{interfaces_of, members_of, all_members}
-use Rattle.schema.specs.Possible.{is_among, is_implementer, possible_names}
-use Rattle.schema.specs.Subtype.{may_be, is_name_below, IsBelow, equal, names, both_non_null, both_lists, non_null_below_name, non_null_below_list, are_layers_below, IsSubtype, is_subtype_of}
-use Rattle.schema.proofs.AcceptedLemmas.{find-kind}
-use Rattle.schema.proofs.Finds.{all-at, found-among}
-use Rattle.schema.proofs.PossibleLemmas.{among-filter}
+use Rattle.schema.specs.Accepted.{Roots, IsAccepted}
+use Rattle.schema.specs.Layers.{are_layers_below}
+use Rattle.schema.specs.Subtype.{is_name_below, IsSubtype, equal, names, both_non_null, both_lists, non_null}
+use Rattle.schema.proofs.NamesBelow.{names-same, names-trans}
+use Rattle.schema.proofs.WrappedLemmas.{outermost-push}
 
-pub below-from_test : (Same : Type 0) (b : Bool) (xs ys : List TypeModifier) → are_layers_below b xs ys ≡ true → IsBelow Same (b ≡ true) xs ys
-below-from_test Same b [] [] h = names h
-below-from_test Same b [] (y ∷ ys) h = cc
-below-from_test Same b (m.NonNull ∷ xs) [] h = non_null_below_name (below-from_test Same b xs [] h)
-below-from_test Same b (m.NonNull ∷ xs) (m.NonNull ∷ ys) h = both_non_null (below-from_test Same b xs ys h)
-below-from_test Same b (m.NonNull ∷ xs) (m.List j ∷ ys) h = non_null_below_list j (below-from_test Same b xs (m.List j ∷ ys) h)
-below-from_test Same b (m.List i ∷ xs) [] h = cc
-below-from_test Same b (m.List i ∷ xs) (m.NonNull ∷ ys) h = cc
-below-from_test Same b (m.List i ∷ xs) (m.List j ∷ ys) h = both_lists i j (below-from_test Same b xs ys h)
+-- a name with modifiers round it, outermost first
+abbrev layered : List ℕ → List TypeModifier → TypeShape
+layered n [] = nullable_named n
+layered n (x ∷ xs) = wrapped_by x (layered n xs)
 
-pub layers-refl : (b : Bool) → b ≡ true → (ms : List TypeModifier) → are_layers_below b ms ms ≡ true
+layered-reverse : (n : List ℕ) (xs : List TypeModifier) → layered n xs ≡ record { name = n; modifiers = reverse xs }
+layered-reverse n [] = refl
+layered-reverse n (x ∷ xs) = ap (wrapped_by x) (layered-reverse n xs) ∙ ap (λ ms. record { name = n; modifiers = ms }) (sym (reverse-append (x ∷ []) xs))
+
+layered-same : (t : TypeShape) → layered t.name (reverse t.modifiers) ≡ t
+layered-same t = layered-reverse t.name (reverse t.modifiers) ∙ ap (λ ms. record { name = t.name; modifiers = ms }) (reverse-reverse t.modifiers)
+
+outermost-first : (ms ns : List TypeModifier) (x : TypeModifier) → x ∷ ns ≡ reverse ms → outermost ms ≡ Some x
+outermost-first ms ns x e =
+    let back : ms ≡ reverse ns ++ x ∷ [] = sym (reverse-reverse ms) ∙ ap reverse (sym e) ∙ reverse-append (x ∷ []) ns in
+    ap outermost back ∙ outermost-push (reverse ns) x
+
+list_nullable : (j : Option ℕ) (u : TypeShape) → ¬ (IsNonNull (list_of j u))
+list_nullable j u e = let list : outermost (u.modifiers ++ m.List j ∷ []) ≡ Some (m.List j) = outermost-push u.modifiers (m.List j) in cc
+
+name_nullable : (n : List ℕ) → ¬ (IsNonNull (nullable_named n))
+name_nullable n e = cc
+
+-- a non-null over a type that is none
+over_none : (b : Bool) (xs ns ms : List TypeModifier) → ns ≡ reverse ms → ¬ (outermost ms ≡ Some m.NonNull) → are_layers_below b xs ns ≡ true → are_layers_below b (m.NonNull ∷ xs) ns ≡ true
+over_none b xs [] ms e none h = h
+over_none b xs (m.NonNull ∷ ns) ms e none h = absurd (none (outermost-first ms ns m.NonNull e))
+over_none b xs (m.List j ∷ ns) ms e none h = h
+
+layers-refl : (b : Bool) → b ≡ true → (ms : List TypeModifier) → are_layers_below b ms ms ≡ true
 layers-refl b h [] = h
 layers-refl b h (m.NonNull ∷ ms) = layers-refl b h ms
 layers-refl b h (m.List i ∷ ms) = layers-refl b h ms
-
-pub test-from_below : {Same : Type 0} {b : Bool} → (Same → b ≡ true) → {xs ys : List TypeModifier} → IsBelow Same (b ≡ true) xs ys → are_layers_below b xs ys ≡ true
-test-from_below {b = b} f (equal s ms) = layers-refl b (f s) ms
-test-from_below f (names h) = h
-test-from_below f (both_non_null r) = test-from_below f r
-test-from_below f (both_lists i j r) = test-from_below f r
-test-from_below f (non_null_below_name r) = test-from_below f r
-test-from_below f (non_null_below_list j r) = test-from_below f r
 
 module _ (p q r : Bool) (f : p ≡ true → q ≡ true → r ≡ true) where
   pub layers-trans : (xs ys zs : List TypeModifier) → are_layers_below p xs ys ≡ true → are_layers_below q ys zs ≡ true → are_layers_below r xs zs ≡ true
@@ -65,93 +65,52 @@ module _ (p q r : Bool) (f : p ≡ true → q ≡ true → r ≡ true) where
   layers-trans (m.List i ∷ xs) (m.List j ∷ ys) (m.NonNull ∷ zs) h e = cc
   layers-trans (m.List i ∷ xs) (m.List j ∷ ys) (m.List l ∷ zs) h e = layers-trans xs ys zs h e
 
--- an element of one of the parts of a list
-in-part : {A B : Type 0} (f : A → List B) (xs : List A) (i : ℕ) (d x : A) (b : B) → i < length xs → get_or xs i d ≡ x → Contains (f x) b → Contains (flat_map f xs) b
-in-part f [] i d x b h e k = absurd (omega arith)
-in-part f (y ∷ ys) zero d x b h e k = Contains-append_left (f y) (flat_map f ys) b (subst (λ w. Contains (f w) b) (sym e) k)
-in-part f (y ∷ ys) (suc i) d x b h e k = Contains-append_right (f y) (flat_map f ys) b (in-part f ys i d x b (omega arith) e k)
-
-among-contains : (ns : List (List ℕ)) (n : List ℕ) → is_among ns n ≡ true → Contains ns n
-among-contains ns n h =
-    let a = Any-from_list_any (λ w. bytes_eq w n) ns h in
-    let same : a.1 ≡ n = (bytes_eq-Decides a.1 n).0 a.4 in
-    subst (Contains ns) same (a.0, a.2, a.3)
-
-module _ {S C : Type 0} (roots : Roots) (ts : List (MetaTypeOf S C)) (accepted : IsAccepted roots ts) where
-  found_object : (i b : List ℕ) (o : Option (MetaTypeOf S C)) → find (is_named b) ts ≡ o → option_map_or (is_implementer i) o false ≡ true → (w : MetaTypeOf S C) × (find (is_named b) ts ≡ Some w) × (is_object_meta w ≡ true)
-  found_object i b None e h = cc
-  found_object i b (Some w) e h = (w, e, (and_parts (is_object_meta w) (is_among (interfaces_of w) i) h).0)
-
-  -- what an interface or a union of the schema may be is an object
-  pub possible-object : (n b : List ℕ) (u : MetaTypeOf S C) → find (is_named n) ts ≡ Some u → is_abstract_meta u ≡ true → is_among (possible_names ts u) b ≡ true → (w : MetaTypeOf S C) × (find (is_named b) ts ≡ Some w) × (is_object_meta w ≡ true)
-  possible-object n b (k.Union x) e a h =
-      let member : Contains (all_members ts) b = (let at = found-among (is_named n) ts (k.Union x) (sym e) in in-part members_of ts at.0 (k.Union x) (k.Union x) b at.1 at.2) (among-contains (map string_bytes x.of_type_names.items) b h) in
-      find-kind name_of_meta is_object_meta b ts accepted.distinct (all-at (is_object_listed ts) (all_members ts) b accepted.members_objects member)
-  possible-object n b (k.Interface x) e a h =
-      found_object (string_bytes x.name) b (find (is_named b) ts) refl (sym (among-filter name_of_meta (is_implementer (string_bytes x.name)) b ts accepted.distinct) ∙ h)
-  possible-object n b _ e a h = cc
-
-  no_both : (t : MetaTypeOf S C) → is_object_meta t ≡ true → is_abstract_meta t ≡ true → ⊥
-  no_both (k.Object x) h e = cc
-  no_both _ h e = cc
-
-  abstract_at : (a b : List ℕ) (o : Option (MetaTypeOf S C)) → find (is_named b) ts ≡ o → option_map_or (λ t. is_abstract_meta t && is_among (possible_names ts t) a) o false ≡ true
-      → (t : MetaTypeOf S C) × (find (is_named b) ts ≡ Some t) × (is_abstract_meta t ≡ true) × (is_among (possible_names ts t) a ≡ true)
-  abstract_at a b None e h = cc
-  abstract_at a b (Some t) e h = let parts = and_parts (is_abstract_meta t) (is_among (possible_names ts t) a) h in (t, e, parts.0, parts.1)
-
-  -- an interface or a union is not possible for another
-  no_chain : (a b c : List ℕ) → may_be ts b a ≡ true → may_be ts c b ≡ true → ⊥
-  no_chain a b c h e =
-      let t = abstract_at a b (find (is_named b) ts) refl h in
-      let u = abstract_at b c (find (is_named c) ts) refl e in
-      let w = possible-object c b u.0 u.1 u.2 u.3 in
-      let first : find (is_named b) ts ≡ Some t.0 = t.1 in
-      let second : find (is_named b) ts ≡ Some w.0 = w.1 in
-      let same : w.0 ≡ t.0 = cc in
-      no_both t.0 (subst (λ x. is_object_meta x ≡ true) same w.2) t.2
-
-  pub names-trans : (a b c : List ℕ) → is_name_below ts a b ≡ true → is_name_below ts b c ≡ true → is_name_below ts a c ≡ true
-  names-trans a b c h e =
-      elim (or_cases (bytes_eq a b) (is_listed ts a && may_be ts b a) h) [
-        | inl p ↦ subst (λ w. is_name_below ts w c ≡ true) (sym ((bytes_eq-Decides a b).0 p)) e
-        | inr p ↦ elim (or_cases (bytes_eq b c) (is_listed ts b && may_be ts c b) e) [
-          | inl q ↦ subst (λ w. is_name_below ts a w ≡ true) ((bytes_eq-Decides b c).0 q) h
-          | inr q ↦ absurd (no_chain a b c (and_parts (is_listed ts a) (may_be ts b a) p).1 (and_parts (is_listed ts b) (may_be ts c b) q).1)
-        ]
-      ]
-
 module _ {S C : Type 0} (ts : List (MetaTypeOf S C)) where
-  pub names-same : (a b : List ℕ) → a ≡ b → is_name_below ts a b ≡ true
-  names-same a b e = or_left (bytes_eq a b) (is_listed ts a && may_be ts b a) ((bytes_eq-Decides a b).1 e)
+  -- the test, at two types
+  abbrev pub passes : TypeShape → TypeShape → Bool
+  passes t u = are_layers_below (is_name_below ts t.name u.name) (reverse t.modifiers) (reverse u.modifiers)
+
+  below-layered : (a b : List ℕ) (xs ys : List TypeModifier) → are_layers_below (is_name_below ts a b) xs ys ≡ true → IsSubtype ts (layered a xs) (layered b ys)
+  below-layered a b [] [] h = names a b h
+  below-layered a b [] (y ∷ ys) h = cc
+  below-layered a b (m.NonNull ∷ xs) [] h = non_null (layered a xs) (nullable_named b) (name_nullable b) (below-layered a b xs [] h)
+  below-layered a b (m.NonNull ∷ xs) (m.NonNull ∷ ys) h = both_non_null (layered a xs) (layered b ys) (below-layered a b xs ys h)
+  below-layered a b (m.NonNull ∷ xs) (m.List j ∷ ys) h = non_null (layered a xs) (list_of j (layered b ys)) (list_nullable j (layered b ys)) (below-layered a b xs (m.List j ∷ ys) h)
+  below-layered a b (m.List i ∷ xs) [] h = cc
+  below-layered a b (m.List i ∷ xs) (m.NonNull ∷ ys) h = cc
+  below-layered a b (m.List i ∷ xs) (m.List j ∷ ys) h = both_lists i j (layered a xs) (layered b ys) (below-layered a b xs ys h)
+
+  -- what passes is a subtype
+  pub below-passed : (t u : TypeShape) → passes t u ≡ true → IsSubtype ts t u
+  below-passed t u h =
+      subst (IsSubtype ts t) (layered-same u) (subst (λ w. IsSubtype ts w (layered u.name (reverse u.modifiers))) (layered-same t) (below-layered t.name u.name (reverse t.modifiers) (reverse u.modifiers) h))
+
+  -- a subtype passes
+  pub passed-below : {t u : TypeShape} → IsSubtype ts t u → passes t u ≡ true
+  passed-below (equal t) = layers-refl (is_name_below ts t.name t.name) (names-same ts t.name t.name refl) (reverse t.modifiers)
+  passed-below (names a b h) = h
+  passed-below (both_non_null t u r) =
+      (λ i. are_layers_below (is_name_below ts t.name u.name) (reverse-append t.modifiers (m.NonNull ∷ []) i) (reverse-append u.modifiers (m.NonNull ∷ []) i)) ∙ passed-below r
+  passed-below (both_lists j k t u r) =
+      (λ i. are_layers_below (is_name_below ts t.name u.name) (reverse-append t.modifiers (m.List j ∷ []) i) (reverse-append u.modifiers (m.List k ∷ []) i)) ∙ passed-below r
+  passed-below (non_null t u none r) =
+      ap (λ l. are_layers_below (is_name_below ts t.name u.name) l (reverse u.modifiers)) (reverse-append t.modifiers (m.NonNull ∷ []))
+      ∙ over_none (is_name_below ts t.name u.name) (reverse t.modifiers) (reverse u.modifiers) u.modifiers refl none (passed-below r)
 
   -- the test, at the names and the modifiers that the code reads
-  pub layers-at : (t u : TypeShape) (r below : Bool) (a b : List ℕ) (ms ns : List TypeModifier) → a ≡ t.name → b ≡ u.name → ms ≡ t.modifiers → ns ≡ u.modifiers → below ≡ is_name_below ts a b → r ≡ are_layers_below below (reverse ms) (reverse ns) → r ≡ is_subtype_of ts t u
-  layers-at t u r below a b ms ns at-a at-b at-ms at-ns at-below h =
+  pub passes-at : (t u : TypeShape) (r below : Bool) (a b : List ℕ) (ms ns : List TypeModifier) → a ≡ t.name → b ≡ u.name → ms ≡ t.modifiers → ns ≡ u.modifiers → below ≡ is_name_below ts a b → r ≡ are_layers_below below (reverse ms) (reverse ns) → r ≡ passes t u
+  passes-at t u r below a b ms ns at-a at-b at-ms at-ns at-below h =
       h ∙ ap (λ w. are_layers_below w (reverse ms) (reverse ns)) (at-below ∙ (λ i. is_name_below ts (at-a i) (at-b i)))
       ∙ (λ i. are_layers_below (is_name_below ts t.name u.name) (reverse (at-ms i)) (reverse (at-ns i)))
 
-  pub subtype-test : (t u : TypeShape) → IsSubtype ts t u → is_subtype_of ts t u ≡ true
-  subtype-test t u h = test-from_below (names-same t.name u.name) h
+  module _ (t u : TypeShape) (r : Bool) (e : r ≡ passes t u) where
+    pub subtype-decides : (r ≡ true) ↔ IsSubtype ts t u
+    subtype-decides = (λ h. below-passed t u (sym e ∙ h), λ h. e ∙ passed-below h)
 
-  pub subtype-decides : (t u : TypeShape) (r : Bool) → r ≡ is_subtype_of ts t u → (r ≡ true) ↔ IsSubtype ts t u
-  subtype-decides t u r e =
-      (λ h. below-from_test (t.name ≡ u.name) (is_name_below ts t.name u.name) (reverse t.modifiers) (reverse u.modifiers) (sym e ∙ h), λ h. e ∙ subtype-test t u h)
+    pub subtype-refl : t ≡ u → r ≡ true
+    subtype-refl same = e ∙ passed-below (subst (IsSubtype ts t) same (equal t))
 
-  pub subtype-refl : (t u : TypeShape) (r : Bool) → r ≡ is_subtype_of ts t u → t ≡ u → r ≡ true
-  subtype-refl t u r e same =
-      e ∙ sym (ap (λ w. is_subtype_of ts t w) same) ∙ layers-refl (is_name_below ts t.name t.name) (names-same t.name t.name refl) (reverse t.modifiers)
-
-  pub subtype-trans : (roots : Roots) → IsAccepted roots ts → (t u w : TypeShape) (r : Bool) → r ≡ is_subtype_of ts t w → IsSubtype ts t u → IsSubtype ts u w → r ≡ true
-  subtype-trans roots accepted t u w r e h k =
-      e ∙ layers-trans (is_name_below ts t.name u.name) (is_name_below ts u.name w.name) (is_name_below ts t.name w.name) (names-trans roots ts accepted t.name u.name w.name)
-      (reverse t.modifiers) (reverse u.modifiers) (reverse w.modifiers) (subtype-test t u h) (subtype-test u w k)
-
--- known is found
-pub any-found : {A : Type 0} (p : A → Bool) (xs : List A) → list_any p xs ≡ is_some (find p xs)
-any-found p [] = refl
-any-found p (x ∷ xs) = step (p x) (any-found p xs)
-  where
-    step : (b : Bool) → list_any p xs ≡ is_some (find p xs) → (b || list_any p xs) ≡ is_some (cond b (Some x) (find p xs))
-    step true e = refl
-    step false e = e
+    pub subtype-trans : (roots : Roots) → IsAccepted roots ts → (w : TypeShape) → IsSubtype ts t w → IsSubtype ts w u → r ≡ true
+    subtype-trans roots accepted w h k =
+        e ∙ layers-trans (is_name_below ts t.name w.name) (is_name_below ts w.name u.name) (is_name_below ts t.name u.name) (names-trans roots ts accepted t.name w.name u.name)
+        (reverse t.modifiers) (reverse w.modifiers) (reverse u.modifiers) (passed-below h) (passed-below k)

@@ -5,10 +5,10 @@ use Rattle.meta.specs.declared.kinds.MetaTypeOf.{MetaTypeOf}
 use Rattle.schema.specs.declared.model.directives.DirectiveType.{DirectiveType}
 use Rattle.schema.specs.Accepted.{Roots, IsAccepted, is_named, is_input_listed}
 use Rattle.schema.specs.Directives.{directive_name, directive_inputs}
-use Rattle.schema.specs.Named.{is_called}
+use Rattle.schema.specs.Named.{is_called, are_distinct}
 
 -- The types in their order, the names of the roots, the directives in their order and the description. The types are
--- accepted, and each argument of a directive has an input type.
+-- accepted, each argument of a directive has an input type, and the directives all have different names.
 pub record Catalog (S C : Type 0) : Type 0 where
   pub description : Option (List ℕ)
   pub types : List (MetaTypeOf S C)
@@ -16,6 +16,7 @@ pub record Catalog (S C : Type 0) : Type 0 where
   pub directives : List (DirectiveType S)
   pub accepted : IsAccepted roots types
   pub directive_inputs_input : list_all (is_input_listed types) (directive_inputs directives) ≡ true
+  pub directives_distinct : are_distinct directive_name directives ≡ true
 
 module _ {S C : Type 0} where
   -- the type of the name

@@ -10,6 +10,9 @@ concrete_layer (open_type.Concrete x) = Some x.now
 concrete_layer (open_type.NonNull x) = None
 concrete_layer (open_type.List x n) = None
 
--- none where a non-null or a list stands round it
+-- The metadata that the type is, and none where a non-null or a list stands round it:
+--   concrete_of (Concrete t)  = Some t
+--   concrete_of (NonNull t)   = None
+--   concrete_of (List t size) = None
 abbrev pub concrete_of : {S C : Type 0} → TypeTypeOf S C → Option (MetaTypeOf S C)
 concrete_of {S} {C} t = concrete_layer (out-TypeTypeOf S C t)

@@ -7,6 +7,7 @@ pub mod Codes
 pub mod Concrete
 pub mod Directives
 pub mod ErrorTexts
+pub mod Layers
 pub mod Locations
 pub mod Named
 pub mod Names

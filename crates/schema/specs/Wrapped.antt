@@ -29,13 +29,16 @@ module _ {S C : Type 0} where
   abbrev pub wrap_meta : TypeModifier → WrappedMeta S C → WrappedMeta S C
   wrap_meta m w = record { meta = w.meta; modifiers = w.modifiers ++ m ∷ [] }
 
-  -- one level of a type
+  -- one level of a type, what stands in it read already
   abbrev pub wrapped_layer : open_type.TypeTypeOf-F S C (WrappedMeta S C) → WrappedMeta S C
   wrapped_layer (open_type.Concrete x) = plain_meta x.now
   wrapped_layer (open_type.NonNull x) = wrap_meta m.NonNull x.value
   wrapped_layer (open_type.List x size) = wrap_meta (m.List size) x.value
 
-  -- the metadata of a type and its modifiers
+  -- The metadata of a type and its modifiers:
+  --   wrapped_of (Concrete t)  = plain_meta t
+  --   wrapped_of (NonNull t)   = wrap_meta NonNull (wrapped_of t)
+  --   wrapped_of (List t size) = wrap_meta (List size) (wrapped_of t)
   abbrev pub wrapped_of : TypeTypeOf S C → WrappedMeta S C
   wrapped_of = fold-TypeTypeOf S C (WrappedMeta S C) wrapped_layer
 

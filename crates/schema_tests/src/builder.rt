@@ -2,7 +2,7 @@
 use crate::schemas::{demo_types, pets_types};
 use language::types::Type;
 use language::value::DefaultScalarValue;
-use meta::{Argument, Field, InterfaceMeta, ListMeta, MetaType, ObjectMeta};
+use meta::{Argument, Field, InputObjectMetaOf, InterfaceMeta, ListMeta, MetaType, ObjectMeta};
 use samples::build::union_of;
 use samples::checks::{check_string, refuse_token};
 use schema::error::SchemaError;
@@ -26,13 +26,19 @@ enum Change {
     UnionOfInterface,
     /// A union of the type of the name.
     UnionOf(&'static str),
+    /// An object that lists the interface of the name.
+    ObjectOf(&'static str),
+    /// An interface that lists the interface of the name.
+    InterfaceOf(&'static str),
+    /// An input object with a field of the type of the name.
+    InputFieldOf(&'static str),
 }
 
 /// A list, the name of its root of queries, and what the builder says of it.
 type Row = (Change, &'static str, &'static str);
 
 /// Changes of `demo`.
-const DEMO: [Row; 8] = [
+const DEMO: [Row; 14] = [
     (Change::Nothing, "QueryRoot", "accepted"),
     (
         Change::Without("__Type"),
@@ -49,6 +55,32 @@ const DEMO: [Row; 8] = [
         "QueryRoot",
         "UnionMemberNotObject(\"Friend\")",
     ),
+    (
+        Change::UnionOf("Nope"),
+        "QueryRoot",
+        "UnknownType(\"Nope\")",
+    ),
+    (
+        Change::ObjectOf("Nope"),
+        "QueryRoot",
+        "UnknownType(\"Nope\")",
+    ),
+    (
+        Change::InterfaceOf("Nope"),
+        "QueryRoot",
+        "UnknownType(\"Nope\")",
+    ),
+    (
+        Change::InputFieldOf("Nope"),
+        "QueryRoot",
+        "UnknownType(\"Nope\")",
+    ),
+    (
+        Change::InputFieldOf("Dog"),
+        "QueryRoot",
+        "NotInputType(\"Dog\")",
+    ),
+    (Change::InputFieldOf("String"), "QueryRoot", "accepted"),
 ];
 
 /// Changes of `pets`.
@@ -85,6 +117,29 @@ fn interface(alloc: Global, name: &str) -> Result<MetaType, SchemaError> {
     Ok(InterfaceMeta::new(alloc, name, Vec::new(alloc))?.into_meta())
 }
 
+/// The list of the type of the name.
+fn one(alloc: Global, name: &str) -> Result<Vec<Type>, SchemaError> {
+    let mut types = Vec::new(alloc);
+    types.push(Type::nullable(alloc, name)?)?;
+    Ok(types)
+}
+
+fn object_of(alloc: Global, interface: &str) -> Result<MetaType, SchemaError> {
+    let puppy = ObjectMeta::new(alloc, "Puppy", Vec::new(alloc))?;
+    Ok(puppy.interfaces(one(alloc, interface)?)?.into_meta())
+}
+
+fn interface_of(alloc: Global, interface: &str) -> Result<MetaType, SchemaError> {
+    let friend = InterfaceMeta::new(alloc, "Friend", Vec::new(alloc))?;
+    Ok(friend.interfaces(one(alloc, interface)?)?.into_meta())
+}
+
+fn input_of(alloc: Global, type_name: &str) -> Result<MetaType, SchemaError> {
+    let mut fields = Vec::new(alloc);
+    fields.push(Argument::new(alloc, "x", Type::nullable(alloc, type_name)?)?)?;
+    Ok(InputObjectMetaOf::new(alloc, "Pair", fields, check_string)?.into_meta())
+}
+
 fn list(alloc: Global) -> Result<MetaType, SchemaError> {
     Ok(ListMeta::new(Type::non_null(alloc, "String")?, None).into_meta())
 }
@@ -102,6 +157,9 @@ fn added(alloc: Global, change: Change) -> Result<Vec<MetaType>, SchemaError> {
             more.push(union_of(alloc, "Friends", &["Friend"])?)?;
         }
         Change::UnionOf(name) => more.push(union_of(alloc, "Pets", &[name])?)?,
+        Change::ObjectOf(name) => more.push(object_of(alloc, name)?)?,
+        Change::InterfaceOf(name) => more.push(interface_of(alloc, name)?)?,
+        Change::InputFieldOf(name) => more.push(input_of(alloc, name)?)?,
     }
     Ok(more)
 }

@@ -8,8 +8,12 @@ mod changes;
 #[cfg(test)]
 mod metadata;
 #[cfg(test)]
+mod printed;
+#[cfg(test)]
 mod refused_memory;
 #[cfg(test)]
 mod relations;
+#[cfg(test)]
+mod roots;
 #[cfg(test)]
 mod schemas;

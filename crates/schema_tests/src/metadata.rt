@@ -3,8 +3,8 @@ use language::types::Type;
 use language::value::{DefaultScalarValue, InputValue};
 use meta::check::CheckedScalar;
 use meta::{
-    Argument, EnumMetaOf, EnumValue, Field, InputObjectMetaOf, InterfaceMeta, ListMeta, MetaType,
-    NullableMeta, ObjectMeta, ScalarMetaOf, UnionMeta,
+    Argument, DeprecationStatus, EnumMetaOf, EnumValue, Field, InputObjectMetaOf, InterfaceMeta,
+    ListMeta, MetaType, NullableMeta, ObjectMeta, ScalarMetaOf, TypeKind, UnionMeta,
 };
 use samples::checks::{check_string, refuse_token};
 use schema::error::SchemaError;
@@ -190,13 +190,26 @@ fn every_kind_is_made(rt: HostRuntime) -> Result<(), Fail> {
     Ok(())
 }
 
+#[test]
+fn copies_are_the_same(rt: HostRuntime) -> Result<(), Fail> {
+    let alloc = rt.alloc();
+    assert_eq!(rt; TypeKind::InputObject.clone()?, TypeKind::InputObject);
+    let old = DeprecationStatus::Deprecated(Some(String::from_str(alloc, "old")?));
+    assert_eq!(rt; old.clone()?, old);
+    assert_eq!(rt;
+        DeprecationStatus::Current.clone()?,
+        DeprecationStatus::Current
+    );
+    Ok(())
+}
+
 /// What the type of the metadata prints.
 fn printed(alloc: Global, meta: MetaType) -> Result<String, SchemaError> {
     Ok(meta.as_type(alloc)?.to_string(alloc)?)
 }
 
 #[test]
-fn types_and_places_are_printed(rt: HostRuntime) -> Result<(), Fail> {
+fn types_are_printed(rt: HostRuntime) -> Result<(), Fail> {
     let alloc = rt.alloc();
     let list = ListMeta::new(Type::non_null(alloc, "Int")?, Some(2));
     assert_eq!(rt; printed(alloc, MetaType::List(list))?.as_str(), "[Int!]!");
@@ -205,8 +218,6 @@ fn types_and_places_are_printed(rt: HostRuntime) -> Result<(), Fail> {
         printed(alloc, MetaType::Nullable(nullable))?.as_str(),
         "Int"
     );
-    let place = DirectiveLocation::FragmentDefinition.to_string(alloc)?;
-    assert_eq!(rt; place.as_str(), "fragment definition");
     Ok(())
 }
 

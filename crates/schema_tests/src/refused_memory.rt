@@ -9,7 +9,7 @@ use schema::error::SchemaError;
 use schema::model::{DirectiveType, SchemaType, TypeType};
 use std::alloc::Global;
 
-/// How many types may stand for the union, and how long the printed form of `[Dog!]` is.
+/// How many types may stand for the union, and how long the printed form of a copy of `[Dog!]` is.
 fn said_of_types(
     alloc: Global,
     schema: &SchemaType<DefaultScalarValue>,
@@ -23,7 +23,7 @@ fn said_of_types(
         return Ok((members, 0));
     }
     let made: TypeType<'_, DefaultScalarValue> = schema.make_type(alloc, named.as_borrowed())?;
-    Ok((members, made.to_string(alloc)?.len()))
+    Ok((members, made.clone()?.to_string(alloc)?.len()))
 }
 
 /// What the calls that take memory say of the types: the numbers of types and of directives, and

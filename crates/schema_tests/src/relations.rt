@@ -26,6 +26,8 @@ enum Question {
     IsSizedSubtype,
     /// What the type prints that is made.
     MakeType(&'static str),
+    /// What a copy of it prints.
+    CopyOf(&'static str),
     /// What the type of its items prints.
     ListContents(&'static str),
     /// The innermost type, and whether the type that is made is never null and has nothing round it.
@@ -69,8 +71,9 @@ const RELATIONS: [(Question, &str); 14] = [
 ];
 
 /// Types that are made.
-const MADE: [(Question, &str); 5] = [
+const MADE: [(Question, &str); 6] = [
     (Question::MakeType("[Int!]!"), "[Int!]!"),
+    (Question::CopyOf("[Int!]!"), "[Int!]!"),
     (Question::ListContents("[Int!]!"), "Int!"),
     (Question::ListContents("Int!"), "no list"),
     (Question::MadeOf("[Int!]"), "Int false false"),
@@ -179,6 +182,7 @@ fn said_of_made(
 ) -> Result<String, SchemaError> {
     match question {
         Question::MakeType(_) => Ok(made.to_string(alloc)?),
+        Question::CopyOf(_) => Ok(made.clone()?.to_string(alloc)?),
         Question::ListContents(_) => match made.list_contents() {
             Some(items) => Ok(items.to_string(alloc)?),
             None => Ok(String::from_str(alloc, "no list")?),
@@ -233,9 +237,10 @@ fn answer(alloc: Global, schema: &Pets, question: Question) -> Result<String, Sc
             shown(alloc, Some(schema.is_named_subtype(first, second)))
         }
         Question::IsSizedSubtype => shown(alloc, Some(is_sized_below(alloc, schema)?)),
-        Question::MakeType(text) | Question::ListContents(text) | Question::MadeOf(text) => {
-            answer_on_made(alloc, schema, text, question)
-        }
+        Question::MakeType(text)
+        | Question::CopyOf(text)
+        | Question::ListContents(text)
+        | Question::MadeOf(text) => answer_on_made(alloc, schema, text, question),
     }
 }
 

@@ -24,7 +24,7 @@ pub enum DirectiveLocation {
     EnumValue,
 }
 
-/// The words of the place, in lower case.
+/// The words of the place, in lower case with blanks between.
 impl fmt::Display for DirectiveLocation {
     ghost output = { λ l. Some (location_words l) };
 
@@ -58,7 +58,7 @@ pub struct DirectiveType<S = DefaultScalarValue> {
 }
 
 impl<S: Drop> DirectiveType<S> {
-    /// A directive of this name, with no description.
+    /// A directive of this name, with no description. The one refusal is for want of memory.
     pub fn new(
         alloc: Global,
         name: &str,
@@ -81,7 +81,7 @@ impl<S: Drop> DirectiveType<S> {
         })
     }
 
-    /// Replaces the description.
+    /// Replaces the description. The one refusal is for want of memory.
     pub fn description(mut self, text: &str) -> Result<Self, OutOfMemory>
         ensures text { IfOk result (λ d. option_map string_bytes d.description ≡ Some text.now) }
         ensures others { IfOk result (λ d. d ≡ record self { description = d.description }) }

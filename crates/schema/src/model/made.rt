@@ -1,5 +1,5 @@
 //! The types of a schema as a document names them.
-ghost use Rattle.std.specs.Prelude.{◌≡◌, [], IfOk, Some, true};
+ghost use Rattle.std.specs.Prelude.{◌≡◌, [], IfOk, IsOk, Some, true};
 ghost use Rattle.language.specs.Types.{borrowed_shape};
 ghost use Rattle.schema.specs.Accepted.{is_listed};
 ghost use Rattle.schema.specs.Catalog.{type_in};
@@ -13,7 +13,11 @@ use language::types::BorrowedType;
 use std::alloc::Global;
 
 impl<S: Drop, C: Drop> SchemaTypeOf<S, C> {
-    /// The type of the schema that the type names, with its modifiers round it, innermost first.
+    /// The type of the schema that the type names, with its modifiers round it, innermost first
+    /// (section 3.4.1).
+    ///
+    /// The innermost name has to be known, which `is_known` tells. The one refusal is for want of
+    /// memory; a plain name takes none.
     pub fn make_type(
         &self,
         alloc: Global,
@@ -22,6 +26,7 @@ impl<S: Drop, C: Drop> SchemaTypeOf<S, C> {
         requires { is_listed self.now.types (borrowed_shape named).name ≡ true }
         ensures meta { IfOk result (λ t. type_in (borrowed_shape named.entry).name self.now ≡ Some (wrapped_of t).meta) }
         ensures modifiers { IfOk result (λ t. (wrapped_of t).modifiers ≡ (borrowed_shape named.entry).modifiers) }
+        ensures plain { (borrowed_shape named.entry).modifiers ≡ [] → IsOk result }
     {
         let mut made = self.plain_type(named.innermost_name());
         for modifier in named.modifiers() {

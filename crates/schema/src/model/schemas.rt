@@ -5,7 +5,7 @@ ghost use Rattle.indexmap.specs.IndexMap.{values};
 ghost use Rattle.schema.specs.Accepted.{IsAccepted, is_input_listed};
 ghost use Rattle.schema.specs.Directives.{directive_name, directive_inputs};
 ghost use Rattle.meta.specs.Kinds.{name_of_meta};
-ghost use Rattle.schema.specs.Named.{are_keyed};
+ghost use Rattle.schema.specs.Named.{are_distinct, are_keyed};
 
 mod changes;
 mod lists;
@@ -29,7 +29,7 @@ use meta::texts::copy_text;
 use std::alloc::Global;
 use std::marker::Model;
 
-/// A schema (section 3.3).
+/// A schema (section 3.3). Its types all have different names, and so have its directives.
 #[derive(Drop)]
 pub struct SchemaTypeOf<S, C> {
     description: Option<String>,
@@ -42,6 +42,7 @@ pub struct SchemaTypeOf<S, C> {
     ghost directive_inputs_input: { list_all (is_input_listed (values types)) (directive_inputs (values directives)) ≡ true },
     ghost keyed: { are_keyed name_of_meta types.entries ≡ true },
     ghost directives_keyed: { are_keyed directive_name directives.entries ≡ true },
+    ghost directives_distinct: { are_distinct directive_name (values directives) ≡ true },
 }
 
 /// A schema, with the checks that its kind of scalars has.
@@ -65,6 +66,7 @@ impl<S, C> Model for SchemaTypeOf<S, C> {
       directives = values s.directives;
       accepted = s.accepted;
       directive_inputs_input = s.directive_inputs_input;
+      directives_distinct = s.directives_distinct;
     } };
 }
 
@@ -75,12 +77,15 @@ impl<S: Drop, C: Drop> SchemaTypeOf<S, C> {
     ghost use Rattle.schema.specs.Built.{IsSchemaOf};
     ghost use Rattle.schema.specs.RootNames.{roots_asked};
 
-    /// The schema of a list of types with these roots, to which the fields `__schema` and `__type`
-    /// of the root of queries and the directives `skip`, `include`, `deprecated` and `specifiedBy`
-    /// are added. The names `_EmptyMutation` and `_EmptySubscription` mean that there is no such root.
+    /// The schema of a list of types with these roots (section 3.3), to which the fields `__schema`
+    /// and `__type` of the root of queries and the directives `skip`, `include`, `deprecated` and
+    /// `specifiedBy` are added. The names `_EmptyMutation` and `_EmptySubscription` mean that there
+    /// is no such root.
     ///
-    /// A refusal but for want of memory is true of the list; which one is named where several are
-    /// true is left open.
+    /// Refuses with `MissingRoot`, `QueryNotObject`, `UnnamedType`, `RepeatedType`, `UnknownType`,
+    /// `UnionMemberNotObject` or `NotInputType` where that is true of the list; which one is named
+    /// where several are true is left open. A list of which none is true is refused with
+    /// `OutOfMemory` alone, where a request for memory was refused.
     pub fn new(
         alloc: Global,
         types: Vec<MetaTypeOf<S, C>>,
@@ -92,6 +97,7 @@ impl<S: Drop, C: Drop> SchemaTypeOf<S, C> {
         ensures built { IfOk result (λ s. IsSchemaOf (roots_of query.now mutation.now subscription.now) types.items s) }
         ensures refused { IfErr result (λ e. IsTrueRefusal (roots_of query.now mutation.now subscription.now) types.items e) }
         ensures memory_alone { IsAccepted (roots_of query.now mutation.now subscription.now) types.items → IsOkUnless result SchemaError.OutOfMemory }
+        ensures no_refusal { OnOk result ((e : SchemaError) → IsTrueRefusal (roots_of query.now mutation.now subscription.now) types.items e → e ≡ SchemaError.OutOfMemory) }
     {
         Self::from_list(alloc, types, RootNames::new(query, mutation, subscription))
     }

@@ -1,11 +1,14 @@
 //! Types of a schema, with what stands round them.
+ghost use Rattle.std.specs.Prelude.{◌≡◌};
+ghost use Rattle.schema.specs.Wrapped.{wrapped_of};
+
 use meta::check::CheckedScalar;
 use meta::kinds::MetaTypeOf;
+use std::alloc::AllocError;
 
 /// A type of a schema: its metadata, or a non-null type or a list of a type, of so many items if a
 /// number is expected.
 #[derive(Drop)]
-#[derive_where(Clone)]
 pub enum TypeTypeOf<'a, S, C> {
     Concrete(&'a MetaTypeOf<S, C>),
     NonNull(Box<TypeTypeOf<'a, S, C>>),
@@ -14,3 +17,22 @@ pub enum TypeTypeOf<'a, S, C> {
 
 /// A type of a schema, with the checks that its kind of scalars has.
 pub type TypeType<'a, S> = TypeTypeOf<'a, S, <S as CheckedScalar>::Check>;
+
+/// The same metadata with the same round it. The one refusal is for want of memory.
+impl<S, C> Clone for TypeTypeOf<'_, S, C> {
+    ghost is_clone = { λ t copy. wrapped_of copy ≡ wrapped_of t };
+
+    fn clone(&self) -> Result<Self, AllocError> {
+        match self {
+            TypeTypeOf::Concrete(meta) => Ok(TypeTypeOf::Concrete(*meta)),
+            TypeTypeOf::NonNull(inner) => {
+                let copy = (**inner).clone()?;
+                Ok(TypeTypeOf::NonNull(Box::new(*Box::allocator(inner), copy)?))
+            }
+            TypeTypeOf::List(inner, size) => {
+                let copy = (**inner).clone()?;
+                Ok(TypeTypeOf::List(Box::new(*Box::allocator(inner), copy)?, *size))
+            }
+        }
+    }
+}

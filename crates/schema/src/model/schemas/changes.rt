@@ -99,14 +99,14 @@ impl<S, C> SchemaTypeOf<S, C> {
         self.check_input(alloc, arguments)
     }
 
-    /// The description, if one was set.
+    /// The description, if one was set (section 3.2).
     pub fn description(&self) -> Option<&str>
         ensures { option_map (λ s. s.now) result ≡ self.now.description }
     {
         as_text(&self.description)
     }
 
-    /// Replaces the description. A refusal changes nothing.
+    /// Replaces the description (section 3.2). The one refusal, for want of memory, changes nothing.
     pub fn set_description(&mut self, text: &str) -> Result<(), OutOfMemory>
         ensures ok { OnOk result (self.new ≡ record self.old { description = Some text.now }) }
         ensures err { OnErr result (self.new ≡ self.old) }
@@ -118,10 +118,13 @@ impl<S, C> SchemaTypeOf<S, C> {
 }
 
 impl<S: Drop, C: Drop> SchemaTypeOf<S, C> {
-    /// Adds a directive, in the place of the one of its name if there is one. A refusal changes
-    /// nothing.
+    /// Adds a directive (section 3.13), in the place of the one of its name if there is one. A
+    /// refusal changes nothing.
     ///
-    /// It is refused if an argument has a type that isn't known or is no input type.
+    /// Refuses with `UnknownType` where an argument has a type that the schema doesn't know, and with
+    /// `NotInputType` where an argument has a type that is known and no input type; which one is named
+    /// where several are true is left open. Else it refuses with `OutOfMemory` alone, where a request
+    /// for memory was refused.
     pub fn add_directive(&mut self, directive: DirectiveType<S>) -> Result<(), SchemaError>
         ensures input { OnOk result (list_all (is_input_listed self.old.types) (directive_types directive) ≡ true) }
         ensures added { OnOk result (self.new.directives ≡ with_directive directive self.old.directives) }

@@ -68,8 +68,8 @@ impl<S, C> SchemaTypeOf<S, C> {
         Ok(list)
     }
 
-    /// What an interface or a union may be: the members of a union in their order, or the objects
-    /// that list the interface, in the order in which they were listed.
+    /// What an interface or a union may be (section 5.5.2.3): the members of a union in their order,
+    /// or the objects that list the interface, in the order in which they were listed.
     ///
     /// Members that the schema doesn't know are passed over; a union of the schema has none.
     pub fn possible_types(

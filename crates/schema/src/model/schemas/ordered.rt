@@ -1,5 +1,8 @@
 //! The types and the directives of a schema in order.
-ghost use Rattle.std.specs.Prelude.{◌≡◌, IfOk, OnOk, map, IsPermutation, IsSorted};
+ghost use Rattle.std.specs.Prelude.{◌≡◌, IfOk, OnOk, true, map, IsPermutation, IsSorted};
+ghost use Rattle.meta.specs.Kinds.{name_of_meta};
+ghost use Rattle.schema.specs.Directives.{directive_name};
+ghost use Rattle.schema.specs.Named.{are_distinct};
 ghost use Rattle.schema.specs.Ordered.{kind_rank, name_bytes, type_cmp, directive_cmp, metas_of};
 ghost use Rattle.schema.specs.Wrapped.{plain_meta, wrapped_of};
 
@@ -84,6 +87,7 @@ impl<S: Drop, C: Drop> SchemaTypeOf<S, C> {
     pub fn type_list(&self, alloc: Global) -> Result<Vec<TypeTypeOf<'_, S, C>>, OutOfMemory>
         ensures plain { IfOk result (λ v. map wrapped_of v.items ≡ map plain_meta (metas_of v.items)) }
         ensures permutation { IfOk result (λ v. IsPermutation self.now.types (metas_of v.items)) }
+        ensures distinct { IfOk result (λ v. are_distinct name_of_meta (metas_of v.items) ≡ true) }
         ensures sorted { IfOk result (λ v. IsSorted type_cmp (metas_of v.items)) }
     {
         let mut metas = self.concrete_type_list(alloc)?;
@@ -94,6 +98,7 @@ impl<S: Drop, C: Drop> SchemaTypeOf<S, C> {
     /// Each directive once, by the bytes of their names.
     pub fn directive_list(&self, alloc: Global) -> Result<Vec<&DirectiveType<S>>, OutOfMemory>
         ensures permutation { IfOk result (λ v. IsPermutation self.now.directives (map (λ r. r.now) v.items)) }
+        ensures distinct { IfOk result (λ v. are_distinct directive_name (map (λ r. r.now) v.items) ≡ true) }
         ensures sorted { IfOk result (λ v. IsSorted directive_cmp (map (λ r. r.now) v.items)) }
     {
         let mut directives = self.listed_directives(alloc)?;

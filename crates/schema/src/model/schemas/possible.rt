@@ -71,7 +71,7 @@ impl<S, C> SchemaTypeOf<S, C> {
         }
     }
 
-    /// Whether an interface or a union may be the other type, by its name (section 2.8.2).
+    /// Whether an interface or a union may be the other type, by its name (section 5.5.2.3).
     pub fn is_possible_type(
         &self,
         abstract_type: &MetaTypeOf<S, C>,

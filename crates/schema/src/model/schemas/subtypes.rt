@@ -4,7 +4,8 @@ ghost use Rattle.language.specs.Types.{TypeShape, borrowed_shape};
 ghost use Rattle.schema.specs.Accepted.{is_listed};
 ghost use Rattle.meta.specs.Kinds.{is_abstract_meta};
 ghost use Rattle.schema.specs.Possible.{is_among, possible_names};
-ghost use Rattle.schema.specs.Subtype.{may_be, is_name_below, are_layers_below, IsSubtype, is_subtype_of};
+ghost use Rattle.schema.specs.Layers.{are_layers_below};
+ghost use Rattle.schema.specs.Subtype.{may_be, is_name_below, IsSubtype};
 
 use crate::model::schemas::SchemaTypeOf;
 use language::types::{BorrowedType, TypeModifier};
@@ -34,14 +35,13 @@ fn are_modifiers_below(
 }
 
 impl<S, C> SchemaTypeOf<S, C> {
-    /// Whether the first type is a subtype of the second, so that its values may stand where the
-    /// second is asked for. Expected sizes of lists don't matter.
+    /// Whether the first type is a subtype of the second (sections 3.6 and 5.8.5), so that its values
+    /// may stand where the second is asked for. Expected sizes of lists don't matter.
     ///
     /// Each type is a subtype of itself, and a subtype of a subtype is one, whether the names are
     /// known or not.
     pub fn is_subtype(&self, sub_type: BorrowedType<'_>, super_type: BorrowedType<'_>) -> bool
         ensures subtype { IsTrue result ↔ IsSubtype self.now.types (borrowed_shape sub_type.entry) (borrowed_shape super_type.entry) }
-        ensures test { result ≡ is_subtype_of self.now.types (borrowed_shape sub_type.entry) (borrowed_shape super_type.entry) }
         ensures reflexive { borrowed_shape sub_type.entry ≡ borrowed_shape super_type.entry → IsTrue result }
         ensures transitive { (t : TypeShape) → IsSubtype self.now.types (borrowed_shape sub_type.entry) t → IsSubtype self.now.types t (borrowed_shape super_type.entry) → IsTrue result }
     {

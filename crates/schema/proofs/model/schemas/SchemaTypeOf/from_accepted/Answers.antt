@@ -1,7 +1,7 @@
 use Rattle.std.proofs.Common.{option_map, string_bytes}
 use Rattle.indexmap.specs.IndexMap.{values}
 use Rattle.schema.specs.RootNames.{roots_asked}
-use Rattle.schema.proofs.DirectiveLemmas.{directives-input, accepted-at}
+use Rattle.schema.proofs.DirectiveLemmas.{directives-distinct, directives-input, accepted-at}
 use Rattle.schema.proofs.model.schemas.SchemaTypeOf.from_accepted.Goals as goal
 
 pub invariant_of-result : goal.invariant_of-result
@@ -14,6 +14,6 @@ invariant_of-result g c =
       accepted,
       (
         directives-input (record { query = query; mutation = mutation; subscription = subscription }) types (values c.in_ok-directives.directives) accepted c.in_ok-directives.ensures.standard,
-        (c.in_ok-types.ensures.keyed, (c.in_ok-directives.ensures.keyed, tt)),
+        (c.in_ok-types.ensures.keyed, (c.in_ok-directives.ensures.keyed, (directives-distinct (values c.in_ok-directives.directives) c.in_ok-directives.ensures.standard, tt))),
       ),
     )

@@ -1,7 +1,7 @@
 use Rattle.std.proofs.Common.{ap, sym, ◌∙◌, is_some}
 use Rattle.schema.specs.Accepted.{is_named}
 use Rattle.schema.proofs.RootLemmas.{copied_some}
-use Rattle.schema.proofs.SubtypeLemmas.{any-found}
+use Rattle.schema.proofs.NamesBelow.{any-found}
 use Rattle.schema.proofs.model.schemas.SchemaTypeOf.is_known.Goals as goal
 
 pub returns : goal.returns

@@ -6,6 +6,7 @@ use Rattle.indexmap.specs.IndexMap.{values}
 use Rattle.schema.specs.Accepted.{is_input_listed}
 use Rattle.schema.specs.Changes.{directive_types, with_directive}
 use Rattle.schema.proofs.ChangeLemmas.{catalog-same, on-err-from, inputs-either}
+use Rattle.schema.proofs.DistinctLemmas.{distinct-either}
 use Rattle.schema.proofs.model.schemas.SchemaTypeOf.put_directive.Goals as goal
 
 pub invariant_of-self-inside : goal.invariant_of-self-inside
@@ -16,7 +17,7 @@ invariant_of-self-inside g c =
       s.accepted,
       (
         inputs-either (is_input_listed (values s.types)) c.args.directive (values s.directives) (values c.put_entry.new.directives) (is_ok c.put_entry.result) input s.directive_inputs_input c.put_entry.ensures.listed,
-        (s.keyed, (c.put_entry.ensures.keyed, tt)),
+        (s.keyed, (c.put_entry.ensures.keyed, (distinct-either c.args.directive (values s.directives) (values c.put_entry.new.directives) (is_ok c.put_entry.result) s.directives_distinct c.put_entry.ensures.listed, tt))),
       ),
     )
 

@@ -1,0 +1,15 @@
+-- How the code tests whether modifiers stand below modifiers; both are read from the outside.
+use Rattle.std.specs.Prelude.{List, [], ◌∷◌, Bool, false}
+use Rattle.language.specs.declared.types.TypeModifier.{TypeModifier}
+use Rattle.language.specs.declared.types.TypeModifier.TheVariants as m
+
+-- whether they do, round names that do so or not
+abbrev pub are_layers_below : Bool → List TypeModifier → List TypeModifier → Bool
+are_layers_below below [] [] = below
+are_layers_below below [] (n ∷ ns) = false
+are_layers_below below (m.NonNull ∷ ms) [] = are_layers_below below ms []
+are_layers_below below (m.NonNull ∷ ms) (m.NonNull ∷ ns) = are_layers_below below ms ns
+are_layers_below below (m.NonNull ∷ ms) (m.List j ∷ ns) = are_layers_below below ms (m.List j ∷ ns)
+are_layers_below below (m.List i ∷ ms) [] = false
+are_layers_below below (m.List i ∷ ms) (m.NonNull ∷ ns) = false
+are_layers_below below (m.List i ∷ ms) (m.List j ∷ ns) = are_layers_below below ms ns
