@@ -1,2 +1,4 @@
 pub mod LoneAnonymousOperation
 pub mod UniqueOperationNames
+pub mod UniqueVariableNames
+pub mod VariablesAreInputTypes

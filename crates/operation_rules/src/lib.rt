@@ -1,5 +1,7 @@
-//! The rules on operations (GraphQL, sections 5.2 and 5.8), each in a module of its own.
+//! The rules on operations and their variables (GraphQL, sections 5.2 and 5.8), each in a module of its own.
 #![tactic(auto)]
 
 pub mod lone_anonymous_operation;
 pub mod unique_operation_names;
+pub mod unique_variable_names;
+pub mod variables_are_input_types;

@@ -7,9 +7,9 @@ ghost use Rattle.rule_parts.specs.NotingLaws.{noting_keeps};
 ghost use Rattle.rule_parts.specs.Places.{places_of};
 ghost use Rattle.operation_rules.specs.UniqueOperationNames.{operation_name, repeated_operation_message};
 
-use rule_parts::first_places::FirstPlaces;
 use language::error::OutOfMemory;
 use meta::check::CheckedScalar;
+use rule_parts::first_places::FirstPlaces;
 use std::alloc::{AllocError, Global};
 use walk::{Event, Fresh, Machine, Rule, ValidatorContext, Visitor};
 
