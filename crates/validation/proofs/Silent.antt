@@ -8,7 +8,7 @@ use Rattle.validation.proofs.Groups.{settled_append}
 -- a word for each rule, in the order of its group
 module _ {S C : Type 0} where
   operations_settled : AllSettled (of_operations {S = S} {C = C})
-  operations_settled = (exactly_settled _, (exactly_settled _, tt))
+  operations_settled = (exactly_settled _, (exactly_settled _, (exactly_settled _, (exactly_settled _, tt))))
 
   fields_settled : AllSettled (of_fields {S = S} {C = C})
   fields_settled = (exactly_settled _, (exactly_settled _, tt))

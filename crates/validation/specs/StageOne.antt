@@ -10,6 +10,8 @@ use Rattle.schema.specs.Catalog.{Catalog}
 use Rattle.rule_parts.specs.Noting.{repeated}
 use Rattle.operation_rules.specs.LoneAnonymousOperation.{has_several, anonymous_among}
 use Rattle.operation_rules.specs.UniqueOperationNames.{operation_name, repeated_operation_message}
+use Rattle.operation_rules.specs.UniqueVariableNames.{repeated_variables}
+use Rattle.operation_rules.specs.VariablesAreInputTypes.{non_input_variables}
 use Rattle.field_rules.specs.FieldsOnCorrectType.{fields_of_wrong_type}
 use Rattle.field_rules.specs.ScalarLeafs.{wrong_sets}
 use Rattle.argument_rules.specs.KnownArgumentNames.{unknown_arguments}
@@ -24,10 +26,12 @@ use Rattle.fragment_rules.specs.PossibleFragmentSpreads.{conditions, impossible_
 use Rattle.fragment_rules.specs.UniqueFragmentNames.{fragment_name, repeated_fragment_message}
 
 module _ {S C : Type 0} where
-  -- operations (GraphQL, section 5.2)
+  -- operations and their variables (GraphQL, sections 5.2, 5.8)
   abbrev pub of_operations : List (Allowance S C)
   of_operations =
-      exactly (repeated repeated_operation_message operation_name)
+      exactly (found non_input_variables)
+      ∷ exactly (found repeated_variables)
+      ∷ exactly (repeated repeated_operation_message operation_name)
       ∷ exactly (found_by has_several anonymous_among)
       ∷ []
 

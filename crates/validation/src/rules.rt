@@ -22,7 +22,10 @@ pub use fragment_rules::{
     fragments_on_composite_types, known_fragment_names, known_type_names,
     possible_fragment_spreads, unique_fragment_names,
 };
-pub use operation_rules::{lone_anonymous_operation, unique_operation_names};
+pub use operation_rules::{
+    lone_anonymous_operation, unique_operation_names, unique_variable_names,
+    variables_are_input_types,
+};
 
 use argument_rules::known_argument_names::KnownArgumentNames;
 use argument_rules::known_directives::KnownDirectives;
@@ -38,9 +41,10 @@ use fragment_rules::possible_fragment_spreads::PossibleFragmentSpreads;
 use fragment_rules::unique_fragment_names::UniqueFragmentNames;
 use operation_rules::lone_anonymous_operation::LoneAnonymousOperation;
 use operation_rules::unique_operation_names::UniqueOperationNames;
+use operation_rules::unique_variable_names::UniqueVariableNames;
 
 // A list of rules, the newest first. One long list of all rules is dear to prove, so they come in groups.
-type OfOperations<'a> = MultiVisitorCons<UniqueOperationNames<'a>, MultiVisitorCons<LoneAnonymousOperation, MultiVisitorNil>>;
+type OfOperations<'a> = MultiVisitorCons<variables_are_input_types::UniqueVariableNames, MultiVisitorCons<UniqueVariableNames<'a>, MultiVisitorCons<UniqueOperationNames<'a>, MultiVisitorCons<LoneAnonymousOperation, MultiVisitorNil>>>>;
 
 type OfFields = MultiVisitorCons<ScalarLeafs, MultiVisitorCons<FieldsOnCorrectType, MultiVisitorNil>>;
 
@@ -48,13 +52,15 @@ type OfArguments = MultiVisitorCons<UniqueInputFieldNames, MultiVisitorCons<Uniq
 
 type OfFragments<'a, S> = MultiVisitorCons<UniqueFragmentNames<'a>, MultiVisitorCons<PossibleFragmentSpreads<'a, S>, MultiVisitorCons<KnownTypeNames, MultiVisitorCons<KnownFragmentNames, MultiVisitorCons<FragmentsOnCompositeTypes, MultiVisitorNil>>>>>;
 
-// The rules on operations.
+// The rules on operations and their variables.
 fn of_operations<'a>(alloc: Global) -> OfOperations<'a>
     ensures { ⟦<OfOperations<'a> as Fresh>⟧.fresh result }
 {
     MultiVisitorNil
         .with_rule(lone_anonymous_operation::factory(alloc))
         .with_rule(unique_operation_names::factory(alloc))
+        .with_rule(unique_variable_names::factory(alloc))
+        .with_rule(variables_are_input_types::factory(alloc))
 }
 
 // The rules on fields.
