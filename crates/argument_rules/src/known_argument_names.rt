@@ -93,7 +93,13 @@ fn report_on_directive<'a, S: CheckedScalar>(
 {
     let name = directive.name.item;
     let known = arguments_of_directive(ctx.schema, name);
-    report(alloc, ctx, Bearer::Directive(name), known, &directive.arguments)
+    report(
+        alloc,
+        ctx,
+        Bearer::Directive(name),
+        known,
+        &directive.arguments,
+    )
 }
 
 // Reports those of the arguments that are none of the known ones, where both lists are there.

@@ -77,7 +77,14 @@ fn report_on_field<'a, S: CheckedScalar>(
     let name = field.item.name.item;
     let bearer = Bearer::Field(name, name_of_known(parent));
     let known = arguments_of_field(parent, name);
-    report(alloc, ctx, bearer, field.span.start, known, &field.item.arguments)
+    report(
+        alloc,
+        ctx,
+        bearer,
+        field.span.start,
+        known,
+        &field.item.arguments,
+    )
 }
 
 // Reports the missing arguments of a directive.
@@ -92,7 +99,14 @@ fn report_on_directive<'a, S: CheckedScalar>(
     let name = directive.item.name.item;
     let bearer = Bearer::Directive(name);
     let known = arguments_of_directive(ctx.schema, name);
-    report(alloc, ctx, bearer, directive.span.start, known, &directive.item.arguments)
+    report(
+        alloc,
+        ctx,
+        bearer,
+        directive.span.start,
+        known,
+        &directive.item.arguments,
+    )
 }
 
 // Reports those of the known arguments that have to be given and are not among those that were written.
@@ -183,9 +197,19 @@ fn error_message<S>(
     ensures { IfOk result (λ message. string_bytes message ≡ missing_message (words_before bearer.entry) (string_bytes argument.now.name) (printed (shape argument.now.arg_type))) }
 {
     let before = words_before(alloc, bearer)?;
-    let named = between(alloc, before.as_str(), argument.name.as_str(), "\" of type \"")?;
+    let named = between(
+        alloc,
+        before.as_str(),
+        argument.name.as_str(),
+        "\" of type \"",
+    )?;
     let t = type_text(alloc, &argument.arg_type)?;
-    between(alloc, named.as_str(), t.as_str(), "\" is required but not provided")
+    between(
+        alloc,
+        named.as_str(),
+        t.as_str(),
+        "\" is required but not provided",
+    )
 }
 
 // The words before the name of a missing argument.

@@ -8,11 +8,11 @@ ghost use Rattle.walk.specs.Step.{KeepsPlace};
 ghost use Rattle.walk.proofs.Entering.{finding_keeps};
 ghost use Rattle.argument_rules.specs.UniqueArgumentNames.{repeated_arguments, repeated_in};
 
-use rule_parts::repeats::report_repeats;
 use language::error::OutOfMemory;
 use language::position::Spanning;
 use language::tree::Arguments;
 use meta::check::CheckedScalar;
+use rule_parts::repeats::report_repeats;
 use std::alloc::Global;
 use walk::{Event, Fresh, Machine, Rule, ValidatorContext, Visitor};
 

@@ -6,9 +6,9 @@ ghost use Rattle.walk.specs.Rule.{always, any_value, exactly};
 ghost use Rattle.walk.proofs.Entering.{finding_keeps};
 ghost use Rattle.argument_rules.specs.UniqueInputFieldNames.{repeated_keys};
 
-use rule_parts::repeats::report_repeats;
 use language::error::OutOfMemory;
 use meta::check::CheckedScalar;
+use rule_parts::repeats::report_repeats;
 use std::alloc::Global;
 use walk::{Event, Fresh, Machine, Rule, ValidatorContext, Visitor};
 
