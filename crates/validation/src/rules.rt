@@ -1,9 +1,9 @@
 //! The rules, each in its module, and the call that tries them all.
 
-ghost use Rattle.std.specs.Prelude.{◌≡◌, IfOk, OnOk, OnErr, IsErr, true};
+ghost use Rattle.std.specs.Prelude.{◌≡◌, ◌↔◌, IfOk, OnOk, OnErr, IsErr, true};
 ghost use Rattle.walk.specs.ContextState.{typing, scope_of};
 ghost use Rattle.walk.specs.Names.{fragment_names};
-ghost use Rattle.walk.specs.Rule.{Appended, sum_of};
+ghost use Rattle.walk.specs.Rule.{AllowNothing, Appended, sum_of};
 ghost use Rattle.walk.specs.Step.{KeepsPlace};
 ghost use Rattle.validation.specs.StageOne.{stage_one};
 
@@ -23,6 +23,7 @@ pub fn visit_all_rules<'a, 't, S: CheckedScalar>(
     document: &'a [Definition<'t, S>],
 ) -> Result<u128, OutOfMemory>
     ensures appended { OnOk result (ctx.old.known ≡ fragment_names document.now → Appended (sum_of stage_one (scope_of ctx.old.schema document.now) (typing ctx.old) document.now) ctx.old ctx.new) }
+    ensures silent { OnOk result (ctx.old.known ≡ fragment_names document.now → (ctx.new.errors ≡ ctx.old.errors) ↔ AllowNothing stage_one (scope_of ctx.old.schema document.now) (typing ctx.old) document.now) }
     ensures compared { IfOk result (λ pairs. pairs ≡ 0) }
     ensures err { OnErr result (KeepsPlace ctx.old ctx.new) }
     ensures failed { OnErr result (ctx.new.failed ≡ true) }
