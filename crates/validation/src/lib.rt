@@ -1,17 +1,31 @@
 //! Validation of documents against schemas (GraphQL, October 2021, section 5): all names of the crates below, under the paths
 //! that juniper has them, and the call that tries every rule.
+//!
+//! A user needs no crate but this one. The crates below are handed on whole, too: their other names have the paths there.
 #![tactic(auto)]
 
 pub mod ast;
 pub mod parser;
 mod root_node;
 pub mod rules;
+pub mod value;
 
 pub use crate::root_node::{RootNode, RootNodeOf, visit_root_rules};
 pub use crate::rules::visit_all_rules;
-pub use language::error::OutOfMemory;
+pub use events;
+pub use language;
+pub use language::error::{CheckError, OutOfMemory};
+pub use language::scalar::ScalarValue;
+pub use language::tree::{Definition, Document, Operation, OperationType, Selection};
+pub use language::types::{BorrowedType, Type, TypeModifier};
+pub use language::value::{DefaultScalarValue, InputValue, Variables};
+pub use meta;
+pub use meta::check::CheckedScalar;
 pub use schema;
+pub use schema::error::SchemaError;
+pub use schema::model::SchemaType;
+pub use walk;
 pub use walk::{
-    Event, MultiVisitorCons, MultiVisitorNil, RuleError, ValidatorContext, ValidatorContextOf,
-    Visitor, visit,
+    Event, Fresh, Machine, MultiVisitorCons, MultiVisitorNil, Rule, RuleError, ValidatorContext,
+    ValidatorContextOf, Visitor, visit,
 };

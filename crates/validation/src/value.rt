@@ -1,0 +1,4 @@
+//! Scalars, and the values that variables have.
+
+pub use language::scalar::ScalarValue;
+pub use language::value::{DefaultScalarValue, InputValue, Variables};
