@@ -1,4 +1,4 @@
-use Rattle.std.proofs.Common.{◌≡◌, ℕ, List, ◌++◌, IfOk, map, sym, subst, codes, []}
+use Rattle.std.proofs.Common.{◌≡◌, ◌++◌, IfOk, map, sym, subst, codes, []}
 use mathlib.Core.Path.{fun_ext}
 use Rattle.std.proofs.lemmas.List.{append-nil}
 use Rattle.walk.specs.ContextState.{with_errors}
