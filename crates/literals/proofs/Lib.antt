@@ -1,0 +1,7 @@
+pub mod FieldTypes
+pub mod FirstFaults
+pub mod ObjectLaws
+pub mod OneFault
+pub mod RowLaws
+pub mod SomeFault
+pub mod Unfold

@@ -1,0 +1,154 @@
+-- A value against a type, row by row: nothing where it conforms, else the text of its first fault.
+use Rattle.std.specs.Prelude.{◌≡◌, ℕ, List, [], ◌∷◌, length, reverse, map, Bool, true, false, Option, Some, None, option_map, unwrap_or, string_bytes, nat_eq, if◌then◌else◌}
+use Rattle.language.specs.declared.types.TypeModifier.{TypeModifier}
+use Rattle.language.specs.declared.types.TypeModifier.TheVariants as m
+use Rattle.language.specs.declared.value.InputValue.{InputValue}
+use Rattle.language.specs.declared.value.InputValue.TheOpen as v
+use Rattle.language.specs.declared.value.InputValue.TheFolds.{rec-InputValue}
+use Rattle.language.specs.Types.{TypeShape, shape, printed}
+use Rattle.language.specs.Values.{Entry}
+use Rattle.meta.specs.declared.arguments.Argument.{Argument}
+use Rattle.meta.specs.declared.kinds.MetaTypeOf.{MetaTypeOf}
+use Rattle.meta.specs.declared.kinds.MetaTypeOf.TheVariants as k
+use Rattle.meta.specs.Answers.{Answers, Accepts, RefusesWith}
+use Rattle.meta.specs.Kinds.{name_of_meta, check_of_meta, input_fields_of, input_field_named}
+use Rattle.schema.specs.Catalog.{Catalog, type_in}
+use Rattle.schema.specs.Wrapped.{WrappedMeta, wrapped_shape}
+use Rattle.literals.specs.FirstFault.{FirstFault}
+use Rattle.literals.specs.Missing.{missing, missing_fault}
+use Rattle.literals.specs.Texts.{null_text, enum_text, value_text, no_check_text, list_text, no_object_text, field_text, unknown_text, length_text}
+
+-- whether a text, or none, is the fault of a value against a type
+abbrev pub Judge : Type 0 → Type 0 → Type 1
+Judge S C = InputValue S → WrappedMeta S C → Option (List ℕ) → Type 0
+
+abbrev pub IsNone : Option (List ℕ) → Type 0
+IsNone fault = fault ≡ None
+
+abbrev pub Is : List ℕ → Option (List ℕ) → Type 0
+Is said fault = fault ≡ Some said
+
+abbrev pub is_enum_meta : {S C : Type 0} → MetaTypeOf S C → Bool
+is_enum_meta (k.Enum x) = true
+is_enum_meta _ = false
+
+abbrev pub is_input_object_meta : {S C : Type 0} → MetaTypeOf S C → Bool
+is_input_object_meta (k.InputObject x) = true
+is_input_object_meta _ = false
+
+abbrev pub key_of : {A : Type 0} → Entry A → List ℕ
+key_of e = string_bytes e.0.item
+
+abbrev pub keys_of : {A : Type 0} → List (Entry A) → List (List ℕ)
+keys_of es = map key_of es
+
+-- the expected length of a list, where the one that was found is another
+abbrev pub other_length : Option ℕ → ℕ → Option ℕ
+other_length None found = None
+other_length (Some wanted) found = if nat_eq wanted found then None else Some wanted
+
+module _ {S C : Type 0} where
+  -- a type as it is printed, and the name of metadata
+  abbrev pub printed_type : WrappedMeta S C → List ℕ
+  printed_type w = printed (wrapped_shape w)
+
+  abbrev pub printed_name : MetaTypeOf S C → List ℕ
+  printed_name meta = unwrap_or (name_of_meta meta) []
+
+  -- metadata with modifiers round it, outermost first
+  abbrev pub within : List TypeModifier → MetaTypeOf S C → WrappedMeta S C
+  within ms meta = record { meta = meta; modifiers = reverse ms }
+
+  -- the type of a schema that a written type names
+  abbrev pub IsTypeOf : Catalog S C → TypeShape → WrappedMeta S C → Type 0
+  IsTypeOf schema t w = (type_in t.name schema ≡ Some w.meta) × (w.modifiers ≡ t.modifiers)
+
+  -- what an object with these keys lacks
+  abbrev pub LacksFields : MetaTypeOf S C → List (List ℕ) → Option (List ℕ) → Type 0
+  LacksFields meta keys fault = fault ≡ missing_fault (printed_name meta) (missing keys (input_fields_of meta))
+
+  -- What has no values inside: by what a check may answer, and a value as it is printed.
+  module _ (may : Answers (InputValue S) C) (shown : InputValue S → List ℕ) where
+    -- what the check of a type has against a value, and a type without one
+    abbrev pub checked : Option C → InputValue S → MetaTypeOf S C → Option (List ℕ) → Type 0
+    checked None value meta fault = Is (no_check_text (printed_name meta)) fault
+    checked (Some c) value meta None = Accepts may c value
+    checked (Some c) value meta (Some said) = (said ≡ value_text (shown value) (printed_name meta)) × (m : List ℕ) × RefusesWith may c value m
+
+    -- a scalar is no enum value
+    abbrev pub unless_enum : Bool → InputValue S → MetaTypeOf S C → Option (List ℕ) → Type 0
+    unless_enum true value meta fault = Is (enum_text (shown value) (printed_name meta)) fault
+    unless_enum false value meta fault = checked (check_of_meta meta) value meta fault
+
+    -- a list of another length than the expected one, and otherwise what its items say
+    abbrev pub sized : Option ℕ → ℕ → InputValue S → Option (List ℕ) → Type 0 → Type 0
+    sized None found value fault Otherwise = Otherwise
+    sized (Some wanted) found value fault Otherwise = Is (length_text wanted (shown value) found) fault
+
+  module _ (schema : Catalog S C) (may : Answers (InputValue S) C) (shown : InputValue S → List ℕ) where
+    -- The values inside, each with what it is and its faults.
+    module _ {X : Type 0} (value_of : X → InputValue S) (judge : X → Judge S C) where
+      abbrev pub inside : WrappedMeta S C → X → Option (List ℕ) → Type 0
+      inside w x fault = judge x (value_of x) w fault
+
+      -- a value under a key, against the first input field of the key, if there is one
+      abbrev pub keyed : MetaTypeOf S C → List ℕ → Option (Argument S) → X → Option (List ℕ) → Type 0
+      keyed meta key None x fault = Is (unknown_text (printed_name meta) key) fault
+      keyed meta key (Some a) x fault =
+          (w : WrappedMeta S C) × IsTypeOf schema (shape a.arg_type) w
+          × (m : Option (List ℕ)) × inside w x m × (fault ≡ option_map (field_text (printed_name meta) key) m)
+
+      abbrev pub entry : MetaTypeOf S C → Entry X → Option (List ℕ) → Type 0
+      entry meta e fault = keyed meta (key_of e) (input_field_named (key_of e) meta) e.1.item fault
+
+      -- the first faulty entry, and where none is faulty the fields that are missing
+      abbrev pub object : Bool → MetaTypeOf S C → List (Entry X) → Option (List ℕ) → Type 0
+      object false meta es fault = Is (no_object_text (printed_name meta)) fault
+      object true meta es fault = FirstFault (entry meta) (LacksFields meta (keys_of es)) es fault
+
+      -- a value against a plain name
+      abbrev pub against_name : v.InputValue-F S X → InputValue S → MetaTypeOf S C → Option (List ℕ) → Type 0
+      against_name v.Null value meta fault = IsNone fault
+      against_name (v.Variable n) value meta fault = IsNone fault
+      against_name (v.Scalar s) value meta fault = unless_enum may shown (is_enum_meta meta) value meta fault
+      against_name (v.Enum n) value meta fault = checked may shown (check_of_meta meta) value meta fault
+      against_name (v.List xs) value meta fault = Is list_text fault
+      against_name (v.Object es) value meta fault = object (is_input_object_meta meta) meta es.items fault
+
+      -- a value against a name with modifiers round it, outermost first
+      abbrev pub against : v.InputValue-F S X → InputValue S → List TypeModifier → MetaTypeOf S C → Option (List ℕ) → Type 0
+      against x value [] meta fault = against_name x value meta fault
+      against v.Null value (m.NonNull ∷ ms) meta fault = Is (null_text (printed_type (within (m.NonNull ∷ ms) meta))) fault
+      against x value (m.NonNull ∷ ms) meta fault = against x value ms meta fault
+      against v.Null value (m.List size ∷ ms) meta fault = IsNone fault
+      against (v.Variable n) value (m.List size ∷ ms) meta fault = IsNone fault
+      against (v.List xs) value (m.List size ∷ ms) meta fault =
+          sized may shown (other_length size (length xs.items)) (length xs.items) value fault
+          (FirstFault (λ x. inside (within ms meta) x.item) IsNone xs.items fault)
+      against x value (m.List size ∷ ms) meta fault = sized may shown (other_length size 1) 1 value fault (against x value ms meta fault)
+
+    abbrev pub judge_step : (X : Type 0) → (X → InputValue S) → (X → Judge S C) → v.InputValue-F S X → Judge S C
+    judge_step X value_of judge x value w fault = against value_of judge x value (reverse w.modifiers) w.meta fault
+
+    abbrev pub judge_of : InputValue S → Judge S C
+    judge_of = rec-InputValue S (Judge S C) judge_step
+
+    -- the fault of a value against a type, none where it conforms
+    abbrev pub Judged : Judge S C
+    Judged value w fault = judge_of value value w fault
+
+    abbrev pub Conforms : InputValue S → WrappedMeta S C → Type 0
+    Conforms value w = Judged value w None
+
+    abbrev pub Fault : InputValue S → WrappedMeta S C → List ℕ → Type 0
+    Fault value w said = Judged value w (Some said)
+
+    -- that of a value under a key of an input object, of an entry, and of an object
+    abbrev pub KeyedFault : MetaTypeOf S C → List ℕ → InputValue S → Option (List ℕ) → Type 0
+    KeyedFault meta key value fault = keyed (λ y. y) judge_of meta key (input_field_named key meta) value fault
+
+    abbrev pub EntryFault : MetaTypeOf S C → Entry (InputValue S) → Option (List ℕ) → Type 0
+    EntryFault meta e fault = KeyedFault meta (key_of e) e.1.item fault
+
+    abbrev pub ObjectFault : MetaTypeOf S C → List (Entry (InputValue S)) → Option (List ℕ) → Type 0
+    ObjectFault meta es fault = object (λ y. y) judge_of (is_input_object_meta meta) meta es fault

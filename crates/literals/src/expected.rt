@@ -1,0 +1,111 @@
+//! Types that values are held against.
+ghost use Rattle.std.specs.Prelude.{◌≡◌, Some, true, fold};
+ghost use Rattle.std.specs.Fmt.{WritesOnOk};
+ghost use Rattle.language.specs.Types.{shape, with_modifier};
+ghost use Rattle.schema.specs.Accepted.{is_listed};
+ghost use Rattle.schema.specs.Names.{argument_type};
+ghost use Rattle.schema.specs.Wrapped.{wrapped_of};
+ghost use Rattle.literals.specs.Expected.{expected_type, IsLayerOf};
+ghost use Rattle.literals.specs.InSchema.{IsInSchema};
+ghost use Rattle.literals.specs.Judged.{IsTypeOf, printed_name, printed_type};
+
+use language::types::TypeModifier;
+use meta::arguments::Argument;
+use meta::kinds::MetaTypeOf;
+use schema::model::{SchemaTypeOf, TypeTypeOf};
+use std::fmt;
+
+/// A type that a value is held against: one that was made, or metadata with the modifiers that a
+/// schema writes round it. Nothing is copied.
+#[derive_where(Clone, Copy)]
+pub enum Expected<'a, S, C> {
+    Made(&'a TypeTypeOf<'a, S, C>),
+    Written(&'a MetaTypeOf<S, C>, &'a [TypeModifier]),
+}
+
+/// What is outermost in a type.
+#[derive_where(Clone, Copy)]
+pub enum Layer<'a, S, C> {
+    Plain(&'a MetaTypeOf<S, C>),
+    NonNull(Expected<'a, S, C>),
+    List(Expected<'a, S, C>, Option<usize>),
+}
+
+impl<'a, S, C> Expected<'a, S, C> {
+    pub fn layer(self) -> Layer<'a, S, C>
+        ensures { IsLayerOf result (expected_type self.entry) }
+    {
+        match self {
+            Expected::Made(made) => match made {
+                TypeTypeOf::Concrete(meta) => Layer::Plain(meta),
+                TypeTypeOf::NonNull(inner) => Layer::NonNull(Expected::Made(&**inner)),
+                TypeTypeOf::List(inner, size) => Layer::List(Expected::Made(&**inner), *size),
+            },
+            Expected::Written(meta, modifiers) => match modifiers.split_last() {
+                None => Layer::Plain(meta),
+                Some((TypeModifier::NonNull, inner)) => Layer::NonNull(Expected::Written(
+                    meta, inner,
+                )),
+                Some((TypeModifier::List(size), inner)) => Layer::List(
+                    Expected::Written(meta, inner),
+                    *size,
+                ),
+            },
+        }
+    }
+}
+
+/// The type of an input field.
+pub fn type_of_field<'a, S, C>(
+    schema: &'a SchemaTypeOf<S, C>,
+    field: &'a Argument<S>,
+) -> Expected<'a, S, C>
+    requires { is_listed schema.now.types (argument_type field.now) ≡ true }
+    ensures made { IsTypeOf schema.now (shape field.now.arg_type) (expected_type result) }
+    ensures known { IsInSchema schema.now (expected_type result) }
+{
+    match schema.concrete_type_by_name(field.arg_type.innermost_name()) {
+        Some(meta) => Expected::Written(meta, field.arg_type.modifiers()),
+        None => unreachable!(),
+    }
+}
+
+/// The name of metadata, and nothing where it has none.
+pub fn name_text<S, C>(meta: &MetaTypeOf<S, C>) -> &str
+    ensures { result.now ≡ printed_name meta.now }
+{
+    meta.name().unwrap_or("")
+}
+
+/// `Name`, `T!` and `[T]`.
+impl<S, C> fmt::Display for Expected<'_, S, C> {
+    ghost output = { λ t. Some (printed_type (expected_type t)) };
+
+    fn fmt<W: fmt::Write>(&self, f: &mut fmt::Formatter<W>) -> fmt::Result {
+        match self {
+            Expected::Made(made) => (**made).fmt(f),
+            Expected::Written(meta, modifiers) => print_written(name_text(*meta), *modifiers, f),
+        }
+    }
+}
+
+fn print_written<W: fmt::Write>(
+    name: &str,
+    modifiers: &[TypeModifier],
+    f: &mut fmt::Formatter<W>,
+) -> fmt::Result
+    ensures { WritesOnOk W.write_str_gives f.old result (fold with_modifier name.now modifiers.now) f.new }
+{
+    match modifiers.split_last() {
+        None => f.write_str(name),
+        Some((TypeModifier::NonNull, inner)) => {
+            print_written(name, inner, f)?;
+            f.write_str("!")
+        }
+        Some((TypeModifier::List(_), inner)) => {
+            f.write_str("[")?;
+            print_written(name, inner, f)?;
+            f.write_str("]")
+        }
+    }
+}

@@ -1,0 +1,11 @@
+//! Values of a document against the types of a schema (GraphQL, October 2021, section 5.6.1).
+#![tactic(auto)]
+
+mod expected;
+mod judged;
+pub mod laws;
+mod missing;
+mod rows;
+mod texts;
+
+pub use judged::validate_literal_value;

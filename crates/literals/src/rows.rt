@@ -1,0 +1,92 @@
+//! Which case of a value and a type stands.
+ghost use Rattle.std.specs.Prelude.{◌≡◌, ℕ, List, Option, is_some};
+ghost use Rattle.language.specs.declared.value.InputValue.{out-InputValue};
+ghost use Rattle.language.specs.Values.{list_items};
+ghost use Rattle.language.specs.ValuesPrinted.{printed_value};
+ghost use Rattle.schema.specs.Catalog.{Catalog};
+ghost use Rattle.literals.specs.Expected.{expected_type};
+ghost use Rattle.literals.specs.Judged.{other_length};
+ghost use Rattle.literals.specs.Rows.{IsRowOf, item_count, HasMeta, IsListRow};
+
+use crate::expected::{Expected, Layer};
+use language::value::InputValue;
+use meta::check::CheckedScalar;
+use meta::kinds::MetaTypeOf;
+
+/// What a type has against a value that stands under all its modifiers.
+#[derive_where(Clone, Copy)]
+pub enum Row<'a, S, C> {
+    Conforms,
+    /// A null, where this type is never null.
+    Null(Expected<'a, S, C>),
+    /// A list of another length than the one that is expected.
+    Length(usize, usize),
+    /// A list, whose items have this type.
+    Items(Expected<'a, S, C>),
+    /// A value of a plain type.
+    Plain(&'a MetaTypeOf<S, C>),
+}
+
+/// How many items a value is for a list type; none for null and a variable, which may be any list.
+fn count_items<S>(value: &InputValue<S>) -> Option<usize>
+    ensures { result ≡ item_count (out-InputValue S value.now) }
+{
+    match value {
+        InputValue::Null => None,
+        InputValue::Variable(_) => None,
+        InputValue::List(items) => Some(items.len()),
+        InputValue::Scalar(_) => Some(1),
+        InputValue::Enum(_) => Some(1),
+        InputValue::Object(_) => Some(1),
+    }
+}
+
+fn is_list<S>(value: &InputValue<S>) -> bool
+    ensures { result ≡ is_some (list_items value.now) }
+{
+    matches!(value, InputValue::List(_))
+}
+
+/// The expected length, if the one that was found is another.
+fn length_expected(size: Option<usize>, found: usize) -> Option<usize>
+    ensures { result ≡ other_length size found }
+{
+    match size {
+        None => None,
+        Some(wanted) => { if wanted == found { None } else { Some(wanted) } }
+    }
+}
+
+/// The case of the value and the type.
+pub fn row_of<'a, S: CheckedScalar>(
+    expected: Expected<'a, S, S::Check>,
+    value: &InputValue<S>,
+) -> Row<'a, S, S::Check>
+    ensures row { (schema : Catalog S S.Check) (fault : Option (List ℕ)) → IsRowOf schema S.may_answer (printed_value S.text S.str_of) value.now (expected_type expected.entry) result fault }
+    ensures metadata { HasMeta (expected_type expected.entry) result }
+    ensures items { IsListRow value.now result }
+{
+    match expected.layer() {
+        Layer::Plain(meta) => Row::Plain(meta),
+        Layer::NonNull(inner) => {
+            if value.is_null() {
+                Row::Null(expected)
+            } else {
+                row_of(inner, value)
+            }
+        }
+        Layer::List(inner, size) => match count_items(value) {
+            None => Row::Conforms,
+            Some(found) => match length_expected(size, found) {
+                Some(wanted) => Row::Length(wanted, found),
+                None => {
+                    if is_list(value) {
+                        Row::Items(inner)
+                    } else {
+                        row_of(inner, value)
+                    }
+                }
+            },
+        },
+    }
+}
