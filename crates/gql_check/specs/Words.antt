@@ -19,6 +19,13 @@ abbrev pub sample_asked : List (List ℕ) → Option Sample
 sample_asked (word ∷ []) = sample_named word
 sample_asked _ = None
 
+-- whether the input is read: the demo has its document, and other words ask for none
+abbrev pub reads_input : Option Sample → Bool
+reads_input (Some s.Demo) = false
+reads_input (Some s.Pets) = true
+reads_input (Some s.Boxes) = true
+reads_input None = false
+
 -- the words are other ones
 abbrev pub is_usage : Failure → Bool
 is_usage f.Usage = true

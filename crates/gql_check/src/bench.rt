@@ -680,3 +680,48 @@ fn runs_as_each_row_says(rt: HostRuntime) -> Result<(), Fail> {
     assert_eq!(rt; wrong_of_names(alloc)?, None);
     Ok(())
 }
+
+/// A document behind so many ends of lines and then so many blanks.
+fn far_document(alloc: Global, lines: usize, blanks: usize) -> Result<Vec<u8>, Fail> {
+    let mut text = Vec::new(alloc);
+    for _ in 0..lines {
+        text.push(b'\n')?;
+    }
+    for _ in 0..blanks {
+        text.push(b' ')?;
+    }
+    text.extend_from_slice(b"{ dog { ...A } }")?;
+    Ok(text)
+}
+
+/// Places are numbers of any length: the spread of the document stands 11 columns after its beginning.
+#[test]
+fn a_place_past_a_thousand_is_printed(rt: HostRuntime) -> Result<(), Fail> {
+    let alloc = rt.alloc();
+    let words = owned_words(alloc, "pets")?;
+    let rows = [
+        (0, 989, "Unknown fragment: \"A\". At 0:1000\ncompared 0\n"),
+        (
+            1005,
+            1234,
+            "Unknown fragment: \"A\". At 1005:1245\ncompared 0\n",
+        ),
+    ];
+    for (lines, blanks, line) in rows {
+        let text = far_document(alloc, lines, blanks)?;
+        let mut input = text.as_slice();
+        let mut output = Vec::new(alloc);
+        let mut faults = Vec::new(alloc);
+        let status = run(
+            alloc,
+            words.as_slice(),
+            &mut input,
+            &mut output,
+            &mut faults,
+        );
+        assert_eq!(rt; status, 1);
+        assert_eq!(rt; output.as_slice(), line.as_bytes());
+        assert!(rt; faults.is_empty());
+    }
+    Ok(())
+}

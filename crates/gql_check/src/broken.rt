@@ -1,5 +1,6 @@
 //! Runs in which memory, a read or a write is refused.
-use crate::program::run;
+use crate::program::{run, tell};
+use crate::words_failure;
 use std::alloc::{AllocError, Global};
 use std::io::{self, Read, Write};
 use std::test::Fail;
@@ -7,6 +8,8 @@ use std::test::Fail;
 const FAILED: &str = "check: input or output failed\n";
 
 const NO_MEMORY: &str = "check: out of memory\n";
+
+const USAGE: &str = "check: usage: check demo or check <pets, boxes> [merge, closed]\n";
 
 /// Gives so many braces, a byte at a time, and then fails.
 #[derive(Drop)]
@@ -56,6 +59,22 @@ fn one_word(alloc: Global, word: &str) -> Result<Vec<String>, AllocError> {
     let mut words = Vec::new(alloc);
     words.push(String::from_str(alloc, word)?)?;
     Ok(words)
+}
+
+/// The words are asked for before `run`; those that are no text come as invalid data.
+#[test]
+fn words_that_are_no_text_are_told(rt: HostRuntime) -> Result<(), Fail> {
+    let kinds = [
+        (io::ErrorKind::InvalidData, 4, USAGE),
+        (io::ErrorKind::OutOfMemory, 3, NO_MEMORY),
+    ];
+    for (kind, wanted, line) in kinds {
+        let mut faults = Vec::new(rt.alloc());
+        let failure = words_failure(&io::Error::from(kind));
+        assert_eq!(rt; tell(failure, &mut faults), wanted);
+        assert_eq!(rt; faults.as_slice(), line.as_bytes());
+    }
+    Ok(())
 }
 
 #[test]

@@ -3,11 +3,10 @@ ghost use Rattle.std.specs.Prelude.{Some};
 ghost use Rattle.gql_check.specs.Failures.{failure_text};
 
 use document_reader::ReadError;
-use language::error::OutOfMemory;
-use language::position::SourcePosition;
-use schema::error::SchemaError;
 use std::alloc::{AllocError, AllocFailed};
 use std::{fmt, io};
+use validation::parser::SourcePosition;
+use validation::{OutOfMemory, SchemaError};
 
 /// Why the program tells nothing of a document.
 #[derive(Clone, Copy, Debug)]

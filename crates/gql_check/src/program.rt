@@ -1,27 +1,26 @@
 //! The program's work, over any reader and any writers.
-ghost use Rattle.std.specs.Prelude.{◌≡◌, ◌≤◌, ◌⊎◌, Err, IfErr, IfOk, None, OnOk, false, true, if◌then◌else◌, map, string_bytes};
+ghost use Rattle.std.specs.Prelude.{◌≡◌, ◌≤◌, ◌⊎◌, Err, IfErr, IfOk, None, OnOk, Some, false, true, if◌then◌else◌, map, string_bytes};
 ghost use Rattle.std.specs.Io.KnownBytes.{Appends};
 ghost use Rattle.gql_check.specs.Failures.{TellsFailure};
 ghost use Rattle.gql_check.specs.Report.{TellsReport};
 ghost use Rattle.gql_check.specs.Statuses.{status_of};
 ghost use Rattle.gql_check.specs.Told.{IsReport};
-ghost use Rattle.gql_check.specs.Words.{is_usage, sample_asked, sample_named};
+ghost use Rattle.gql_check.specs.Words.{is_usage, reads_input, sample_asked, sample_named};
 
 use crate::failure::Failure;
 use crate::report::Report;
 use document_reader::read_document;
-use language::tree::Definition;
-use language::value::DefaultScalarValue;
-use meta::default_check::DefaultCheck;
 use samples::build::Checks;
 use samples::checks::{
     check_boolean, check_complex_input, check_dog_command, check_id, check_int, check_pair_input,
     check_string, refuse_token,
 };
 use samples::{boxes, demo, pets};
-use schema::model::SchemaType;
 use std::alloc::Global;
 use std::io::{self, Read, Write};
+use validation::ast::Definition;
+use validation::meta::default_check::DefaultCheck;
+use validation::{DefaultScalarValue, SchemaType};
 
 /// A sample schema.
 #[derive(Clone, Copy, Debug, PartialEq, Eq)]
@@ -52,7 +51,9 @@ pub fn run<R: Read, W: Write, E: Write>(
 ) -> u8
     ensures status { result ≤ 5 }
     ensures told { result ≤ 1 → TellsReport (W.contents output.old) (W.contents output.new) result }
+    ensures quiet { result ≤ 1 → faults.new ≡ faults.old }
     ensures silent { 2 ≤ result → result ≤ 4 → output.new ≡ output.old }
+    ensures unread { reads_input (sample_asked (map string_bytes words.now)) ≡ false → input.new ≡ input.old }
     ensures failed { 2 ≤ result → result ≤ 4 → TellsFailure (E.contents faults.old) (E.contents faults.new) result }
     ensures unknown { sample_asked (map string_bytes words.now) ≡ None → 4 ≤ result }
     ensures usage { result ≡ 4 → sample_asked (map string_bytes words.now) ≡ None }
@@ -66,6 +67,7 @@ pub fn run<R: Read, W: Write, E: Write>(
 fn write_report<W: Write, E: Write>(report: &Report, output: &mut W, faults: &mut E) -> u8
     ensures most { result ≤ 5 }
     ensures loud { 2 ≤ result → result ≡ 5 }
+    ensures quiet { result ≤ 1 → faults.new ≡ faults.old }
     ensures value { result ≤ 1 → result ≡ (if report.now.is_clean then 0 else 1) }
     ensures written { result ≤ 1 → Appends (W.contents output.old) (W.contents output.new) (string_bytes report.now.text) }
 {
@@ -101,6 +103,7 @@ fn report_on<R: Read>(alloc: Global, words: &[String], input: &mut R) -> Result<
     ensures unknown { sample_asked (map string_bytes words.now) ≡ None → IfOk result (λ _. ⊥) }
     ensures usage { sample_asked (map string_bytes words.now) ≡ None → IfErr result (λ e. is_usage e ≡ true) }
     ensures other { IfErr result (λ e. is_usage e ≡ true → sample_asked (map string_bytes words.now) ≡ None) }
+    ensures unread { reads_input (sample_asked (map string_bytes words.now)) ≡ false → input.new ≡ input.old }
 {
     let sample = sample_of(words).ok_or(Failure::Usage)?;
     let text = text_for(alloc, sample, input)?;
@@ -109,7 +112,8 @@ fn report_on<R: Read>(alloc: Global, words: &[String], input: &mut R) -> Result<
 
 /// The whole input, which `demo` doesn't read.
 fn text_for<R: Read>(alloc: Global, sample: Sample, input: &mut R) -> Result<Vec<u8>, Failure>
-    ensures { IfErr result (λ e. is_usage e ≡ false) }
+    ensures other { IfErr result (λ e. is_usage e ≡ false) }
+    ensures unread { reads_input (Some sample) ≡ false → input.new ≡ input.old }
 {
     match sample {
         Sample::Demo => Ok(Vec::new(alloc)),

@@ -2,13 +2,10 @@
 ghost use Rattle.std.specs.Prelude.{◌≡◌, ◌==◌, IfErr, IfOk, false, length, string_bytes};
 ghost use Rattle.gql_check.specs.Report.{error_lines};
 
-use language::error::OutOfMemory;
-use language::tree::Definition;
-use language::value::DefaultScalarValue;
-use schema::model::SchemaType;
 use std::alloc::Global;
+use validation::ast::Definition;
 use validation::rules::visit_all_rules;
-use walk::{RuleError, ValidatorContext};
+use validation::{DefaultScalarValue, OutOfMemory, RuleError, SchemaType, ValidatorContext};
 
 /// What is told of a document.
 #[derive(Drop)]
