@@ -15,7 +15,7 @@ struct Row {
 }
 
 /// What the words ask for.
-const WORDS: [Row; 7] = [
+const WORDS: [Row; 8] = [
     Row {
         name: "the demo",
         words: "demo",
@@ -57,9 +57,17 @@ const WORDS: [Row; 7] = [
         status: 4,
     },
     Row {
-        name: "closed is not there yet",
-        words: "boxes closed",
+        name: "closed stands behind a sample",
+        words: "demo closed",
         input: b"{ dog { name } }",
+        output: "",
+        faults: "check: usage: check demo or check <pets, boxes> [merge, closed]\n",
+        status: 4,
+    },
+    Row {
+        name: "closed stands alone nowhere",
+        words: "closed",
+        input: b"",
         output: "",
         faults: "check: usage: check demo or check <pets, boxes> [merge, closed]\n",
         status: 4,
@@ -131,6 +139,90 @@ const ANSWERS: [Row; 7] = [
         output: "There can only be one operation named Q. At 0:0, 1:0\nUnknown fragment: \"B\". At 0:19\nUnknown fragment: \"A\". At 0:24\ncompared 0\n",
         faults: "",
         status: 1,
+    },
+];
+
+/// What the rules say.
+const RULES: [Row; 10] = [
+    Row {
+        name: "a selection set of __typename on a union",
+        words: "pets",
+        input: b"{ catOrDog { __typename { x } } }",
+        output: "compared 0\n",
+        faults: "",
+        status: 0,
+    },
+    Row {
+        name: "__typename at the root of a subscription",
+        words: "pets",
+        input: b"subscription { __typename }",
+        output: "`__typename` may not be included as a root field in a subscription operation. At 0:15\ncompared 0\n",
+        faults: "",
+        status: 1,
+    },
+    Row {
+        name: "a fragment on a scalar",
+        words: "pets",
+        input: b"{ dog { ...F } } fragment F on Int { x }",
+        output: "Fragment \"F\" cannot be spread here as objects of type \"Dog\" can never be of type \"Int\". At 0:8\nFragment \"F\" cannot condition non composite type \"Int. At 0:31\nUnknown field \"x\" on type \"Int\". At 0:37\ncompared 0\n",
+        faults: "",
+        status: 1,
+    },
+    Row {
+        name: "an argument that is wanted",
+        words: "pets",
+        input: b"{ complicatedArgs { multipleReqs(req1: 1) } }",
+        output: "Field \"multipleReqs\" argument \"req2\" of type \"Int!\" is required but not provided. At 0:20\ncompared 0\n",
+        faults: "",
+        status: 1,
+    },
+    Row {
+        name: "two fragments of a name",
+        words: "pets",
+        input: b"fragment F on Dog { name } fragment F on Dog { name } { dog { ...F } }",
+        output: "There can only be one fragment named F. At 0:9, 0:36\ncompared 0\n",
+        faults: "",
+        status: 1,
+    },
+    Row {
+        name: "a directive without its argument",
+        words: "pets",
+        input: b"{ dog { name @skip } }",
+        output: "Directive \"@skip\" argument \"if\" of type \"Boolean!\" is required but not provided. At 0:13\ncompared 0\n",
+        faults: "",
+        status: 1,
+    },
+    Row {
+        name: "a root that the schema lacks",
+        words: "pets",
+        input: b"mutation { nope { deep } }",
+        output: "compared 0\n",
+        faults: "",
+        status: 0,
+    },
+    Row {
+        name: "introspection",
+        words: "pets",
+        input: b"query { __schema { queryType { name } } }",
+        output: "compared 0\n",
+        faults: "",
+        status: 0,
+    },
+    Row {
+        name: "introspection where it is closed",
+        words: "pets closed",
+        input: b"query { __schema { queryType { name } } }",
+        output: "GraphQL introspection is not allowed, but the operation contained `__schema`. At 0:8\ncompared 0\n",
+        faults: "",
+        status: 1,
+    },
+    Row {
+        name: "no introspection where it is closed",
+        words: "boxes closed",
+        input: b"{ someBox { unrelatedField } }",
+        output: "compared 0\n",
+        faults: "",
+        status: 0,
     },
 ];
 
@@ -568,17 +660,17 @@ const NAMES: [Row; 16] = [
         name: "names that are words elsewhere",
         words: "pets",
         input: b"{ on true null fragment query dog(on: on, true: fragment) { name } }",
-        output: "compared 0\n",
+        output: "Unknown field \"on\" on type \"QueryRoot\". At 0:2\nUnknown field \"true\" on type \"QueryRoot\". At 0:5\nUnknown field \"null\" on type \"QueryRoot\". At 0:10\nUnknown field \"fragment\" on type \"QueryRoot\". At 0:15\nUnknown field \"query\" on type \"QueryRoot\". At 0:24\ncompared 0\n",
         faults: "",
-        status: 0,
+        status: 1,
     },
     Row {
         name: "a type condition named on",
         words: "pets",
         input: b"{ dog { ... on on { name } } }",
-        output: "compared 0\n",
+        output: "Unknown type \"on\". At 0:15\ncompared 0\n",
         faults: "",
-        status: 0,
+        status: 1,
     },
     Row {
         name: "an operation named fragment",
@@ -653,6 +745,10 @@ fn wrong_of_answers(alloc: Global) -> Result<Option<&'static str>, Fail> {
     first_wrong(alloc, &ANSWERS)
 }
 
+fn wrong_of_rules(alloc: Global) -> Result<Option<&'static str>, Fail> {
+    first_wrong(alloc, &RULES)
+}
+
 fn wrong_of_texts(alloc: Global) -> Result<Option<&'static str>, Fail> {
     first_wrong(alloc, &TEXTS)
 }
@@ -674,6 +770,7 @@ fn runs_as_each_row_says(rt: HostRuntime) -> Result<(), Fail> {
     let alloc = rt.alloc();
     assert_eq!(rt; wrong_of_words(alloc)?, None);
     assert_eq!(rt; wrong_of_answers(alloc)?, None);
+    assert_eq!(rt; wrong_of_rules(alloc)?, None);
     assert_eq!(rt; wrong_of_texts(alloc)?, None);
     assert_eq!(rt; wrong_of_parts(alloc)?, None);
     assert_eq!(rt; wrong_of_strings(alloc)?, None);

@@ -5,7 +5,7 @@ ghost use Rattle.gql_check.specs.Failures.{TellsFailure};
 ghost use Rattle.gql_check.specs.Report.{TellsReport};
 ghost use Rattle.gql_check.specs.Statuses.{status_of};
 ghost use Rattle.gql_check.specs.Told.{IsReport};
-ghost use Rattle.gql_check.specs.Words.{is_usage, reads_input, sample_asked, sample_named};
+ghost use Rattle.gql_check.specs.Words.{closed_task, is_read, is_usage, open_task, reads_input, sample_named, task_asked};
 
 use crate::failure::Failure;
 use crate::report::Report;
@@ -30,9 +30,17 @@ enum Sample {
     Boxes,
 }
 
+/// What the words ask for: a document is judged against a sample schema, and introspection is an error if it is closed.
+#[derive(Clone, Copy, Debug, PartialEq, Eq)]
+struct Task {
+    sample: Sample,
+    closed: bool,
+}
+
 /// Does what the words ask for, and answers the status to end with. The words are those after the program's own name.
 ///
-/// `demo` reads nothing; `pets` and `boxes` read the input to its end, as a document. What is told of a document goes to
+/// `demo` reads nothing; `pets` and `boxes` read the input to its end, as a document, and with `closed` behind them introspection
+/// is an error. What is told of a document goes to
 /// `output`, in one piece; why there is nothing to tell goes to `faults`, as one line.
 ///
 /// - 0: the document has no error;
@@ -53,10 +61,10 @@ pub fn run<R: Read, W: Write, E: Write>(
     ensures told { result ≤ 1 → TellsReport (W.contents output.old) (W.contents output.new) result }
     ensures quiet { result ≤ 1 → faults.new ≡ faults.old }
     ensures silent { 2 ≤ result → result ≤ 4 → output.new ≡ output.old }
-    ensures unread { reads_input (sample_asked (map string_bytes words.now)) ≡ false → input.new ≡ input.old }
+    ensures unread { reads_input (task_asked (map string_bytes words.now)) ≡ false → input.new ≡ input.old }
     ensures failed { 2 ≤ result → result ≤ 4 → TellsFailure (E.contents faults.old) (E.contents faults.new) result }
-    ensures unknown { sample_asked (map string_bytes words.now) ≡ None → 4 ≤ result }
-    ensures usage { result ≡ 4 → sample_asked (map string_bytes words.now) ≡ None }
+    ensures unknown { task_asked (map string_bytes words.now) ≡ None → 4 ≤ result }
+    ensures usage { result ≡ 4 → task_asked (map string_bytes words.now) ≡ None }
 {
     match report_on(alloc, words, input) {
         Ok(report) => write_report(&report, output, faults),
@@ -100,20 +108,20 @@ pub fn tell<E: Write>(failure: Failure, faults: &mut E) -> u8
 
 fn report_on<R: Read>(alloc: Global, words: &[String], input: &mut R) -> Result<Report, Failure>
     ensures report { IfOk result IsReport }
-    ensures unknown { sample_asked (map string_bytes words.now) ≡ None → IfOk result (λ _. ⊥) }
-    ensures usage { sample_asked (map string_bytes words.now) ≡ None → IfErr result (λ e. is_usage e ≡ true) }
-    ensures other { IfErr result (λ e. is_usage e ≡ true → sample_asked (map string_bytes words.now) ≡ None) }
-    ensures unread { reads_input (sample_asked (map string_bytes words.now)) ≡ false → input.new ≡ input.old }
+    ensures unknown { task_asked (map string_bytes words.now) ≡ None → IfOk result (λ _. ⊥) }
+    ensures usage { task_asked (map string_bytes words.now) ≡ None → IfErr result (λ e. is_usage e ≡ true) }
+    ensures other { IfErr result (λ e. is_usage e ≡ true → task_asked (map string_bytes words.now) ≡ None) }
+    ensures unread { reads_input (task_asked (map string_bytes words.now)) ≡ false → input.new ≡ input.old }
 {
-    let sample = sample_of(words).ok_or(Failure::Usage)?;
-    let text = text_for(alloc, sample, input)?;
-    check(alloc, sample, text)
+    let task = task_of(words).ok_or(Failure::Usage)?;
+    let text = text_for(alloc, task.sample, input)?;
+    check(alloc, task, text)
 }
 
 /// The whole input, which `demo` doesn't read.
 fn text_for<R: Read>(alloc: Global, sample: Sample, input: &mut R) -> Result<Vec<u8>, Failure>
     ensures other { IfErr result (λ e. is_usage e ≡ false) }
-    ensures unread { reads_input (Some sample) ≡ false → input.new ≡ input.old }
+    ensures unread { is_read sample ≡ false → input.new ≡ input.old }
 {
     match sample {
         Sample::Demo => Ok(Vec::new(alloc)),
@@ -125,12 +133,45 @@ fn text_for<R: Read>(alloc: Global, sample: Sample, input: &mut R) -> Result<Vec
     }
 }
 
-fn sample_of(words: &[String]) -> Option<Sample>
-    ensures { result ≡ sample_asked (map string_bytes words.now) }
+fn task_of(words: &[String]) -> Option<Task>
+    ensures { result ≡ task_asked (map string_bytes words.now) }
 {
     match words {
-        [word] => sample_named(word.as_str()),
+        [word] => open_task(sample_named(word.as_str())),
+        [word, mode] => if mode.as_str() == "closed" {
+            closed_task(sample_named(word.as_str()))
+        } else {
+            None
+        },
         _ => None,
+    }
+}
+
+fn open_task(sample: Option<Sample>) -> Option<Task>
+    ensures { result ≡ open_task sample }
+{
+    match sample {
+        Some(sample) => Some(Task {
+            sample,
+            closed: false,
+        }),
+        None => None,
+    }
+}
+
+fn closed_task(sample: Option<Sample>) -> Option<Task>
+    ensures { result ≡ closed_task sample }
+{
+    match sample {
+        Some(Sample::Pets) => Some(Task {
+            sample: Sample::Pets,
+            closed: true,
+        }),
+        Some(Sample::Boxes) => Some(Task {
+            sample: Sample::Boxes,
+            closed: true,
+        }),
+        Some(Sample::Demo) | None => None,
     }
 }
 
@@ -149,7 +190,7 @@ fn sample_named(word: &str) -> Option<Sample>
 }
 
 /// Validates the document of the text against a sample schema. The document of `demo` is built in code.
-fn check(alloc: Global, sample: Sample, text: Vec<u8>) -> Result<Report, Failure>
+fn check(alloc: Global, task: Task, text: Vec<u8>) -> Result<Report, Failure>
     ensures report { IfOk result IsReport }
     ensures other { IfErr result (λ e. is_usage e ≡ false) }
 {
@@ -162,7 +203,7 @@ fn check(alloc: Global, sample: Sample, text: Vec<u8>) -> Result<Report, Failure
         complex_input: DefaultCheck::new(check_complex_input),
         pair_input: DefaultCheck::new(check_pair_input),
     };
-    let types = match sample {
+    let types = match task.sample {
         Sample::Demo => demo::types(alloc, checks)?,
         Sample::Pets => pets::types(alloc, checks)?,
         Sample::Boxes => boxes::types(alloc, checks)?,
@@ -174,8 +215,8 @@ fn check(alloc: Global, sample: Sample, text: Vec<u8>) -> Result<Report, Failure
         "_EmptyMutation",
         "_EmptySubscription",
     )?;
-    match document_for(alloc, sample, text.as_slice()) {
-        Ok(document) => report_of(alloc, &schema, document.as_slice()),
+    match document_for(alloc, task.sample, text.as_slice()) {
+        Ok(document) => report_of(alloc, &schema, document.as_slice(), task.closed),
         Err(failure) => Err(failure),
     }
 }
@@ -184,11 +225,12 @@ fn report_of<'a>(
     alloc: Global,
     schema: &'a SchemaType<DefaultScalarValue>,
     document: &'a [Definition<'_, DefaultScalarValue>],
+    closed: bool,
 ) -> Result<Report, Failure>
     ensures report { IfOk result IsReport }
     ensures other { IfErr result (λ e. is_usage e ≡ false) }
 {
-    Ok(Report::on(alloc, schema, document)?)
+    Ok(Report::on(alloc, schema, document, closed)?)
 }
 
 fn document_for(

@@ -4,8 +4,9 @@ ghost use Rattle.gql_check.specs.Report.{error_lines};
 
 use std::alloc::Global;
 use validation::ast::Definition;
-use validation::rules::visit_all_rules;
-use validation::{DefaultScalarValue, OutOfMemory, RuleError, SchemaType, ValidatorContext};
+use validation::{
+    DefaultScalarValue, OutOfMemory, RuleError, SchemaType, ValidatorContext, visit_root_rules,
+};
 
 /// What is told of a document.
 #[derive(Drop)]
@@ -20,16 +21,17 @@ impl Report {
     ghost use Rattle.gql_check.specs.Report.{report_text};
     ghost use Rattle.gql_check.specs.Told.{IsReportOn};
 
-    /// Validates a document by all rules.
+    /// Validates a document by all rules, and by that on introspection where it is closed.
     pub fn on<'a>(
         alloc: Global,
         schema: &'a SchemaType<DefaultScalarValue>,
         document: &'a [Definition<'_, DefaultScalarValue>],
+        closed: bool,
     ) -> Result<Report, OutOfMemory>
-        ensures { IfOk result (λ report. IsReportOn schema.now document.now report) }
+        ensures { IfOk result (λ report. IsReportOn closed schema.now document.now report) }
     {
         let mut ctx = ValidatorContext::new(alloc, schema, document)?;
-        let compared = visit_all_rules(&mut ctx, document)?;
+        let compared = visit_root_rules(&mut ctx, document, closed)?;
         let errors = ctx.into_errors()?;
         let report = Report::of(alloc, errors.as_slice(), compared)?;
         Ok(report)
