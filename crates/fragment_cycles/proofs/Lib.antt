@@ -1,0 +1,11 @@
+pub mod Lists
+pub mod Chains
+pub mod Counts
+pub mod Steps
+pub mod Judge
+pub mod Placed
+pub mod Joining
+pub mod Numbering
+pub mod Naming
+pub mod NamePaths
+pub mod GraphGrowth

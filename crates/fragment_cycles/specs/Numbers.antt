@@ -1,0 +1,50 @@
+-- The names of a document's fragments, by number.
+use Rattle.std.specs.Prelude.{ℕ, List, [], ◌∷◌, ◌++◌, length, map, ◌≡◌, ◌↔◌, Option, None, Some, slice_get, if◌then◌else◌}
+use Rattle.std.specs.List.{Contains}
+use Rattle.std.specs.Option.{is_some}
+use Rattle.std.specs.Ordering.{nat_cmp}
+use Rattle.std.specs.BTreeMap.{get_by}
+use Rattle.std.specs.Cmp.Lexicographic.{slice_cmp}
+use Rattle.std.specs.Str.{bytes_eq}
+use Rattle.language.specs.declared.tree.Definition.{Definition}
+use Rattle.language.specs.declared.tree.Definition.TheVariants as definition
+use Rattle.fragment_cycles.specs.declared.numbers.Numbers.{Numbers}
+
+abbrev pub number_of : Numbers → List ℕ → Option ℕ
+number_of n name = get_by (λ k. slice_cmp nat_cmp name k.now) n.by_name
+
+abbrev pub names_of : Numbers → List (List ℕ)
+names_of n = map (λ k. k.now) n.names.items
+
+abbrev pub or_else : {T : Type 0} → Option T → Option T → Option T
+or_else None o = o
+or_else (Some x) o = Some x
+
+-- The name got the next number, if it had none.
+pub record AddsName (old new : Numbers) (name : List ℕ) : Type 0 where
+  pub numbers : (other : List ℕ) → number_of new other ≡ or_else (number_of old other) (if bytes_eq name other then Some (length (names_of old)) else None)
+  pub names : names_of new ≡ (if is_some (number_of old name) then names_of old else names_of old ++ name ∷ [])
+
+abbrev pub AddsDefinition : {S : Type 0} → Definition S → Numbers → Numbers → Type 0
+AddsDefinition (definition.Operation o) old new = new ≡ old
+AddsDefinition (definition.Fragment f) old new = AddsName old new f.item.name.item.now
+
+abbrev pub HasNumber : Numbers → List ℕ → Type 0
+HasNumber n name = (k : ℕ) × (number_of n name ≡ Some k)
+
+-- A name's number is its place among the names.
+abbrev pub WellNumbered : Numbers → Type 0
+WellNumbered n = (name : List ℕ) (k : ℕ) → (number_of n name ≡ Some k) ↔ (slice_get (names_of n) k ≡ Some name)
+
+abbrev pub IsNamed : {S : Type 0} → List ℕ → Definition S → Type 0
+IsNamed name (definition.Operation o) = ⊥
+IsNamed name (definition.Fragment f) = f.item.name.item.now ≡ name
+
+-- Some fragment's definition has the name.
+abbrev pub Defines : {S : Type 0} → List (Definition S) → List ℕ → Type 0
+Defines {S} document name = (d : Definition S) × Contains document d × IsNamed name d
+
+-- The names of the document's fragments have numbers, and no others.
+pub record NumbersOf {S : Type 0} (document : List (Definition S)) (n : Numbers) : Type 0 where
+  pub numbered : WellNumbered n
+  pub defined : (name : List ℕ) → HasNumber n name ↔ Defines document name

@@ -1,0 +1,3 @@
+pub mod AtDocument
+pub mod AtDocumentLaws
+pub mod NoFragmentCycles

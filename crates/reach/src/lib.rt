@@ -1,0 +1,5 @@
+//! The rules that look across a document: what its spreads lead to.
+#![tactic(auto)]
+
+pub mod laws;
+pub mod no_fragment_cycles;
