@@ -1,7 +1,8 @@
-//! The rows of the rules, over trees that are built in code and the list `demo`.
+//! The rows of the rules, over trees that are built in code and the list `demo`, and a linter.
 #![tactic(auto)]
 
 #[cfg(test)]
 mod demo_schema;
+pub mod linter;
 #[cfg(test)]
 mod rows;

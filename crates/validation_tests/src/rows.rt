@@ -3,6 +3,7 @@ ghost use Rattle.std.specs.Prelude.{◌≡◌};
 ghost use Rattle.meta.specs.Answers.{SameAnswer};
 
 use crate::demo_schema::demo_schema;
+use crate::linter::{try_spreads, try_spreads_and_operations};
 use language::error::OutOfMemory;
 use meta::default_check::{InputValueParseFn, ScalarTokenParseFn};
 use samples::checks::{check_string, refuse_token};
@@ -60,6 +61,37 @@ fn two_named<'a>(alloc: Global, second: &'a str) -> Result<Vec<Query<'a>>, OutOf
     let selection = dog(alloc, 35, 12, name_field(41))?;
     document.push(query(alloc, Some(name(second, 31, 1)), 25, 24, selection)?)?;
     Ok(document)
+}
+
+// How many errors two walks of a linter append: one rule finds what it finds among two.
+fn linted<'a>(
+    alloc: Global,
+    schema: &'a SchemaType,
+    document: &'a [Query<'_>],
+) -> Result<(usize, usize), OutOfMemory> {
+    let mut alone = ValidatorContext::new(alloc, schema, document)?;
+    try_spreads(&mut alone, document)?;
+    let mut both = ValidatorContext::new(alloc, schema, document)?;
+    try_spreads_and_operations(&mut both, document)?;
+    Ok((alone.into_errors()?.len(), both.into_errors()?.len()))
+}
+
+fn lint(
+    alloc: Global,
+    schema: &SchemaType,
+    document: Vec<Query<'_>>,
+) -> Result<(usize, usize), OutOfMemory> {
+    linted(alloc, schema, document.as_slice())
+}
+
+#[test]
+fn rules_that_a_linter_chose(rt: HostRuntime) -> Result<(), Fail> {
+    let alloc = rt.alloc();
+    let schema = demo_schema(alloc, check_string, refuse_token)?;
+    assert_eq!(rt; lint(alloc, &schema, demo::document(alloc)?)?, (1, 1));
+    assert_eq!(rt; lint(alloc, &schema, two_named(alloc, "Q")?)?, (0, 0));
+    assert_eq!(rt; lint(alloc, &schema, two_anonymous(alloc)?)?, (0, 2));
+    Ok(())
 }
 
 #[test]
