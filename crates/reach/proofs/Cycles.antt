@@ -20,11 +20,11 @@ module _ {S : Type 0} (document : List (Definition S)) where
   none_reported (name_more s path) (inl (r, c, e)) = absurd (omega (arith, c.1))
   none_reported (name_more s path) (inr more) = none_reported path more
 
-  silent : (reports : List NameAndPlace) → FindsCycles document reports → map cycle_error reports ≡ [] → HasNoCycle document
+  pub silent : (reports : List NameAndPlace) → FindsCycles document reports → map cycle_error reports ≡ [] → HasNoCycle document
   silent [] h e = λ f path. none_reported path (h.enough f path)
   silent (r ∷ rs) h e = absurd cc
 
-  without_cycles : (reports : List NameAndPlace) → FindsCycles document reports → HasNoCycle document → map cycle_error reports ≡ []
+  pub without_cycles : (reports : List NameAndPlace) → FindsCycles document reports → HasNoCycle document → map cycle_error reports ≡ []
   without_cycles [] h none = refl
   without_cycles (r ∷ rs) h none = absurd (none r.0 (path_back r (h.real 0 r (omega arith))))
 

@@ -23,8 +23,15 @@ module _ {S C : Type 0} (scope : DocumentScope S C) (t : Typing S C) (doc : List
   sum_all [] es none = none
   sum_all (group ∷ rest) es (fs, gs, q, r, p) = sum_append group (all_of rest) es (fs, gs, q, sum_all rest gs r, p)
 
-  pub appended_all : (groups : List (List (Allowance S C))) (old new : ContextState S C) → Appended (sum_of (map sum_of groups) scope t doc) old new → Appended (sum_of (all_of groups) scope t doc) old new
-  appended_all groups old new (es, p, e) = (es, sum_all groups es p, e)
+  -- a rule before them that may be seen as another
+  sum_seen : (newest seen : Allowance S C) (groups : List (List (Allowance S C))) (es : List ErrorValue) → ((fs : List ErrorValue) → newest scope t doc fs → seen scope t doc fs)
+      → together newest (sum_of (map sum_of groups)) scope t doc es → sum_of (seen ∷ all_of groups) scope t doc es
+  sum_seen newest seen groups es h (fs, gs, p, q, r) = (fs, gs, h fs p, sum_all groups gs q, r)
+
+  -- what is appended by a rule, by one that may be seen as another, and by groups
+  pub appended_all : (first newest seen : Allowance S C) (groups : List (List (Allowance S C))) (old new : ContextState S C) → ((fs : List ErrorValue) → newest scope t doc fs → seen scope t doc fs)
+      → Appended (together first (together newest (sum_of (map sum_of groups))) scope t doc) old new → Appended (sum_of (first ∷ seen ∷ all_of groups) scope t doc) old new
+  appended_all first newest seen groups old new h (es, (fs, gs, p, q, r), e) = (es, (fs, gs, p, sum_seen newest seen groups gs h q, r), e)
 
 -- where the rules of both lists are settled, those of the one list are
 pub settled_append : {S C : Type 0} (xs ys : List (Allowance S C)) → AllSettled xs → AllSettled ys → AllSettled (xs ++ ys)

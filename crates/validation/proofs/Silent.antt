@@ -1,8 +1,9 @@
 -- No error is reported just if each rule allows none.
-use Rattle.std.proofs.Common.{List, [], ◌∷◌}
-use Rattle.walk.specs.Rule.{AllSettled}
+use Rattle.std.proofs.Common.{List, [], ◌∷◌, ◌∙◌, sym}
+use Rattle.walk.specs.Rule.{AllSettled, Settled}
 use Rattle.walk.proofs.Sums.{exactly_settled}
-use Rattle.validation.specs.StageOne.{of_arguments, of_fields, of_fragments, of_operations, stage_one, all_of}
+use Rattle.reach.proofs.Cycles.{silent, without_cycles}
+use Rattle.validation.specs.StageOne.{of_arguments, of_cycles, of_fields, of_fragments, of_operations, stage_one, all_of, groups}
 use Rattle.validation.proofs.Groups.{settled_append}
 
 -- a word for each rule, in the order of its group
@@ -17,12 +18,20 @@ module _ {S C : Type 0} where
   arguments_settled = (exactly_settled _, (exactly_settled _, (exactly_settled _, (exactly_settled _, (exactly_settled _, tt)))))
 
   fragments_settled : AllSettled (of_fragments {S = S} {C = C})
-  fragments_settled = (exactly_settled _, (exactly_settled _, (exactly_settled _, (exactly_settled _, (exactly_settled _, tt)))))
+  fragments_settled = (exactly_settled _, (exactly_settled _, (exactly_settled _, (exactly_settled _, tt))))
 
-  -- each rule of stage one is settled
-  pub stage_one_settled : AllSettled (stage_one {S = S} {C = C})
-  stage_one_settled =
+  groups_settled : AllSettled (all_of (groups {S = S} {C = C}))
+  groups_settled =
       settled_append of_fragments (all_of (of_arguments ∷ of_fields ∷ of_operations ∷ [])) fragments_settled
       (settled_append of_arguments (all_of (of_fields ∷ of_operations ∷ [])) arguments_settled
       (settled_append of_fields (all_of (of_operations ∷ [])) fields_settled
       (settled_append of_operations [] operations_settled tt)))
+
+  -- no error, if it may be, says that there is no cycle, and then no error is true
+  cycles_settled : Settled (of_cycles {S = S} {C = C})
+  cycles_settled scope t doc es (none, found, e) (reports, others, e') =
+      e' ∙ without_cycles doc reports others (silent doc none found (sym e))
+
+  -- each rule of stage one is settled
+  pub stage_one_settled : AllSettled (stage_one {S = S} {C = C})
+  stage_one_settled = (exactly_settled _, (cycles_settled, groups_settled))

@@ -1,5 +1,5 @@
 -- What the rules of the first stage report.
-use Rattle.std.specs.Prelude.{List, [], ◌∷◌, ◌++◌}
+use Rattle.std.specs.Prelude.{◌≡◌, List, [], ◌∷◌, ◌++◌, map}
 use Rattle.walk.specs.Entering.{found, found_by}
 use Rattle.walk.specs.Rule.{Allowance, exactly, sum_of}
 use Rattle.walk.specs.ContextState.{scope_of}
@@ -24,6 +24,8 @@ use Rattle.fragment_rules.specs.KnownFragmentNames.{unknown_fragments}
 use Rattle.fragment_rules.specs.KnownTypeNames.{unknown_types}
 use Rattle.fragment_rules.specs.PossibleFragmentSpreads.{conditions, impossible_spreads}
 use Rattle.fragment_rules.specs.UniqueFragmentNames.{fragment_name, repeated_fragment_message}
+use Rattle.fragment_cycles.specs.DocumentCycles.{FindsCycles, NameAndPlace}
+use Rattle.reach.specs.NoFragmentCycles.{cycle_error}
 
 module _ {S C : Type 0} where
   -- operations and their variables (GraphQL, sections 5.2, 5.8)
@@ -56,13 +58,20 @@ module _ {S C : Type 0} where
   abbrev pub of_fragments : List (Allowance S C)
   of_fragments =
       exactly (repeated repeated_fragment_message fragment_name)
-      ∷ exactly (found_by conditions impossible_spreads)
       ∷ exactly (found unknown_types)
       ∷ exactly (found unknown_fragments)
       ∷ exactly (found fragments_on_other_types)
       ∷ []
 
-  -- the rules in groups, the newest first
+  -- spreads where no object of their type can be (5.5.2.3)
+  abbrev pub of_spreads : Allowance S C
+  of_spreads = exactly (found_by conditions impossible_spreads)
+
+  -- of each cycle of fragments at least one error, and every error a true one (5.5.2.2)
+  abbrev pub of_cycles : Allowance S C
+  of_cycles scope t doc es = (reports : List NameAndPlace) × FindsCycles doc reports × (es ≡ map cycle_error reports)
+
+  -- the other rules in groups, the newest first
   abbrev pub groups : List (List (Allowance S C))
   groups = of_fragments ∷ of_arguments ∷ of_fields ∷ of_operations ∷ []
 
@@ -73,7 +82,7 @@ module _ {S C : Type 0} where
 
   -- what each rule allows
   abbrev pub stage_one : List (Allowance S C)
-  stage_one = all_of groups
+  stage_one = of_spreads ∷ of_cycles ∷ all_of groups
 
   -- these errors the rules may report of a document, round which no types stand
   abbrev pub reported : Catalog S C → List (Definition S) → List ErrorValue → Type 0

@@ -1,12 +1,11 @@
 //! A schema, with what the documents that are sent to it may ask.
 
 ghost use Rattle.std.specs.Prelude.{◌≡◌, IfOk, OnOk, OnErr, IsErr, IsSorted, true, false};
-ghost use Rattle.language.specs.declared.tree.Definition.{Definition};
 ghost use Rattle.walk.specs.ContextState.{typing, scope_of};
 ghost use Rattle.walk.specs.Entering.{found};
 ghost use Rattle.walk.specs.ErrorValue.{error_cmp};
 ghost use Rattle.walk.specs.Names.{fragment_names};
-ghost use Rattle.walk.specs.Rule.{Appended, exactly, sum_of};
+ghost use Rattle.walk.specs.Rule.{Appended, any_value, exactly, sum_of};
 ghost use Rattle.walk.specs.Step.{KeepsPlace};
 ghost use Rattle.field_rules.specs.DisableIntrospection.{introspection_fields};
 ghost use Rattle.validation.specs.RootRules.{root_reported, root_rules};
@@ -89,6 +88,7 @@ pub fn visit_root_rules<'a, S: CheckedScalar>(
     introspection_disabled: bool,
 ) -> Result<u128, OutOfMemory>
     ensures appended { OnOk result (ctx.old.known ≡ fragment_names document.now → Appended (sum_of (root_rules introspection_disabled) (scope_of ctx.old.schema document.now) (typing ctx.old) document.now) ctx.old ctx.new) }
+    ensures only { OnOk result (Appended any_value ctx.old ctx.new) }
     ensures compared { IfOk result (λ pairs. pairs ≡ 0) }
     ensures err { OnErr result (KeepsPlace ctx.old ctx.new) }
     ensures failed { OnErr result (ctx.new.failed ≡ true) }
@@ -96,18 +96,19 @@ pub fn visit_root_rules<'a, S: CheckedScalar>(
 {
     let compared = visit_all_rules(ctx, document)?;
     if introspection_disabled {
-        return after_introspection(ctx, document, compared);
+        return report_introspection(ctx, document, compared);
     }
     Ok(compared)
 }
 
-// Reports introspection, and answers a count.
-fn after_introspection<'a, S: CheckedScalar>(
+// Reports introspection, and hands on a count.
+fn report_introspection<'a, S: CheckedScalar>(
     ctx: &mut ValidatorContext<'a, S>,
     document: &'a [Definition<'_, S>],
     compared: u128,
 ) -> Result<u128, OutOfMemory>
     ensures appended { OnOk result (ctx.old.known ≡ fragment_names document.now → Appended (exactly (found introspection_fields) (scope_of ctx.old.schema document.now) (typing ctx.old) document.now) ctx.old ctx.new) }
+    ensures only { OnOk result (Appended any_value ctx.old ctx.new) }
     ensures compared { IfOk result (λ pairs. pairs ≡ compared) }
     ensures err { OnErr result (KeepsPlace ctx.old ctx.new) }
     ensures failed { OnErr result (ctx.new.failed ≡ true) }

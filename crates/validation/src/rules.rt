@@ -3,54 +3,86 @@
 ghost use Rattle.std.specs.Prelude.{◌≡◌, ◌↔◌, IfOk, OnOk, OnErr, IsErr, true};
 ghost use Rattle.walk.specs.ContextState.{typing, scope_of};
 ghost use Rattle.walk.specs.Names.{fragment_names};
-ghost use Rattle.walk.specs.Rule.{AllowNothing, Appended, sum_of};
+ghost use Rattle.walk.specs.Rule.{AllowNothing, Appended, any_value, sum_of};
 ghost use Rattle.walk.specs.Step.{KeepsPlace};
 ghost use Rattle.validation.specs.StageOne.{stage_one};
-
-use language::error::OutOfMemory;
-use language::tree::Definition;
-use meta::check::CheckedScalar;
-use std::alloc::Global;
-use walk::{Fresh, MultiVisitorCons, MultiVisitorNil, ValidatorContext, visit_rules};
-
-pub use argument_rules::{
-    known_argument_names, known_directives, provided_non_null_arguments, unique_argument_names,
-    unique_input_field_names,
-};
-pub use field_rules::{disable_introspection, fields_on_correct_type, scalar_leafs};
-pub use fragment_rules::{
-    fragments_on_composite_types, known_fragment_names, known_type_names,
-    possible_fragment_spreads, unique_fragment_names,
-};
-pub use operation_rules::{
-    lone_anonymous_operation, unique_operation_names, unique_variable_names,
-    variables_are_input_types,
-};
 
 use argument_rules::known_argument_names::KnownArgumentNames;
 use argument_rules::known_directives::KnownDirectives;
 use argument_rules::provided_non_null_arguments::ProvidedNonNullArguments;
 use argument_rules::unique_argument_names::UniqueArgumentNames;
 use argument_rules::unique_input_field_names::UniqueInputFieldNames;
+pub use argument_rules::{
+    known_argument_names, known_directives, provided_non_null_arguments, unique_argument_names,
+    unique_input_field_names,
+};
 use field_rules::fields_on_correct_type::FieldsOnCorrectType;
 use field_rules::scalar_leafs::ScalarLeafs;
+pub use field_rules::{disable_introspection, fields_on_correct_type, scalar_leafs};
 use fragment_rules::fragments_on_composite_types::FragmentsOnCompositeTypes;
 use fragment_rules::known_fragment_names::KnownFragmentNames;
 use fragment_rules::known_type_names::KnownTypeNames;
-use fragment_rules::possible_fragment_spreads::PossibleFragmentSpreads;
 use fragment_rules::unique_fragment_names::UniqueFragmentNames;
+pub use fragment_rules::{
+    fragments_on_composite_types, known_fragment_names, known_type_names,
+    possible_fragment_spreads, unique_fragment_names,
+};
+use language::error::OutOfMemory;
+use language::tree::Definition;
+use meta::check::CheckedScalar;
 use operation_rules::lone_anonymous_operation::LoneAnonymousOperation;
 use operation_rules::unique_operation_names::UniqueOperationNames;
 use operation_rules::unique_variable_names::UniqueVariableNames;
+pub use operation_rules::{
+    lone_anonymous_operation, unique_operation_names, unique_variable_names,
+    variables_are_input_types,
+};
+pub use reach::no_fragment_cycles;
+use reach::no_fragment_cycles::NoFragmentCycles;
+use std::alloc::Global;
+use walk::{Fresh, MultiVisitorCons, MultiVisitorNil, ValidatorContext, visit_rules};
 
 // A list of rules, the newest first. One long list of all rules is dear to prove, so they come in groups.
-type OfOperations<'a> = MultiVisitorCons<variables_are_input_types::UniqueVariableNames, MultiVisitorCons<UniqueVariableNames<'a>, MultiVisitorCons<UniqueOperationNames<'a>, MultiVisitorCons<LoneAnonymousOperation, MultiVisitorNil>>>>;
+type OfOperations<'a> = MultiVisitorCons<
+    variables_are_input_types::UniqueVariableNames,
+    MultiVisitorCons<
+        UniqueVariableNames<'a>,
+        MultiVisitorCons<
+            UniqueOperationNames<'a>,
+            MultiVisitorCons<LoneAnonymousOperation, MultiVisitorNil>,
+        >,
+    >,
+>;
 
-type OfFields = MultiVisitorCons<ScalarLeafs, MultiVisitorCons<FieldsOnCorrectType, MultiVisitorNil>>;
+type OfFields = MultiVisitorCons<
+    ScalarLeafs,
+    MultiVisitorCons<FieldsOnCorrectType, MultiVisitorNil>,
+>;
 
-type OfArguments = MultiVisitorCons<UniqueInputFieldNames, MultiVisitorCons<UniqueArgumentNames, MultiVisitorCons<ProvidedNonNullArguments, MultiVisitorCons<KnownDirectives, MultiVisitorCons<KnownArgumentNames, MultiVisitorNil>>>>>;
+type OfArguments = MultiVisitorCons<
+    UniqueInputFieldNames,
+    MultiVisitorCons<
+        UniqueArgumentNames,
+        MultiVisitorCons<
+            ProvidedNonNullArguments,
+            MultiVisitorCons<
+                KnownDirectives,
+                MultiVisitorCons<KnownArgumentNames, MultiVisitorNil>,
+            >,
+        >,
+    >,
+>;
 
-type OfFragments<'a, S> = MultiVisitorCons<UniqueFragmentNames<'a>, MultiVisitorCons<PossibleFragmentSpreads<'a, S>, MultiVisitorCons<KnownTypeNames, MultiVisitorCons<KnownFragmentNames, MultiVisitorCons<FragmentsOnCompositeTypes, MultiVisitorNil>>>>>;
+type OfFragments<'a> = MultiVisitorCons<
+    UniqueFragmentNames<'a>,
+    MultiVisitorCons<
+        KnownTypeNames,
+        MultiVisitorCons<
+            KnownFragmentNames,
+            MultiVisitorCons<FragmentsOnCompositeTypes, MultiVisitorNil>,
+        >,
+    >,
+>;
 
 // The rules on operations and their variables.
 fn of_operations<'a>(alloc: Global) -> OfOperations<'a>
@@ -85,18 +117,18 @@ fn of_arguments(alloc: Global) -> OfArguments
 }
 
 // The rules on fragments and on the names of types.
-fn of_fragments<'a, S: CheckedScalar>(alloc: Global) -> OfFragments<'a, S>
-    ensures { ⟦<OfFragments<'a, S> as Fresh>⟧.fresh result }
+fn of_fragments<'a>(alloc: Global) -> OfFragments<'a>
+    ensures { ⟦<OfFragments<'a> as Fresh>⟧.fresh result }
 {
     MultiVisitorNil
         .with_rule(fragments_on_composite_types::factory(alloc))
         .with_rule(known_fragment_names::factory(alloc))
         .with_rule(known_type_names::factory(alloc))
-        .with_rule(possible_fragment_spreads::factory(alloc))
         .with_rule(unique_fragment_names::factory(alloc))
 }
 
-/// Tries every rule on a document, and appends the errors of the rules, in a context that was made for it.
+/// Tries every rule on a document, and appends the errors of the rules, in a context that was made for it. In any other context it
+/// appends errors alone.
 ///
 /// It walks over the document once. The answer is the number of pairs of fragments that were compared; no rule that compares
 /// any is there yet, so it is 0.
@@ -106,6 +138,7 @@ pub fn visit_all_rules<'a, 't, S: CheckedScalar>(
 ) -> Result<u128, OutOfMemory>
     ensures appended { OnOk result (ctx.old.known ≡ fragment_names document.now → Appended (sum_of stage_one (scope_of ctx.old.schema document.now) (typing ctx.old) document.now) ctx.old ctx.new) }
     ensures silent { OnOk result (ctx.old.known ≡ fragment_names document.now → (ctx.new.errors ≡ ctx.old.errors) ↔ AllowNothing stage_one (scope_of ctx.old.schema document.now) (typing ctx.old) document.now) }
+    ensures only { OnOk result (Appended any_value ctx.old ctx.new) }
     ensures compared { IfOk result (λ pairs. pairs ≡ 0) }
     ensures err { OnErr result (KeepsPlace ctx.old ctx.new) }
     ensures failed { OnErr result (ctx.new.failed ≡ true) }
@@ -116,7 +149,9 @@ pub fn visit_all_rules<'a, 't, S: CheckedScalar>(
         .with_rule(of_operations(alloc))
         .with_rule(of_fields(alloc))
         .with_rule(of_arguments(alloc))
-        .with_rule(of_fragments(alloc));
+        .with_rule(of_fragments(alloc))
+        .with_rule(no_fragment_cycles::factory(alloc))
+        .with_rule(possible_fragment_spreads::factory(alloc));
     visit_rules(&mut rules, ctx, document)?;
     Ok(0)
 }

@@ -1,8 +1,11 @@
-//! The rows of the rules, over trees that are built in code and the list `demo`, and a linter.
+//! The rows of the rules, over trees that are built in code and the list `demo`; rules that are tried alone, root nodes, and a
+//! linter.
 #![tactic(auto)]
 
 #[cfg(test)]
-mod demo_schema;
+mod alone;
 pub mod linter;
 #[cfg(test)]
 mod rows;
+#[cfg(test)]
+mod sample_schemas;

@@ -2,7 +2,7 @@
 ghost use Rattle.std.specs.Prelude.{◌≡◌};
 ghost use Rattle.meta.specs.Answers.{SameAnswer};
 
-use crate::demo_schema::demo_schema;
+use crate::sample_schemas::demo_schema;
 use crate::linter::{try_spreads, try_spreads_and_operations};
 use language::error::OutOfMemory;
 use meta::default_check::{InputValueParseFn, ScalarTokenParseFn};

@@ -3,7 +3,7 @@
 ghost use Rattle.std.specs.Prelude.{◌≡◌, IfOk, OnOk, OnErr, IsErr, true};
 ghost use Rattle.walk.specs.ContextState.{typing, scope_of};
 ghost use Rattle.walk.specs.Names.{fragment_names};
-ghost use Rattle.walk.specs.Rule.{Appended};
+ghost use Rattle.walk.specs.Rule.{Appended, any_value};
 ghost use Rattle.events.specs.EventValue.{typed_event, typing_of, planned, all_planned};
 ghost use Rattle.events.specs.Outline.{outline_of_definition};
 ghost use Rattle.walk.specs.Step.{Ran, Stepped, KeepsPlace};
@@ -115,7 +115,8 @@ pub fn visit<'a, 't, A: Visitor<'a, S>, B: Visitor<'a, S>, S: CheckedScalar>(
 
 /// Walks over a document with rules that are fresh.
 ///
-/// In a context that was made for this document the rules append what they are allowed to, in the states that they end in.
+/// In a context that was made for this document the rules append what they are allowed to, in the states that they end in. In any
+/// other they append errors alone.
 pub fn visit_rules<'a, 't, S: CheckedScalar, R: Visitor<'a, S> + Rule<S, S::Check>>(
     rules: &mut R,
     ctx: &mut ValidatorContext<'a, S>,
@@ -123,6 +124,7 @@ pub fn visit_rules<'a, 't, S: CheckedScalar, R: Visitor<'a, S> + Rule<S, S::Chec
 ) -> Result<(), OutOfMemory>
     requires fresh { R.fresh rules.old }
     ensures appended { OnOk result (ctx.old.known ≡ fragment_names document.now → Appended (R.allows rules.new (scope_of ctx.old.schema document.now) (typing ctx.old) document.now) ctx.old ctx.new) }
+    ensures only { OnOk result (Appended any_value ctx.old ctx.new) }
     ensures err { OnErr result (KeepsPlace ctx.old ctx.new) }
     ensures failed { OnErr result (ctx.new.failed ≡ true) }
     ensures stays { ctx.old.failed ≡ true → IsErr result }

@@ -7,3 +7,6 @@ pub returns-clause-appended : goal.returns-clause-appended
 returns-clause-appended g c =
     on_ok_weaker c.walk_with.result (λ r known. fresh_append g.R.Machine.step g.R.Fresh.fresh g.R.Rule.allows g.met.R.Rule.keeps _ _ _ _ _ c.requires.fresh known r)
     (rw (sym c.shorten.ensures) c.walk_with.ensures.ran)
+
+pub returns-clause-only : goal.returns-clause-only
+returns-clause-only g c = on_ok_weaker c.walk_with.result (λ r. (r.0, tt, r.2)) c.walk_with.ensures.ran

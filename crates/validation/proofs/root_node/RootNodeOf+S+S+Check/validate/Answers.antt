@@ -1,0 +1,10 @@
+use Rattle.std.proofs.lemmas.Result.{IfOk-weaker}
+use Rattle.validation.specs.RootRules.{root_rules}
+use Rattle.validation.proofs.Reports.{told_all}
+use Rattle.validation.proofs.root_node.RootNodeOf+S+S+Check.validate.Goals as goal
+
+pub returns-clause-all : goal.returns-clause-all
+returns-clause-all g c =
+    IfOk-weaker c.into_errors.result _ _
+    (λ errors sorted. told_all (root_rules c.args.self.now.introspection_disabled) c.args.document.now _ c.args.self.now.schema _ _ errors.items c.in_ok-ctx.ensures c.in_ok-visit_root_rules.ensures.appended sorted)
+    c.into_errors.ensures.all
