@@ -18,14 +18,15 @@ module _ {S C : Type 0} (ts : List (MetaTypeOf S C)) where
   abbrev pub is_name_below : List ℕ → List ℕ → Bool
   is_name_below sub super = bytes_eq sub super || (is_listed ts sub && may_be super sub)
 
--- The first type is a subtype of the second: the least relation that is closed under these rules.
+-- The first type is a subtype of the second, or below it for short: the least relation that is closed under these rules.
 pub data IsSubtype {S C : Type 0} (ts : List (MetaTypeOf S C)) : TypeShape → TypeShape → Type 0 where
-  -- a type is below itself
+  -- a type below itself
   equal : (t : TypeShape) → IsSubtype ts t t
-  -- a name is below a name
+  -- a plain name below one for which it may stand
   names : (a b : List ℕ) → is_name_below ts a b ≡ true → IsSubtype ts (nullable_named a) (nullable_named b)
-  -- a non-null is below a non-null, and a list below a list of whatever size, where what stands in them is
+  -- a non-null below a non-null, where what stands in them is
   both_non_null : (t u : TypeShape) → IsSubtype ts t u → IsSubtype ts (wrapped_by m.NonNull t) (wrapped_by m.NonNull u)
+  -- a list below a list of whatever size, where what stands in them is
   both_lists : (i j : Option ℕ) (t u : TypeShape) → IsSubtype ts t u → IsSubtype ts (list_of i t) (list_of j u)
-  -- a non-null is below a type that is none, where what stands in it is
+  -- a non-null below a type that is no non-null, where what stands in it is
   non_null : (t u : TypeShape) → ¬ (IsNonNull u) → IsSubtype ts t u → IsSubtype ts (wrapped_by m.NonNull t) u
