@@ -95,7 +95,9 @@ fn is_never_null(t: &Type) -> bool
 fn needless_default_message(alloc: Global, name: &str, t: &Type) -> Result<String, AllocError>
     ensures { IfOk result (λ message. string_bytes message ≡ needless_default_message name.now (printed (shape t.now))) }
 {
-    format!(in alloc; "Argument \"{name}\" has type \"{t}\" and is not nullable, so it can't have a default value")
+    format!(in alloc;
+        "Argument \"{name}\" has type \"{t}\" and is not nullable, so it can't have a default value"
+    )
 }
 
 fn wrong_default_message(
@@ -106,5 +108,7 @@ fn wrong_default_message(
 ) -> Result<String, AllocError>
     ensures { IfOk result (λ message. string_bytes message ≡ wrong_default_message name.now (printed (shape t.now)) fault.now) }
 {
-    format!(in alloc; "Invalid default value for argument \"{name}\", expected type \"{t}\", reason: {fault}")
+    format!(in alloc;
+        "Invalid default value for argument \"{name}\", expected type \"{t}\", reason: {fault}"
+    )
 }
