@@ -5,3 +5,4 @@ pub mod OneFault
 pub mod RowLaws
 pub mod SomeFault
 pub mod Unfold
+pub mod WrittenLaws

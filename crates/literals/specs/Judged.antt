@@ -63,6 +63,10 @@ module _ {S C : Type 0} where
   abbrev pub IsTypeOf : Catalog S C → TypeShape → WrappedMeta S C → Type 0
   IsTypeOf schema t w = (type_in t.name schema ≡ Some w.meta) × (w.modifiers ≡ t.modifiers)
 
+  -- the same, where the schema has a type of the name
+  abbrev pub written_type : Catalog S C → TypeShape → Option (WrappedMeta S C)
+  written_type schema t = option_map (λ meta. record { meta = meta; modifiers = t.modifiers }) (type_in t.name schema)
+
   -- what an object with these keys lacks
   abbrev pub LacksFields : MetaTypeOf S C → List (List ℕ) → Option (List ℕ) → Type 0
   LacksFields meta keys fault = fault ≡ missing_fault (printed_name meta) (missing keys (input_fields_of meta))
@@ -152,3 +156,12 @@ module _ {S C : Type 0} where
 
     abbrev pub ObjectFault : MetaTypeOf S C → List (Entry (InputValue S)) → Option (List ℕ) → Type 0
     ObjectFault meta es fault = object (λ y. y) judge_of (is_input_object_meta meta) meta es fault
+
+    -- that of a value against a type, where there is one
+    abbrev pub FaultAt : InputValue S → Option (WrappedMeta S C) → Option (List ℕ) → Type 0
+    FaultAt value None fault = IsNone fault
+    FaultAt value (Some w) fault = Judged value w fault
+
+    -- that of a value against a type as it is written, none where the schema has no type of its name
+    abbrev pub WrittenFault : InputValue S → TypeShape → Option (List ℕ) → Type 0
+    WrittenFault value t fault = FaultAt value (written_type schema t) fault

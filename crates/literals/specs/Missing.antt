@@ -1,14 +1,18 @@
 -- The input fields that an object lacks.
 use Rattle.std.specs.Prelude.{ℕ, List, [], ◌∷◌, ◌++◌, Option, Some, None, is_some, Bool, true, false, not, ◌&&◌, fold, string_bytes, if◌then◌else◌}
-use Rattle.language.specs.Types.{shape, outermost, by_outermost}
+use Rattle.language.specs.Types.{TypeShape, shape, outermost, by_outermost}
 use Rattle.meta.specs.declared.arguments.Argument.{Argument}
 use Rattle.schema.specs.Possible.{is_among}
 use Rattle.literals.specs.Texts.{missing_text}
 
+-- the type is never null
+abbrev pub is_never_null : TypeShape → Bool
+is_never_null t = by_outermost true false false (outermost t.modifiers)
+
 module _ {S : Type 0} where
   -- of a type that is never null, without a default value
   abbrev pub is_required : Argument S → Bool
-  is_required a = by_outermost true false false (outermost (shape a.arg_type).modifiers) && not (is_some a.default_value)
+  is_required a = is_never_null (shape a.arg_type) && not (is_some a.default_value)
 
   -- it is required, no key, and not noted yet
   abbrev pub is_lacking : List (List ℕ) → List (List ℕ) → Argument S → Bool

@@ -1,15 +1,15 @@
 //! Types that values are held against.
-ghost use Rattle.std.specs.Prelude.{◌≡◌, Some, true, fold};
+ghost use Rattle.std.specs.Prelude.{◌≡◌, IfSome, Some, option_map, true, fold};
 ghost use Rattle.std.specs.Fmt.{WritesOnOk};
-ghost use Rattle.language.specs.Types.{shape, with_modifier};
+ghost use Rattle.language.specs.Types.{borrowed_shape, shape, with_modifier};
 ghost use Rattle.schema.specs.Accepted.{is_listed};
 ghost use Rattle.schema.specs.Names.{argument_type};
 ghost use Rattle.schema.specs.Wrapped.{wrapped_of};
 ghost use Rattle.literals.specs.Expected.{expected_type, IsLayerOf};
 ghost use Rattle.literals.specs.InSchema.{IsInSchema};
-ghost use Rattle.literals.specs.Judged.{IsTypeOf, printed_name, printed_type};
+ghost use Rattle.literals.specs.Judged.{IsTypeOf, printed_name, printed_type, written_type};
 
-use language::types::TypeModifier;
+use language::types::{BorrowedType, TypeModifier};
 use meta::arguments::Argument;
 use meta::kinds::MetaTypeOf;
 use schema::model::{SchemaTypeOf, TypeTypeOf};
@@ -67,6 +67,20 @@ pub fn type_of_field<'a, S, C>(
     match schema.concrete_type_by_name(field.arg_type.innermost_name()) {
         Some(meta) => Expected::Written(meta, field.arg_type.modifiers()),
         None => unreachable!(),
+    }
+}
+
+/// The type of the schema that a type names, where there is one.
+pub fn type_written<'a, S, C>(
+    schema: &'a SchemaTypeOf<S, C>,
+    written: BorrowedType<'a>,
+) -> Option<Expected<'a, S, C>>
+    ensures made { option_map expected_type result ≡ written_type schema.now (borrowed_shape written.entry) }
+    ensures known { IfSome result (λ expected. IsInSchema schema.now (expected_type expected)) }
+{
+    match schema.concrete_type_by_name(written.innermost_name()) {
+        Some(meta) => Some(Expected::Written(meta, written.modifiers())),
+        None => None,
     }
 }
 

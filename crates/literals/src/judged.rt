@@ -42,7 +42,7 @@ pub fn validate_literal_value<'a, S: CheckedScalar>(
 }
 
 #[cycle(fault_of)]
-fn fault_of<'a, S: CheckedScalar>(
+pub fn fault_of<'a, S: CheckedScalar>(
     alloc: Global,
     schema: &'a SchemaType<S>,
     expected: Expected<'a, S, S::Check>,

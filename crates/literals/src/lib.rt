@@ -7,5 +7,7 @@ pub mod laws;
 mod missing;
 mod rows;
 mod texts;
+mod written;
 
 pub use judged::validate_literal_value;
+pub use written::validate_written_value;

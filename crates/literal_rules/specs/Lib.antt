@@ -1,0 +1,3 @@
+pub mod ArgumentsOfCorrectType
+pub mod DefaultValuesOfCorrectType
+pub mod Faulty

@@ -1,0 +1,33 @@
+//! Values against types as they are written.
+ghost use Rattle.std.specs.Prelude.{◌≡◌, IfOk, List, Option, option_map, string_bytes, ℕ};
+ghost use Rattle.language.specs.Types.{borrowed_shape};
+ghost use Rattle.language.specs.ValuesPrinted.{printed_value};
+ghost use Rattle.literals.specs.Judged.{WrittenFault};
+
+use crate::expected::type_written;
+use crate::judged::fault_of;
+use language::error::OutOfMemory;
+use language::types::BorrowedType;
+use language::value::InputValue;
+use meta::check::CheckedScalar;
+use schema::model::SchemaType;
+use std::alloc::Global;
+
+/// What is wrong with the first faulty place in a value, for a type as it is written; nothing where the schema has no type of its
+/// name.
+///
+/// As `validate_literal_value` takes no memory for a value that conforms, and here no type is made either.
+pub fn validate_written_value<'a, S: CheckedScalar>(
+    alloc: Global,
+    schema: &'a SchemaType<S>,
+    written: BorrowedType<'a>,
+    value: &InputValue<S>,
+) -> Result<Option<String>, OutOfMemory>
+    ensures fault { IfOk result (λ fault. WrittenFault schema.now S.may_answer (printed_value S.text S.str_of) value.now (borrowed_shape written.entry) (option_map string_bytes fault)) }
+    ensures alone { IfOk result (λ fault. (other : Option (List ℕ)) → WrittenFault schema.now S.may_answer (printed_value S.text S.str_of) value.now (borrowed_shape written.entry) other → other ≡ option_map string_bytes fault) }
+{
+    match type_written(schema, written) {
+        None => Ok(None),
+        Some(expected) => fault_of(alloc, schema, expected, value),
+    }
+}
