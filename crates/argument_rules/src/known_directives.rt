@@ -15,7 +15,7 @@ use language::position::Spanning;
 use language::tree::{Directive, OperationType};
 use meta::check::CheckedScalar;
 use rule_parts::texts::between;
-use schema::model::{DirectiveLocation, DirectiveType};
+use schema::model::DirectiveLocation;
 use std::alloc::{AllocError, Global};
 use walk::{Event, Fresh, Machine, Rule, ValidatorContext, Visitor};
 

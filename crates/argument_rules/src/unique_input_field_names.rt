@@ -1,6 +1,5 @@
 //! No two fields of an object value have one name (GraphQL, section 5.6.3).
 
-ghost use Rattle.std.specs.Prelude.{◌≡◌, IfOk};
 ghost use Rattle.walk.specs.Entering.{finding_step, found};
 ghost use Rattle.walk.specs.Rule.{always, any_value, exactly};
 ghost use Rattle.walk.proofs.Entering.{finding_keeps};
