@@ -143,7 +143,7 @@ const ANSWERS: [Row; 7] = [
 ];
 
 /// What the rules say.
-const RULES: [Row; 10] = [
+const RULES: [Row; 12] = [
     Row {
         name: "a selection set of __typename on a union",
         words: "pets",
@@ -223,6 +223,74 @@ const RULES: [Row; 10] = [
         output: "compared 0\n",
         faults: "",
         status: 0,
+    },
+    Row {
+        name: "a fragment that spreads itself behind another",
+        words: "pets",
+        input: b"{ dog { ...L } } fragment L on Dog { ...A } fragment A on Dog { ...A }",
+        output: "Cannot spread fragment \"A\". At 0:64\ncompared 0\n",
+        faults: "",
+        status: 1,
+    },
+    Row {
+        name: "two fragments that spread themselves",
+        words: "pets",
+        input: b"{ dog { ...A ...B } } fragment A on Dog { ...A } fragment B on Dog { ...B }",
+        output: "Cannot spread fragment \"A\". At 0:42\nCannot spread fragment \"B\". At 0:69\ncompared 0\n",
+        faults: "",
+        status: 1,
+    },
+];
+
+/// What is said of values.
+const VALUES: [Row; 6] = [
+    Row {
+        name: "a repeated argument and a wrong value",
+        words: "pets",
+        input: b"{ dog { name(surname: true, surname: 1) } }",
+        output: "There can only be one argument named \"surname\". At 0:13, 0:28\nInvalid value for argument \"surname\", reason: Invalid value \"1\" for type \"Boolean\". At 0:37\ncompared 0\n",
+        faults: "",
+        status: 1,
+    },
+    Row {
+        name: "missing fields of an input object",
+        words: "pets",
+        input: b"{ complicatedArgs { pairArgField(pairArg: {}) } }",
+        output: "Invalid value for argument \"pairArg\", reason: \"PairInput\" is missing fields: \"b\", \"a\". At 0:42\ncompared 0\n",
+        faults: "",
+        status: 1,
+    },
+    Row {
+        name: "a number for an input object",
+        words: "pets",
+        input: b"{ complicatedArgs { pairArgField(pairArg: 5) } }",
+        output: "Invalid value for argument \"pairArg\", reason: Invalid value \"5\" for type \"PairInput\". At 0:42\ncompared 0\n",
+        faults: "",
+        status: 1,
+    },
+    Row {
+        name: "a string for an enum",
+        words: "pets",
+        input: b"{ dog { doesKnowCommand(dogCommand: \"SIT\") } }",
+        output: "Invalid value for argument \"dogCommand\", reason: Invalid value \"\"SIT\"\" for enum \"DogCommand\". At 0:36\ncompared 0\n",
+        faults: "",
+        status: 1,
+    },
+    Row {
+        name: "a wrong value under a key",
+        words: "pets",
+        input: b"{ complicatedArgs { complexArgField(complexArg: {intField: \"x\"}) } }",
+        output: "Invalid value for argument \"complexArg\", reason: Error on \"ComplexInput\" field \"intField\": Invalid value \"\"x\"\" for type \"Int\". At 0:48\ncompared 0\n",
+        faults: "",
+        status: 1,
+    },
+    Row {
+        name: "a list nested a hundred deep",
+        words: "pets",
+        input: b"{ complicatedArgs { stringListArgField(stringListArg: [[[[[[[[[[[[[[[[[[[[[[[[[[[[[[[[[[[[[[[[[[[[[[[[[[[[[[[[[[[[[[[[[[[[[[[[[[[[[[[[[[[[[[[[[[[[[[[[[[[[]]]]]]]]]]]]]]]]]]]]]]]]]]]]]]]]]]]]]]]]]]]]]]]]]]]]]]]]]]]]]]]]]]]]]]]]]]]]]]]]]]]]]]]]]]]]]]]]]]]]) } }",
+        output: "Invalid value for argument \"stringListArg\", reason: Input lists are not literals. At 0:54\ncompared 0\n",
+        faults: "",
+        status: 1,
     },
 ];
 
@@ -749,6 +817,10 @@ fn wrong_of_rules(alloc: Global) -> Result<Option<&'static str>, Fail> {
     first_wrong(alloc, &RULES)
 }
 
+fn wrong_of_values(alloc: Global) -> Result<Option<&'static str>, Fail> {
+    first_wrong(alloc, &VALUES)
+}
+
 fn wrong_of_texts(alloc: Global) -> Result<Option<&'static str>, Fail> {
     first_wrong(alloc, &TEXTS)
 }
@@ -771,6 +843,7 @@ fn runs_as_each_row_says(rt: HostRuntime) -> Result<(), Fail> {
     assert_eq!(rt; wrong_of_words(alloc)?, None);
     assert_eq!(rt; wrong_of_answers(alloc)?, None);
     assert_eq!(rt; wrong_of_rules(alloc)?, None);
+    assert_eq!(rt; wrong_of_values(alloc)?, None);
     assert_eq!(rt; wrong_of_texts(alloc)?, None);
     assert_eq!(rt; wrong_of_parts(alloc)?, None);
     assert_eq!(rt; wrong_of_strings(alloc)?, None);

@@ -5,7 +5,8 @@ ghost use Rattle.gql_check.specs.Report.{error_lines};
 use std::alloc::Global;
 use validation::ast::Definition;
 use validation::{
-    DefaultScalarValue, OutOfMemory, RuleError, SchemaType, ValidatorContext, visit_root_rules,
+    CheckedScalar, DefaultScalarValue, OutOfMemory, RuleError, ScalarValue, SchemaType,
+    ValidatorContext, visit_root_rules,
 };
 
 /// What is told of a document.
@@ -18,6 +19,7 @@ pub struct Report {
 }
 
 impl Report {
+    ghost use Rattle.language.specs.ValuesPrinted.{printed_value};
     ghost use Rattle.gql_check.specs.Report.{report_text};
     ghost use Rattle.gql_check.specs.Told.{IsReportOn};
 
@@ -28,7 +30,7 @@ impl Report {
         document: &'a [Definition<'_, DefaultScalarValue>],
         closed: bool,
     ) -> Result<Report, OutOfMemory>
-        ensures { IfOk result (λ report. IsReportOn closed schema.now document.now report) }
+        ensures { IfOk result (λ report. IsReportOn ⟦<DefaultScalarValue as CheckedScalar>⟧.may_answer (printed_value ⟦<DefaultScalarValue as ScalarValue>⟧.text ⟦<DefaultScalarValue as ScalarValue>⟧.str_of) closed schema.now document.now report) }
     {
         let mut ctx = ValidatorContext::new(alloc, schema, document)?;
         let compared = visit_root_rules(&mut ctx, document, closed)?;

@@ -1,9 +1,13 @@
 -- No error is reported just if each rule allows none.
-use Rattle.std.proofs.Common.{List, [], ◌∷◌, ◌∙◌, sym}
+use Rattle.std.proofs.Common.{ℕ, List, [], ◌∷◌, ◌∙◌, sym}
+use Rattle.language.specs.declared.value.InputValue.{InputValue}
+use Rattle.meta.specs.Answers.{Answers}
+use Rattle.literals.specs.Laws.{OneAnswer}
+use Rattle.literal_rules.proofs.Settled.{arguments_settled, defaults_settled}
 use Rattle.walk.specs.Rule.{AllSettled, Settled}
 use Rattle.walk.proofs.Sums.{exactly_settled}
 use Rattle.reach.proofs.Cycles.{silent, without_cycles}
-use Rattle.validation.specs.StageOne.{of_arguments, of_cycles, of_fields, of_fragments, of_operations, stage_one, all_of, groups}
+use Rattle.validation.specs.StageOne.{of_arguments, of_cycles, of_fields, of_fragments, of_operations, of_values, stage_one, all_of, groups}
 use Rattle.validation.proofs.Groups.{settled_append}
 
 -- a word for each rule, in the order of its group
@@ -14,24 +18,29 @@ module _ {S C : Type 0} where
   fields_settled : AllSettled (of_fields {S = S} {C = C})
   fields_settled = (exactly_settled _, (exactly_settled _, tt))
 
-  arguments_settled : AllSettled (of_arguments {S = S} {C = C})
-  arguments_settled = (exactly_settled _, (exactly_settled _, (exactly_settled _, (exactly_settled _, (exactly_settled _, tt)))))
+  of_arguments_settled : AllSettled (of_arguments {S = S} {C = C})
+  of_arguments_settled = (exactly_settled _, (exactly_settled _, (exactly_settled _, (exactly_settled _, (exactly_settled _, tt)))))
 
   fragments_settled : AllSettled (of_fragments {S = S} {C = C})
   fragments_settled = (exactly_settled _, (exactly_settled _, (exactly_settled _, (exactly_settled _, tt))))
-
-  groups_settled : AllSettled (all_of (groups {S = S} {C = C}))
-  groups_settled =
-      settled_append of_fragments (all_of (of_arguments ∷ of_fields ∷ of_operations ∷ [])) fragments_settled
-      (settled_append of_arguments (all_of (of_fields ∷ of_operations ∷ [])) arguments_settled
-      (settled_append of_fields (all_of (of_operations ∷ [])) fields_settled
-      (settled_append of_operations [] operations_settled tt)))
 
   -- no error, if it may be, says that there is no cycle, and then no error is true
   cycles_settled : Settled (of_cycles {S = S} {C = C})
   cycles_settled scope t doc es (none, found, e) (reports, others, e') =
       e' ∙ without_cycles doc reports others (silent doc none found (sym e))
 
+module _ {S C : Type 0} (may : Answers (InputValue S) C) (shown : InputValue S → List ℕ) (one : OneAnswer may) where
+  values_settled : AllSettled (of_values may shown)
+  values_settled = (defaults_settled may shown one, (arguments_settled may shown one, tt))
+
+  groups_settled : AllSettled (all_of (groups may shown))
+  groups_settled =
+      settled_append (of_values may shown) (all_of (of_fragments ∷ of_arguments ∷ of_fields ∷ of_operations ∷ [])) values_settled
+      (settled_append of_fragments (all_of (of_arguments ∷ of_fields ∷ of_operations ∷ [])) fragments_settled
+      (settled_append of_arguments (all_of (of_fields ∷ of_operations ∷ [])) of_arguments_settled
+      (settled_append of_fields (all_of (of_operations ∷ [])) fields_settled
+      (settled_append of_operations [] operations_settled tt))))
+
   -- each rule of stage one is settled
-  pub stage_one_settled : AllSettled (stage_one {S = S} {C = C})
+  pub stage_one_settled : AllSettled (stage_one may shown)
   stage_one_settled = (exactly_settled _, (cycles_settled, groups_settled))

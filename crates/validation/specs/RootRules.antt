@@ -1,5 +1,7 @@
 -- What is reported of the documents that are sent to a root node.
-use Rattle.std.specs.Prelude.{Bool, true, false, List, ◌∷◌}
+use Rattle.std.specs.Prelude.{Bool, true, false, ℕ, List, ◌∷◌}
+use Rattle.language.specs.declared.value.InputValue.{InputValue}
+use Rattle.meta.specs.Answers.{Answers}
 use Rattle.language.specs.declared.tree.Definition.{Definition}
 use Rattle.schema.specs.Catalog.{Catalog}
 use Rattle.events.specs.Typing.{untyped}
@@ -10,11 +12,11 @@ use Rattle.walk.specs.Rule.{Allowance, exactly, sum_of}
 use Rattle.field_rules.specs.DisableIntrospection.{introspection_fields}
 use Rattle.validation.specs.StageOne.{stage_one}
 
-module _ {S C : Type 0} where
+module _ {S C : Type 0} (may : Answers (InputValue S) C) (shown : InputValue S → List ℕ) where
   -- the rules, and the one on introspection where that is disabled
   abbrev pub root_rules : Bool → List (Allowance S C)
-  root_rules true = exactly (found introspection_fields) ∷ stage_one
-  root_rules false = stage_one
+  root_rules true = exactly (found introspection_fields) ∷ stage_one may shown
+  root_rules false = stage_one may shown
 
   -- these errors they may report of a document
   abbrev pub root_reported : Bool → Catalog S C → List (Definition S) → List ErrorValue → Type 0

@@ -1,6 +1,8 @@
 -- What the rules of the first stage report.
-use Rattle.std.specs.Prelude.{◌≡◌, List, [], ◌∷◌, ◌++◌, map}
-use Rattle.walk.specs.Entering.{found, found_by}
+use Rattle.std.specs.Prelude.{◌≡◌, ℕ, List, [], ◌∷◌, ◌++◌, map}
+use Rattle.language.specs.declared.value.InputValue.{InputValue}
+use Rattle.meta.specs.Answers.{Answers}
+use Rattle.walk.specs.Entering.{found, found_by, given}
 use Rattle.walk.specs.Rule.{Allowance, exactly, sum_of}
 use Rattle.walk.specs.ContextState.{scope_of}
 use Rattle.walk.specs.ErrorValue.{ErrorValue}
@@ -26,6 +28,8 @@ use Rattle.fragment_rules.specs.PossibleFragmentSpreads.{conditions, impossible_
 use Rattle.fragment_rules.specs.UniqueFragmentNames.{fragment_name, repeated_fragment_message}
 use Rattle.fragment_cycles.specs.DocumentCycles.{FindsCycles, NameAndPlace}
 use Rattle.reach.specs.NoFragmentCycles.{cycle_error}
+use Rattle.literal_rules.specs.ArgumentsOfCorrectType.{wrong_arguments}
+use Rattle.literal_rules.specs.DefaultValuesOfCorrectType.{wrong_defaults}
 
 module _ {S C : Type 0} where
   -- operations and their variables (GraphQL, sections 5.2, 5.8)
@@ -71,14 +75,20 @@ module _ {S C : Type 0} where
   abbrev pub of_cycles : Allowance S C
   of_cycles scope t doc es = (reports : List NameAndPlace) × FindsCycles doc reports × (es ≡ map cycle_error reports)
 
-  -- the other rules in groups, the newest first
-  abbrev pub groups : List (List (Allowance S C))
-  groups = of_fragments ∷ of_arguments ∷ of_fields ∷ of_operations ∷ []
-
   -- what each rule of these groups allows
   abbrev pub all_of : List (List (Allowance S C)) → List (Allowance S C)
   all_of [] = []
   all_of (group ∷ rest) = group ++ all_of rest
+
+-- by what the checks of types may answer, and values as they are printed
+module _ {S C : Type 0} (may : Answers (InputValue S) C) (shown : InputValue S → List ℕ) where
+  -- values (5.6.1)
+  abbrev pub of_values : List (Allowance S C)
+  of_values = given (wrong_defaults may shown) ∷ given (wrong_arguments may shown) ∷ []
+
+  -- the other rules in groups, the newest first
+  abbrev pub groups : List (List (Allowance S C))
+  groups = of_values ∷ of_fragments ∷ of_arguments ∷ of_fields ∷ of_operations ∷ []
 
   -- what each rule allows
   abbrev pub stage_one : List (Allowance S C)

@@ -18,6 +18,7 @@ pub use language::error::{CheckError, OutOfMemory};
 pub use language::scalar::ScalarValue;
 pub use language::tree::{Definition, Document, Operation, OperationType, Selection};
 pub use language::types::{BorrowedType, Type, TypeModifier};
+pub use literals::validate_literal_value;
 pub use language::value::{DefaultScalarValue, InputValue, Variables};
 pub use meta;
 pub use meta::check::CheckedScalar;

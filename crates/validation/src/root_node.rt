@@ -1,6 +1,7 @@
 //! A schema, with what the documents that are sent to it may ask.
 
 ghost use Rattle.std.specs.Prelude.{◌≡◌, IfOk, OnOk, OnErr, IsErr, IsSorted, true, false};
+ghost use Rattle.language.specs.ValuesPrinted.{printed_value};
 ghost use Rattle.walk.specs.ContextState.{typing, scope_of};
 ghost use Rattle.walk.specs.Entering.{found};
 ghost use Rattle.walk.specs.ErrorValue.{error_cmp};
@@ -70,7 +71,7 @@ impl<S: CheckedScalar> RootNodeOf<S, S::Check> {
         alloc: Global,
         document: &'a [Definition<'_, S>],
     ) -> Result<Vec<RuleError>, OutOfMemory>
-        ensures all { IfOk result (λ errors. root_reported self.now.introspection_disabled self.now.schema document.now errors.items) }
+        ensures all { IfOk result (λ errors. root_reported S.may_answer (printed_value S.text S.str_of) self.now.introspection_disabled self.now.schema document.now errors.items) }
         ensures sorted { IfOk result (λ errors. IsSorted error_cmp errors.items) }
     {
         let mut ctx = ValidatorContext::new(alloc, &self.schema, document)?;
@@ -87,7 +88,7 @@ pub fn visit_root_rules<'a, S: CheckedScalar>(
     document: &'a [Definition<'_, S>],
     introspection_disabled: bool,
 ) -> Result<u128, OutOfMemory>
-    ensures appended { OnOk result (ctx.old.known ≡ fragment_names document.now → Appended (sum_of (root_rules introspection_disabled) (scope_of ctx.old.schema document.now) (typing ctx.old) document.now) ctx.old ctx.new) }
+    ensures appended { OnOk result (ctx.old.known ≡ fragment_names document.now → Appended (sum_of (root_rules S.may_answer (printed_value S.text S.str_of) introspection_disabled) (scope_of ctx.old.schema document.now) (typing ctx.old) document.now) ctx.old ctx.new) }
     ensures only { OnOk result (Appended any_value ctx.old ctx.new) }
     ensures compared { IfOk result (λ pairs. pairs ≡ 0) }
     ensures err { OnErr result (KeepsPlace ctx.old ctx.new) }

@@ -1,6 +1,7 @@
 //! The rules, each in its module, and the call that tries them all.
 
 ghost use Rattle.std.specs.Prelude.{◌≡◌, ◌↔◌, IfOk, OnOk, OnErr, IsErr, true};
+ghost use Rattle.language.specs.ValuesPrinted.{printed_value};
 ghost use Rattle.walk.specs.ContextState.{typing, scope_of};
 ghost use Rattle.walk.specs.Names.{fragment_names};
 ghost use Rattle.walk.specs.Rule.{AllowNothing, Appended, any_value, sum_of};
@@ -30,9 +31,12 @@ pub use fragment_rules::{
 use language::error::OutOfMemory;
 use language::tree::Definition;
 use meta::check::CheckedScalar;
+use literal_rules::arguments_of_correct_type::ArgumentsOfCorrectType;
+use literal_rules::default_values_of_correct_type::DefaultValuesOfCorrectType;
 use operation_rules::lone_anonymous_operation::LoneAnonymousOperation;
 use operation_rules::unique_operation_names::UniqueOperationNames;
 use operation_rules::unique_variable_names::UniqueVariableNames;
+pub use literal_rules::{arguments_of_correct_type, default_values_of_correct_type};
 pub use operation_rules::{
     lone_anonymous_operation, unique_operation_names, unique_variable_names,
     variables_are_input_types,
@@ -84,6 +88,8 @@ type OfFragments<'a> = MultiVisitorCons<
     >,
 >;
 
+type OfValues = MultiVisitorCons<DefaultValuesOfCorrectType, MultiVisitorCons<ArgumentsOfCorrectType, MultiVisitorNil>>;
+
 // The rules on operations and their variables.
 fn of_operations<'a>(alloc: Global) -> OfOperations<'a>
     ensures { ⟦<OfOperations<'a> as Fresh>⟧.fresh result }
@@ -127,6 +133,15 @@ fn of_fragments<'a>(alloc: Global) -> OfFragments<'a>
         .with_rule(unique_fragment_names::factory(alloc))
 }
 
+// The rules on values.
+fn of_values(alloc: Global) -> OfValues
+    ensures { ⟦<OfValues as Fresh>⟧.fresh result }
+{
+    MultiVisitorNil
+        .with_rule(arguments_of_correct_type::factory(alloc))
+        .with_rule(default_values_of_correct_type::factory(alloc))
+}
+
 /// Tries every rule on a document, and appends the errors of the rules, in a context that was made for it. In any other context it
 /// appends errors alone.
 ///
@@ -136,8 +151,8 @@ pub fn visit_all_rules<'a, 't, S: CheckedScalar>(
     ctx: &mut ValidatorContext<'a, S>,
     document: &'a [Definition<'t, S>],
 ) -> Result<u128, OutOfMemory>
-    ensures appended { OnOk result (ctx.old.known ≡ fragment_names document.now → Appended (sum_of stage_one (scope_of ctx.old.schema document.now) (typing ctx.old) document.now) ctx.old ctx.new) }
-    ensures silent { OnOk result (ctx.old.known ≡ fragment_names document.now → (ctx.new.errors ≡ ctx.old.errors) ↔ AllowNothing stage_one (scope_of ctx.old.schema document.now) (typing ctx.old) document.now) }
+    ensures appended { OnOk result (ctx.old.known ≡ fragment_names document.now → Appended (sum_of (stage_one S.may_answer (printed_value S.text S.str_of)) (scope_of ctx.old.schema document.now) (typing ctx.old) document.now) ctx.old ctx.new) }
+    ensures silent { OnOk result (ctx.old.known ≡ fragment_names document.now → (ctx.new.errors ≡ ctx.old.errors) ↔ AllowNothing (stage_one S.may_answer (printed_value S.text S.str_of)) (scope_of ctx.old.schema document.now) (typing ctx.old) document.now) }
     ensures only { OnOk result (Appended any_value ctx.old ctx.new) }
     ensures compared { IfOk result (λ pairs. pairs ≡ 0) }
     ensures err { OnErr result (KeepsPlace ctx.old ctx.new) }
@@ -150,6 +165,7 @@ pub fn visit_all_rules<'a, 't, S: CheckedScalar>(
         .with_rule(of_fields(alloc))
         .with_rule(of_arguments(alloc))
         .with_rule(of_fragments(alloc))
+        .with_rule(of_values(alloc))
         .with_rule(no_fragment_cycles::factory(alloc))
         .with_rule(possible_fragment_spreads::factory(alloc));
     visit_rules(&mut rules, ctx, document)?;

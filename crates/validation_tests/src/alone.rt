@@ -7,7 +7,10 @@ use samples::checks::{check_int, refuse_token};
 use std::alloc::Global;
 use std::test::Fail;
 use validation::ast::Definition;
-use validation::rules::{disable_introspection, known_directives, variables_are_input_types};
+use validation::rules::{
+    default_values_of_correct_type, disable_introspection, known_directives,
+    variables_are_input_types,
+};
 use validation::{
     DefaultScalarValue, MultiVisitorNil, OutOfMemory, RootNode, RuleError, SchemaType,
     ValidatorContext, Visitor, visit,
@@ -19,10 +22,11 @@ enum Alone {
     KnownDirectives,
     VariablesAreInputTypes,
     DisableIntrospection,
+    DefaultValuesOfCorrectType,
 }
 
 /// A rule, a text, and what the rule says of it.
-const ROWS: [(Alone, &str, &str); 3] = [
+const ROWS: [(Alone, &str, &str); 5] = [
     (
         Alone::KnownDirectives,
         "query ($a: Int @skip(if: true)) { dog { name @deprecated(reason: \"x\") @nope } }",
@@ -37,6 +41,16 @@ const ROWS: [(Alone, &str, &str); 3] = [
         Alone::DisableIntrospection,
         "{ __type(name: \"Dog\") { name } }",
         "GraphQL introspection is not allowed, but the operation contained `__type`. At 0:2\n",
+    ),
+    (
+        Alone::DefaultValuesOfCorrectType,
+        "query ($a: Int! = 1) { dog { name } }",
+        "Argument \"a\" has type \"Int!\" and is not nullable, so it can't have a default value. At 0:18\n",
+    ),
+    (
+        Alone::DefaultValuesOfCorrectType,
+        "query ($a: [Int] = [1, \"x\"]) { dog { name } }",
+        "Invalid default value for argument \"a\", expected type \"[Int]\", reason: Invalid value \"\"x\"\" for type \"Int\". At 0:19\n",
     ),
 ];
 
@@ -81,6 +95,12 @@ fn told<'a>(
         Alone::DisableIntrospection => told_by(
             alloc,
             disable_introspection::factory(alloc),
+            schema,
+            document,
+        ),
+        Alone::DefaultValuesOfCorrectType => told_by(
+            alloc,
+            default_values_of_correct_type::factory(alloc),
             schema,
             document,
         ),

@@ -1,5 +1,6 @@
 use Rattle.std.proofs.Common.{◌≡◌, sym, subst}
 use Rattle.std.proofs.lemmas.Result.{on_err_weaker, on_ok_weaker}
+use Rattle.language.specs.ValuesPrinted.{printed_value}
 use Rattle.walk.specs.ContextState.{typing, scope_of}
 use Rattle.walk.specs.Entering.{found}
 use Rattle.walk.specs.Names.{fragment_names}
@@ -17,8 +18,8 @@ returns-then-introspection_disabled-clause-appended g c =
     let new = c.report_introspection.new.ctx in
     on_ok_weaker c.report_introspection.result
     (λ more known.
-    subst (λ b. Appended (sum_of (root_rules b) (scope_of old.schema document) (typing old) document) old new) (sym c.if-introspection_disabled.true)
-    (told_more stage_one document (exactly (found introspection_fields)) old c.visit_all_rules.new.ctx new c.in_ok-compared.ensures.appended more known))
+    subst (λ b. Appended (sum_of (root_rules g.S.CheckedScalar.may_answer (printed_value g.S.ScalarValue.text g.S.ScalarValue.str_of) b) (scope_of old.schema document) (typing old) document) old new) (sym c.if-introspection_disabled.true)
+    (told_more (stage_one g.S.CheckedScalar.may_answer (printed_value g.S.ScalarValue.text g.S.ScalarValue.str_of)) document (exactly (found introspection_fields)) old c.visit_all_rules.new.ctx new c.in_ok-compared.ensures.appended more known))
     c.report_introspection.ensures.appended
 
 pub returns-then-introspection_disabled-clause-only : goal.returns-then-introspection_disabled-clause-only
@@ -34,5 +35,5 @@ returns-clause-appended g c =
     λ known.
     let document = c.args.document.now in
     let old = c.args.ctx.now in
-    subst (λ b. Appended (sum_of (root_rules b) (scope_of old.schema document) (typing old) document) old c.visit_all_rules.new.ctx) (sym c.if-introspection_disabled.false)
+    subst (λ b. Appended (sum_of (root_rules g.S.CheckedScalar.may_answer (printed_value g.S.ScalarValue.text g.S.ScalarValue.str_of) b) (scope_of old.schema document) (typing old) document) old c.visit_all_rules.new.ctx) (sym c.if-introspection_disabled.false)
     (c.in_ok-compared.ensures.appended known)

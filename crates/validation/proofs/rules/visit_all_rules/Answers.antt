@@ -1,4 +1,5 @@
 use Rattle.std.proofs.Common.{◌≡◌}
+use Rattle.language.specs.ValuesPrinted.{printed_value}
 use Rattle.walk.specs.ContextState.{typing, scope_of}
 use Rattle.walk.proofs.Sums.{silent_just_if}
 use Rattle.reach.specs.AtDocument.{given_at_end}
@@ -11,9 +12,9 @@ use Rattle.validation.proofs.rules.visit_all_rules.Goals as goal
 pub returns-clause-appended : goal.returns-clause-appended
 returns-clause-appended g c =
     λ known.
-    appended_all (scope_of c.args.ctx.now.schema c.args.document.now) (typing c.args.ctx.now) c.args.document.now of_spreads (given_at_end cycle_errors c.visit_rules.new.rules.1.0) of_cycles groups c.args.ctx.now c.visit_rules.new.ctx
+    appended_all (scope_of c.args.ctx.now.schema c.args.document.now) (typing c.args.ctx.now) c.args.document.now of_spreads (given_at_end cycle_errors c.visit_rules.new.rules.1.0) of_cycles (groups g.S.CheckedScalar.may_answer (printed_value g.S.ScalarValue.text g.S.ScalarValue.str_of)) c.args.ctx.now c.visit_rules.new.ctx
     (λ es h. (h.reports, h.found, h.told)) (c.in_ok-visit_rules.ensures.appended known)
 
 pub returns-clause-silent : goal.returns-clause-silent
 returns-clause-silent g c =
-    λ known. silent_just_if (scope_of c.args.ctx.now.schema c.args.document.now) (typing c.args.ctx.now) c.args.document.now stage_one stage_one_settled c.args.ctx.now c.visit_rules.new.ctx (returns-clause-appended g c known)
+    λ known. silent_just_if (scope_of c.args.ctx.now.schema c.args.document.now) (typing c.args.ctx.now) c.args.document.now (stage_one g.S.CheckedScalar.may_answer (printed_value g.S.ScalarValue.text g.S.ScalarValue.str_of)) (stage_one_settled g.S.CheckedScalar.may_answer (printed_value g.S.ScalarValue.text g.S.ScalarValue.str_of) g.met.S.CheckedScalar.one_answer) c.args.ctx.now c.visit_rules.new.ctx (returns-clause-appended g c known)

@@ -1,4 +1,5 @@
 use Rattle.std.proofs.lemmas.Result.{IfOk-weaker}
+use Rattle.language.specs.ValuesPrinted.{printed_value}
 use Rattle.validation.specs.RootRules.{root_rules}
 use Rattle.validation.proofs.Reports.{told_all}
 use Rattle.validation.proofs.root_node.RootNodeOf+S+S+Check.validate.Goals as goal
@@ -6,5 +7,5 @@ use Rattle.validation.proofs.root_node.RootNodeOf+S+S+Check.validate.Goals as go
 pub returns-clause-all : goal.returns-clause-all
 returns-clause-all g c =
     IfOk-weaker c.into_errors.result _ _
-    (λ errors sorted. told_all (root_rules c.args.self.now.introspection_disabled) c.args.document.now _ c.args.self.now.schema _ _ errors.items c.in_ok-ctx.ensures c.in_ok-visit_root_rules.ensures.appended sorted)
+    (λ errors sorted. told_all (root_rules g.S.CheckedScalar.may_answer (printed_value g.S.ScalarValue.text g.S.ScalarValue.str_of) c.args.self.now.introspection_disabled) c.args.document.now _ c.args.self.now.schema _ _ errors.items c.in_ok-ctx.ensures c.in_ok-visit_root_rules.ensures.appended sorted)
     c.into_errors.ensures.all
