@@ -74,10 +74,7 @@ fn defines_same<S>(definition: &Definition<'_, S>, fragment: &Spanning<Fragment<
 }
 
 // Whether one of these has the name and the span of this one.
-fn stands_among<S>(
-    definitions: &[Definition<'_, S>],
-    fragment: &Spanning<Fragment<'_, S>>,
-) -> bool
+fn stands_among<S>(definitions: &[Definition<'_, S>], fragment: &Spanning<Fragment<'_, S>>) -> bool
     ensures { IsTrue result ↔ Stands definitions.now (name_and_span fragment.now) }
 {
     for definition in definitions {

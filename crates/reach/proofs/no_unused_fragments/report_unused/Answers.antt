@@ -13,10 +13,9 @@ loop-index-preserved g c =
     let i = c.loop-index.index in
     let d = c.index-document-index.result in
     let (fs, u, told) = c.loop-index.invariant in
-    let (gs, adds, more) = c.in_ok-report_if_unused.ensures.ok in
-    (
+    let (gs, adds, more) = c.in_ok-report_if_unused.ensures.ok in (
       fs ++ gs,
       subst (λ zs. UnusedAmong doc zs (fs ++ gs)) (sym (next_take doc i d c.index-document-index.is c.loop-index-test.true))
-      (unused_next doc (take i doc) fs u c.in_ok-reached.reached c.in_ok-reached.ensures d gs (i, c.loop-index-test.true, sym c.index-document-index.is) adds),
+          (unused_next doc (take i doc) fs u c.in_ok-reached.reached c.in_ok-reached.ensures d gs (i, c.loop-index-test.true, sym c.index-document-index.is) adds),
       told_more fs gs c.args.ctx.now c.loop-index.ctx c.report_if_unused.new.ctx told more,
     )
