@@ -1,7 +1,6 @@
 -- Fragments that no operation reaches, definition by definition.
-use Rattle.std.proofs.Common.{◌≡◌, ℕ, ◌<◌, List, [], ◌∷◌, ◌++◌, length, map, refl, sym, subst, ap, arith, inl, inr, ◌⊎◌, ◌↔◌, Some, slice_get, ◌∙◌, append_assoc, Bool, true, false}
+use Rattle.std.proofs.Common.{◌≡◌, ℕ, List, [], ◌∷◌, ◌++◌, map, refl, sym, subst, ap, arith, inl, inr, ◌⊎◌, Some, slice_get, ◌∙◌, append_assoc, Bool, true, false}
 use Rattle.std.specs.List.{Contains}
-use Rattle.std.proofs.lemmas.Option.{slice_get_within}
 use Rattle.std.proofs.lemmas.List.{append-nil, map-append}
 use Rattle.std.proofs.lemmas.List.Elements.{Contains-append_left, Contains-push, Contains-push_cases}
 use Rattle.language.specs.declared.tree.Definition.{Definition}
@@ -9,10 +8,10 @@ use Rattle.language.specs.declared.tree.Definition.TheVariants as definition
 use Rattle.fragment_cycles.specs.Numbers.{Defines}
 use Rattle.fragment_cycles.proofs.Lists.{none_some, get_snoc, contains_at}
 use Rattle.reachability.specs.Reach.{IsReached}
-use Rattle.reachability.specs.ReachedFragments.{IsNameMarked, ReachedOf}
+use Rattle.reachability.specs.ReachedFragments.{ReachedOf}
 use Rattle.reachability.specs.declared.reached.ReachedFragments.{ReachedFragments}
 use Rattle.walk.specs.ContextState.{ContextState, with_errors}
-use Rattle.reach.specs.NoUnusedFragments.{NameAndSpan, unused_error, name_and_span, IsSame, Stands, UnusedAmong, AddsFragment, AddsUnused}
+use Rattle.reach.specs.NoUnusedFragments.{NameAndSpan, unused_error, name_and_span, IsSame, Stands, UnusedAmong, AddsUnused}
 
 once_push : (fs : List NameAndSpan) (p : NameAndSpan) → ((i j : ℕ) (q : NameAndSpan) → slice_get fs i ≡ Some q → slice_get fs j ≡ Some q → i ≡ j) → (Contains fs p → ⊥)
     → (i j : ℕ) (q : NameAndSpan) → slice_get (fs ++ p ∷ []) i ≡ Some q → slice_get (fs ++ p ∷ []) j ≡ Some q → i ≡ j

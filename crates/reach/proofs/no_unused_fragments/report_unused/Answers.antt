@@ -1,4 +1,4 @@
-use Rattle.std.proofs.Common.{◌≡◌, [], ◌++◌, sym, subst, take}
+use Rattle.std.proofs.Common.{[], ◌++◌, sym, subst, take}
 use Rattle.fragment_cycles.proofs.Joining.{next_take}
 use Rattle.reach.specs.NoUnusedFragments.{UnusedAmong}
 use Rattle.reach.proofs.Unused.{unused_next, unused_none, told_more, told_nothing}

@@ -1,6 +1,5 @@
 use Rattle.std.proofs.Common.{◌≡◌, List, map, take}
 use Rattle.walk.specs.ContextState.{with_errors}
-use Rattle.reachability.specs.ReachedFragments.{ReachedOf}
 use Rattle.reach.specs.NoUnusedFragments.{NameAndSpan, UnusedAmong, unused_error}
 use Rattle.reach.proofs.no_unused_fragments.report_unused.Given as goal
 

@@ -1,4 +1,4 @@
-use Rattle.std.proofs.Common.{◌≡◌, inl, inr, refl, sym, subst, take}
+use Rattle.std.proofs.Common.{inl, inr, refl, sym, subst, take}
 use Rattle.std.proofs.lemmas.List.{take_all}
 use Rattle.fragment_cycles.proofs.Joining.{next_take}
 use Rattle.reach.specs.NoUnusedFragments.{name_and_span, Stands}
