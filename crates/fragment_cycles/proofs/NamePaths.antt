@@ -22,13 +22,13 @@ use Rattle.fragment_cycles.proofs.Lists.{same_some, none_some, contains_at, cont
 use Rattle.fragment_cycles.proofs.Numbering.{below, named, single}
 use Rattle.fragment_cycles.proofs.Judge.{inside, starts_inside, below_length}
 
-split_get : {X : Type 0} (xs ys : List X) (k : ℕ) (y : X) → slice_get (xs ++ ys) k ≡ Some y
+pub split_get : {X : Type 0} (xs ys : List X) (k : ℕ) (y : X) → slice_get (xs ++ ys) k ≡ Some y
     → ((i : ℕ) × (slice_get xs i ≡ Some y)) ⊎ ((i : ℕ) × (slice_get ys i ≡ Some y))
 split_get [] ys k y h = inr (k, h)
 split_get (x ∷ xs) ys zero y h = inl (0, h)
 split_get (x ∷ xs) ys (suc k) y h = elim (split_get xs ys k y h) [ inl a ↦ inl (suc a.0, a.1) | inr b ↦ inr b ]
 
-flat_get : {X Y : Type 0} (f : X → List Y) (xs : List X) (k : ℕ) (y : Y) → slice_get (flat_map f xs) k ≡ Some y
+pub flat_get : {X Y : Type 0} (f : X → List Y) (xs : List X) (k : ℕ) (y : Y) → slice_get (flat_map f xs) k ≡ Some y
     → (x : X) × ((i : ℕ) × (slice_get xs i ≡ Some x)) × ((j : ℕ) × (slice_get (f x) j ≡ Some y))
 flat_get f [] k y h = absurd (none_some y h)
 flat_get f (x ∷ xs) k y h = elim (split_get (f x) (flat_map f xs) k y h) [
@@ -36,12 +36,12 @@ flat_get f (x ∷ xs) k y h = elim (split_get (f x) (flat_map f xs) k y h) [
   | inr b ↦ let r = flat_get f xs b.0 y b.1 in (r.0, (suc r.1.0, r.1.1), r.2)
 ]
 
-map_get : {X Y : Type 0} (f : X → Y) (xs : List X) (k : ℕ) (y : Y) → slice_get (map f xs) k ≡ Some y → (x : X) × (slice_get xs k ≡ Some x) × (f x ≡ y)
+pub map_get : {X Y : Type 0} (f : X → Y) (xs : List X) (k : ℕ) (y : Y) → slice_get (map f xs) k ≡ Some y → (x : X) × (slice_get xs k ≡ Some x) × (f x ≡ y)
 map_get f [] k y h = absurd (none_some y h)
 map_get f (x ∷ xs) zero y h = (x, refl, same_some (f x) y h)
 map_get f (x ∷ xs) (suc k) y h = map_get f xs k y h
 
-get_map : {X Y : Type 0} (f : X → Y) (xs : List X) (k : ℕ) (x : X) → slice_get xs k ≡ Some x → slice_get (map f xs) k ≡ Some (f x)
+pub get_map : {X Y : Type 0} (f : X → Y) (xs : List X) (k : ℕ) (x : X) → slice_get xs k ≡ Some x → slice_get (map f xs) k ≡ Some (f x)
 get_map f [] k x h = absurd (none_some x h)
 get_map f (z ∷ xs) zero x h = ap (λ y. Some (f y)) (same_some z x h)
 get_map f (z ∷ xs) (suc k) x h = get_map f xs k x h
@@ -63,14 +63,14 @@ module _ {S : Type 0} where
       (d.0, contains_at document d.1.0 d.0 d.1.1, is_named f d.0 d.2.0 s.0 d.2.1)
 
 module _ {S : Type 0} (document : List (Definition S)) (n : Numbers) (nodes : List Node) (m : NumbersOf document n) (j : Joined n document nodes) where
-  has : (f g : List ℕ) → NameSpreads document f g → HasNumber n f
+  pub has : (f g : List ℕ) → NameSpreads document f g → HasNumber n f
   has f g s = (m.defined f).1 (defines_of document f g s)
 
   starts : {f h : List ℕ} → NamePath document f h → HasNumber n f
   starts {f} (name_step {g = g} s) = has f g s
   starts {f} (name_more {g = g} s p) = has f g s
 
-  edge : (f g : List ℕ) (k l : ℕ) → number_of n f ≡ Some k → number_of n g ≡ Some l → NameSpreads document f g → Spreads nodes k l
+  pub edge : (f g : List ℕ) (k l : ℕ) → number_of n f ≡ Some k → number_of n g ≡ Some l → NameSpreads document f g → Spreads nodes k l
   edge f g k l fk gl s =
       let i = contains_get (spreads_of_name document f) s.0 s.1 in
       let x : Spread = resolved n s.0 in (
@@ -105,7 +105,7 @@ module _ {S : Type 0} (document : List (Definition S)) (n : Numbers) (nodes : Li
   reported_of reports {f} {h} k l fk hl (name_more {g = g} s p) (inr r) = let v = starts p in inr (reported_of reports v.0 l v.1 hl p r)
 
   -- the spread in the document that a spread of a node is
-  origin : (f : List ℕ) (k : ℕ) (x : Spread) → number_of n f ≡ Some k → Contains (spreads_of nodes k) x
+  pub origin : (f : List ℕ) (k : ℕ) (x : Spread) → number_of n f ≡ Some k → Contains (spreads_of nodes k) x
       → (s : PlacedSpread) × Contains (spreads_of_name document f) s × (resolved n s ≡ x)
   origin f k x fk c =
       let i = contains_get (map (resolved n) (spreads_of_name document f)) x (subst (λ (zs : List Spread). Contains zs x) (j.joined f k fk) c) in
@@ -113,7 +113,7 @@ module _ {S : Type 0} (document : List (Definition S)) (n : Numbers) (nodes : Li
       (s.0, contains_at (spreads_of_name document f) i.0 s.0 s.1, s.2)
 
   -- what a name was resolved to
-  target : (o : Option ℕ) (v : ℕ) → unwrap_or o (length (names_of n)) ≡ v → (o ≡ Some v) ⊎ (length (names_of n) ≡ v)
+  pub target : (o : Option ℕ) (v : ℕ) → unwrap_or o (length (names_of n)) ≡ v → (o ≡ Some v) ⊎ (length (names_of n) ≡ v)
   target None v h = inr h
   target (Some u) v h = inl (ap Some h)
 
@@ -146,7 +146,7 @@ module _ {S : Type 0} (document : List (Definition S)) (n : Numbers) (nodes : Li
         ]
       ]
 
-  name_of : (k : ℕ) → (length nodes ≤ k → ⊥) → (f : List ℕ) × (number_of n f ≡ Some k)
+  pub name_of : (k : ℕ) → (length nodes ≤ k → ⊥) → (f : List ℕ) × (number_of n f ≡ Some k)
   name_of k h = let sized = j.sized in named n m.numbered k (let low = below_length (length nodes) k h in omega (arith, sized, low))
 
   true_of : (r : Report) → IsTrueReport nodes r → IsTrueOf document (told n r)

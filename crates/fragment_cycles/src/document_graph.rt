@@ -28,9 +28,9 @@ fn resolve<S>(numbers: &Numbers<'_>, spread: &Spanning<FragmentSpread<'_, S>>) -
     }
 }
 
-// Adds the spreads of a selection set, at any depth.
+/// Adds the spreads of a selection set, at any depth.
 #[cycle(spreads)]
-fn add_spreads<S>(
+pub fn add_spreads<S>(
     numbers: &Numbers<'_>,
     set: &[Selection<'_, S>],
     found: &mut Vec<Spread>,

@@ -1,3 +1,4 @@
 pub mod AtDocument
 pub mod AtDocumentLaws
 pub mod NoFragmentCycles
+pub mod NoUnusedFragments

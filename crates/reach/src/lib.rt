@@ -3,3 +3,4 @@
 
 pub mod laws;
 pub mod no_fragment_cycles;
+pub mod no_unused_fragments;
