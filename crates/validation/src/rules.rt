@@ -30,13 +30,13 @@ pub use fragment_rules::{
 };
 use language::error::OutOfMemory;
 use language::tree::Definition;
-use meta::check::CheckedScalar;
 use literal_rules::arguments_of_correct_type::ArgumentsOfCorrectType;
 use literal_rules::default_values_of_correct_type::DefaultValuesOfCorrectType;
+pub use literal_rules::{arguments_of_correct_type, default_values_of_correct_type};
+use meta::check::CheckedScalar;
 use operation_rules::lone_anonymous_operation::LoneAnonymousOperation;
 use operation_rules::unique_operation_names::UniqueOperationNames;
 use operation_rules::unique_variable_names::UniqueVariableNames;
-pub use literal_rules::{arguments_of_correct_type, default_values_of_correct_type};
 pub use operation_rules::{
     lone_anonymous_operation, unique_operation_names, unique_variable_names,
     variables_are_input_types,
@@ -88,7 +88,10 @@ type OfFragments<'a> = MultiVisitorCons<
     >,
 >;
 
-type OfValues = MultiVisitorCons<DefaultValuesOfCorrectType, MultiVisitorCons<ArgumentsOfCorrectType, MultiVisitorNil>>;
+type OfValues = MultiVisitorCons<
+    DefaultValuesOfCorrectType,
+    MultiVisitorCons<ArgumentsOfCorrectType, MultiVisitorNil>,
+>;
 
 // The rules on operations and their variables.
 fn of_operations<'a>(alloc: Global) -> OfOperations<'a>

@@ -150,7 +150,8 @@ fn a_root_node_allows_introspection_or_forbids_it(rt: HostRuntime) -> Result<(),
     let alloc = rt.alloc();
     let text = "{ __schema { queryType { name } } dog { ...A } }";
     let unknown = "Unknown fragment: \"A\". At 0:43\n";
-    let closed = "GraphQL introspection is not allowed, but the operation contained `__schema`. At 0:2\nUnknown fragment: \"A\". At 0:43\n";
+    let closed =
+        "GraphQL introspection is not allowed, but the operation contained `__schema`. At 0:2\nUnknown fragment: \"A\". At 0:43\n";
     let root = RootNode::new(pets_schema(alloc, check_int, refuse_token)?);
     assert_eq!(rt; validated(alloc, &root, text)?.as_str(), unknown);
     let root = root.disable_introspection();

@@ -2,8 +2,8 @@
 ghost use Rattle.std.specs.Prelude.{◌≡◌};
 ghost use Rattle.meta.specs.Answers.{SameAnswer};
 
-use crate::sample_schemas::demo_schema;
 use crate::linter::{try_spreads, try_spreads_and_operations};
+use crate::sample_schemas::demo_schema;
 use language::error::OutOfMemory;
 use meta::default_check::{InputValueParseFn, ScalarTokenParseFn};
 use samples::checks::{check_string, refuse_token};
