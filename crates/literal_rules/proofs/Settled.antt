@@ -1,5 +1,5 @@
 -- Where nothing may be reported, nothing else may.
-use Rattle.std.proofs.Common.{◌≡◌, ℕ, List, [], ◌∷◌, Bool, true, false, Option, Some, None, ap, sym, ◌∙◌}
+use Rattle.std.proofs.Common.{◌≡◌, ℕ, List, [], Bool, true, false, Option, Some, None, ap, sym, ◌∙◌}
 use Rattle.language.specs.declared.value.InputValue.{InputValue}
 use Rattle.language.specs.Types.{TypeShape, shape}
 use Rattle.meta.specs.Answers.{Answers}

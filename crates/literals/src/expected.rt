@@ -18,21 +18,21 @@ use std::fmt;
 /// A type that a value is held against: one that was made, or metadata with the modifiers that a
 /// schema writes round it. Nothing is copied.
 #[derive_where(Clone, Copy)]
-pub enum Expected<'a, S, C> {
-    Made(&'a TypeTypeOf<'a, S, C>),
+pub enum Expected<'t, 'a, S, C> {
+    Made(&'t TypeTypeOf<'a, S, C>),
     Written(&'a MetaTypeOf<S, C>, &'a [TypeModifier]),
 }
 
 /// What is outermost in a type.
 #[derive_where(Clone, Copy)]
-pub enum Layer<'a, S, C> {
+pub enum Layer<'t, 'a, S, C> {
     Plain(&'a MetaTypeOf<S, C>),
-    NonNull(Expected<'a, S, C>),
-    List(Expected<'a, S, C>, Option<usize>),
+    NonNull(Expected<'t, 'a, S, C>),
+    List(Expected<'t, 'a, S, C>, Option<usize>),
 }
 
-impl<'a, S, C> Expected<'a, S, C> {
-    pub fn layer(self) -> Layer<'a, S, C>
+impl<'t, 'a, S, C> Expected<'t, 'a, S, C> {
+    pub fn layer(self) -> Layer<'t, 'a, S, C>
         ensures { IsLayerOf result (expected_type self.entry) }
     {
         match self {
@@ -56,10 +56,10 @@ impl<'a, S, C> Expected<'a, S, C> {
 }
 
 /// The type of an input field.
-pub fn type_of_field<'a, S, C>(
+pub fn type_of_field<'t, 'a, S, C>(
     schema: &'a SchemaTypeOf<S, C>,
     field: &'a Argument<S>,
-) -> Expected<'a, S, C>
+) -> Expected<'t, 'a, S, C>
     requires { is_listed schema.now.types (argument_type field.now) ≡ true }
     ensures made { IsTypeOf schema.now (shape field.now.arg_type) (expected_type result) }
     ensures known { IsInSchema schema.now (expected_type result) }
@@ -71,10 +71,10 @@ pub fn type_of_field<'a, S, C>(
 }
 
 /// The type of the schema that a type names, where there is one.
-pub fn type_written<'a, S, C>(
+pub fn type_written<'t, 'a, S, C>(
     schema: &'a SchemaTypeOf<S, C>,
     written: BorrowedType<'a>,
-) -> Option<Expected<'a, S, C>>
+) -> Option<Expected<'t, 'a, S, C>>
     ensures made { option_map expected_type result ≡ written_type schema.now (borrowed_shape written.entry) }
     ensures known { IfSome result (λ expected. IsInSchema schema.now (expected_type expected)) }
 {
@@ -92,7 +92,7 @@ pub fn name_text<S, C>(meta: &MetaTypeOf<S, C>) -> &str
 }
 
 /// `Name`, `T!` and `[T]`.
-impl<S, C> fmt::Display for Expected<'_, S, C> {
+impl<S, C> fmt::Display for Expected<'_, '_, S, C> {
     ghost output = { λ t. Some (printed_type (expected_type t)) };
 
     fn fmt<W: fmt::Write>(&self, f: &mut fmt::Formatter<W>) -> fmt::Result {

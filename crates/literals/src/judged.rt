@@ -31,7 +31,7 @@ use std::alloc::Global;
 pub fn validate_literal_value<'a, S: CheckedScalar>(
     alloc: Global,
     schema: &'a SchemaType<S>,
-    arg_type: &'a TypeType<'a, S>,
+    arg_type: &TypeType<'a, S>,
     value: &InputValue<S>,
 ) -> Result<Option<String>, OutOfMemory>
     requires known { IsInSchema schema.now (wrapped_of arg_type.now) }
@@ -42,10 +42,10 @@ pub fn validate_literal_value<'a, S: CheckedScalar>(
 }
 
 #[cycle(fault_of)]
-pub fn fault_of<'a, S: CheckedScalar>(
+pub fn fault_of<'t, 'a, S: CheckedScalar>(
     alloc: Global,
     schema: &'a SchemaType<S>,
-    expected: Expected<'a, S, S::Check>,
+    expected: Expected<'t, 'a, S, S::Check>,
     value: &InputValue<S>,
 ) -> Result<Option<String>, OutOfMemory>
     requires known { IsInSchema schema.now (expected_type expected) }
@@ -72,10 +72,10 @@ pub fn fault_of<'a, S: CheckedScalar>(
 
 // The fault of the first faulty item of a list.
 #[cycle(fault_of)]
-fn fault_of_items<'a, S: CheckedScalar>(
+fn fault_of_items<'t, 'a, S: CheckedScalar>(
     alloc: Global,
     schema: &'a SchemaType<S>,
-    inner: Expected<'a, S, S::Check>,
+    inner: Expected<'t, 'a, S, S::Check>,
     items: &[Spanning<InputValue<S>>],
 ) -> Result<Option<String>, OutOfMemory>
     requires known { IsInSchema schema.now (expected_type inner) }

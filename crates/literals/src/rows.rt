@@ -15,14 +15,14 @@ use meta::kinds::MetaTypeOf;
 
 /// What a type has against a value that stands under all its modifiers.
 #[derive_where(Clone, Copy)]
-pub enum Row<'a, S, C> {
+pub enum Row<'t, 'a, S, C> {
     Conforms,
     /// A null, where this type is never null.
-    Null(Expected<'a, S, C>),
+    Null(Expected<'t, 'a, S, C>),
     /// A list of another length than the one that is expected.
     Length(usize, usize),
     /// A list, whose items have this type.
-    Items(Expected<'a, S, C>),
+    Items(Expected<'t, 'a, S, C>),
     /// A value of a plain type.
     Plain(&'a MetaTypeOf<S, C>),
 }
@@ -58,10 +58,10 @@ fn length_expected(size: Option<usize>, found: usize) -> Option<usize>
 }
 
 /// The case of the value and the type.
-pub fn row_of<'a, S: CheckedScalar>(
-    expected: Expected<'a, S, S::Check>,
+pub fn row_of<'t, 'a, S: CheckedScalar>(
+    expected: Expected<'t, 'a, S, S::Check>,
     value: &InputValue<S>,
-) -> Row<'a, S, S::Check>
+) -> Row<'t, 'a, S, S::Check>
     ensures row { (schema : Catalog S S.Check) (fault : Option (List ℕ)) → IsRowOf schema S.may_answer (printed_value S.text S.str_of) value.now (expected_type expected.entry) result fault }
     ensures metadata { HasMeta (expected_type expected.entry) result }
     ensures items { IsListRow value.now result }

@@ -11,7 +11,7 @@ use language::value::InputValue;
 use meta::kinds::MetaTypeOf;
 use std::alloc::{AllocError, Global};
 
-pub fn null_fault<S, C>(alloc: Global, at: Expected<'_, S, C>) -> Result<String, AllocError>
+pub fn null_fault<S, C>(alloc: Global, at: Expected<'_, '_, S, C>) -> Result<String, AllocError>
     ensures { IfOk result (λ t. string_bytes t ≡ null_text (printed_type (expected_type at.entry))) }
 {
     format!(in alloc; "\"null\" specified for not nullable type \"{at}\"")
