@@ -1,8 +1,7 @@
 //! Rules that are tried alone on a text.
 
 use crate::sample_schemas::pets_schema;
-use document_reader::error::ReadError;
-use document_reader::read_document;
+use document_reader::{ReadError, read_document};
 use samples::checks::{check_int, refuse_token};
 use std::alloc::Global;
 use std::test::Fail;

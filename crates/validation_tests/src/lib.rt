@@ -1,5 +1,5 @@
-//! The rows of the rules, over trees that are built in code and the list `demo`; rules that are tried alone, root nodes, and a
-//! linter.
+//! The rows of the rules, over trees that are built in code and the list `demo`; rules that are tried alone, root nodes, values
+//! against types with sizes, and a linter.
 #![tactic(auto)]
 
 #[cfg(test)]
@@ -9,3 +9,5 @@ pub mod linter;
 mod rows;
 #[cfg(test)]
 mod sample_schemas;
+#[cfg(test)]
+mod sized_types;

@@ -1,0 +1,114 @@
+//! Values against types with an expected size, which no document writes.
+
+use crate::sample_schemas::pets_schema;
+use samples::checks::{check_int, refuse_token};
+use std::alloc::Global;
+use std::test::Fail;
+use validation::parser::{SourcePosition, Span, Spanning};
+use validation::{
+    DefaultScalarValue, InputValue, OutOfMemory, SchemaType, Type, validate_literal_value,
+};
+
+type Value = InputValue<DefaultScalarValue>;
+
+/// A value.
+#[derive(Clone, Copy)]
+enum Given {
+    Null,
+    Five,
+    ListOfOne,
+    ListOfTwo,
+}
+
+/// Whether the type is `[Int]` of size 2 or `Int!`, a value, and its fault.
+const ROWS: [(bool, Given, &str); 6] = [
+    (
+        true,
+        Given::ListOfOne,
+        "Expected list of length 2, but \"[1]\" has length 1",
+    ),
+    (
+        true,
+        Given::Five,
+        "Expected list of length 2, but \"5\" has length 1",
+    ),
+    (true, Given::Null, "none"),
+    (true, Given::ListOfTwo, "none"),
+    (
+        false,
+        Given::Null,
+        "\"null\" specified for not nullable type \"Int!\"",
+    ),
+    (false, Given::Five, "none"),
+];
+
+fn item(n: i32) -> Spanning<Value> {
+    let place = SourcePosition::new(0, 0, 0);
+    Spanning {
+        item: int(n),
+        span: Span {
+            start: place,
+            end: place,
+        },
+    }
+}
+
+fn int(n: i32) -> Value {
+    InputValue::Scalar(DefaultScalarValue::Int(n))
+}
+
+fn value(alloc: Global, given: Given) -> Result<Value, OutOfMemory> {
+    match given {
+        Given::Null => Ok(InputValue::Null),
+        Given::Five => Ok(int(5)),
+        Given::ListOfOne => Ok(InputValue::List(vec![in alloc; item(1)]?)),
+        Given::ListOfTwo => Ok(InputValue::List(vec![in alloc; item(1), item(2)]?)),
+    }
+}
+
+fn wanted(alloc: Global, sized: bool) -> Result<Type, OutOfMemory> {
+    if sized {
+        Ok(Type::nullable(alloc, "Int")?.wrap_list(Some(2))?)
+    } else {
+        Ok(Type::non_null(alloc, "Int")?)
+    }
+}
+
+// The fault of a value against a type of the schema.
+fn fault_of(
+    alloc: Global,
+    schema: &SchemaType<DefaultScalarValue>,
+    wanted: &Type,
+    value: &Value,
+) -> Result<String, OutOfMemory> {
+    let named = wanted.as_borrowed();
+    if !schema.is_known(named.innermost_name()) {
+        return Ok(String::from_str(alloc, "unknown type")?);
+    }
+    let made = schema.make_type(alloc, named)?;
+    match validate_literal_value(alloc, schema, &made, value)? {
+        Some(fault) => Ok(fault),
+        None => Ok(String::from_str(alloc, "none")?),
+    }
+}
+
+fn said(
+    alloc: Global,
+    schema: &SchemaType<DefaultScalarValue>,
+    sized: bool,
+    given: Given,
+) -> Result<String, OutOfMemory> {
+    let wanted = wanted(alloc, sized)?;
+    let value = value(alloc, given)?;
+    fault_of(alloc, schema, &wanted, &value)
+}
+
+#[test]
+fn values_against_types_with_sizes(rt: HostRuntime) -> Result<(), Fail> {
+    let alloc = rt.alloc();
+    let schema = pets_schema(alloc, check_int, refuse_token)?;
+    for (sized, given, want) in ROWS {
+        assert_eq!(rt; said(alloc, &schema, sized, given)?.as_str(), want);
+    }
+    Ok(())
+}
