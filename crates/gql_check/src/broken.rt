@@ -148,18 +148,36 @@ fn a_failed_line_of_faults_ends_with_5(rt: HostRuntime) -> Result<(), Fail> {
     Ok(())
 }
 
-/// Run with each request for memory refused in turn, the program answers as the row says, or with status 3.
-#[test]
-fn a_refused_request_is_told(rt: HostRuntime) {
-    let alloc = rt.alloc();
+/// Documents with faults of several kinds, and what is told of each.
+const REFUSED: [(&[u8], &str); 4] = [
+    (
+        b"query Q { dog { ...A } } query Q { dog { name } }",
+        "There can only be one operation named Q. At 0:0, 0:25\nUnknown fragment: \"A\". At 0:19\ncompared 0\n",
+    ),
+    (
+        b"{ dog { name(surname: true, surname: 1) } }",
+        "There can only be one argument named \"surname\". At 0:13, 0:28\nInvalid value for argument \"surname\", reason: Invalid value \"1\" for type \"Boolean\". At 0:37\ncompared 0\n",
+    ),
+    (
+        b"{ dog { ...F } } fragment F on Int { x }",
+        "Fragment \"F\" cannot be spread here as objects of type \"Dog\" can never be of type \"Int\". At 0:8\nFragment \"F\" cannot condition non composite type \"Int. At 0:31\nUnknown field \"x\" on type \"Int\". At 0:37\ncompared 0\n",
+    ),
+    (
+        b"{ complicatedArgs { pairArgField(pairArg: {}) } }",
+        "Invalid value for argument \"pairArg\", reason: \"PairInput\" is missing fields: \"b\", \"a\". At 0:42\ncompared 0\n",
+    ),
+];
+
+/// Whether the program tells of a text what is wanted, or that memory was refused.
+fn is_told_or_refused(alloc: Global, text: &[u8], wanted: &str) -> bool {
     let (Ok(words), Ok(mut output), Ok(mut faults)) = (
         one_word(alloc, "pets"),
-        Vec::with_capacity(alloc, 200),
+        Vec::with_capacity(alloc, 400),
         Vec::with_capacity(alloc, 200),
     ) else {
-        return;
+        return true;
     };
-    let mut input = b"query Q { dog { ...A } } query Q { dog { name } }".as_slice();
+    let mut input = text;
     let status = run(
         alloc,
         words.as_slice(),
@@ -168,13 +186,16 @@ fn a_refused_request_is_told(rt: HostRuntime) {
         &mut faults,
     );
     if status == 3 {
-        assert!(rt; output.is_empty());
-        assert_eq!(rt; faults.as_slice(), NO_MEMORY.as_bytes());
-    } else {
-        assert_eq!(rt; status, 1);
-        let text =
-            "There can only be one operation named Q. At 0:0, 0:25\nUnknown fragment: \"A\". At 0:19\ncompared 0\n";
-        assert_eq!(rt; output.as_slice(), text.as_bytes());
-        assert!(rt; faults.is_empty());
+        return output.is_empty() && faults.as_slice() == NO_MEMORY.as_bytes();
+    }
+    status == 1 && output.as_slice() == wanted.as_bytes() && faults.is_empty()
+}
+
+/// Run with each request for memory refused in turn, the program answers as the row says, or with status 3.
+#[test]
+fn a_refused_request_is_told(rt: HostRuntime) {
+    let alloc = rt.alloc();
+    for (text, wanted) in REFUSED {
+        assert!(rt; is_told_or_refused(alloc, text, wanted));
     }
 }
