@@ -1,5 +1,5 @@
 -- A report that is written.
-use Rattle.std.proofs.Common.{◌≡◌, ◌∙◌, ℕ, List, Option, subst, ap, if◌then◌else◌, string_bytes}
+use Rattle.std.proofs.Common.{◌≡◌, ◌∙◌, ℕ, List, Option, IsPermutation, subst, sym, ap, if◌then◌else◌, string_bytes}
 use Rattle.std.specs.Io.KnownBytes.{Appends}
 use Rattle.gql_check.specs.Report.{TellsReport}
 use Rattle.gql_check.specs.Told.{IsReport}
@@ -14,3 +14,7 @@ tells report old new status is written value = record {
   written = subst (Appends old new) is.text written;
   status_is = value ∙ ap (λ b. if b then 0 else 1) is.is_clean;
 }
+
+-- the same list, where it is seen otherwise
+pub permuted_as : {X : Type 0} (xs ys zs : List X) → IsPermutation xs ys → zs ≡ ys → IsPermutation xs zs
+permuted_as xs ys zs p e = subst (λ l. IsPermutation xs l) (sym e) p

@@ -5,6 +5,7 @@
 #[cfg(test)]
 mod alone;
 pub mod linter;
+pub mod made_types;
 #[cfg(test)]
 mod rows;
 #[cfg(test)]

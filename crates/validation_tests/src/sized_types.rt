@@ -1,13 +1,12 @@
 //! Values against types with an expected size, which no document writes.
 
+use crate::made_types::fault_of;
 use crate::sample_schemas::pets_schema;
 use samples::checks::{check_int, refuse_token};
 use std::alloc::Global;
 use std::test::Fail;
 use validation::parser::{SourcePosition, Span, Spanning};
-use validation::{
-    DefaultScalarValue, InputValue, OutOfMemory, SchemaType, Type, validate_literal_value,
-};
+use validation::{DefaultScalarValue, InputValue, OutOfMemory, SchemaType, Type};
 
 type Value = InputValue<DefaultScalarValue>;
 
@@ -71,24 +70,6 @@ fn wanted(alloc: Global, sized: bool) -> Result<Type, OutOfMemory> {
         Ok(Type::nullable(alloc, "Int")?.wrap_list(Some(2))?)
     } else {
         Ok(Type::non_null(alloc, "Int")?)
-    }
-}
-
-// The fault of a value against a type of the schema.
-fn fault_of(
-    alloc: Global,
-    schema: &SchemaType<DefaultScalarValue>,
-    wanted: &Type,
-    value: &Value,
-) -> Result<String, OutOfMemory> {
-    let named = wanted.as_borrowed();
-    if !schema.is_known(named.innermost_name()) {
-        return Ok(String::from_str(alloc, "unknown type")?);
-    }
-    let made = schema.make_type(alloc, named)?;
-    match validate_literal_value(alloc, schema, &made, value)? {
-        Some(fault) => Ok(fault),
-        None => Ok(String::from_str(alloc, "none")?),
     }
 }
 

@@ -1,6 +1,6 @@
 use Rattle.std.proofs.Common.{sym, subst, IsSorted}
 use Rattle.validation.proofs.Reports.{told_all}
-use Rattle.validation.specs.RootRules.{root_reported, root_rules}
+use Rattle.gql_check.proofs.Reports.{permuted_as}
 use Rattle.walk.specs.ErrorValue.{error_cmp}
 use Rattle.gql_check.proofs.report.Report.on.Goals as goal
 
@@ -14,6 +14,6 @@ returns g c = record {
     text = c.in_ok-report.ensures.text;
     is_clean = c.in_ok-report.ensures.is_clean;
   };
-  all = subst (root_reported c.args.closed c.args.schema.now c.args.document.now) (sym c.as_slice.ensures.value) (told_all (root_rules c.args.closed) c.args.document.now _ c.args.schema.now _ _ _ c.in_ok-ctx.ensures c.in_ok-compared.ensures.appended c.in_ok-errors.ensures.all);
+  all = told_all _ c.args.document.now _ c.args.schema.now _ _ _ c.in_ok-ctx.ensures c.in_ok-compared.ensures.appended (permuted_as _ _ _ c.in_ok-errors.ensures.all c.as_slice.ensures.value);
   compared = c.in_ok-compared.ensures.compared;
 }
