@@ -11,7 +11,7 @@ use schema::model::SchemaTypeOf;
 use std::alloc::Global;
 use std::collections::BTreeMap;
 
-/// For each name of a fragment the type of its condition: of the last definition of the name whose condition is known.
+/// The type that a fragment of each name is on. Where several have the name, the last one counts whose condition is a known type.
 #[derive(Drop)]
 pub(crate) struct Conditions<'a, S, C> {
     types: BTreeMap<&'a str, &'a MetaTypeOf<S, C>>,
