@@ -11,8 +11,8 @@ use validation::rules::{
     variables_are_input_types,
 };
 use validation::{
-    DefaultScalarValue, MultiVisitorNil, OutOfMemory, RootNode, RuleError, SchemaType,
-    ValidatorContext, Visitor, visit,
+    CheckedScalar, DefaultScalarValue, MultiVisitorNil, OutOfMemory, RootNode, RuleError,
+    SchemaType, ValidatorContext, visit,
 };
 
 /// A rule.
@@ -62,17 +62,31 @@ fn lines(alloc: Global, errors: Vec<RuleError>) -> Result<String, OutOfMemory> {
     Ok(told)
 }
 
-// What a visitor says of a document.
-fn told_by<'a, V: Visitor<'a, DefaultScalarValue> + Drop>(
-    alloc: Global,
-    rule: V,
-    schema: &'a SchemaType<DefaultScalarValue>,
-    document: &'a [Definition<'_, DefaultScalarValue>],
-) -> Result<String, OutOfMemory> {
-    let mut ctx = ValidatorContext::new(alloc, schema, document)?;
-    let mut rules = MultiVisitorNil.with(rule);
-    visit(&mut rules, &mut ctx, document)?;
-    lines(alloc, ctx.into_errors()?)
+// Walks over a document with a rule alone.
+fn tried<'a, S: CheckedScalar>(
+    rule: Alone,
+    ctx: &mut ValidatorContext<'a, S>,
+    document: &'a [Definition<'_, S>],
+) -> Result<(), OutOfMemory> {
+    let alloc = ctx.allocator();
+    match rule {
+        Alone::KnownDirectives => {
+            let mut rules = MultiVisitorNil.with(known_directives::factory(alloc));
+            visit(&mut rules, ctx, document)
+        }
+        Alone::VariablesAreInputTypes => {
+            let mut rules = MultiVisitorNil.with(variables_are_input_types::factory(alloc));
+            visit(&mut rules, ctx, document)
+        }
+        Alone::DisableIntrospection => {
+            let mut rules = MultiVisitorNil.with(disable_introspection::factory(alloc));
+            visit(&mut rules, ctx, document)
+        }
+        Alone::DefaultValuesOfCorrectType => {
+            let mut rules = MultiVisitorNil.with(default_values_of_correct_type::factory(alloc));
+            visit(&mut rules, ctx, document)
+        }
+    }
 }
 
 fn told<'a>(
@@ -81,29 +95,9 @@ fn told<'a>(
     schema: &'a SchemaType<DefaultScalarValue>,
     document: &'a [Definition<'_, DefaultScalarValue>],
 ) -> Result<String, OutOfMemory> {
-    match rule {
-        Alone::KnownDirectives => {
-            told_by(alloc, known_directives::factory(alloc), schema, document)
-        }
-        Alone::VariablesAreInputTypes => told_by(
-            alloc,
-            variables_are_input_types::factory(alloc),
-            schema,
-            document,
-        ),
-        Alone::DisableIntrospection => told_by(
-            alloc,
-            disable_introspection::factory(alloc),
-            schema,
-            document,
-        ),
-        Alone::DefaultValuesOfCorrectType => told_by(
-            alloc,
-            default_values_of_correct_type::factory(alloc),
-            schema,
-            document,
-        ),
-    }
+    let mut ctx = ValidatorContext::new(alloc, schema, document)?;
+    tried(rule, &mut ctx, document)?;
+    lines(alloc, ctx.into_errors()?)
 }
 
 // What a rule says of a text.
