@@ -1,13 +1,19 @@
 -- Fragments that no operation reaches.
-use Rattle.std.specs.Prelude.{◌≡◌, ◌⊎◌, ◌↔◌, ℕ, List, [], ◌∷◌, ◌++◌, Some, codes, map, slice_get}
+use Rattle.std.specs.Prelude.{◌≡◌, ◌⊎◌, ◌↔◌, ℕ, List, [], ◌∷◌, ◌++◌, Some, codes, map, slice_get, IsTrue}
+use denote.Ref.{Bor}
+use Rattle.std.specs.BTreeSet.{BTreeSet, contains_by}
+use Rattle.std.specs.Cmp.Lexicographic.{slice_cmp}
 use Rattle.std.specs.List.{Contains}
+use Rattle.std.specs.Ordering.{nat_cmp, on, then_cmp}
+use Rattle.std.specs.declared.cmp.Ordering.{Ordering}
+use Rattle.language.specs.declared.position.SourcePosition.{SourcePosition}
 use Rattle.language.specs.declared.position.Span.{Span}
 use Rattle.language.specs.declared.tree.Definition.{Definition}
 use Rattle.language.specs.declared.tree.Definition.TheVariants as definition
 use Rattle.language.specs.declared.tree.Fragment.{Fragment}
 use Rattle.events.specs.Node.{Placed}
 use Rattle.walk.specs.ContextState.{DocumentScope}
-use Rattle.walk.specs.ErrorValue.{ErrorValue}
+use Rattle.walk.specs.ErrorValue.{ErrorValue, position_cmp}
 use Rattle.reachability.specs.Reach.{IsReached}
 use Rattle.reachability.specs.ReachedFragments.{IsNameMarked}
 use Rattle.reachability.specs.declared.reached.ReachedFragments.{ReachedFragments}
@@ -23,6 +29,17 @@ NameAndSpan = List ℕ × Span
 abbrev pub unused_error : NameAndSpan → ErrorValue
 unused_error p = record { locations = p.1.start ∷ []; message = unused_message p.0 }
 
+-- by name, then by where the definition starts and ends
+abbrev pub name_and_span_cmp : NameAndSpan → NameAndSpan → Ordering
+name_and_span_cmp = then_cmp (then_cmp (on (λ p. p.0) (slice_cmp nat_cmp)) (on (λ p. p.1.start) position_cmp)) (on (λ p. p.1.end) position_cmp)
+
+-- those that were met, as they are kept
+abbrev pub Met : Type 0
+Met = BTreeSet (Bor (List ℕ) × SourcePosition × SourcePosition)
+
+abbrev pub IsMet : Met → NameAndSpan → Type 0
+IsMet met p = IsTrue (contains_by (λ k. name_and_span_cmp p (k.0.now, record { start = k.1; end = k.2 })) met)
+
 module _ {S : Type 0} where
   abbrev pub name_and_span : Placed (Fragment S) → NameAndSpan
   name_and_span f = (f.item.name.item.now, f.span)
@@ -35,19 +52,31 @@ module _ {S : Type 0} where
   abbrev pub Stands : List (Definition S) → NameAndSpan → Type 0
   Stands document p = (d : Definition S) × Contains document d × IsSame d p
 
+  -- there is no fragment that no operation reaches
+  abbrev pub NoneUnused : List (Definition S) → Type 0
+  NoneUnused document = (p : NameAndSpan) → Stands document p → (IsReached document p.0 → ⊥) → ⊥
+
   -- of the fragments among these definitions, each name and span that no operation of the document reaches, once
   pub record UnusedAmong (document definitions : List (Definition S)) (fs : List NameAndSpan) : Type 0 where
     pub once : (i j : ℕ) (p : NameAndSpan) → slice_get fs i ≡ Some p → slice_get fs j ≡ Some p → i ≡ j
     pub are : (p : NameAndSpan) → Contains fs p ↔ (Stands definitions p × (IsReached document p.0 → ⊥))
 
+  -- their errors
+  abbrev pub UnusedErrors : List (Definition S) → List ErrorValue → Type 0
+  UnusedErrors document es = (fs : List NameAndSpan) × UnusedAmong document document fs × (es ≡ map unused_error fs)
+
   abbrev pub unused_errors : {C : Type 0} → DocumentScope S C → List (Definition S) → NoUnusedFragments → List ErrorValue → Type 0
-  unused_errors scope document end es = (fs : List NameAndSpan) × UnusedAmong document document fs × (es ≡ map unused_error fs)
+  unused_errors scope document end es = UnusedErrors document es
 
-  -- a fragment is added where it has no mark and stands nowhere earlier
-  abbrev pub AddsFragment : ReachedFragments → List (Definition S) → NameAndSpan → List NameAndSpan → Type 0
-  AddsFragment r earlier p fs =
-      ((IsNameMarked r p.0 ⊎ Stands earlier p) × (fs ≡ [])) ⊎ ((IsNameMarked r p.0 → ⊥) × (Stands earlier p → ⊥) × (fs ≡ p ∷ []))
+-- they are none just if no fragment is unused
+abbrev pub UnusedAreTold : Type 0 → Type 0
+UnusedAreTold S = (document : List (Definition S)) (es : List ErrorValue) → UnusedErrors document es → (es ≡ []) ↔ NoneUnused document
 
-  abbrev pub AddsUnused : ReachedFragments → List (Definition S) → Definition S → List NameAndSpan → Type 0
-  AddsUnused r earlier (definition.Operation o) fs = fs ≡ []
-  AddsUnused r earlier (definition.Fragment f) fs = AddsFragment r earlier (name_and_span f) fs
+-- a fragment is added where it has no mark and was not met; what is added is met from then on
+pub record AddsFragment (r : ReachedFragments) (old new : Met) (p : NameAndSpan) (fs : List NameAndSpan) : Type 0 where
+  pub met : (q : NameAndSpan) → IsMet new q ↔ (IsMet old q ⊎ Contains fs q)
+  pub added : ((IsNameMarked r p.0 ⊎ IsMet old p) × (fs ≡ [])) ⊎ ((IsNameMarked r p.0 → ⊥) × (IsMet old p → ⊥) × (fs ≡ p ∷ []))
+
+abbrev pub AddsUnused : {S : Type 0} → ReachedFragments → Met → Met → Definition S → List NameAndSpan → Type 0
+AddsUnused r old new (definition.Operation o) fs = (new ≡ old) × (fs ≡ [])
+AddsUnused r old new (definition.Fragment f) fs = AddsFragment r old new (name_and_span f) fs

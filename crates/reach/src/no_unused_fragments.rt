@@ -1,19 +1,20 @@
 //! Each fragment is reached from some operation (GraphQL, section 5.5.1.4).
 
-ghost use Rattle.std.specs.Prelude.{◌≡◌, ◌∷◌, [], ◌↔◌, List, IfOk, IsTrue, OnErr, map, string_bytes};
+ghost use Rattle.std.specs.Prelude.{◌≡◌, ◌∷◌, [], ◌↔◌, ◌⊎◌, List, IfOk, IsTrue, OnOk, OnErr, map, string_bytes};
 ghost use Rattle.walk.specs.ContextState.{with_errors};
 ghost use Rattle.walk.specs.Rule.{any_value};
 ghost use Rattle.walk.specs.Step.{KeepsPlace};
 ghost use Rattle.reach.specs.AtDocument.{document_step, given_at_end};
 ghost use Rattle.reach.specs.AtDocumentLaws.{document_keeps};
-ghost use Rattle.reach.specs.NoUnusedFragments.{name_and_span, unused_error, unused_errors, unused_message, AddsFragment, AddsUnused, IsSame, NameAndSpan, Stands, UnusedAmong};
+ghost use Rattle.reach.specs.NoUnusedFragments.{name_and_span, unused_error, unused_errors, unused_message, AddsFragment, AddsUnused, IsMet, NameAndSpan, UnusedAmong};
 
 use language::error::OutOfMemory;
-use language::position::Spanning;
+use language::position::{SourcePosition, Spanning};
 use language::tree::{Definition, Document, Fragment};
 use meta::check::CheckedScalar;
 use reachability::reached::{ReachedFragments, is_reached, reached_fragments};
 use std::alloc::{AllocError, Global};
+use std::collections::BTreeSet;
 use walk::{Event, Fresh, Machine, Rule, ValidatorContext, Visitor};
 
 /// Reports, where the document ends, each definition of a fragment that no operation reaches, at its start.
@@ -56,33 +57,22 @@ impl<'a, S: CheckedScalar> Visitor<'a, S> for NoUnusedFragments {
     }
 }
 
-// Whether two definitions have one name and one span.
-fn is_same<S>(a: &Spanning<Fragment<'_, S>>, b: &Spanning<Fragment<'_, S>>) -> bool
-    ensures { IsTrue result ↔ (name_and_span a.now ≡ name_and_span b.now) }
-{
-    a.item.name.item == b.item.name.item && a.span == b.span
-}
+// The fragments that were met: of each its name, and where its definition starts and ends.
+//
+// Strangers choose the names, so the set is an ordered one.
+type MetFragments<'a> = BTreeSet<(&'a str, SourcePosition, SourcePosition)>;
 
-// Whether the definition is one of a fragment with the name and the span of this one.
-fn defines_same<S>(definition: &Definition<'_, S>, fragment: &Spanning<Fragment<'_, S>>) -> bool
-    ensures { IsTrue result ↔ IsSame definition.now (name_and_span fragment.now) }
+// Notes that a fragment was met, and answers whether it is the first of its name and span.
+fn meet<'a, S>(
+    met: &mut MetFragments<'a>,
+    fragment: &Spanning<Fragment<'a, S>>,
+) -> Result<bool, OutOfMemory>
+    ensures first { IfOk result (λ first. IsTrue first ↔ (IsMet met.old (name_and_span fragment.now) → ⊥)) }
+    ensures met { OnOk result ((q : NameAndSpan) → IsMet met.new q ↔ (IsMet met.old q ⊎ (name_and_span fragment.now ≡ q))) }
 {
-    match definition {
-        Definition::Fragment(other) => is_same(other, fragment),
-        Definition::Operation(_) => false,
-    }
-}
-
-// Whether one of these has the name and the span of this one.
-fn stands_among<S>(definitions: &[Definition<'_, S>], fragment: &Spanning<Fragment<'_, S>>) -> bool
-    ensures { IsTrue result ↔ Stands definitions.now (name_and_span fragment.now) }
-{
-    for definition in definitions {
-        if defines_same(definition, fragment) {
-            return true;
-        }
-    }
-    false
+    let Spanning { item, span } = fragment;
+    let first = met.insert((item.name.item, span.start, span.end))?;
+    Ok(first)
 }
 
 // Reports a fragment.
@@ -98,52 +88,56 @@ fn report_fragment<'a, S: CheckedScalar>(
     ctx.report_error(message.as_str(), &[fragment.span.start])
 }
 
-// Reports a fragment that is not reached, unless one of its name and span stands earlier.
-fn report_once<'a, S: CheckedScalar>(
+// Reports a fragment that is not reached, the first time that its name and span are met.
+fn report_once<'a, 'd, S: CheckedScalar>(
     alloc: Global,
     ctx: &mut ValidatorContext<'a, S>,
     reached: &ReachedFragments<'_>,
-    earlier: &[Definition<'_, S>],
-    fragment: &Spanning<Fragment<'_, S>>,
+    met: &mut MetFragments<'d>,
+    fragment: &Spanning<Fragment<'d, S>>,
 ) -> Result<(), OutOfMemory>
-    ensures ok { IfOk result (λ _. (fs : List NameAndSpan) × AddsFragment reached.now earlier.now (name_and_span fragment.now) fs × (ctx.new ≡ with_errors ctx.old (map unused_error fs))) }
+    ensures ok { IfOk result (λ _. (fs : List NameAndSpan) × AddsFragment reached.now met.old met.new (name_and_span fragment.now) fs × (ctx.new ≡ with_errors ctx.old (map unused_error fs))) }
     ensures err { OnErr result (KeepsPlace ctx.old ctx.new) }
 {
-    if is_reached(reached, fragment.item.name.item) || stands_among(earlier, fragment) {
+    if is_reached(reached, fragment.item.name.item) {
         return Ok(());
     }
-    report_fragment(alloc, ctx, fragment)
+    if meet(met, fragment)? {
+        return report_fragment(alloc, ctx, fragment);
+    }
+    Ok(())
 }
 
 // Does so if the definition is one of a fragment.
-fn report_if_unused<'a, S: CheckedScalar>(
+fn report_if_unused<'a, 'd, S: CheckedScalar>(
     alloc: Global,
     ctx: &mut ValidatorContext<'a, S>,
     reached: &ReachedFragments<'_>,
-    earlier: &[Definition<'_, S>],
-    definition: &Definition<'_, S>,
+    met: &mut MetFragments<'d>,
+    definition: &Definition<'d, S>,
 ) -> Result<(), OutOfMemory>
-    ensures ok { IfOk result (λ _. (fs : List NameAndSpan) × AddsUnused reached.now earlier.now definition.now fs × (ctx.new ≡ with_errors ctx.old (map unused_error fs))) }
+    ensures ok { IfOk result (λ _. (fs : List NameAndSpan) × AddsUnused reached.now met.old met.new definition.now fs × (ctx.new ≡ with_errors ctx.old (map unused_error fs))) }
     ensures err { OnErr result (KeepsPlace ctx.old ctx.new) }
 {
     match definition {
-        Definition::Fragment(fragment) => report_once(alloc, ctx, reached, earlier, fragment),
+        Definition::Fragment(fragment) => report_once(alloc, ctx, reached, met, fragment),
         Definition::Operation(_) => Ok(()),
     }
 }
 
 // Reports each name and span of a fragment that no operation reaches, once.
-fn report_unused<'a, S: CheckedScalar>(
+fn report_unused<'a, 'd, S: CheckedScalar>(
     alloc: Global,
     ctx: &mut ValidatorContext<'a, S>,
-    document: Document<'_, S>,
+    document: Document<'d, S>,
 ) -> Result<(), OutOfMemory>
     ensures ok { IfOk result (λ _. (fs : List NameAndSpan) × UnusedAmong document.now document.now fs × (ctx.new ≡ with_errors ctx.old (map unused_error fs))) }
     ensures err { OnErr result (KeepsPlace ctx.old ctx.new) }
 {
     let reached = reached_fragments(alloc, document)?;
-    for index in 0..document.len() {
-        report_if_unused(alloc, ctx, &reached, &document[..index], &document[index])?;
+    let mut met = BTreeSet::new(alloc);
+    for definition in document {
+        report_if_unused(alloc, ctx, &reached, &mut met, definition)?;
     }
     Ok(())
 }

@@ -1,26 +1,34 @@
-use Rattle.std.proofs.Common.{[], ◌∷◌, inl, inr, refl}
+use Rattle.std.proofs.Common.{[], ◌∷◌}
 use Rattle.std.proofs.lemmas.Result.{IfOk-weaker}
 use Rattle.reach.specs.NoUnusedFragments.{name_and_span}
-use Rattle.reach.proofs.Unused.{told_nothing, both}
-use Rattle.reach.proofs.no_unused_fragments.report_once.Goals.{then-is_reached-via-then-is_reached, then-is_reached-via-else-is_reached+then-stands_among}
+use Rattle.reach.proofs.Meeting.{adds_marked, adds_none, adds_one, met_before}
+use Rattle.reach.proofs.Unused.{both, told_nothing}
 use Rattle.reach.proofs.no_unused_fragments.report_once.Goals as goal
 
 pub returns-then-is_reached-clause-ok : goal.returns-then-is_reached-clause-ok
-returns-then-is_reached-clause-ok g c = elim c.then-is_reached.branch [
-  | then-is_reached-via-then-is_reached w ↦ ([], inl (inl (c.is_reached.ensures.0 w.if-is_reached.true), refl), told_nothing c.args.ctx.now)
-  | then-is_reached-via-else-is_reached+then-stands_among w ↦ ([], inl (inr (w.stands_among.ensures.0 w.if-stands_among.true), refl), told_nothing c.args.ctx.now)
-]
+returns-then-is_reached-clause-ok g c =
+    let met = c.args.met.now in
+    ([], adds_marked c.args.reached.now met met (name_and_span c.args.fragment.now) (c.is_reached.ensures.0 c.if-is_reached.true), told_nothing c.args.ctx.now)
 
-pub returns-clause-ok : goal.returns-clause-ok
-returns-clause-ok g c =
+pub returns-then-branch-clause-ok : goal.returns-then-branch-clause-ok
+returns-then-branch-clause-ok g c =
+    let p = name_and_span c.args.fragment.now in
     IfOk-weaker c.report_fragment.result _ _
     (λ x e. (
-      name_and_span c.args.fragment.now ∷ [],
-      inr (
-        λ m. both c.is_reached.result (c.is_reached.ensures.1 m) c.if-is_reached.false,
-        λ s. both c.stands_among.result (c.stands_among.ensures.1 s) c.if-stands_among.false,
-        refl,
-      ),
+      p ∷ [],
+      adds_one c.args.reached.now c.args.met.now c.meet.new.met p c.in_ok-meet.ensures.met
+          (λ m. both c.is_reached.result (c.is_reached.ensures.1 m) c.if-is_reached.false)
+          (c.in_ok-meet.ensures.first.0 c.if-branch.true),
       e,
     ))
     c.report_fragment.ensures.ok
+
+pub returns-clause-ok : goal.returns-clause-ok
+returns-clause-ok g c =
+    let p = name_and_span c.args.fragment.now in
+    let met = c.args.met.now in (
+      [],
+      adds_none c.args.reached.now met c.meet.new.met p c.in_ok-meet.ensures.met
+          (met_before met p (λ unmet. both c.in_ok-meet.field-0 (c.in_ok-meet.ensures.first.1 unmet) c.if-branch.false)),
+      told_nothing c.args.ctx.now,
+    )
