@@ -1,5 +1,5 @@
 -- No error is reported just if each rule allows none.
-use Rattle.std.proofs.Common.{ℕ, List, [], ◌∷◌, ◌∙◌, sym}
+use Rattle.std.proofs.Common.{ℕ, List, [], ◌∷◌, ◌∙◌, refl, sym}
 use Rattle.language.specs.declared.value.InputValue.{InputValue}
 use Rattle.meta.specs.Answers.{Answers}
 use Rattle.literals.specs.Laws.{OneAnswer}
@@ -7,7 +7,8 @@ use Rattle.literal_rules.proofs.Settled.{arguments_settled, defaults_settled}
 use Rattle.walk.specs.Rule.{AllSettled, Settled}
 use Rattle.walk.proofs.Sums.{exactly_settled}
 use Rattle.reach.proofs.Cycles.{silent, without_cycles}
-use Rattle.validation.specs.StageOne.{of_arguments, of_cycles, of_fields, of_fragments, of_operations, of_values, stage_one, all_of, groups}
+use Rattle.reach.proofs.Unused.{none_unused_just_if}
+use Rattle.validation.specs.StageOne.{of_arguments, of_cycles, of_fields, of_fragments, of_operations, of_reach, of_unused, of_values, stage_one, all_of, groups}
 use Rattle.validation.proofs.Groups.{settled_append}
 
 -- a word for each rule, in the order of its group
@@ -29,6 +30,13 @@ module _ {S C : Type 0} where
   cycles_settled scope t doc es (none, found, e) (reports, others, e') =
       e' ∙ without_cycles doc reports others (silent doc none found (sym e))
 
+  -- nor is a fragment unused
+  unused_settled : Settled (of_unused {S = S} {C = C})
+  unused_settled scope t doc es none some = (none_unused_just_if doc es some).1 ((none_unused_just_if doc [] none).0 refl)
+
+  reach_settled : AllSettled (of_reach {S = S} {C = C})
+  reach_settled = (unused_settled, (cycles_settled, tt))
+
 module _ {S C : Type 0} (may : Answers (InputValue S) C) (shown : InputValue S → List ℕ) (one : OneAnswer may) where
   values_settled : AllSettled (of_values may shown)
   values_settled = (defaults_settled may shown one, (arguments_settled may shown one, tt))
@@ -43,4 +51,4 @@ module _ {S C : Type 0} (may : Answers (InputValue S) C) (shown : InputValue S �
 
   -- each rule of stage one is settled
   pub stage_one_settled : AllSettled (stage_one may shown)
-  stage_one_settled = (exactly_settled _, (cycles_settled, groups_settled))
+  stage_one_settled = (exactly_settled _, settled_append of_reach (all_of (groups may shown)) reach_settled groups_settled)

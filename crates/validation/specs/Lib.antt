@@ -1,2 +1,4 @@
+pub mod CleanStage
+pub mod NothingFound
 pub mod RootRules
 pub mod StageOne

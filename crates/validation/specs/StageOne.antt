@@ -28,6 +28,7 @@ use Rattle.fragment_rules.specs.PossibleFragmentSpreads.{conditions, impossible_
 use Rattle.fragment_rules.specs.UniqueFragmentNames.{fragment_name, repeated_fragment_message}
 use Rattle.fragment_cycles.specs.DocumentCycles.{FindsCycles, NameAndPlace}
 use Rattle.reach.specs.NoFragmentCycles.{cycle_error}
+use Rattle.reach.specs.NoUnusedFragments.{UnusedErrors}
 use Rattle.literal_rules.specs.ArgumentsOfCorrectType.{wrong_arguments}
 use Rattle.literal_rules.specs.DefaultValuesOfCorrectType.{wrong_defaults}
 
@@ -75,6 +76,14 @@ module _ {S C : Type 0} where
   abbrev pub of_cycles : Allowance S C
   of_cycles scope t doc es = (reports : List NameAndPlace) × FindsCycles doc reports × (es ≡ map cycle_error reports)
 
+  -- each fragment that no operation reaches (5.5.1.4)
+  abbrev pub of_unused : Allowance S C
+  of_unused scope t doc es = UnusedErrors doc es
+
+  -- what leads across the document
+  abbrev pub of_reach : List (Allowance S C)
+  of_reach = of_unused ∷ of_cycles ∷ []
+
   -- what each rule of these groups allows
   abbrev pub all_of : List (List (Allowance S C)) → List (Allowance S C)
   all_of [] = []
@@ -86,13 +95,13 @@ module _ {S C : Type 0} (may : Answers (InputValue S) C) (shown : InputValue S �
   abbrev pub of_values : List (Allowance S C)
   of_values = given (wrong_defaults may shown) ∷ given (wrong_arguments may shown) ∷ []
 
-  -- the other rules in groups, the newest first
+  -- the rules that look at one place, in groups, the newest first
   abbrev pub groups : List (List (Allowance S C))
   groups = of_values ∷ of_fragments ∷ of_arguments ∷ of_fields ∷ of_operations ∷ []
 
   -- what each rule allows
   abbrev pub stage_one : List (Allowance S C)
-  stage_one = of_spreads ∷ of_cycles ∷ all_of groups
+  stage_one = of_spreads ∷ all_of (of_reach ∷ groups)
 
   -- these errors the rules may report of a document, round which no types stand
   abbrev pub reported : Catalog S C → List (Definition S) → List ErrorValue → Type 0

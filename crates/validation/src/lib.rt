@@ -5,6 +5,7 @@
 #![tactic(auto)]
 
 pub mod ast;
+pub mod laws;
 pub mod parser;
 mod root_node;
 pub mod rules;

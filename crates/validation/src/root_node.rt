@@ -1,6 +1,6 @@
 //! A schema, with what the documents that are sent to it may ask.
 
-ghost use Rattle.std.specs.Prelude.{◌≡◌, IfOk, OnOk, OnErr, IsErr, IsSorted, true, false};
+ghost use Rattle.std.specs.Prelude.{◌≡◌, ◌↔◌, [], IfOk, OnOk, OnErr, IsErr, IsSorted, true, false};
 ghost use Rattle.language.specs.ValuesPrinted.{printed_value};
 ghost use Rattle.walk.specs.ContextState.{typing, scope_of};
 ghost use Rattle.walk.specs.Entering.{found};
@@ -9,7 +9,7 @@ ghost use Rattle.walk.specs.Names.{fragment_names};
 ghost use Rattle.walk.specs.Rule.{Appended, any_value, exactly, sum_of};
 ghost use Rattle.walk.specs.Step.{KeepsPlace};
 ghost use Rattle.field_rules.specs.DisableIntrospection.{introspection_fields};
-ghost use Rattle.validation.specs.RootRules.{root_reported, root_rules};
+ghost use Rattle.validation.specs.RootRules.{RootNothingFound, root_reported, root_rules};
 
 use crate::rules::{disable_introspection, visit_all_rules};
 use language::error::OutOfMemory;
@@ -63,7 +63,8 @@ impl<S, C> RootNodeOf<S, C> {
 }
 
 impl<S: CheckedScalar> RootNodeOf<S, S::Check> {
-    /// Judges a document by every rule, and by that on introspection where it is disabled; the errors are in ascending order.
+    /// Judges a document by every rule, and by that on introspection where it is disabled; the errors are in ascending order, and there
+    /// is none just if nothing is found.
     ///
     /// Want of memory is the only error.
     pub fn validate<'a>(
@@ -72,6 +73,7 @@ impl<S: CheckedScalar> RootNodeOf<S, S::Check> {
         document: &'a [Definition<'_, S>],
     ) -> Result<Vec<RuleError>, OutOfMemory>
         ensures all { IfOk result (λ errors. root_reported S.may_answer (printed_value S.text S.str_of) self.now.introspection_disabled self.now.schema document.now errors.items) }
+        ensures silent { IfOk result (λ errors. (errors.items ≡ []) ↔ RootNothingFound S.may_answer (printed_value S.text S.str_of) self.now.introspection_disabled self.now.schema document.now) }
         ensures sorted { IfOk result (λ errors. IsSorted error_cmp errors.items) }
     {
         let mut ctx = ValidatorContext::new(alloc, &self.schema, document)?;

@@ -4,8 +4,9 @@ ghost use Rattle.std.specs.Prelude.{◌≡◌, ◌↔◌, IfOk, OnOk, OnErr, IsE
 ghost use Rattle.language.specs.ValuesPrinted.{printed_value};
 ghost use Rattle.walk.specs.ContextState.{typing, scope_of};
 ghost use Rattle.walk.specs.Names.{fragment_names};
-ghost use Rattle.walk.specs.Rule.{AllowNothing, Appended, any_value, sum_of};
+ghost use Rattle.walk.specs.Rule.{Appended, any_value, sum_of};
 ghost use Rattle.walk.specs.Step.{KeepsPlace};
+ghost use Rattle.validation.specs.NothingFound.{NothingFound};
 ghost use Rattle.validation.specs.StageOne.{stage_one};
 
 use argument_rules::known_argument_names::KnownArgumentNames;
@@ -41,8 +42,9 @@ pub use operation_rules::{
     lone_anonymous_operation, unique_operation_names, unique_variable_names,
     variables_are_input_types,
 };
-pub use reach::no_fragment_cycles;
 use reach::no_fragment_cycles::NoFragmentCycles;
+use reach::no_unused_fragments::NoUnusedFragments;
+pub use reach::{no_fragment_cycles, no_unused_fragments};
 use std::alloc::Global;
 use walk::{Fresh, MultiVisitorCons, MultiVisitorNil, ValidatorContext, visit_rules};
 
@@ -91,6 +93,11 @@ type OfFragments<'a> = MultiVisitorCons<
 type OfValues = MultiVisitorCons<
     DefaultValuesOfCorrectType,
     MultiVisitorCons<ArgumentsOfCorrectType, MultiVisitorNil>,
+>;
+
+type OfReach = MultiVisitorCons<
+    NoUnusedFragments,
+    MultiVisitorCons<NoFragmentCycles, MultiVisitorNil>,
 >;
 
 // The rules on operations and their variables.
@@ -145,8 +152,17 @@ fn of_values(alloc: Global) -> OfValues
         .with_rule(default_values_of_correct_type::factory(alloc))
 }
 
-/// Tries every rule on a document, and appends the errors of the rules, in a context that was made for it. In any other context it
-/// appends errors alone.
+// The rules on what leads across the document.
+fn of_reach(alloc: Global) -> OfReach
+    ensures { ⟦<OfReach as Fresh>⟧.fresh result }
+{
+    MultiVisitorNil
+        .with_rule(no_fragment_cycles::factory(alloc))
+        .with_rule(no_unused_fragments::factory(alloc))
+}
+
+/// Tries every rule on a document, and appends the errors of the rules, in a context that was made for it: none just if every collection of a
+/// rule is empty, no value has a fault, no fragment leads back to itself and none is unused. In any other context it appends errors alone.
 ///
 /// It walks over the document once. The answer is the number of pairs of fragments that were compared; no rule that compares
 /// any is there yet, so it is 0.
@@ -155,7 +171,7 @@ pub fn visit_all_rules<'a, 't, S: CheckedScalar>(
     document: &'a [Definition<'t, S>],
 ) -> Result<u128, OutOfMemory>
     ensures appended { OnOk result (ctx.old.known ≡ fragment_names document.now → Appended (sum_of (stage_one S.may_answer (printed_value S.text S.str_of)) (scope_of ctx.old.schema document.now) (typing ctx.old) document.now) ctx.old ctx.new) }
-    ensures silent { OnOk result (ctx.old.known ≡ fragment_names document.now → (ctx.new.errors ≡ ctx.old.errors) ↔ AllowNothing (stage_one S.may_answer (printed_value S.text S.str_of)) (scope_of ctx.old.schema document.now) (typing ctx.old) document.now) }
+    ensures silent { OnOk result (ctx.old.known ≡ fragment_names document.now → (ctx.new.errors ≡ ctx.old.errors) ↔ NothingFound S.may_answer (printed_value S.text S.str_of) (scope_of ctx.old.schema document.now) (typing ctx.old) document.now) }
     ensures only { OnOk result (Appended any_value ctx.old ctx.new) }
     ensures compared { IfOk result (λ pairs. pairs ≡ 0) }
     ensures err { OnErr result (KeepsPlace ctx.old ctx.new) }
@@ -169,7 +185,7 @@ pub fn visit_all_rules<'a, 't, S: CheckedScalar>(
         .with_rule(of_arguments(alloc))
         .with_rule(of_fragments(alloc))
         .with_rule(of_values(alloc))
-        .with_rule(no_fragment_cycles::factory(alloc))
+        .with_rule(of_reach(alloc))
         .with_rule(possible_fragment_spreads::factory(alloc));
     visit_rules(&mut rules, ctx, document)?;
     Ok(0)
