@@ -143,7 +143,7 @@ const ANSWERS: [Row; 7] = [
 ];
 
 /// What the rules say.
-const RULES: [Row; 12] = [
+const RULES: [Row; 13] = [
     Row {
         name: "a selection set of __typename on a union",
         words: "pets",
@@ -237,6 +237,14 @@ const RULES: [Row; 12] = [
         words: "pets",
         input: b"{ dog { ...A ...B } } fragment A on Dog { ...A } fragment B on Dog { ...B }",
         output: "Cannot spread fragment \"A\". At 0:42\nCannot spread fragment \"B\". At 0:69\ncompared 0\n",
+        faults: "",
+        status: 1,
+    },
+    Row {
+        name: "fragments that no operation reaches",
+        words: "pets",
+        input: b"{ dog { name } } fragment A on Dog { ...B } fragment B on Dog { name }",
+        output: "Fragment \"A\" is never used. At 0:17\nFragment \"B\" is never used. At 0:44\ncompared 0\n",
         faults: "",
         status: 1,
     },

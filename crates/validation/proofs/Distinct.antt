@@ -1,12 +1,11 @@
 -- Names of which none stands again.
-use Rattle.std.proofs.Common.{◌≡◌, ℕ, List, [], ◌∷◌, ◌++◌, Option, None, Some, Bool, true, false, cond, not, ◌&&◌, ◌||◌, map, refl, ap, sym, subst, ◌∙◌}
+use Rattle.std.proofs.Common.{◌≡◌, ℕ, List, [], ◌∷◌, ◌++◌, Option, None, Some, Bool, true, false, cond, not, ◌&&◌, ◌||◌, map, refl, ap, sym, ◌∙◌}
 use Rattle.std.specs.List.{list_any}
 use Rattle.std.specs.Str.{bytes_eq}
 use Rattle.std.proofs.lemmas.Bool.{and_parts, true≢false}
 use Rattle.language.specs.Each.{Each}
 use Rattle.language.specs.ValuesEqual.{are_distinct}
 use Rattle.language.specs.declared.position.SourcePosition.{SourcePosition}
-use Rattle.walk.specs.ErrorValue.{ErrorValue}
 use Rattle.rule_parts.specs.Names.{Named}
 use Rattle.rule_parts.specs.Noting.{or_else}
 use Rattle.rule_parts.specs.NotingLaws.{first_place-more}

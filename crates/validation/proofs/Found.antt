@@ -76,14 +76,15 @@ module _ {S C : Type 0} (may : Answers (InputValue S) C) (shown : InputValue S �
       let fields : AllowNothing of_fields scope t doc = (of_none _ h.scalar_leafs, (of_none _ h.fields_on_correct_type, tt)) in
       let arguments : AllowNothing of_arguments scope t doc =
       (of_none _ h.unique_input_field_names, (of_none _ h.unique_argument_names, (of_none _ h.provided_non_null_arguments, (of_none _ h.known_directives, (of_none _ h.known_argument_names, tt))))) in
-      let fragments : AllowNothing of_fragments scope t doc = (of_none _ h.unique_fragment_names, (of_none _ h.known_type_names, (of_none _ h.known_fragment_names, (of_none _ h.fragments_on_composite_types, tt)))) in
-      (of_none _ h.possible_fragment_spreads,
-      nothing_whole scope t doc of_reach (all_of (groups may shown)) (no_unused h.no_unused_fragments, (no_reports h.no_fragment_cycles, tt))
-      (nothing_whole scope t doc (of_values may shown) (all_of (of_fragments ∷ of_arguments ∷ of_fields ∷ of_operations ∷ [])) (h.default_values_of_correct_type, (h.arguments_of_correct_type, tt))
-      (nothing_whole scope t doc of_fragments (all_of (of_arguments ∷ of_fields ∷ of_operations ∷ [])) fragments
-      (nothing_whole scope t doc of_arguments (all_of (of_fields ∷ of_operations ∷ [])) arguments
-      (nothing_whole scope t doc of_fields (all_of (of_operations ∷ [])) fields
-      (nothing_whole scope t doc of_operations [] operations tt))))))
+      let fragments : AllowNothing of_fragments scope t doc = (of_none _ h.unique_fragment_names, (of_none _ h.known_type_names, (of_none _ h.known_fragment_names, (of_none _ h.fragments_on_composite_types, tt)))) in (
+        of_none _ h.possible_fragment_spreads,
+        nothing_whole scope t doc of_reach (all_of (groups may shown)) (no_unused h.no_unused_fragments, (no_reports h.no_fragment_cycles, tt))
+            (nothing_whole scope t doc (of_values may shown) (all_of (of_fragments ∷ of_arguments ∷ of_fields ∷ of_operations ∷ [])) (h.default_values_of_correct_type, (h.arguments_of_correct_type, tt))
+            (nothing_whole scope t doc of_fragments (all_of (of_arguments ∷ of_fields ∷ of_operations ∷ [])) fragments
+            (nothing_whole scope t doc of_arguments (all_of (of_fields ∷ of_operations ∷ [])) arguments
+            (nothing_whole scope t doc of_fields (all_of (of_operations ∷ [])) fields
+            (nothing_whole scope t doc of_operations [] operations tt))))),
+      )
 
   pub nothing_just_if : AllowNothing (stage_one may shown) scope t doc ↔ NothingFound may shown scope t doc
   nothing_just_if = (nothing_found, found_nothing)

@@ -1,5 +1,5 @@
 -- Rules that come in groups report what all of them may report, and nothing where none of them does.
-use Rattle.std.proofs.Common.{◌≡◌, List, [], ◌∷◌, ◌++◌, map, subst, append_assoc, IsPermutation}
+use Rattle.std.proofs.Common.{List, [], ◌∷◌, ◌++◌, map, subst, append_assoc, IsPermutation}
 use Rattle.std.proofs.lemmas.List.Sorted.{IsPermutation-refl, IsPermutation-trans, IsPermutation-append_left}
 use Rattle.language.specs.declared.tree.Definition.{Definition}
 use Rattle.walk.specs.ErrorValue.{ErrorValue}

@@ -14,9 +14,9 @@ use Rattle.language.specs.declared.tree.Definition.TheVariants as definition
 use Rattle.language.specs.declared.tree.Operation.{Operation}
 use Rattle.language.specs.declared.tree.VariableDefinitions.{VariableDefinitions}
 use Rattle.schema.specs.Catalog.{Catalog}
-use Rattle.events.specs.Node.{Node, Name, Placed, VariableEntry, fragment_definition, operation_definition, variable_definition}
+use Rattle.events.specs.Node.{Node, Name, Placed, VariableEntry, operation_definition, variable_definition}
 use Rattle.events.specs.Occurrence.{Occurrence, occurrences, occurrences_in, occurrences_of}
-use Rattle.events.specs.Outline.{Outline, beside, each, outline_of_definition, outline_of_directives, outline_of_set, outline_of_variable_definition, outline_of_variable_definitions}
+use Rattle.events.specs.Outline.{Outline, beside, outline_of_directives, outline_of_set, outline_of_variable_definition, outline_of_variable_definitions}
 use Rattle.events.specs.Typing.{Typing, at_operation, at_variable}
 use Rattle.events.proofs.Occurrences.{occurrences-beside, occurrences-document, occurrences-each}
 use Rattle.walk.specs.Names as names

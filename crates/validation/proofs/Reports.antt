@@ -1,5 +1,5 @@
 -- What is reported of a document in a context that was made for it.
-use Rattle.std.proofs.Common.{◌≡◌, ◌∙◌, ◌++◌, List, [], ◌∷◌, IsPermutation, subst, ap, append_assoc, sym, refl}
+use Rattle.std.proofs.Common.{◌≡◌, ◌∙◌, ◌++◌, List, ◌∷◌, IsPermutation, subst, ap, append_assoc}
 use Rattle.std.proofs.lemmas.List.{append-nil}
 use Rattle.std.proofs.lemmas.List.Sorted.{IsPermutation-append_comm, IsPermutation-trans}
 use Rattle.std.specs.Global.{Global}
@@ -11,7 +11,6 @@ use Rattle.walk.specs.ErrorValue.{ErrorValue}
 use Rattle.walk.specs.Names.{fragment_names}
 use Rattle.walk.specs.Rule.{Allowance, Appended, any_value, sum_of, together, nothing}
 use Rattle.walk.proofs.Sums.{sum_permuted}
-use Rattle.walk.specs.Entering.{found}
 use Rattle.walk.specs.Step.{KeepsPlace}
 use Rattle.walk.specs.Rule.{Collection, exactly}
 

@@ -1,9 +1,8 @@
-use Rattle.std.proofs.Common.{◌≡◌, sym, subst}
+use Rattle.std.proofs.Common.{sym, subst}
 use Rattle.std.proofs.lemmas.Result.{on_err_weaker, on_ok_weaker}
 use Rattle.language.specs.ValuesPrinted.{printed_value}
 use Rattle.walk.specs.ContextState.{typing, scope_of}
 use Rattle.walk.specs.Entering.{found}
-use Rattle.walk.specs.Names.{fragment_names}
 use Rattle.walk.specs.Rule.{Appended, exactly, sum_of}
 use Rattle.field_rules.specs.DisableIntrospection.{introspection_fields}
 use Rattle.validation.specs.RootRules.{root_rules}

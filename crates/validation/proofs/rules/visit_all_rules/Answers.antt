@@ -1,4 +1,4 @@
-use Rattle.std.proofs.Common.{◌≡◌, [], ◌∷◌}
+use Rattle.std.proofs.Common.{[], ◌∷◌}
 use Rattle.language.specs.ValuesPrinted.{printed_value}
 use Rattle.walk.specs.ContextState.{typing, scope_of}
 use Rattle.walk.proofs.Sums.{silent_just_if}
