@@ -3,13 +3,12 @@ use crate::error::ReadError;
 use crate::lexer::{Punctuator, Token};
 use crate::selections::read_selection_set;
 use crate::tokens::Tokens;
+use crate::types::{Sizes, read_type};
 use crate::values::{Variables, read_directives, read_value};
-use language::error::OutOfMemory;
 use language::position::Spanning;
 use language::tree::{
     Definition, Fragment, Operation, OperationType, VariableDefinition, VariableDefinitions,
 };
-use language::types::Type;
 use language::value::{DefaultScalarValue, InputValue};
 use std::alloc::Global;
 
@@ -154,7 +153,7 @@ fn read_variable_definition<'a>(
     alloc: Global,
     tokens: &mut Tokens<'a>,
 ) -> Result<VariableDefinition<'a, DefaultScalarValue>, ReadError> {
-    let var_type = read_type(alloc, tokens)?;
+    let var_type = read_type(alloc, tokens, Sizes::Refused)?;
     let default_value = read_default_value(alloc, tokens)?;
     let directives = read_directives(alloc, tokens, Variables::Refused)?;
     Ok(VariableDefinition {
@@ -172,39 +171,4 @@ fn read_default_value(
         return Ok(None);
     }
     Ok(Some(read_value(alloc, tokens, Variables::Refused)?))
-}
-
-// A type is read from its name outwards, so its levels need no recursion.
-fn read_type(alloc: Global, tokens: &mut Tokens<'_>) -> Result<Spanning<Type>, ReadError> {
-    let start = tokens.start();
-    let levels = take_opening_brackets(tokens);
-    let name = tokens.name()?.item;
-    let mut item = read_non_null(tokens, Type::nullable(alloc, name)?)?;
-    for _ in 0..levels {
-        tokens.expect(Punctuator::BracketClose)?;
-        item = read_non_null(tokens, item.wrap_list(None)?)?;
-    }
-    Ok(Spanning {
-        item,
-        span: tokens.span_from(start),
-    })
-}
-
-fn take_opening_brackets(tokens: &mut Tokens<'_>) -> usize {
-    let bound = tokens.bound();
-    for taken in 0..bound {
-        if !tokens.take(Punctuator::BracketOpen) {
-            return taken;
-        }
-    }
-    bound
-}
-
-// The type, or the type made non-null where an exclamation mark follows.
-fn read_non_null(tokens: &mut Tokens<'_>, plain: Type) -> Result<Type, OutOfMemory> {
-    if tokens.take(Punctuator::Bang) {
-        plain.wrap_non_null()
-    } else {
-        Ok(plain)
-    }
 }

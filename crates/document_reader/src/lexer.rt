@@ -122,7 +122,7 @@ fn string_at(text: &[u8]) -> (Token<'_>, usize) {
 }
 
 /// The text of so many bytes at the front, if there are so many and they are text.
-fn ascii_text(text: &[u8], length: usize) -> Option<&str> {
+pub fn ascii_text(text: &[u8], length: usize) -> Option<&str> {
     str::from_utf8(text.get(..length)?).ok()
 }
 

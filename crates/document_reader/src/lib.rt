@@ -5,8 +5,11 @@ mod definitions;
 mod error;
 mod lexer;
 mod selections;
+mod texts;
 mod tokens;
+mod types;
 mod values;
 
 pub use definitions::read_document;
 pub use error::ReadError;
+pub use texts::{read_type, read_value};

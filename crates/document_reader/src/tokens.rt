@@ -1,6 +1,6 @@
 //! The tokens of a text, one ahead (GraphQL, October 2021, section 2.1).
 use crate::error::ReadError;
-use crate::lexer::{Punctuator, Token, token_at};
+use crate::lexer::{Punctuator, Token, ascii_text, token_at};
 use language::position::{SourcePosition, Span, Spanning};
 
 /// The tokens of a text that are left.
@@ -111,6 +111,14 @@ impl<'a> Tokens<'a> {
         }
     }
 
+    /// Tells whether something is left.
+    pub fn expect_end(&self) -> Result<(), ReadError> {
+        match self.ahead {
+            Token::End => Ok(()),
+            _ => Err(self.fault()),
+        }
+    }
+
     /// Whether this name is ahead.
     pub fn is_word(&self, word: &str) -> bool {
         match self.ahead {
@@ -128,6 +136,28 @@ impl<'a> Tokens<'a> {
             item,
             span: self.span_from(start),
         })
+    }
+
+    /// Takes the end of a list, and the size that follows it at once, if one does: `#` and a number.
+    pub fn list_end_and_size(&mut self) -> Result<Option<usize>, ReadError> {
+        if !self.is(Punctuator::BracketClose) {
+            return Err(self.fault());
+        }
+        let size = self.skip_size();
+        self.advance();
+        Ok(size)
+    }
+
+    // Goes past a size behind the token ahead, if there is one.
+    fn skip_size(&mut self) -> Option<usize> {
+        let digits = self.text.get(self.index..)?.strip_prefix(b"#")?;
+        let length = digits
+            .iter()
+            .take_while(|byte| byte.is_ascii_digit())
+            .count();
+        let size = ascii_text(digits, length)?.parse::<usize>().ok()?;
+        self.index = self.index.saturating_add(length).saturating_add(1);
+        Some(size)
     }
 
     fn place(&self) -> SourcePosition {

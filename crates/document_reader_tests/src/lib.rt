@@ -3,3 +3,5 @@
 
 #[cfg(test)]
 mod outline;
+#[cfg(test)]
+mod texts;

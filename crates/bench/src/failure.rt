@@ -1,0 +1,68 @@
+//! Why nothing is measured.
+use document_reader::ReadError;
+use std::alloc::{AllocError, AllocFailed};
+use std::{fmt, io};
+use validation::{OutOfMemory, SchemaError};
+
+/// Why nothing is measured.
+#[derive(Clone, Copy, Debug)]
+pub enum Failure {
+    /// The input is no document.
+    Syntax,
+    /// The words are other ones.
+    Usage,
+    /// A request for memory was refused.
+    OutOfMemory,
+    /// A read or a write failed, or there is no clock.
+    InputOutput,
+}
+
+impl fmt::Display for Failure {
+    fn fmt<W: fmt::Write>(&self, f: &mut fmt::Formatter<W>) -> fmt::Result {
+        f.write_str(match self {
+            Failure::Syntax => "the input is no document",
+            Failure::Usage => "usage: bench <pets, number of input fields> READS WALKS",
+            Failure::OutOfMemory => "out of memory",
+            Failure::InputOutput => "input, output or the clock failed",
+        })
+    }
+}
+
+impl From<AllocError> for Failure {
+    fn from(_: AllocError) -> Self {
+        Failure::OutOfMemory
+    }
+}
+
+impl<T: Drop> From<AllocFailed<T>> for Failure {
+    fn from(_: AllocFailed<T>) -> Self {
+        Failure::OutOfMemory
+    }
+}
+
+impl From<OutOfMemory> for Failure {
+    fn from(_: OutOfMemory) -> Self {
+        Failure::OutOfMemory
+    }
+}
+
+impl From<SchemaError> for Failure {
+    fn from(_: SchemaError) -> Self {
+        Failure::OutOfMemory
+    }
+}
+
+impl From<ReadError> for Failure {
+    fn from(error: ReadError) -> Self {
+        match error {
+            ReadError::Fault(_) => Failure::Syntax,
+            ReadError::OutOfMemory => Failure::OutOfMemory,
+        }
+    }
+}
+
+impl From<io::Error> for Failure {
+    fn from(_: io::Error) -> Self {
+        Failure::InputOutput
+    }
+}

@@ -1,0 +1,85 @@
+//! The program's work.
+use crate::failure::Failure;
+use crate::phases::{time_reading, time_walking};
+use crate::schemas::schema_of;
+use document_reader::read_document;
+use std::alloc::Global;
+use std::env::{self, Env};
+use std::io::{self, Read};
+use std::rt::Clock;
+use validation::{DefaultScalarValue, Definition, RootNode, SchemaType};
+
+/// Measures what the words ask for, and answers 0, or 1 where nothing is measured.
+pub fn run<R: Clock + Env + AllocGlobal + Print + Eprint, I: Read>(rt: &R, input: &mut I) -> u8 {
+    let Err(failure) = measure(rt, input) else {
+        return 0;
+    };
+    let _ = eprintln!(rt; "bench: {failure}");
+    1
+}
+
+fn measure<R: Clock + Env + AllocGlobal + Print, I: Read>(
+    rt: &R,
+    input: &mut I,
+) -> Result<(), Failure> {
+    let words = words(rt)?;
+    let mut text = Vec::new(rt.alloc());
+    input.read_to_end(&mut text)?;
+    match words.as_slice() {
+        [schema, reads, walks] => {
+            let schema = schema_of(rt.alloc(), schema.as_str())?;
+            let times = (number(reads)?, number(walks)?);
+            measure_phases(rt, schema, text.as_slice(), times)
+        }
+        _ => Err(Failure::Usage),
+    }
+}
+
+/// The words after the program's own name.
+fn words<R: Env + AllocGlobal>(rt: &R) -> io::Result<Vec<String>> {
+    env::args(rt)?
+        .skip(1)
+        .collect(rt.alloc())
+        .map_err(io::Error::from)
+}
+
+fn number(word: &String) -> Result<usize, Failure> {
+    word.parse::<usize>().map_err(|_| Failure::Usage)
+}
+
+fn measure_phases<R: Clock + AllocGlobal + Print>(
+    rt: &R,
+    schema: SchemaType<DefaultScalarValue>,
+    text: &[u8],
+    (reads, walks): (usize, usize),
+) -> Result<(), Failure> {
+    println!(rt; "bytes {}", text.len())?;
+    tell(rt, "read", time_reading(rt, rt.alloc(), text, reads)?)?;
+    let document = read_document(rt.alloc(), text)?;
+    tell(
+        rt,
+        "walk",
+        time_walking(rt, rt.alloc(), &schema, document.as_slice(), walks)?,
+    )?;
+    let root = RootNode::new(schema);
+    println!(rt;
+        "errors {}",
+        errors(rt.alloc(), &root, document.as_slice())?
+    )?;
+    Ok(())
+}
+
+fn tell<R: Print>(rt: &R, phase: &str, time: Option<u128>) -> Result<(), Failure> {
+    if let Some(nanoseconds) = time {
+        println!(rt; "{phase} {nanoseconds}")?;
+    }
+    Ok(())
+}
+
+fn errors(
+    alloc: Global,
+    root: &RootNode,
+    document: &[Definition<'_, DefaultScalarValue>],
+) -> Result<usize, Failure> {
+    Ok(root.validate(alloc, document)?.len())
+}

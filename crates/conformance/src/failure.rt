@@ -1,0 +1,70 @@
+//! Why a file of vectors can't be judged.
+use std::alloc::{AllocError, AllocFailed};
+use std::{fmt, io};
+use validation::{OutOfMemory, SchemaError};
+
+/// Why a file of vectors can't be judged.
+#[derive(Clone, Copy, Debug)]
+pub enum Failure {
+    /// The file is out of the format, first at this line, counted from 1.
+    Format(usize),
+    /// A request for memory was refused.
+    OutOfMemory,
+    /// A read or a write failed.
+    InputOutput,
+}
+
+impl Failure {
+    /// The status that the program ends with.
+    pub fn status(self) -> u8 {
+        match self {
+            Failure::Format(_) => 2,
+            Failure::OutOfMemory => 3,
+            Failure::InputOutput => 5,
+        }
+    }
+}
+
+impl fmt::Display for Failure {
+    fn fmt<W: fmt::Write>(&self, f: &mut fmt::Formatter<W>) -> fmt::Result {
+        match self {
+            Failure::Format(line) => write!(f, "line {line} is out of the format"),
+            Failure::OutOfMemory => f.write_str("out of memory"),
+            Failure::InputOutput => f.write_str("input or output failed"),
+        }
+    }
+}
+
+impl From<AllocError> for Failure {
+    fn from(_: AllocError) -> Self {
+        Failure::OutOfMemory
+    }
+}
+
+impl<T: Drop> From<AllocFailed<T>> for Failure {
+    fn from(_: AllocFailed<T>) -> Self {
+        Failure::OutOfMemory
+    }
+}
+
+impl From<OutOfMemory> for Failure {
+    fn from(_: OutOfMemory) -> Self {
+        Failure::OutOfMemory
+    }
+}
+
+impl From<io::Error> for Failure {
+    fn from(error: io::Error) -> Self {
+        match error.kind() {
+            io::ErrorKind::OutOfMemory => Failure::OutOfMemory,
+            _ => Failure::InputOutput,
+        }
+    }
+}
+
+/// The sample lists are accepted, so want of memory alone refuses one.
+impl From<SchemaError> for Failure {
+    fn from(_: SchemaError) -> Self {
+        Failure::OutOfMemory
+    }
+}

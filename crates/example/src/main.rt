@@ -1,0 +1,80 @@
+//! A schema of three types, a document, and what is wrong with the document.
+#![tactic(auto)]
+
+ghost use Rattle.std.specs.Prelude.{codes};
+ghost use Rattle.meta.specs.Answers.{AnswersBy};
+ghost use Rattle.example.specs.Scalars.{is_boolean, is_string};
+
+use document_reader::read_document;
+use std::alloc::Global;
+use std::io;
+use validation::meta::{Argument, DefaultCheck, Field, MetaType, ObjectMeta, ScalarMetaOf};
+use validation::{
+    CheckError, DefaultScalarValue, InputValue, OutOfMemory, RootNode, SchemaError, SchemaType,
+    Type,
+};
+
+fn main(rt: HostRuntime) -> io::Result<()> {
+    let text = b"{ greeting(nam: \"Ada\") { length } }";
+    let Ok(document) = read_document(rt.alloc(), text) else {
+        return rt.eprintln("that is no document");
+    };
+    let Ok(root) = root(rt.alloc()) else {
+        return rt.eprintln("that is no schema");
+    };
+    let Ok(errors) = root.validate(rt.alloc(), document.as_slice()) else {
+        return rt.eprintln("out of memory");
+    };
+    for error in &errors {
+        println!(rt; "{error}")?;
+    }
+    Ok(())
+}
+
+/// A schema, made once for all documents.
+fn root(alloc: Global) -> Result<RootNode, SchemaError> {
+    // These last names stand for no mutations and no subscriptions.
+    let (mutations, subscriptions) = ("_EmptyMutation", "_EmptySubscription");
+    let schema = SchemaType::new(alloc, types(alloc)?, "Query", mutations, subscriptions)?;
+    Ok(RootNode::new(schema))
+}
+
+/// `type Query { greeting(name: String!): String }`, with its scalars. `@skip` and `@include` need `Boolean`, and introspection
+/// its two types, which have no field here.
+fn types(alloc: Global) -> Result<Vec<MetaType>, OutOfMemory> {
+    let name = Argument::new(alloc, "name", Type::non_null(alloc, "String")?)?;
+    let greeting = Field::new(alloc, "greeting", Type::nullable(alloc, "String")?)?;
+    let mut fields = Vec::new(alloc);
+    fields.push(greeting.argument(name)?)?;
+    let mut types = Vec::new(alloc);
+    types.push(ObjectMeta::new(alloc, "Query", fields)?.into_meta())?;
+    types.push(scalar(alloc, "String", DefaultCheck::new(check_string))?)?;
+    types.push(scalar(alloc, "Boolean", DefaultCheck::new(check_boolean))?)?;
+    types.push(ObjectMeta::new(alloc, "__Schema", Vec::new(alloc))?.into_meta())?;
+    types.push(ObjectMeta::new(alloc, "__Type", Vec::new(alloc))?.into_meta())?;
+    Ok(types)
+}
+
+fn scalar(alloc: Global, name: &str, check: DefaultCheck) -> Result<MetaType, OutOfMemory> {
+    Ok(ScalarMetaOf::with_check(alloc, name, check)?.into_meta())
+}
+
+/// Which values are a `String`. That it answers a value the same each time is proved.
+fn check_string(alloc: Global, value: &InputValue<DefaultScalarValue>) -> Result<(), CheckError>
+    ensures { AnswersBy is_string (codes "not a string") value.now result }
+{
+    match value {
+        InputValue::Scalar(DefaultScalarValue::String(_)) => Ok(()),
+        _ => Err(CheckError::Refused(String::from_str(alloc, "not a string")?)),
+    }
+}
+
+/// Which values are a `Boolean`.
+fn check_boolean(alloc: Global, value: &InputValue<DefaultScalarValue>) -> Result<(), CheckError>
+    ensures { AnswersBy is_boolean (codes "not a boolean") value.now result }
+{
+    match value {
+        InputValue::Scalar(DefaultScalarValue::Boolean(_)) => Ok(()),
+        _ => Err(CheckError::Refused(String::from_str(alloc, "not a boolean")?)),
+    }
+}
