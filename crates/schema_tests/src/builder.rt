@@ -17,14 +17,20 @@ enum Change {
     Nothing,
     /// The type of the name is left out.
     Without(&'static str),
-    /// `Dog` is listed once more.
-    DogTwice,
-    /// The field `name` of `Dog` has an argument of the type `Dog`.
+    /// `Dog` gives way to one whose field `name` has an argument of the type `Dog`.
     DogArgument,
-    /// A list stands among the types.
-    ListEntry,
     /// The interface `Friend` and a union of it.
     UnionOfInterface,
+    /// An entry more.
+    More(Entry),
+}
+
+/// An entry of a list.
+#[derive(Clone, Copy)]
+enum Entry {
+    Dog,
+    /// A list, which is no type of a name.
+    List,
     /// A union of the type of the name.
     UnionOf(&'static str),
     /// An object that lists the interface of the name.
@@ -48,40 +54,48 @@ const DEMO: [Row; 14] = [
     ),
     (Change::Nothing, "Nope", "MissingRoot(\"Nope\")"),
     (Change::Nothing, "String", "QueryNotObject"),
-    (Change::DogTwice, "QueryRoot", "RepeatedType(\"Dog\")"),
+    (
+        Change::More(Entry::Dog),
+        "QueryRoot",
+        "RepeatedType(\"Dog\")",
+    ),
     (Change::DogArgument, "QueryRoot", "NotInputType(\"Dog\")"),
-    (Change::ListEntry, "QueryRoot", "UnnamedType"),
+    (Change::More(Entry::List), "QueryRoot", "UnnamedType"),
     (
         Change::UnionOfInterface,
         "QueryRoot",
         "UnionMemberNotObject(\"Friend\")",
     ),
     (
-        Change::UnionOf("Nope"),
+        Change::More(Entry::UnionOf("Nope")),
         "QueryRoot",
         "UnknownType(\"Nope\")",
     ),
     (
-        Change::ObjectOf("Nope"),
+        Change::More(Entry::ObjectOf("Nope")),
         "QueryRoot",
         "UnknownType(\"Nope\")",
     ),
     (
-        Change::InterfaceOf("Nope"),
+        Change::More(Entry::InterfaceOf("Nope")),
         "QueryRoot",
         "UnknownType(\"Nope\")",
     ),
     (
-        Change::InputFieldOf("Nope"),
+        Change::More(Entry::InputFieldOf("Nope")),
         "QueryRoot",
         "UnknownType(\"Nope\")",
     ),
     (
-        Change::InputFieldOf("Dog"),
+        Change::More(Entry::InputFieldOf("Dog")),
         "QueryRoot",
         "NotInputType(\"Dog\")",
     ),
-    (Change::InputFieldOf("String"), "QueryRoot", "accepted"),
+    (
+        Change::More(Entry::InputFieldOf("String")),
+        "QueryRoot",
+        "accepted",
+    ),
 ];
 
 /// Changes of `pets`.
@@ -93,7 +107,7 @@ const PETS: [Row; 3] = [
         "UnknownType(\"Boolean\")",
     ),
     (
-        Change::UnionOf("Pet"),
+        Change::More(Entry::UnionOf("Pet")),
         "QueryRoot",
         "UnionMemberNotObject(\"Pet\")",
     ),
@@ -138,21 +152,30 @@ fn list(alloc: Global) -> Result<MetaType, SchemaError> {
     Ok(ListMeta::new(Type::non_null(alloc, "String")?, None).into_meta())
 }
 
+fn made(alloc: Global, entry: Entry) -> Result<MetaType, SchemaError> {
+    match entry {
+        Entry::Dog => dog(alloc),
+        Entry::List => list(alloc),
+        Entry::UnionOf(name) => Ok(union_of(alloc, "Pets", &[name])?),
+        Entry::ObjectOf(name) => object_of(alloc, name),
+        Entry::InterfaceOf(name) => interface_of(alloc, name),
+        Entry::InputFieldOf(name) => input_of(alloc, name),
+    }
+}
+
+fn add_union_of_interface(alloc: Global, types: &mut Vec<MetaType>) -> Result<(), SchemaError> {
+    types.push(interface(alloc, "Friend", Vec::new(alloc))?)?;
+    types.push(union_of(alloc, "Friends", &["Friend"])?)?;
+    Ok(())
+}
+
 /// Adds what the change adds.
 fn add(alloc: Global, types: &mut Vec<MetaType>, change: Change) -> Result<(), SchemaError> {
     match change {
         Change::Nothing | Change::Without(_) => {}
-        Change::DogTwice => types.push(dog(alloc)?)?,
         Change::DogArgument => types.push(dog_of_dogs(alloc)?)?,
-        Change::ListEntry => types.push(list(alloc)?)?,
-        Change::UnionOfInterface => {
-            types.push(interface(alloc, "Friend", Vec::new(alloc))?)?;
-            types.push(union_of(alloc, "Friends", &["Friend"])?)?;
-        }
-        Change::UnionOf(name) => types.push(union_of(alloc, "Pets", &[name])?)?,
-        Change::ObjectOf(name) => types.push(object_of(alloc, name)?)?,
-        Change::InterfaceOf(name) => types.push(interface_of(alloc, name)?)?,
-        Change::InputFieldOf(name) => types.push(input_of(alloc, name)?)?,
+        Change::UnionOfInterface => add_union_of_interface(alloc, types)?,
+        Change::More(entry) => types.push(made(alloc, entry)?)?,
     }
     Ok(())
 }

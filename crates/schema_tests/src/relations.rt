@@ -89,6 +89,10 @@ fn joined(alloc: Global, metas: &[&MetaType]) -> Result<String, SchemaError> {
     Ok(text)
 }
 
+fn concrete_names(alloc: Global, schema: &Pets) -> Result<String, SchemaError> {
+    joined(alloc, schema.concrete_type_list(alloc)?.as_slice())
+}
+
 /// What the types print, each followed by a blank.
 fn types_printed(alloc: Global, schema: &Pets) -> Result<String, SchemaError> {
     let mut text = String::new(alloc);
@@ -235,7 +239,7 @@ fn shown(alloc: Global, answer: Option<bool>) -> Result<String, SchemaError> {
 fn answer(alloc: Global, schema: &Pets, question: Question) -> Result<String, SchemaError> {
     match question {
         Question::TypeList => types_printed(alloc, schema),
-        Question::ConcreteTypeList => joined(alloc, schema.concrete_type_list(alloc)?.as_slice()),
+        Question::ConcreteTypeList => concrete_names(alloc, schema),
         Question::DirectiveList => directive_names(alloc, schema),
         Question::PossibleTypes(name) => possible_names(alloc, schema, name),
         Question::IsPossibleType(first, second) => shown(alloc, may_be(schema, first, second)),

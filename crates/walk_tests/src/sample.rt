@@ -94,10 +94,15 @@ fn sample_types(
     let mut types = common(alloc, string, boolean)?;
     types.push(scalar(alloc, "Int", DefaultCheck::with_token(check, token))?)?;
     types.push(pair(alloc, DefaultCheck::new(check))?)?;
+    add_objects(alloc, &mut types)?;
+    Ok(types)
+}
+
+fn add_objects(alloc: Global, types: &mut Vec<MetaType>) -> Result<(), OutOfMemory> {
     types.push(dog(alloc)?)?;
     types.push(query_root(alloc)?)?;
     types.push(mutation_root(alloc)?)?;
-    Ok(types)
+    Ok(())
 }
 
 fn mutation_root(alloc: Global) -> Result<MetaType, OutOfMemory> {
