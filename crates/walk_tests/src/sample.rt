@@ -31,6 +31,15 @@ subscription S { dog { name } }
 fragment F on Dog @skip { __typename }
 ";
 
+/// A check for each type that has one.
+#[derive(Drop)]
+struct Checks {
+    string: DefaultCheck,
+    boolean: DefaultCheck,
+    int: DefaultCheck,
+    pair: DefaultCheck,
+}
+
 /// `Dog { name(x: Int, x: String): String, name: Int, friends: [Dog!]! }`
 fn dog(alloc: Global) -> Result<MetaType, OutOfMemory> {
     let mut fields = own_fields(alloc)?;
@@ -78,22 +87,24 @@ fn pair(alloc: Global, check: DefaultCheck) -> Result<MetaType, OutOfMemory> {
     Ok(InputObjectMetaOf::with_check(alloc, "Pair", fields, check)?.into_meta())
 }
 
-/// The types of the walks: `Int`, `MutationRoot { feed: Dog }`, those above, and what each schema has.
-fn sample_types(
-    alloc: Global,
-    check: InputValueParseFn,
-    token: ScalarTokenParseFn,
-) -> Result<Vec<MetaType>, OutOfMemory>
+/// The same check for each type of the list.
+fn same_checks(check: InputValueParseFn, token: ScalarTokenParseFn) -> Checks
     requires callable { (a : _) (v : _) → InputValueParseFn.pre check a v }
     requires one_answer { (a b : _) (v w : _) (r s : _) → v.now ≡ w.now → InputValueParseFn.post check a v r → InputValueParseFn.post check b w s → SameAnswer r s }
 {
-    let (string, boolean) = (
-        DefaultCheck::with_token(check, token),
-        DefaultCheck::with_token(check, token),
-    );
-    let mut types = common(alloc, string, boolean)?;
-    types.push(scalar(alloc, "Int", DefaultCheck::with_token(check, token))?)?;
-    types.push(pair(alloc, DefaultCheck::new(check))?)?;
+    Checks {
+        string: DefaultCheck::with_token(check, token),
+        boolean: DefaultCheck::with_token(check, token),
+        int: DefaultCheck::with_token(check, token),
+        pair: DefaultCheck::new(check),
+    }
+}
+
+/// The types of the walks: `Int`, `MutationRoot { feed: Dog }`, those above, and what each schema has.
+fn sample_types(alloc: Global, checks: Checks) -> Result<Vec<MetaType>, OutOfMemory> {
+    let mut types = common(alloc, checks.string, checks.boolean)?;
+    types.push(scalar(alloc, "Int", checks.int)?)?;
+    types.push(pair(alloc, checks.pair)?)?;
     add_objects(alloc, &mut types)?;
     Ok(types)
 }
@@ -114,6 +125,19 @@ fn mutation_root(alloc: Global) -> Result<MetaType, OutOfMemory> {
     )
 }
 
+fn schema_of(
+    alloc: Global,
+    types: Vec<MetaType>,
+) -> Result<SchemaType<DefaultScalarValue>, SchemaError> {
+    SchemaType::<DefaultScalarValue>::new(
+        alloc,
+        types,
+        "QueryRoot",
+        "MutationRoot",
+        "_EmptySubscription",
+    )
+}
+
 /// The schema of the walks, with this check for each type; it has a root of mutations and none of subscriptions.
 pub fn sample_schema(
     alloc: Global,
@@ -123,11 +147,5 @@ pub fn sample_schema(
     requires callable { (a : _) (v : _) → InputValueParseFn.pre check a v }
     requires one_answer { (a b : _) (v w : _) (r s : _) → v.now ≡ w.now → InputValueParseFn.post check a v r → InputValueParseFn.post check b w s → SameAnswer r s }
 {
-    SchemaType::<DefaultScalarValue>::new(
-        alloc,
-        sample_types(alloc, check, token)?,
-        "QueryRoot",
-        "MutationRoot",
-        "_EmptySubscription",
-    )
+    schema_of(alloc, sample_types(alloc, same_checks(check, token))?)
 }
