@@ -201,25 +201,25 @@ fn said(alloc: Global, types: Vec<MetaType>, query: &str) -> Result<String, Sche
     shown(alloc, made.err(), "accepted")
 }
 
-/// What the builder says of the list as the row changes it.
-fn said_of_changed(alloc: Global, types: Vec<MetaType>, row: &Row) -> Result<String, SchemaError> {
-    let mut types = types;
-    if let Some(name) = left_out(row.0) {
+/// Changes the list.
+fn change(alloc: Global, types: &mut Vec<MetaType>, how: Change) -> Result<(), SchemaError> {
+    if let Some(name) = left_out(how) {
         types.retain(|meta| meta.name() != Some(name));
     }
-    add(alloc, &mut types, row.0)?;
-    said(alloc, types, row.1)
+    add(alloc, types, how)
 }
 
 #[test]
 fn lists_are_accepted_or_refused_by_name(rt: HostRuntime) {
     let alloc = rt.alloc();
     for row in &DEMO {
-        let types = demo_types(alloc, check_string, refuse_token).expect(&rt, "the list");
-        says(&rt, said_of_changed(alloc, types, row), row.2);
+        let mut types = demo_types(alloc, check_string, refuse_token).expect(&rt, "the list");
+        change(alloc, &mut types, row.0).expect(&rt, "memory");
+        says(&rt, said(alloc, types, row.1), row.2);
     }
     for row in &PETS {
-        let types = pets_types(alloc, check_string, refuse_token).expect(&rt, "the list");
-        says(&rt, said_of_changed(alloc, types, row), row.2);
+        let mut types = pets_types(alloc, check_string, refuse_token).expect(&rt, "the list");
+        change(alloc, &mut types, row.0).expect(&rt, "memory");
+        says(&rt, said(alloc, types, row.1), row.2);
     }
 }

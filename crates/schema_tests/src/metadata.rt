@@ -3,6 +3,7 @@ use crate::said::says;
 use language::types::Type;
 use language::value::{DefaultScalarValue, InputValue};
 use meta::check::CheckedScalar;
+use meta::default_check::DefaultCheck;
 use meta::{
     Argument, DeprecationStatus, EnumMetaOf, EnumValue, Field, InputObjectMetaOf, InterfaceMeta,
     ListMeta, MetaType, NullableMeta, ObjectMeta, ScalarMetaOf, TypeKind, UnionMeta,
@@ -117,11 +118,15 @@ fn argument_text(alloc: Global, made: &ArgumentMeta) -> Result<String, SchemaErr
     }
 }
 
-fn input_text(alloc: Global) -> Result<String, SchemaError> {
+/// An input object with that argument as its field.
+fn full_input(alloc: Global) -> Result<MetaType, SchemaError> {
     let fields = alone(alloc, full_argument(alloc)?)?;
-    let made: MetaType = InputObjectMetaOf::new(alloc, "Pair", fields, check_string)?
-        .description("a pair")?
-        .into_meta();
+    let made = InputObjectMetaOf::new(alloc, "Pair", fields, check_string)?;
+    Ok(made.description("a pair")?.into_meta())
+}
+
+fn input_text(alloc: Global) -> Result<String, SchemaError> {
+    let made = full_input(alloc)?;
     match made.input_field_by_name("x") {
         Some(field) => argument_text(alloc, field),
         None => meta_text(alloc, &made),
@@ -211,17 +216,20 @@ fn types_are_printed(rt: HostRuntime) {
     says(&rt, printed(alloc, nullable), "Int");
 }
 
+fn plain_scalar(alloc: Global) -> Result<MetaType, SchemaError> {
+    Ok(ScalarMetaOf::new(alloc, "String", check_string, refuse_token)?.into_meta())
+}
+
 /// What the check of a scalar says of null.
 fn said_of_null(alloc: Global) -> Result<String, SchemaError> {
-    let scalar: MetaType = ScalarMetaOf::new(
-        alloc,
-        "String",
-        check_string,
-        refuse_token,
-    )?.into_meta();
-    let Some(check) = scalar.input_value_parse_fn() else {
-        return Ok(String::from_str(alloc, "no check")?);
-    };
+    let scalar = plain_scalar(alloc)?;
+    match scalar.input_value_parse_fn() {
+        Some(check) => said_by(alloc, check),
+        None => Ok(String::from_str(alloc, "no check")?),
+    }
+}
+
+fn said_by(alloc: Global, check: &DefaultCheck) -> Result<String, SchemaError> {
     match <DefaultScalarValue as CheckedScalar>::run_check(check, alloc, &InputValue::Null) {
         Ok(()) => Ok(String::from_str(alloc, "accepted")?),
         Err(refused) => Ok(refused.to_string(alloc)?),
