@@ -11,9 +11,24 @@ use language::tree::{
 use language::types::{BorrowedType, Type, TypeModifier};
 use language::value::{DefaultScalarValue, InputValue, Variables};
 use std::alloc::{AllocError, Global};
-use std::test::Fail;
+use std::process::Abort;
 
 type Value = InputValue<DefaultScalarValue>;
+
+type Set<'a> = Vec<Selection<'a, DefaultScalarValue>>;
+
+/// The list of one.
+fn alone<T: Drop>(alloc: Global, only: T) -> Result<Vec<T>, OutOfMemory> {
+    let mut list = Vec::new(alloc);
+    list.push(only)?;
+    Ok(list)
+}
+
+/// What is printed is the text.
+fn says(rt: &impl Abort, said: Result<String, AllocError>, want: &str) {
+    let said = said.expect(rt, "memory");
+    assert_eq!(rt; said.as_str(), want);
+}
 
 fn at(index: usize) -> Span {
     Span {
@@ -28,6 +43,14 @@ fn here<T>(item: T) -> Spanning<T> {
 
 fn text(alloc: Global, s: &str) -> Result<String, AllocError> {
     String::from_str(alloc, s)
+}
+
+fn list(items: Vec<Spanning<Value>>) -> Value {
+    InputValue::List(items)
+}
+
+fn object(entries: Vec<(Spanning<String>, Spanning<Value>)>) -> Value {
+    InputValue::Object(entries)
 }
 
 fn int(n: i32) -> Value {
@@ -56,12 +79,15 @@ fn sample(alloc: Global) -> Result<Value, AllocError> {
 }
 
 #[test]
-fn positions_print_line_and_column_and_are_ordered(rt: HostRuntime) -> Result<(), Fail> {
+fn positions_print_line_and_column_and_are_ordered(rt: HostRuntime) {
     let alloc = rt.alloc();
     let place = SourcePosition::new(7, 2, 3);
-    assert_eq!(rt; place.to_string(alloc)?.as_str(), "2:3");
-    let far = SourcePosition::new(20_000, 12, 1234);
-    assert_eq!(rt; far.to_string(alloc)?.as_str(), "12:1234");
+    says(&rt, place.to_string(alloc), "2:3");
+    says(
+        &rt,
+        SourcePosition::new(20_000, 12, 1234).to_string(alloc),
+        "12:1234",
+    );
     assert_eq!(rt; (place.index(), place.line(), place.column()), (7, 2, 3));
     for (small, large) in [
         (SourcePosition::new(1, 9, 9), SourcePosition::new(2, 0, 0)),
@@ -70,149 +96,167 @@ fn positions_print_line_and_column_and_are_ordered(rt: HostRuntime) -> Result<()
     ] {
         assert!(rt; small < large);
     }
-    Ok(())
 }
 
-#[test]
-fn types_print_their_modifiers(rt: HostRuntime) -> Result<(), Fail> {
-    let alloc = rt.alloc();
-    let plain = Type::nullable(alloc, "Int")?;
-    assert_eq!(rt; plain.to_string(alloc)?.as_str(), "Int");
-    let wrapped = plain
+/// `[[Int!]]!`, its outer list of two.
+fn wrapped(alloc: Global) -> Result<Type, OutOfMemory> {
+    Type::nullable(alloc, "Int")?
         .wrap_non_null()?
         .wrap_non_null()?
         .wrap_list(None)?
         .wrap_list(Some(2))?
-        .wrap_non_null()?;
-    assert_eq!(rt; wrapped.to_string(alloc)?.as_str(), "[[Int!]]!");
-    assert_eq!(rt; wrapped.innermost_name(), "Int");
-    assert_eq!(rt; wrapped.name(), None);
-    assert_eq!(rt; wrapped.modifiers().len(), 4);
-    assert_eq!(rt; wrapped.modifier().copied(), Some(TypeModifier::NonNull));
-    assert_eq!(rt;
-        wrapped.borrow_inner().to_string(alloc)?.as_str(),
-        "[[Int!]]"
-    );
-    let items = wrapped.borrow_list_inner().ok_or("no list")?;
-    assert_eq!(rt; items.to_string(alloc)?.as_str(), "[Int!]");
-    assert!(rt; wrapped.clone()? == wrapped);
-    assert_eq!(rt;
-        wrapped.into_nullable().to_string(alloc)?.as_str(),
-        "[[Int!]]"
-    );
-    Ok(())
+        .wrap_non_null()
 }
 
 #[test]
-fn borrowed_types_answer_for_themselves(rt: HostRuntime) -> Result<(), Fail> {
+fn types_print_their_modifiers(rt: HostRuntime) {
+    let alloc = rt.alloc();
+    let wrapped = wrapped(alloc).expect(&rt, "memory");
+    says(&rt, wrapped.to_string(alloc), "[[Int!]]!");
+    assert_eq!(rt; (wrapped.innermost_name(), wrapped.name()), ("Int", None));
+    assert_eq!(rt; wrapped.modifiers().len(), 4);
+    assert!(rt; wrapped.modifier() == Some(&TypeModifier::NonNull));
+    says(&rt, wrapped.borrow_inner().to_string(alloc), "[[Int!]]");
+    let items = wrapped.borrow_list_inner().expect(&rt, "a list");
+    says(&rt, items.to_string(alloc), "[Int!]");
+    assert!(rt; wrapped.clone().expect(&rt, "memory") == wrapped);
+    says(&rt, wrapped.into_nullable().to_string(alloc), "[[Int!]]");
+}
+
+#[test]
+fn borrowed_types_answer_for_themselves(rt: HostRuntime) {
     let alloc = rt.alloc();
     let dog = BorrowedType::non_null("Dog");
-    assert_eq!(rt; dog.to_string(alloc)?.as_str(), "Dog!");
-    assert_eq!(rt; dog.name(), Some("Dog"));
-    assert!(rt; dog.is_non_null());
+    says(&rt, dog.to_string(alloc), "Dog!");
+    assert_eq!(rt; (dog.name(), dog.is_non_null()), (Some("Dog"), true));
     assert!(rt; dog.borrow_list_inner().is_none());
     assert!(rt; dog.borrow_inner() == BorrowedType::nullable("Dog"));
     assert!(rt; BorrowedType::nullable("Dog").borrow_inner() == BorrowedType::nullable("Dog"));
-    assert!(rt; Type::non_null(alloc, "Dog")?.as_borrowed() == dog);
-    let sized = Type::nullable(alloc, "Int")?.wrap_list(Some(2))?;
-    assert!(rt; sized != Type::nullable(alloc, "Int")?.wrap_list(Some(3))?);
-    Ok(())
+    let owned = Type::non_null(alloc, "Dog").expect(&rt, "memory");
+    assert!(rt; owned.as_borrowed() == dog);
+}
+
+/// `[Int]` of this size.
+fn sized(alloc: Global, size: usize) -> Result<Type, OutOfMemory> {
+    Type::nullable(alloc, "Int")?.wrap_list(Some(size))
 }
 
 #[test]
-fn values_print_as_they_are_written(rt: HostRuntime) -> Result<(), Fail> {
+fn lists_of_another_size_are_others(rt: HostRuntime) {
+    let two = sized(rt.alloc(), 2).expect(&rt, "memory");
+    assert!(rt; two != sized(rt.alloc(), 3).expect(&rt, "memory"));
+}
+
+#[test]
+fn values_print_as_they_are_written(rt: HostRuntime) {
     let alloc = rt.alloc();
     let truth: Value = InputValue::Scalar(DefaultScalarValue::Boolean(true));
     let none: Value = InputValue::Null;
-    let empty_list: Value = InputValue::List(Vec::new(alloc));
-    let empty_object: Value = InputValue::Object(Vec::new(alloc));
-    let one: Value = InputValue::List(vec![in alloc; here(int(-1))]?);
-    for (value, want) in [
-        (&none, "null"),
-        (&truth, "true"),
-        (&empty_list, "[]"),
-        (&empty_object, "{}"),
-        (&one, "[-1]"),
-        (&sample(alloc)?, "{k: [1, \"a\", SIT], l: $v}"),
-    ] {
-        assert_eq!(rt; value.to_string(alloc)?.as_str(), want);
-    }
-    Ok(())
+    says(&rt, none.to_string(alloc), "null");
+    says(&rt, truth.to_string(alloc), "true");
+    says(&rt, list(Vec::new(alloc)).to_string(alloc), "[]");
+    says(&rt, object(Vec::new(alloc)).to_string(alloc), "{}");
+    let one = alone(alloc, here(int(-1))).expect(&rt, "memory");
+    says(&rt, list(one).to_string(alloc), "[-1]");
+    let sample = sample(alloc).expect(&rt, "memory");
+    says(&rt, sample.to_string(alloc), "{k: [1, \"a\", SIT], l: $v}");
 }
 
 #[test]
-fn values_answer_by_kind(rt: HostRuntime) -> Result<(), Fail> {
+fn values_answer_by_kind(rt: HostRuntime) {
     let alloc = rt.alloc();
-    let value = sample(alloc)?;
+    let value = sample(alloc).expect(&rt, "memory");
     assert!(rt; !value.is_null());
-    assert!(rt; value.to_list_value(alloc)?.is_none());
-    let entries = value.to_object_value(alloc)?.ok_or("no object")?;
+    assert!(rt; value.to_list_value(alloc).expect(&rt, "memory").is_none());
+    let entries = value
+        .to_object_value(alloc)
+        .expect(&rt, "memory")
+        .expect(&rt, "an object");
     assert_eq!(rt; entries.len(), 2);
-    let list = entries.get("k").ok_or("no k")?;
-    assert_eq!(rt; list.to_list_value(alloc)?.ok_or("no list")?.len(), 3);
-    assert!(rt; list.to_object_value(alloc)?.is_none());
-    assert!(rt; value.unlocated_eq(&sample(alloc)?));
-    assert!(rt; value.clone()? == value);
+    let list = entries.get("k").expect(&rt, "k");
+    let items = list
+        .to_list_value(alloc)
+        .expect(&rt, "memory")
+        .expect(&rt, "a list");
+    assert_eq!(rt; items.len(), 3);
+    assert!(rt; list.to_object_value(alloc).expect(&rt, "memory").is_none());
+}
+
+#[test]
+fn copies_are_the_same(rt: HostRuntime) {
+    let alloc = rt.alloc();
+    let value = sample(alloc).expect(&rt, "memory");
+    assert!(rt; value.unlocated_eq(&sample(alloc).expect(&rt, "memory")));
+    assert!(rt; value.clone().expect(&rt, "memory") == value);
     let mut values: Variables = Variables::new(alloc);
-    values.insert(text(alloc, "v")?, value.clone()?)?;
+    let name = text(alloc, "v").expect(&rt, "memory");
+    let put: Result<_, _> = values.insert(name, value);
+    assert!(rt; put.is_ok());
     assert_eq!(rt; values.len(), 1);
-    Ok(())
+}
+
+/// The object of an integer and an integer.
+fn two_entries(
+    alloc: Global,
+    first: (&str, i32),
+    second: (&str, i32),
+) -> Result<Value, OutOfMemory> {
+    Ok(object(vec![in alloc;
+        (here(text(alloc, first.0)?), here(int(first.1))),
+        (here(text(alloc, second.0)?), here(int(second.1))),
+    ]?))
 }
 
 #[test]
-fn the_last_entry_of_a_key_wins(rt: HostRuntime) -> Result<(), Fail> {
+fn the_last_entry_of_a_key_wins(rt: HostRuntime) {
     let alloc = rt.alloc();
-    let value: Value = InputValue::Object(vec![in alloc;
-        (here(text(alloc, "k")?), here(int(1))),
-        (here(text(alloc, "k")?), here(int(2))),
-    ]?);
-    let entries = value.to_object_value(alloc)?.ok_or("no object")?;
+    let value = two_entries(alloc, ("k", 1), ("k", 2)).expect(&rt, "memory");
+    let entries = value
+        .to_object_value(alloc)
+        .expect(&rt, "memory")
+        .expect(&rt, "an object");
     assert_eq!(rt; entries.len(), 1);
-    assert!(rt; entries.get("k").ok_or("no k")?.unlocated_eq(&int(2)));
-    Ok(())
+    assert!(rt; entries.get("k").expect(&rt, "k").unlocated_eq(&int(2)));
 }
 
 #[test]
-fn places_and_order_of_keys_do_not_count(rt: HostRuntime) -> Result<(), Fail> {
+fn places_and_order_of_keys_do_not_count(rt: HostRuntime) {
     let alloc = rt.alloc();
-    let left: Value = InputValue::Object(vec![in alloc;
-        (here(text(alloc, "a")?), here(int(1))),
-        (here(text(alloc, "b")?), here(int(2))),
-    ]?);
-    let right: Value = InputValue::Object(vec![in alloc;
-        (
-            here(text(alloc, "b")?),
-            Spanning {
-                item: int(2),
-                span: at(9)
-            }
-        ),
-        (here(text(alloc, "a")?), here(int(1))),
-    ]?);
+    let left = two_entries(alloc, ("a", 1), ("b", 2)).expect(&rt, "memory");
+    let right = two_entries(alloc, ("b", 2), ("a", 1)).expect(&rt, "memory");
     assert!(rt; left.unlocated_eq(&right));
     assert!(rt; left != right);
-    let repeated: Value = InputValue::Object(vec![in alloc;
-        (here(text(alloc, "a")?), here(int(1))),
-        (here(text(alloc, "a")?), here(int(1))),
-    ]?);
+    let repeated = two_entries(alloc, ("a", 1), ("a", 1)).expect(&rt, "memory");
     assert!(rt; repeated.unlocated_eq(&left));
     assert!(rt; !left.unlocated_eq(&repeated));
-    Ok(())
 }
 
 #[test]
-fn variables_come_in_order_with_repeats(rt: HostRuntime) -> Result<(), Fail> {
+fn places_do_not_count(rt: HostRuntime) {
     let alloc = rt.alloc();
-    let value: Value = InputValue::List(vec![in alloc;
-        here(variable(alloc, "b")?),
-        here(InputValue::Object(vec![in alloc;
-            (here(text(alloc, "k")?), here(variable(alloc, "a")?))
-        ]?)),
-        here(variable(alloc, "b")?),
-    ]?);
-    let names = value.referenced_variables(alloc)?;
+    let left = list(alone(alloc, here(int(2))).expect(&rt, "memory"));
+    let far = Spanning {
+        item: int(2),
+        span: at(9),
+    };
+    let right = list(alone(alloc, far).expect(&rt, "memory"));
+    assert!(rt; left.unlocated_eq(&right));
+    assert!(rt; left != right);
+}
+
+/// `[$b, {k: $a}, $b]`
+fn with_variables(alloc: Global) -> Result<Value, OutOfMemory> {
+    let entry = (here(text(alloc, "k")?), here(variable(alloc, "a")?));
+    let entries = object(vec![in alloc; entry]?);
+    let first = here(variable(alloc, "b")?);
+    Ok(list(vec![in alloc; first, here(entries), here(variable(alloc, "b")?)]?))
+}
+
+#[test]
+fn variables_come_in_order_with_repeats(rt: HostRuntime) {
+    let value = with_variables(rt.alloc()).expect(&rt, "memory");
+    let names = value.referenced_variables(rt.alloc()).expect(&rt, "memory");
     assert_eq!(rt; names.as_slice(), ["b", "a", "b"].as_slice());
-    Ok(())
 }
 
 fn spread<'a>(name: &'a str) -> Selection<'a, DefaultScalarValue> {
@@ -222,79 +266,88 @@ fn spread<'a>(name: &'a str) -> Selection<'a, DefaultScalarValue> {
     }))
 }
 
-#[test]
-fn spreads_are_found_at_any_depth(rt: HostRuntime) -> Result<(), Fail> {
-    let alloc = rt.alloc();
-    let field = Field {
+fn field<'a>(set: Set<'a>) -> Selection<'a, DefaultScalarValue> {
+    Selection::Field(here(Field {
         alias: None,
         name: here("dog"),
         arguments: None,
         directives: None,
-        selection_set: Some(vec![in alloc; spread("A")]?),
-    };
-    let inline = InlineFragment {
+        selection_set: Some(set),
+    }))
+}
+
+fn inline<'a>(set: Set<'a>) -> Selection<'a, DefaultScalarValue> {
+    Selection::InlineFragment(here(InlineFragment {
         type_condition: None,
         directives: None,
-        selection_set: vec![in alloc; spread("B"), spread("A")]?,
-    };
-    let set = vec![in alloc;
-        Selection::Field(here(field)),
-        Selection::InlineFragment(here(inline)),
-    ]?;
-    let names = spread_names(alloc, set.as_slice())?;
-    assert_eq!(rt; names.as_slice(), ["A", "B", "A"].as_slice());
-    Ok(())
+        selection_set: set,
+    }))
 }
 
 #[test]
-fn lists_of_pairs_find_the_first_of_a_name(rt: HostRuntime) -> Result<(), Fail> {
+fn spreads_are_found_at_any_depth(rt: HostRuntime) {
     let alloc = rt.alloc();
+    let field = field(alone(alloc, spread("A")).expect(&rt, "memory"));
+    let spreads: Result<_, _> = vec![in alloc; spread("B"), spread("A")];
+    let inline = inline(spreads.expect(&rt, "memory"));
+    let set: Result<_, _> = vec![in alloc; field, inline];
+    let set = set.expect(&rt, "memory");
+    let names = spread_names(alloc, set.as_slice()).expect(&rt, "memory");
+    assert_eq!(rt; names.as_slice(), ["A", "B", "A"].as_slice());
+}
+
+#[test]
+fn arguments_are_found_by_the_first_of_a_name(rt: HostRuntime) {
+    let alloc = rt.alloc();
+    let items: Result<_, _> = vec![in alloc; (here("x"), here(int(1))), (here("x"), here(int(2)))];
     let arguments = Arguments {
-        items: vec![in alloc; (here("x"), here(int(1))), (here("x"), here(int(2)))]?,
+        items: items.expect(&rt, "memory"),
     };
-    assert_eq!(rt; arguments.len(), 2);
-    assert!(rt; !arguments.is_empty());
+    assert_eq!(rt; (arguments.len(), arguments.is_empty()), (2, false));
     assert_eq!(rt; arguments.iter().count(), 2);
-    assert!(rt; arguments.get("x").ok_or("no x")?.item == int(1));
+    assert!(rt; arguments.get("x").expect(&rt, "x").item == int(1));
     assert!(rt; arguments.get("y").is_none());
-    let definitions: VariableDefinitions<'_, DefaultScalarValue> = VariableDefinitions {
-        items: vec![in alloc;
-            (
-                here("v"),
-                VariableDefinition {
-                    var_type: here(Type::nullable(alloc, "Int")?),
-                    default_value: None,
-                    directives: None,
-                }
-            ),
-        ]?,
+}
+
+#[test]
+fn variables_are_found_by_name(rt: HostRuntime) {
+    let alloc = rt.alloc();
+    let definition: VariableDefinition<'_, DefaultScalarValue> = VariableDefinition {
+        var_type: here(Type::nullable(alloc, "Int").expect(&rt, "memory")),
+        default_value: None,
+        directives: None,
     };
-    assert_eq!(rt; definitions.len(), 1);
-    assert!(rt; !definitions.is_empty());
+    let definitions = VariableDefinitions {
+        items: alone(alloc, (here("v"), definition)).expect(&rt, "memory"),
+    };
+    assert_eq!(rt; (definitions.len(), definitions.is_empty()), (1, false));
     assert_eq!(rt; definitions.iter().count(), 1);
     assert!(rt; definitions.get("v").is_some());
     assert!(rt; definitions.get("w").is_none());
-    Ok(())
 }
 
 #[test]
-fn scalars_and_refusals_print_their_text(rt: HostRuntime) -> Result<(), Fail> {
-    let alloc = rt.alloc();
-    let word = DefaultScalarValue::String(text(alloc, "a")?);
+fn scalars_are_read_and_copied(rt: HostRuntime) {
+    let word = DefaultScalarValue::String(text(rt.alloc(), "a").expect(&rt, "memory"));
     assert_eq!(rt; word.try_as_str(), Some("a"));
     assert_eq!(rt; DefaultScalarValue::Int(1).try_as_str(), None);
-    assert!(rt; word.clone()? == word);
-    let refused = CheckError::Refused(text(alloc, "not a value of Int")?);
-    assert_eq!(rt; refused.message(), Some("not a value of Int"));
-    assert_eq!(rt; refused.to_string(alloc)?.as_str(), "not a value of Int");
-    assert_eq!(rt; CheckError::OutOfMemory.message(), None);
-    assert_eq!(rt;
-        ParseError::OutOfMemory.to_string(alloc)?.as_str(),
-        "out of memory"
-    );
-    assert_eq!(rt; OutOfMemory.to_string(alloc)?.as_str(), "out of memory");
+    assert!(rt; word.clone().expect(&rt, "memory") == word);
     assert!(rt; ScalarToken::Int("1") != ScalarToken::String("1"));
-    Ok(())
+}
+
+#[test]
+fn refusals_print_their_text(rt: HostRuntime) {
+    let alloc = rt.alloc();
+    let refused = CheckError::Refused(text(alloc, "not a value of Int").expect(&rt, "memory"));
+    assert_eq!(rt; refused.message(), Some("not a value of Int"));
+    says(&rt, refused.to_string(alloc), "not a value of Int");
+    assert_eq!(rt; CheckError::OutOfMemory.message(), None);
+    says(
+        &rt,
+        ParseError::OutOfMemory.to_string(alloc),
+        "out of memory",
+    );
+    says(&rt, OutOfMemory.to_string(alloc), "out of memory");
 }
 
 /// What a value of the sample says, or that memory was wanting.

@@ -13,17 +13,26 @@ pub fn types(alloc: Global, checks: Checks) -> Result<Vec<MetaType>, OutOfMemory
     let mut types = common(alloc, checks.string, checks.boolean)?;
     types.push(scalar(alloc, "Int", checks.int)?)?;
     types.push(scalar(alloc, "ID", checks.id)?)?;
-    types.push(some_box(alloc)?)?;
-    types.push(interface(alloc, "NonNullStringBox1", scalar_fields(alloc)?)?)?;
-    types.push(interface(alloc, "NonNullStringBox2", scalar_fields(alloc)?)?)?;
-    types.push(typed_box(alloc, "StringBox", "String")?)?;
-    types.push(typed_box(alloc, "IntBox", "Int")?)?;
-    types.push(non_null_box(alloc, "NonNullStringBox1Impl", "NonNullStringBox1")?)?;
-    types.push(non_null_box(alloc, "NonNullStringBox2Impl", "NonNullStringBox2")?)?;
+    add_boxes(alloc, &mut types)?;
     add_connection(alloc, &mut types)?;
     let roots = [("someBox", "SomeBox"), ("connection", "Connection")];
     types.push(object(alloc, "QueryRoot", &[], plain_fields(alloc, &roots)?)?)?;
     Ok(types)
+}
+
+fn add_boxes(alloc: Global, types: &mut Vec<MetaType>) -> Result<(), OutOfMemory> {
+    types.push(some_box(alloc)?)?;
+    types.push(interface(alloc, "NonNullStringBox1", scalar_fields(alloc)?)?)?;
+    types.push(interface(alloc, "NonNullStringBox2", scalar_fields(alloc)?)?)?;
+    add_made_boxes(alloc, types)
+}
+
+fn add_made_boxes(alloc: Global, types: &mut Vec<MetaType>) -> Result<(), OutOfMemory> {
+    types.push(typed_box(alloc, "StringBox", "String")?)?;
+    types.push(typed_box(alloc, "IntBox", "Int")?)?;
+    types.push(non_null_box(alloc, "NonNullStringBox1Impl", "NonNullStringBox1")?)?;
+    types.push(non_null_box(alloc, "NonNullStringBox2Impl", "NonNullStringBox2")?)?;
+    Ok(())
 }
 
 fn some_box(alloc: Global) -> Result<MetaType, OutOfMemory> {

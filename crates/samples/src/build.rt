@@ -120,14 +120,15 @@ pub fn common(
     let mut types = Vec::new(alloc);
     types.push(scalar(alloc, "String", string)?)?;
     types.push(scalar(alloc, "Boolean", boolean)?)?;
+    types.push(introspected(alloc)?)?;
+    let fields = plain_fields(alloc, &[("name", "String")])?;
+    types.push(object(alloc, "__Type", &[], fields)?)?;
+    Ok(types)
+}
+
+// The type `__Schema`.
+fn introspected(alloc: Global) -> Result<MetaType, OutOfMemory> {
     let mut fields = own_fields(alloc)?;
     fields.push(Field::new(alloc, "queryType", Type::non_null(alloc, "__Type")?)?)?;
-    types.push(object(alloc, "__Schema", &[], fields)?)?;
-    types.push(object(
-        alloc,
-        "__Type",
-        &[],
-        plain_fields(alloc, &[("name", "String")])?,
-    )?)?;
-    Ok(types)
+    object(alloc, "__Schema", &[], fields)
 }

@@ -14,18 +14,27 @@ pub fn types(alloc: Global, checks: Checks) -> Result<Vec<MetaType>, OutOfMemory
     let mut types = common(alloc, checks.string, checks.boolean)?;
     types.push(scalar(alloc, "Int", checks.int)?)?;
     types.push(dog_command(alloc, checks.dog_command)?)?;
-    types.push(interface(alloc, "Being", named_fields(alloc)?)?)?;
-    types.push(interface(alloc, "Pet", named_fields(alloc)?)?)?;
-    types.push(dog(alloc)?)?;
-    types.push(cat(alloc)?)?;
-    types.push(human(alloc)?)?;
-    types.push(union_of(alloc, "CatOrDog", &["Cat", "Dog"])?)?;
-    types.push(union_of(alloc, "DogOrHuman", &["Dog", "Human"])?)?;
+    add_beings(alloc, &mut types)?;
     types.push(complex_input(alloc, checks.complex_input)?)?;
     types.push(pair_input(alloc, checks.pair_input)?)?;
     types.push(complicated_args(alloc)?)?;
     types.push(query_root(alloc)?)?;
     Ok(types)
+}
+
+fn add_beings(alloc: Global, types: &mut Vec<MetaType>) -> Result<(), OutOfMemory> {
+    types.push(interface(alloc, "Being", named_fields(alloc)?)?)?;
+    types.push(interface(alloc, "Pet", named_fields(alloc)?)?)?;
+    types.push(dog(alloc)?)?;
+    types.push(cat(alloc)?)?;
+    types.push(human(alloc)?)?;
+    add_unions(alloc, types)
+}
+
+fn add_unions(alloc: Global, types: &mut Vec<MetaType>) -> Result<(), OutOfMemory> {
+    types.push(union_of(alloc, "CatOrDog", &["Cat", "Dog"])?)?;
+    types.push(union_of(alloc, "DogOrHuman", &["Dog", "Human"])?)?;
+    Ok(())
 }
 
 fn dog_command(alloc: Global, check: DefaultCheck) -> Result<MetaType, OutOfMemory> {
@@ -93,26 +102,31 @@ fn pair_input(alloc: Global, check: DefaultCheck) -> Result<MetaType, OutOfMemor
 
 fn complicated_args(alloc: Global) -> Result<MetaType, OutOfMemory> {
     let mut fields = own_fields(alloc)?;
-    fields.push(text_field(alloc, "intArgField", argument(alloc, "intArg", "Int")?)?)?;
-    let int = required(alloc, "nonNullIntArg", "Int")?;
-    fields.push(text_field(alloc, "nonNullIntArgField", int)?)?;
-    fields.push(text_field(
-        alloc,
-        "enumArgField",
-        argument(alloc, "enumArg", "DogCommand")?,
-    )?)?;
+    add_leaf_arguments(alloc, &mut fields)?;
+    add_nested_arguments(alloc, &mut fields)?;
+    fields.push(multiple_required(alloc)?)?;
+    fields.push(multiple_optional(alloc)?)?;
+    object(alloc, "ComplicatedArgs", &[], fields)
+}
+
+fn add_leaf_arguments(alloc: Global, fields: &mut Vec<FieldMeta>) -> Result<(), OutOfMemory> {
+    let int = argument(alloc, "intArg", "Int")?;
+    fields.push(text_field(alloc, "intArgField", int)?)?;
+    let required_int = required(alloc, "nonNullIntArg", "Int")?;
+    fields.push(text_field(alloc, "nonNullIntArgField", required_int)?)?;
+    let command = argument(alloc, "enumArg", "DogCommand")?;
+    fields.push(text_field(alloc, "enumArgField", command)?)?;
+    Ok(())
+}
+
+fn add_nested_arguments(alloc: Global, fields: &mut Vec<FieldMeta>) -> Result<(), OutOfMemory> {
     let list = Argument::new(alloc, "stringListArg", list_of(alloc, "String")?)?;
     fields.push(text_field(alloc, "stringListArgField", list)?)?;
     let complex = argument(alloc, "complexArg", "ComplexInput")?;
     fields.push(text_field(alloc, "complexArgField", complex)?)?;
-    fields.push(text_field(
-        alloc,
-        "pairArgField",
-        argument(alloc, "pairArg", "PairInput")?,
-    )?)?;
-    fields.push(multiple_required(alloc)?)?;
-    fields.push(multiple_optional(alloc)?)?;
-    object(alloc, "ComplicatedArgs", &[], fields)
+    let pair = argument(alloc, "pairArg", "PairInput")?;
+    fields.push(text_field(alloc, "pairArgField", pair)?)?;
+    Ok(())
 }
 
 // A field of type `String` with one argument.

@@ -1,14 +1,15 @@
 //! Lists that are accepted and lists that are refused: the samples as they are and changed.
+use crate::said::{says, shown};
 use crate::schemas::{demo_types, pets_types};
 use language::types::Type;
 use language::value::DefaultScalarValue;
-use meta::{Argument, Field, InputObjectMetaOf, InterfaceMeta, ListMeta, MetaType, ObjectMeta};
-use samples::build::union_of;
+use meta::{InputObjectMetaOf, InterfaceMeta, ListMeta, MetaType};
+use samples::build::{argument, field, interface, object, plain_fields, union_of};
 use samples::checks::{check_string, refuse_token};
+use samples::documents::alone;
 use schema::error::SchemaError;
 use schema::model::SchemaType;
 use std::alloc::Global;
-use std::test::Fail;
 
 /// How a sample list is changed.
 #[derive(Clone, Copy)]
@@ -16,14 +17,20 @@ enum Change {
     Nothing,
     /// The type of the name is left out.
     Without(&'static str),
-    /// `Dog` is listed once more.
-    DogTwice,
-    /// The field `name` of `Dog` has an argument of the type `Dog`.
+    /// `Dog` gives way to one whose field `name` has an argument of the type `Dog`.
     DogArgument,
-    /// A list stands among the types.
-    ListEntry,
     /// The interface `Friend` and a union of it.
     UnionOfInterface,
+    /// An entry more.
+    More(Entry),
+}
+
+/// An entry of a list.
+#[derive(Clone, Copy)]
+enum Entry {
+    Dog,
+    /// A list, which is no type of a name.
+    List,
     /// A union of the type of the name.
     UnionOf(&'static str),
     /// An object that lists the interface of the name.
@@ -47,40 +54,48 @@ const DEMO: [Row; 14] = [
     ),
     (Change::Nothing, "Nope", "MissingRoot(\"Nope\")"),
     (Change::Nothing, "String", "QueryNotObject"),
-    (Change::DogTwice, "QueryRoot", "RepeatedType(\"Dog\")"),
+    (
+        Change::More(Entry::Dog),
+        "QueryRoot",
+        "RepeatedType(\"Dog\")",
+    ),
     (Change::DogArgument, "QueryRoot", "NotInputType(\"Dog\")"),
-    (Change::ListEntry, "QueryRoot", "UnnamedType"),
+    (Change::More(Entry::List), "QueryRoot", "UnnamedType"),
     (
         Change::UnionOfInterface,
         "QueryRoot",
         "UnionMemberNotObject(\"Friend\")",
     ),
     (
-        Change::UnionOf("Nope"),
+        Change::More(Entry::UnionOf("Nope")),
         "QueryRoot",
         "UnknownType(\"Nope\")",
     ),
     (
-        Change::ObjectOf("Nope"),
+        Change::More(Entry::ObjectOf("Nope")),
         "QueryRoot",
         "UnknownType(\"Nope\")",
     ),
     (
-        Change::InterfaceOf("Nope"),
+        Change::More(Entry::InterfaceOf("Nope")),
         "QueryRoot",
         "UnknownType(\"Nope\")",
     ),
     (
-        Change::InputFieldOf("Nope"),
+        Change::More(Entry::InputFieldOf("Nope")),
         "QueryRoot",
         "UnknownType(\"Nope\")",
     ),
     (
-        Change::InputFieldOf("Dog"),
+        Change::More(Entry::InputFieldOf("Dog")),
         "QueryRoot",
         "NotInputType(\"Dog\")",
     ),
-    (Change::InputFieldOf("String"), "QueryRoot", "accepted"),
+    (
+        Change::More(Entry::InputFieldOf("String")),
+        "QueryRoot",
+        "accepted",
+    ),
 ];
 
 /// Changes of `pets`.
@@ -92,41 +107,35 @@ const PETS: [Row; 3] = [
         "UnknownType(\"Boolean\")",
     ),
     (
-        Change::UnionOf("Pet"),
+        Change::More(Entry::UnionOf("Pet")),
         "QueryRoot",
         "UnionMemberNotObject(\"Pet\")",
     ),
 ];
 
-/// The object `Dog`, whose field `name` has an argument of the type, if any.
-fn dog(alloc: Global, argument_type: Option<&str>) -> Result<MetaType, SchemaError> {
-    let mut name = Field::<DefaultScalarValue>::new(
+/// The object `Dog` with a field `name`.
+fn dog(alloc: Global) -> Result<MetaType, SchemaError> {
+    Ok(object(
         alloc,
-        "name",
-        Type::nullable(alloc, "String")?,
-    )?;
-    if let Some(argument_type) = argument_type {
-        name = name.argument(Argument::new(alloc, "x", Type::nullable(alloc, argument_type)?)?)?;
-    }
-    let mut fields = Vec::new(alloc);
-    fields.push(name)?;
-    Ok(ObjectMeta::new(alloc, "Dog", fields)?.into_meta())
+        "Dog",
+        &[],
+        plain_fields(alloc, &[("name", "String")])?,
+    )?)
 }
 
-fn interface(alloc: Global, name: &str) -> Result<MetaType, SchemaError> {
-    Ok(InterfaceMeta::new(alloc, name, Vec::new(alloc))?.into_meta())
+/// The same, where the field has an argument of the type `Dog`.
+fn dog_of_dogs(alloc: Global) -> Result<MetaType, SchemaError> {
+    let name = field(alloc, "name", "String")?.argument(argument(alloc, "x", "Dog")?)?;
+    Ok(object(alloc, "Dog", &[], alone(alloc, name)?)?)
 }
 
 /// The list of the type of the name.
 fn one(alloc: Global, name: &str) -> Result<Vec<Type>, SchemaError> {
-    let mut types = Vec::new(alloc);
-    types.push(Type::nullable(alloc, name)?)?;
-    Ok(types)
+    Ok(alone(alloc, Type::nullable(alloc, name)?)?)
 }
 
 fn object_of(alloc: Global, interface: &str) -> Result<MetaType, SchemaError> {
-    let puppy = ObjectMeta::new(alloc, "Puppy", Vec::new(alloc))?;
-    Ok(puppy.interfaces(one(alloc, interface)?)?.into_meta())
+    Ok(object(alloc, "Puppy", &[interface], Vec::new(alloc))?)
 }
 
 fn interface_of(alloc: Global, interface: &str) -> Result<MetaType, SchemaError> {
@@ -135,8 +144,7 @@ fn interface_of(alloc: Global, interface: &str) -> Result<MetaType, SchemaError>
 }
 
 fn input_of(alloc: Global, type_name: &str) -> Result<MetaType, SchemaError> {
-    let mut fields = Vec::new(alloc);
-    fields.push(Argument::new(alloc, "x", Type::nullable(alloc, type_name)?)?)?;
+    let fields = alone(alloc, argument(alloc, "x", type_name)?)?;
     Ok(InputObjectMetaOf::new(alloc, "Pair", fields, check_string)?.into_meta())
 }
 
@@ -144,24 +152,32 @@ fn list(alloc: Global) -> Result<MetaType, SchemaError> {
     Ok(ListMeta::new(Type::non_null(alloc, "String")?, None).into_meta())
 }
 
-/// What the change adds.
-fn added(alloc: Global, change: Change) -> Result<Vec<MetaType>, SchemaError> {
-    let mut more = Vec::new(alloc);
+fn made(alloc: Global, entry: Entry) -> Result<MetaType, SchemaError> {
+    match entry {
+        Entry::Dog => dog(alloc),
+        Entry::List => list(alloc),
+        Entry::UnionOf(name) => Ok(union_of(alloc, "Pets", &[name])?),
+        Entry::ObjectOf(name) => object_of(alloc, name),
+        Entry::InterfaceOf(name) => interface_of(alloc, name),
+        Entry::InputFieldOf(name) => input_of(alloc, name),
+    }
+}
+
+fn add_union_of_interface(alloc: Global, types: &mut Vec<MetaType>) -> Result<(), SchemaError> {
+    types.push(interface(alloc, "Friend", Vec::new(alloc))?)?;
+    types.push(union_of(alloc, "Friends", &["Friend"])?)?;
+    Ok(())
+}
+
+/// Adds what the change adds.
+fn add(alloc: Global, types: &mut Vec<MetaType>, change: Change) -> Result<(), SchemaError> {
     match change {
         Change::Nothing | Change::Without(_) => {}
-        Change::DogTwice => more.push(dog(alloc, None)?)?,
-        Change::DogArgument => more.push(dog(alloc, Some("Dog"))?)?,
-        Change::ListEntry => more.push(list(alloc)?)?,
-        Change::UnionOfInterface => {
-            more.push(interface(alloc, "Friend")?)?;
-            more.push(union_of(alloc, "Friends", &["Friend"])?)?;
-        }
-        Change::UnionOf(name) => more.push(union_of(alloc, "Pets", &[name])?)?,
-        Change::ObjectOf(name) => more.push(object_of(alloc, name)?)?,
-        Change::InterfaceOf(name) => more.push(interface_of(alloc, name)?)?,
-        Change::InputFieldOf(name) => more.push(input_of(alloc, name)?)?,
+        Change::DogArgument => types.push(dog_of_dogs(alloc)?)?,
+        Change::UnionOfInterface => add_union_of_interface(alloc, types)?,
+        Change::More(entry) => types.push(made(alloc, entry)?)?,
     }
-    Ok(more)
+    Ok(())
 }
 
 /// The name of the type that the change leaves out.
@@ -182,41 +198,28 @@ fn said(alloc: Global, types: Vec<MetaType>, query: &str) -> Result<String, Sche
         "_EmptyMutation",
         "_EmptySubscription",
     );
-    match made {
-        Ok(_made) => Ok(String::from_str(alloc, "accepted")?),
-        Err(refused) => Ok(format!(in alloc; "{refused:?}")?),
-    }
+    shown(alloc, made.err(), "accepted")
 }
 
-/// What the builder says of the list with these types more, as the row changes it.
-fn said_of_changed(
-    alloc: Global,
-    types: Vec<MetaType>,
-    more: Vec<MetaType>,
-    row: &Row,
-) -> Result<String, SchemaError> {
-    let mut types = types;
-    if let Some(name) = left_out(row.0) {
+/// Changes the list.
+fn change(alloc: Global, types: &mut Vec<MetaType>, how: Change) -> Result<(), SchemaError> {
+    if let Some(name) = left_out(how) {
         types.retain(|meta| meta.name() != Some(name));
     }
-    for meta in more {
-        types.push(meta)?;
-    }
-    said(alloc, types, row.1)
+    add(alloc, types, how)
 }
 
 #[test]
-fn lists_are_accepted_or_refused_by_name(rt: HostRuntime) -> Result<(), Fail> {
+fn lists_are_accepted_or_refused_by_name(rt: HostRuntime) {
     let alloc = rt.alloc();
     for row in &DEMO {
-        let types = demo_types(alloc, check_string, refuse_token)?;
-        let more = added(alloc, row.0)?;
-        assert_eq!(rt; said_of_changed(alloc, types, more, row)?.as_str(), row.2);
+        let mut types = demo_types(alloc, check_string, refuse_token).expect(&rt, "the list");
+        change(alloc, &mut types, row.0).expect(&rt, "memory");
+        says(&rt, said(alloc, types, row.1), row.2);
     }
     for row in &PETS {
-        let types = pets_types(alloc, check_string, refuse_token)?;
-        let more = added(alloc, row.0)?;
-        assert_eq!(rt; said_of_changed(alloc, types, more, row)?.as_str(), row.2);
+        let mut types = pets_types(alloc, check_string, refuse_token).expect(&rt, "the list");
+        change(alloc, &mut types, row.0).expect(&rt, "memory");
+        says(&rt, said(alloc, types, row.1), row.2);
     }
-    Ok(())
 }

@@ -1,14 +1,14 @@
 //! Changes of the schema `pets`.
 use crate::relations::directive_names;
+use crate::said::{says, shown};
 use crate::schemas::pets_schema;
-use language::types::Type;
 use language::value::DefaultScalarValue;
-use meta::Argument;
+use samples::build::argument;
 use samples::checks::{check_string, refuse_token};
+use samples::documents::alone;
 use schema::error::SchemaError;
 use schema::model::{DirectiveType, SchemaType};
 use std::alloc::Global;
-use std::test::Fail;
 
 type Pets = SchemaType<DefaultScalarValue>;
 
@@ -50,22 +50,13 @@ const STEPS: [(Step, &str); 15] = [
 
 /// The directive `flag` with an argument of this type.
 fn flag(alloc: Global, type_name: &str) -> Result<DirectiveType<DefaultScalarValue>, SchemaError> {
-    let mut arguments = Vec::new(alloc);
-    arguments.push(Argument::new(alloc, "x", Type::nullable(alloc, type_name)?)?)?;
+    let arguments = alone(alloc, argument(alloc, "x", type_name)?)?;
     Ok(DirectiveType::new(alloc, "flag", Vec::new(alloc), arguments, false)?)
 }
 
 /// The directive `skip` without arguments.
 fn bare_skip(alloc: Global) -> Result<DirectiveType<DefaultScalarValue>, SchemaError> {
     Ok(DirectiveType::new(alloc, "skip", Vec::new(alloc), Vec::new(alloc), false)?)
-}
-
-/// What comes of a change.
-fn outcome(alloc: Global, changed: Result<(), SchemaError>) -> Result<String, SchemaError> {
-    match changed {
-        Ok(()) => Ok(String::from_str(alloc, "done")?),
-        Err(refused) => Ok(format!(in alloc; "{refused:?}")?),
-    }
 }
 
 fn arguments_of_skip(alloc: Global, schema: &Pets) -> Result<String, SchemaError> {
@@ -79,17 +70,17 @@ fn take(alloc: Global, schema: &mut Pets, step: Step) -> Result<String, SchemaEr
     match step {
         Step::AddFlag(type_name) => {
             let directive = flag(alloc, type_name)?;
-            outcome(alloc, schema.add_directive(directive))
+            shown(alloc, schema.add_directive(directive).err(), "done")
         }
         Step::AddSkip => {
             let directive = bare_skip(alloc)?;
-            outcome(alloc, schema.add_directive(directive))
+            shown(alloc, schema.add_directive(directive).err(), "done")
         }
         Step::SkipArguments => arguments_of_skip(alloc, schema),
         Step::DirectiveList => directive_names(alloc, schema),
         Step::SetDescription(text) => {
             schema.set_description(text)?;
-            outcome(alloc, Ok(()))
+            shown(alloc, None, "done")
         }
         Step::Description => {
             Ok(String::from_str(alloc, schema.description().unwrap_or("none"))?)
@@ -98,11 +89,10 @@ fn take(alloc: Global, schema: &mut Pets, step: Step) -> Result<String, SchemaEr
 }
 
 #[test]
-fn changes_are_kept_or_refused(rt: HostRuntime) -> Result<(), Fail> {
+fn changes_are_kept_or_refused(rt: HostRuntime) {
     let alloc = rt.alloc();
-    let mut schema = pets_schema(alloc, check_string, refuse_token)?;
+    let mut schema = pets_schema(alloc, check_string, refuse_token).expect(&rt, "a schema");
     for (step, wanted) in STEPS {
-        assert_eq!(rt; take(alloc, &mut schema, step)?.as_str(), wanted);
+        says(&rt, take(alloc, &mut schema, step), wanted);
     }
-    Ok(())
 }

@@ -16,4 +16,6 @@ mod relations;
 #[cfg(test)]
 mod roots;
 #[cfg(test)]
+mod said;
+#[cfg(test)]
 mod schemas;

@@ -1,35 +1,36 @@
 //! Metadata: each call that takes memory, by what it shows.
+use crate::said::says;
 use language::types::Type;
 use language::value::{DefaultScalarValue, InputValue};
 use meta::check::CheckedScalar;
+use meta::default_check::DefaultCheck;
 use meta::{
     Argument, DeprecationStatus, EnumMetaOf, EnumValue, Field, InputObjectMetaOf, InterfaceMeta,
     ListMeta, MetaType, NullableMeta, ObjectMeta, ScalarMetaOf, TypeKind, UnionMeta,
 };
+use samples::build::{argument, field};
 use samples::checks::{check_string, refuse_token};
+use samples::documents::alone;
 use schema::error::SchemaError;
 use schema::model::{DirectiveLocation, DirectiveType};
 use std::alloc::Global;
-use std::test::Fail;
 
 type FieldMeta = Field<DefaultScalarValue>;
 
 type ArgumentMeta = Argument<DefaultScalarValue>;
 
-fn argument(alloc: Global, type_name: &str) -> Result<ArgumentMeta, SchemaError> {
-    Ok(Argument::new(alloc, "x", Type::nullable(alloc, type_name)?)?)
+/// The field with an argument of the type more.
+fn with_argument(alloc: Global, field: FieldMeta, of: &str) -> Result<FieldMeta, SchemaError> {
+    Ok(field.argument(argument(alloc, "x", of)?)?)
 }
 
 /// A field of which everything was set, the description and the argument twice.
 fn full_field(alloc: Global) -> Result<FieldMeta, SchemaError> {
-    let plain = FieldMeta::new(alloc, "name", Type::nullable(alloc, "String")?)?;
-    let described = plain.description("first")?.description("second")?;
-    let given = described.argument(argument(alloc, "String")?)?;
-    Ok(
-        given
-            .argument(argument(alloc, "Int")?)?
-            .deprecated(Some("old"))?,
-    )
+    let described = field(alloc, "name", "String")?
+        .description("first")?
+        .description("second")?;
+    let given = with_argument(alloc, described, "String")?;
+    Ok(with_argument(alloc, given, "Int")?.deprecated(Some("old"))?)
 }
 
 fn shown(text: &Option<String>) -> &str {
@@ -52,15 +53,12 @@ fn field_text(alloc: Global, field: &FieldMeta) -> Result<String, SchemaError> {
 }
 
 #[test]
-fn fields_keep_what_is_set(rt: HostRuntime) -> Result<(), Fail> {
+fn fields_keep_what_is_set(rt: HostRuntime) {
     let alloc = rt.alloc();
-    let made = full_field(alloc)?;
-    assert_eq!(rt; field_text(alloc, &made)?.as_str(), "name second 2 old");
-    assert_eq!(rt;
-        field_text(alloc, &made.clone()?)?.as_str(),
-        "name second 2 old"
-    );
-    Ok(())
+    let made = full_field(alloc).expect(&rt, "memory");
+    says(&rt, field_text(alloc, &made), "name second 2 old");
+    let copy = made.clone().expect(&rt, "memory");
+    says(&rt, field_text(alloc, &copy), "name second 2 old");
 }
 
 /// The name, the description and the address of the metadata.
@@ -79,29 +77,24 @@ fn scalar_text(alloc: Global) -> Result<String, SchemaError> {
     meta_text(alloc, &made)
 }
 
-/// An enum value of which everything was set, and a copy of it.
-fn two_values(alloc: Global) -> Result<Vec<EnumValue>, SchemaError> {
-    let value = EnumValue::new(alloc, "SIT")?
-        .description("down")?
-        .deprecated(None)?;
-    let mut values = Vec::new(alloc);
-    values.push(value.clone()?)?;
-    values.push(value)?;
-    Ok(values)
+/// An enum value of which everything was set.
+fn full_value(alloc: Global) -> Result<EnumValue, SchemaError> {
+    Ok(
+        EnumValue::new(alloc, "SIT")?
+            .description("down")?
+            .deprecated(None)?,
+    )
 }
 
-fn values_text(alloc: Global) -> Result<String, SchemaError> {
-    let mut text = String::new(alloc);
-    for value in two_values(alloc)? {
-        let (name, description) = (value.name.as_str(), shown(&value.description));
-        let is_deprecated = value.deprecation_status.is_deprecated();
-        write!(text, "{name} {description} {is_deprecated} ")?;
-    }
-    Ok(text)
+fn value_text(alloc: Global, value: &EnumValue) -> Result<String, SchemaError> {
+    let (name, description) = (value.name.as_str(), shown(&value.description));
+    let is_deprecated = value.deprecation_status.is_deprecated();
+    Ok(format!(in alloc; "{name} {description} {is_deprecated}")?)
 }
 
 fn enum_text(alloc: Global) -> Result<String, SchemaError> {
-    let made: MetaType = EnumMetaOf::new(alloc, "Command", two_values(alloc)?, check_string)?
+    let values = alone(alloc, full_value(alloc)?)?;
+    let made: MetaType = EnumMetaOf::new(alloc, "Command", values, check_string)?
         .description("what a dog does")?
         .into_meta();
     meta_text(alloc, &made)
@@ -111,7 +104,7 @@ fn enum_text(alloc: Global) -> Result<String, SchemaError> {
 fn full_argument(alloc: Global) -> Result<ArgumentMeta, SchemaError> {
     let one = InputValue::Scalar(DefaultScalarValue::Int(1));
     Ok(
-        argument(alloc, "Int")?
+        argument(alloc, "x", "Int")?
             .description("a number")?
             .default_value(one),
     )
@@ -125,12 +118,15 @@ fn argument_text(alloc: Global, made: &ArgumentMeta) -> Result<String, SchemaErr
     }
 }
 
+/// An input object with that argument as its field.
+fn full_input(alloc: Global) -> Result<MetaType, SchemaError> {
+    let fields = alone(alloc, full_argument(alloc)?)?;
+    let made = InputObjectMetaOf::new(alloc, "Pair", fields, check_string)?;
+    Ok(made.description("a pair")?.into_meta())
+}
+
 fn input_text(alloc: Global) -> Result<String, SchemaError> {
-    let mut fields = Vec::new(alloc);
-    fields.push(full_argument(alloc)?)?;
-    let made: MetaType = InputObjectMetaOf::new(alloc, "Pair", fields, check_string)?
-        .description("a pair")?
-        .into_meta();
+    let made = full_input(alloc)?;
     match made.input_field_by_name("x") {
         Some(field) => argument_text(alloc, field),
         None => meta_text(alloc, &made),
@@ -139,9 +135,7 @@ fn input_text(alloc: Global) -> Result<String, SchemaError> {
 
 /// The list of the type `Being`.
 fn beings(alloc: Global) -> Result<Vec<Type>, SchemaError> {
-    let mut interfaces = Vec::new(alloc);
-    interfaces.push(Type::nullable(alloc, "Being")?)?;
-    Ok(interfaces)
+    Ok(alone(alloc, Type::nullable(alloc, "Being")?)?)
 }
 
 fn interface_text(alloc: Global) -> Result<String, SchemaError> {
@@ -168,39 +162,42 @@ fn union_text(alloc: Global) -> Result<String, SchemaError> {
 }
 
 #[test]
-fn every_kind_is_made(rt: HostRuntime) -> Result<(), Fail> {
+fn every_kind_is_made(rt: HostRuntime) {
     let alloc = rt.alloc();
-    assert_eq!(rt;
-        scalar_text(alloc)?.as_str(),
-        "String text https://example.com"
-    );
-    assert_eq!(rt;
-        values_text(alloc)?.as_str(),
-        "SIT down true SIT down true "
-    );
-    assert_eq!(rt; enum_text(alloc)?.as_str(), "Command what a dog does none");
-    assert_eq!(rt;
-        argument_text(alloc, &full_argument(alloc)?.clone()?)?.as_str(),
-        "x a number 1"
-    );
-    assert_eq!(rt; input_text(alloc)?.as_str(), "x a number 1");
-    assert_eq!(rt; interface_text(alloc)?.as_str(), "Pet a pet none");
-    assert_eq!(rt; object_text(alloc)?.as_str(), "Dog a dog none");
-    assert_eq!(rt; union_text(alloc)?.as_str(), "Beings all that lives none");
-    Ok(())
+    says(&rt, scalar_text(alloc), "String text https://example.com");
+    says(&rt, enum_text(alloc), "Command what a dog does none");
+    says(&rt, input_text(alloc), "x a number 1");
+    says(&rt, interface_text(alloc), "Pet a pet none");
+    says(&rt, object_text(alloc), "Dog a dog none");
+    says(&rt, union_text(alloc), "Beings all that lives none");
 }
 
 #[test]
-fn copies_are_the_same(rt: HostRuntime) -> Result<(), Fail> {
+fn enum_values_are_copied(rt: HostRuntime) {
     let alloc = rt.alloc();
-    assert_eq!(rt; TypeKind::InputObject.clone()?, TypeKind::InputObject);
-    let old = DeprecationStatus::Deprecated(Some(String::from_str(alloc, "old")?));
-    assert_eq!(rt; old.clone()?, old);
-    assert_eq!(rt;
-        DeprecationStatus::Current.clone()?,
-        DeprecationStatus::Current
-    );
-    Ok(())
+    let value = full_value(alloc).expect(&rt, "memory");
+    says(&rt, value_text(alloc, &value), "SIT down true");
+    let copy = value.clone().expect(&rt, "memory");
+    says(&rt, value_text(alloc, &copy), "SIT down true");
+}
+
+#[test]
+fn arguments_are_copied(rt: HostRuntime) {
+    let argument = full_argument(rt.alloc()).expect(&rt, "memory");
+    let copy = argument.clone().expect(&rt, "memory");
+    says(&rt, argument_text(rt.alloc(), &copy), "x a number 1");
+}
+
+#[test]
+fn copies_are_the_same(rt: HostRuntime) {
+    let kind = TypeKind::InputObject.clone().expect(&rt, "a copy");
+    assert_eq!(rt; kind, TypeKind::InputObject);
+    let current = DeprecationStatus::Current.clone().expect(&rt, "a copy");
+    assert_eq!(rt; current, DeprecationStatus::Current);
+    let text = String::from_str(rt.alloc(), "old").expect(&rt, "memory");
+    let old = DeprecationStatus::Deprecated(Some(text));
+    let copy = old.clone().expect(&rt, "memory");
+    assert_eq!(rt; copy, old);
 }
 
 /// What the type of the metadata prints.
@@ -209,39 +206,39 @@ fn printed(alloc: Global, meta: MetaType) -> Result<String, SchemaError> {
 }
 
 #[test]
-fn types_are_printed(rt: HostRuntime) -> Result<(), Fail> {
+fn types_are_printed(rt: HostRuntime) {
     let alloc = rt.alloc();
-    let list = ListMeta::new(Type::non_null(alloc, "Int")?, Some(2));
-    assert_eq!(rt; printed(alloc, MetaType::List(list))?.as_str(), "[Int!]!");
-    let nullable = NullableMeta::new(Type::non_null(alloc, "Int")?);
-    assert_eq!(rt;
-        printed(alloc, MetaType::Nullable(nullable))?.as_str(),
-        "Int"
-    );
-    Ok(())
+    let item = Type::non_null(alloc, "Int").expect(&rt, "memory");
+    let list = MetaType::List(ListMeta::new(item, Some(2)));
+    says(&rt, printed(alloc, list), "[Int!]!");
+    let inner = Type::non_null(alloc, "Int").expect(&rt, "memory");
+    let nullable = MetaType::Nullable(NullableMeta::new(inner));
+    says(&rt, printed(alloc, nullable), "Int");
+}
+
+fn plain_scalar(alloc: Global) -> Result<MetaType, SchemaError> {
+    Ok(ScalarMetaOf::new(alloc, "String", check_string, refuse_token)?.into_meta())
 }
 
 /// What the check of a scalar says of null.
 fn said_of_null(alloc: Global) -> Result<String, SchemaError> {
-    let scalar: MetaType = ScalarMetaOf::new(
-        alloc,
-        "String",
-        check_string,
-        refuse_token,
-    )?.into_meta();
-    let Some(check) = scalar.input_value_parse_fn() else {
-        return Ok(String::from_str(alloc, "no check")?);
-    };
+    let scalar = plain_scalar(alloc)?;
+    match scalar.input_value_parse_fn() {
+        Some(check) => said_by(alloc, check),
+        None => Ok(String::from_str(alloc, "no check")?),
+    }
+}
+
+fn said_by(alloc: Global, check: &DefaultCheck) -> Result<String, SchemaError> {
     match <DefaultScalarValue as CheckedScalar>::run_check(check, alloc, &InputValue::Null) {
         Ok(()) => Ok(String::from_str(alloc, "accepted")?),
         Err(refused) => Ok(refused.to_string(alloc)?),
     }
 }
 
-/// The name, the description, the first place, and whether the directive is repeatable.
+/// The name, the description, and whether the directive is repeatable.
 fn directive_text(alloc: Global) -> Result<String, SchemaError> {
-    let mut locations = Vec::new(alloc);
-    locations.push(DirectiveLocation::Query)?;
+    let locations = alone(alloc, DirectiveLocation::Query)?;
     let made: DirectiveType<DefaultScalarValue> = DirectiveType::new(
         alloc,
         "flag",
@@ -255,9 +252,8 @@ fn directive_text(alloc: Global) -> Result<String, SchemaError> {
 }
 
 #[test]
-fn checks_and_directives_are_made(rt: HostRuntime) -> Result<(), Fail> {
+fn checks_and_directives_are_made(rt: HostRuntime) {
     let alloc = rt.alloc();
-    assert_eq!(rt; said_of_null(alloc)?.as_str(), "not a value of String");
-    assert_eq!(rt; directive_text(alloc)?.as_str(), "flag marks true");
-    Ok(())
+    says(&rt, said_of_null(alloc), "not a value of String");
+    says(&rt, directive_text(alloc), "flag marks true");
 }

@@ -59,19 +59,22 @@ fn said_of_schema(
     Ok((lists, said_of_types(alloc, &schema)?))
 }
 
+/// The types, and a union of `Dog`.
+fn with_dogs(alloc: Global, mut types: Vec<MetaType>) -> Result<Vec<MetaType>, SchemaError> {
+    types.push(union_of(alloc, "Pets", &["Dog"])?)?;
+    Ok(types)
+}
+
 /// Run with each request for memory refused in turn, the answer is the same or tells of the refusal.
 #[test]
 fn a_refused_request_changes_no_answer(rt: HostRuntime) {
     let alloc = rt.alloc();
-    let (Ok(mut types), Ok(dogs)) = (
-        demo_types(alloc, check_string, refuse_token),
-        union_of(alloc, "Pets", &["Dog"]),
-    ) else {
+    let Ok(listed) = demo_types(alloc, check_string, refuse_token) else {
         return;
     };
-    if types.push(dogs).is_err() {
+    let Ok(types) = with_dogs(alloc, listed) else {
         return;
-    }
+    };
     match said_of_schema(alloc, types) {
         Ok(said) => assert_eq!(rt; said, ((7, 5), (1, 6))),
         Err(refused) => assert_eq!(rt; refused, SchemaError::OutOfMemory),

@@ -7,7 +7,6 @@ use samples::checks::{check_string, refuse_token};
 use schema::error::SchemaError;
 use schema::model::{SchemaType, TypeType};
 use std::alloc::Global;
-use std::test::Fail;
 
 type Pets = SchemaType<DefaultScalarValue>;
 
@@ -84,10 +83,14 @@ const MADE: [(Question, &str); 6] = [
 fn joined(alloc: Global, metas: &[&MetaType]) -> Result<String, SchemaError> {
     let mut text = String::new(alloc);
     for meta in metas {
-        text.push_str(meta.name().unwrap_or("?"))?;
-        text.push_str(" ")?;
+        let name = meta.name().unwrap_or("?");
+        write!(text, "{name} ")?;
     }
     Ok(text)
+}
+
+fn concrete_names(alloc: Global, schema: &Pets) -> Result<String, SchemaError> {
+    joined(alloc, schema.concrete_type_list(alloc)?.as_slice())
 }
 
 /// What the types print, each followed by a blank.
@@ -105,8 +108,8 @@ pub fn directive_names(alloc: Global, schema: &Pets) -> Result<String, SchemaErr
     let mut text = String::new(alloc);
     let list = schema.directive_list(alloc)?;
     for directive in list.iter() {
-        text.push_str(directive.name.as_str())?;
-        text.push_str(" ")?;
+        let name = directive.name.as_str();
+        write!(text, "{name} ")?;
     }
     Ok(text)
 }
@@ -164,20 +167,34 @@ fn is_below(
     super_type: &str,
 ) -> Result<bool, SchemaError> {
     let sub_type = written(alloc, sub_type)?;
+    is_written_above(alloc, schema, &sub_type, super_type)
+}
+
+fn is_written_above(
+    alloc: Global,
+    schema: &Pets,
+    sub_type: &Type,
+    super_type: &str,
+) -> Result<bool, SchemaError> {
     let super_type = written(alloc, super_type)?;
     Ok(schema.is_subtype(sub_type.as_borrowed(), super_type.as_borrowed()))
 }
 
+/// `[Int]` of this size.
+fn sized(alloc: Global, size: usize) -> Result<Type, SchemaError> {
+    Ok(Type::nullable(alloc, "Int")?.wrap_list(Some(size))?)
+}
+
 fn is_sized_below(alloc: Global, schema: &Pets) -> Result<bool, SchemaError> {
-    let two = Type::nullable(alloc, "Int")?.wrap_list(Some(2))?;
-    let three = Type::nullable(alloc, "Int")?.wrap_list(Some(3))?;
+    let two = sized(alloc, 2)?;
+    let three = sized(alloc, 3)?;
     Ok(schema.is_subtype(two.as_borrowed(), three.as_borrowed()))
 }
 
 /// What is asked of a type that is made.
 fn said_of_made(
     alloc: Global,
-    made: TypeType<'_, DefaultScalarValue>,
+    made: &TypeType<'_, DefaultScalarValue>,
     question: Question,
 ) -> Result<String, SchemaError> {
     match question {
@@ -206,11 +223,8 @@ fn answer_on_made(
     if !schema.is_known(named.innermost_name()) {
         return Ok(String::from_str(alloc, "no such type")?);
     }
-    said_of_made(
-        alloc,
-        schema.make_type(alloc, named.as_borrowed())?,
-        question,
-    )
+    let made = schema.make_type(alloc, named.as_borrowed())?;
+    said_of_made(alloc, &made, question)
 }
 
 fn shown(alloc: Global, answer: Option<bool>) -> Result<String, SchemaError> {
@@ -225,7 +239,7 @@ fn shown(alloc: Global, answer: Option<bool>) -> Result<String, SchemaError> {
 fn answer(alloc: Global, schema: &Pets, question: Question) -> Result<String, SchemaError> {
     match question {
         Question::TypeList => types_printed(alloc, schema),
-        Question::ConcreteTypeList => joined(alloc, schema.concrete_type_list(alloc)?.as_slice()),
+        Question::ConcreteTypeList => concrete_names(alloc, schema),
         Question::DirectiveList => directive_names(alloc, schema),
         Question::PossibleTypes(name) => possible_names(alloc, schema, name),
         Question::IsPossibleType(first, second) => shown(alloc, may_be(schema, first, second)),
@@ -260,11 +274,11 @@ fn first_wrong(
 }
 
 #[test]
-fn questions_are_answered(rt: HostRuntime) -> Result<(), Fail> {
+fn questions_are_answered(rt: HostRuntime) {
     let alloc = rt.alloc();
-    let schema = pets_schema(alloc, check_string, refuse_token)?;
+    let schema = pets_schema(alloc, check_string, refuse_token).expect(&rt, "a schema");
     for rows in [LISTS.as_slice(), RELATIONS.as_slice(), MADE.as_slice()] {
-        assert_eq!(rt; first_wrong(alloc, &schema, rows)?, None);
+        let wrong = first_wrong(alloc, &schema, rows).expect(&rt, "memory");
+        assert_eq!(rt; wrong, None);
     }
-    Ok(())
 }

@@ -1,12 +1,12 @@
 //! Roots that are asked for: listed, missing, and none.
+use crate::said::{says, shown};
 use crate::schemas::demo_types;
 use language::value::DefaultScalarValue;
 use meta::MetaType;
 use samples::checks::{check_string, refuse_token};
 use schema::error::SchemaError;
 use schema::model::{SchemaType, TypeType};
-use std::alloc::Global;
-use std::test::Fail;
+use std::alloc::{AllocError, Global};
 
 type Demo = SchemaType<DefaultScalarValue>;
 
@@ -49,28 +49,23 @@ const ROOTS: [Row; 7] = [
     ),
 ];
 
-fn demo_with(alloc: Global, row: &Row) -> Result<Demo, SchemaError> {
-    let types = demo_types(alloc, check_string, refuse_token)?;
-    Demo::new(alloc, types, row.0, row.1, row.2)
-}
-
-/// What the type of a root prints.
-fn printed(
-    alloc: Global,
+/// Appends what the type of a root prints.
+fn print_root(
+    out: &mut String,
     root: Option<TypeType<'_, DefaultScalarValue>>,
-) -> Result<String, SchemaError> {
+) -> Result<(), AllocError> {
     match root {
-        Some(root) => Ok(root.to_string(alloc)?),
-        None => Ok(String::from_str(alloc, "none")?),
+        Some(root) => write!(out, " {root}"),
+        None => out.push_str(" none"),
     }
 }
 
 /// The roots, as their types print.
 fn types_of_roots(alloc: Global, schema: &Demo) -> Result<String, SchemaError> {
-    let query = schema.query_type().to_string(alloc)?;
-    let mutation = printed(alloc, schema.mutation_type())?;
-    let subscription = printed(alloc, schema.subscription_type())?;
-    Ok(format!(in alloc; "{query} {mutation} {subscription}")?)
+    let mut text = schema.query_type().to_string(alloc)?;
+    print_root(&mut text, schema.mutation_type())?;
+    print_root(&mut text, schema.subscription_type())?;
+    Ok(text)
 }
 
 fn name_of(root: Option<&MetaType>) -> &str {
@@ -89,18 +84,16 @@ fn names_of_roots(alloc: Global, schema: &Demo) -> Result<String, SchemaError> {
 }
 
 #[test]
-fn roots_are_listed_or_refused(rt: HostRuntime) -> Result<(), Fail> {
+fn roots_are_listed_or_refused(rt: HostRuntime) {
     let alloc = rt.alloc();
     for row in &ROOTS {
-        match demo_with(alloc, row) {
+        let types = demo_types(alloc, check_string, refuse_token).expect(&rt, "the list");
+        match Demo::new(alloc, types, row.0, row.1, row.2) {
             Ok(schema) => {
-                assert_eq!(rt; types_of_roots(alloc, &schema)?.as_str(), row.3);
-                assert_eq!(rt; names_of_roots(alloc, &schema)?.as_str(), row.3);
+                says(&rt, types_of_roots(alloc, &schema), row.3);
+                says(&rt, names_of_roots(alloc, &schema), row.3);
             }
-            Err(refused) => {
-                assert_eq!(rt; format!(in alloc; "{refused:?}")?.as_str(), row.3);
-            }
+            Err(refused) => says(&rt, shown(alloc, Some(refused), ""), row.3),
         }
     }
-    Ok(())
 }

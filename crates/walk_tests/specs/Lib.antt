@@ -1,3 +1,1 @@
-pub mod AskedChecks
-pub mod CountedSpreads
 pub mod KeptFields

@@ -1,8 +1,6 @@
-//! Tests of the crate `walk`: errors, walks over every kind of node, rules that ask checks, count and keep nodes, and a linter.
+//! Tests of the crate `walk`: errors, walks over every kind of node, a rule that keeps nodes, and a linter.
 #![tactic(auto)]
 
-pub mod asked_checks;
-pub mod counted_spreads;
 #[cfg(test)]
 mod errors;
 pub mod kept_fields;

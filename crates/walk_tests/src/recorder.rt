@@ -7,7 +7,7 @@ use language::types::BorrowedType;
 use language::value::DefaultScalarValue;
 use meta::MetaType;
 use meta::default_check::DefaultCheck;
-use std::alloc::{AllocError, Global};
+use std::alloc::AllocError;
 use walk::{Event, Machine, ValidatorContext, Visitor};
 
 type Heard<'a> = Event<'a, DefaultScalarValue>;
@@ -32,34 +32,25 @@ impl<'a> Visitor<'a, DefaultScalarValue> for Recorder {
         ctx: &mut ValidatorContext<'a, DefaultScalarValue>,
         event: &Heard<'a>,
     ) -> Result<(), OutOfMemory> {
-        let alloc = *self.text.allocator();
-        let types = shown_types(alloc, ctx)?;
         let (name, node) = told(event);
-        self.text.push_str(name)?;
-        self.text.push('(')?;
-        self.text.push_str(node)?;
-        self.text.push_str(") ")?;
-        self.text.push_str(types.as_str())?;
-        self.text.push('\n')?;
+        write!(self.text, "{name}({node})")?;
+        show_types(&mut self.text, ctx)?;
         Ok(())
     }
 }
 
-/// The type at hand, that type as it was written, the parent type and the input type as it was written.
-pub fn shown_types(
-    alloc: Global,
+/// Writes the type at hand, that type as it was written, the parent type and the input type as it was written, and ends the line.
+pub fn show_types(
+    out: &mut String,
     ctx: &ValidatorContext<'_, DefaultScalarValue>,
-) -> Result<String, OutOfMemory> {
-    let literal = shown(alloc, ctx.current_type_literal())?;
-    let input = shown(alloc, ctx.current_input_type_literal())?;
-    let mut text = String::from_str(alloc, name_of(ctx.current_type()))?;
-    text.push(' ')?;
-    text.push_str(literal.as_str())?;
-    text.push(' ')?;
-    text.push_str(name_of(ctx.parent_type()))?;
-    text.push(' ')?;
-    text.push_str(input.as_str())?;
-    Ok(text)
+) -> Result<(), AllocError> {
+    let current = name_of(ctx.current_type());
+    write!(out, " {current} ")?;
+    show(out, ctx.current_type_literal())?;
+    let parent = name_of(ctx.parent_type());
+    write!(out, " {parent} ")?;
+    show(out, ctx.current_input_type_literal())?;
+    out.push('\n')
 }
 
 fn name_of<'a>(meta: Option<&'a MetaType>) -> &'a str {
@@ -69,10 +60,10 @@ fn name_of<'a>(meta: Option<&'a MetaType>) -> &'a str {
     }
 }
 
-fn shown(alloc: Global, literal: Option<BorrowedType<'_>>) -> Result<String, AllocError> {
+fn show(out: &mut String, literal: Option<BorrowedType<'_>>) -> Result<(), AllocError> {
     match literal {
-        Some(literal) => literal.to_string(alloc),
-        None => String::from_str(alloc, "-"),
+        Some(literal) => write!(out, "{literal}"),
+        None => out.push('-'),
     }
 }
 
@@ -103,6 +94,12 @@ fn told<'e>(event: &'e Heard<'_>) -> (&'static str, &'e str) {
         Event::EnterListValue(_) => ("enter_list_value", ""),
         Event::EnterObjectValue(_) => ("enter_object_value", ""),
         Event::EnterObjectField(k, _) => ("enter_object_field", k.item.as_str()),
+        _ => told_at_exit(event),
+    }
+}
+
+fn told_at_exit<'e>(event: &'e Heard<'_>) -> (&'static str, &'e str) {
+    match event {
         Event::ExitDocument(_) => ("exit_document", ""),
         Event::ExitOperationDefinition(o) => ("exit_operation_definition", name_in(&o.item)),
         Event::ExitFragmentDefinition(f) => ("exit_fragment_definition", f.item.name.item),
@@ -120,5 +117,6 @@ fn told<'e>(event: &'e Heard<'_>) -> (&'static str, &'e str) {
         Event::ExitListValue(_) => ("exit_list_value", ""),
         Event::ExitObjectValue(_) => ("exit_object_value", ""),
         Event::ExitObjectField(k, _) => ("exit_object_field", k.item.as_str()),
+        _ => ("", ""),
     }
 }

@@ -1,17 +1,17 @@
 //! A walk over every kind of node, and the calls of a context.
 
 use crate::kept_fields::count_and_free;
-use crate::recorder::{Recorder, shown_types};
-use crate::sample::{Checks, check_any, no_token, sample_document, sample_schema};
+use crate::recorder::{Recorder, show_types};
+use crate::sample::{DOCUMENT, sample_schema};
+use document_reader::read_document;
 use language::error::OutOfMemory;
 use language::position::SourcePosition;
 use language::tree::Definition;
 use language::types::BorrowedType;
 use language::value::DefaultScalarValue;
-use meta::default_check::DefaultCheck;
+use samples::checks::{check_string, refuse_token};
 use schema::model::SchemaType;
 use std::alloc::Global;
-use std::test::Fail;
 use walk::{MultiVisitorCons, MultiVisitorNil, RuleError, ValidatorContext, visit, visit_rules};
 
 /// The walk over the sample. An event of a node is followed by the type at the node, that type as it is written, the parent
@@ -206,59 +206,33 @@ fn refuses_all<'a>(
 }
 
 #[test]
-fn every_kind_of_node_is_told(rt: HostRuntime) -> Result<(), Fail> {
+fn every_kind_of_node_is_told(rt: HostRuntime) {
     let alloc = rt.alloc();
-    let checks = Checks {
-        string: DefaultCheck::with_token(check_any, no_token),
-        boolean: DefaultCheck::with_token(check_any, no_token),
-        int: DefaultCheck::with_token(check_any, no_token),
-        pair: DefaultCheck::new(check_any),
-    };
-    let schema = sample_schema(alloc, checks)?;
-    let document = sample_document(alloc)?;
+    let schema = sample_schema(alloc, check_string, refuse_token).expect(&rt, "a schema");
+    let document = read_document(alloc, DOCUMENT).expect(&rt, "a document");
     let recorded = recorded_afresh(alloc, &schema, document.as_slice());
-    let Ok(visitors) = recorded else {
-        return Err(Fail::from("memory was refused"));
-    };
-    let heard = visitors.newest().text.as_str();
-    for (said, want) in heard.lines().zip(WALK.lines()) {
-        assert_eq!(rt; said, want);
-    }
-    assert_eq!(rt; heard, WALK);
-    Ok(())
+    let visitors = recorded.expect(&rt, "memory");
+    assert_eq!(rt; visitors.newest().text.as_str(), WALK);
 }
 
 /// A rule keeps the fields of a document that is freed after the walk: the walk above enters twelve.
 #[test]
-fn fields_are_kept(rt: HostRuntime) -> Result<(), Fail> {
+fn fields_are_kept(rt: HostRuntime) {
     let alloc = rt.alloc();
-    let checks = Checks {
-        string: DefaultCheck::with_token(check_any, no_token),
-        boolean: DefaultCheck::with_token(check_any, no_token),
-        int: DefaultCheck::with_token(check_any, no_token),
-        pair: DefaultCheck::new(check_any),
-    };
-    let schema = sample_schema(alloc, checks)?;
-    let document = sample_document(alloc)?;
-    let count = count_and_free(alloc, &schema, document)?;
+    let schema = sample_schema(alloc, check_string, refuse_token).expect(&rt, "a schema");
+    let document = read_document(alloc, DOCUMENT).expect(&rt, "a document");
+    let count = count_and_free(alloc, &schema, document).expect(&rt, "memory");
     assert_eq!(rt; count, 12);
-    Ok(())
 }
 
 /// Run with each request for memory refused in turn, a walk tells the same, or it answers a refusal and the context has failed.
 #[test]
 fn a_refused_request_changes_no_walk(rt: HostRuntime) {
     let alloc = rt.alloc();
-    let checks = Checks {
-        string: DefaultCheck::with_token(check_any, no_token),
-        boolean: DefaultCheck::with_token(check_any, no_token),
-        int: DefaultCheck::with_token(check_any, no_token),
-        pair: DefaultCheck::new(check_any),
-    };
-    let Ok(schema) = sample_schema(alloc, checks) else {
+    let Ok(schema) = sample_schema(alloc, check_string, refuse_token) else {
         return;
     };
-    let Ok(document) = sample_document(alloc) else {
+    let Ok(document) = read_document(alloc, DOCUMENT) else {
         return;
     };
     match recorded_afresh(alloc, &schema, document.as_slice()) {
@@ -268,20 +242,18 @@ fn a_refused_request_changes_no_walk(rt: HostRuntime) {
 }
 
 /// The types at hand: with a type pushed, with that type as the parent too, with an input type pushed, and with nothing.
-fn types_in_turn<'a>(
-    alloc: Global,
-    schema: &'a Schema,
-) -> Result<(String, String, String, String), OutOfMemory> {
+fn types_in_turn<'a>(alloc: Global, schema: &'a Schema) -> Result<String, OutOfMemory> {
     let mut ctx = ValidatorContext::new(alloc, schema, &[])?;
+    let mut text = String::new(alloc);
     let dog = Some(BorrowedType::non_null("Dog"));
     let int = Some(BorrowedType::nullable("Int"));
-    let pushed = ctx.with_pushed_type(dog, |ctx| shown_types(alloc, ctx))??;
-    let parent = ctx.with_pushed_type(dog, |ctx| {
-        ctx.with_pushed_parent_type(|ctx| shown_types(alloc, ctx))
+    ctx.with_pushed_type(dog, |ctx| show_types(&mut text, ctx))??;
+    ctx.with_pushed_type(dog, |ctx| {
+        ctx.with_pushed_parent_type(|ctx| show_types(&mut text, ctx))
     })???;
-    let input = ctx.with_pushed_input_type(int, |ctx| shown_types(alloc, ctx))??;
-    let after = shown_types(alloc, &ctx)?;
-    Ok((pushed, parent, input, after))
+    ctx.with_pushed_input_type(int, |ctx| show_types(&mut text, ctx))??;
+    show_types(&mut text, &ctx)?;
+    Ok(text)
 }
 
 /// Whether the fragment `F` is known in a document with no definitions, and whether there are errors before anything is reported.
@@ -291,6 +263,22 @@ fn known_at_first<'a>(alloc: Global, schema: &'a Schema) -> Result<(bool, bool),
     Ok((fragment, ctx.has_errors()))
 }
 
+fn early() -> SourcePosition {
+    SourcePosition::new(3, 0, 3)
+}
+
+fn late() -> SourcePosition {
+    SourcePosition::new(7, 0, 7)
+}
+
+/// Two errors of a caller.
+fn two_more(alloc: Global) -> Result<Vec<RuleError>, OutOfMemory> {
+    let mut more = Vec::new(alloc);
+    more.push(RuleError::new(alloc, "late", &[late()])?)?;
+    more.push(RuleError::new(alloc, "before", &[early()])?)?;
+    Ok(more)
+}
+
 /// Four errors, in a context that two rules walked with that report nothing.
 fn reported<'a>(alloc: Global, schema: &'a Schema) -> Result<Vec<RuleError>, OutOfMemory> {
     let mut ctx = ValidatorContext::new(alloc, schema, &[])?;
@@ -298,39 +286,33 @@ fn reported<'a>(alloc: Global, schema: &'a Schema) -> Result<Vec<RuleError>, Out
         .with_rule(MultiVisitorNil)
         .with_rule(MultiVisitorNil);
     visit_rules(&mut rules, &mut ctx, &[])?;
-    let early = SourcePosition::new(3, 0, 3);
-    let late = SourcePosition::new(7, 0, 7);
-    ctx.report_error("late", &[late])?;
-    ctx.report_error("early", &[early])?;
-    let mut more = Vec::new(alloc);
-    more.push(RuleError::new(alloc, "late", &[late])?)?;
-    more.push(RuleError::new(alloc, "before", &[early])?)?;
-    ctx.append_errors(more)?;
+    ctx.report_error("late", &[late()])?;
+    ctx.report_error("early", &[early()])?;
+    ctx.append_errors(two_more(alloc)?)?;
     ctx.into_errors()
 }
 
 #[test]
-fn a_context_keeps_types_names_and_errors(rt: HostRuntime) -> Result<(), Fail> {
+fn a_context_keeps_types(rt: HostRuntime) {
     let alloc = rt.alloc();
-    let checks = Checks {
-        string: DefaultCheck::with_token(check_any, no_token),
-        boolean: DefaultCheck::with_token(check_any, no_token),
-        int: DefaultCheck::with_token(check_any, no_token),
-        pair: DefaultCheck::new(check_any),
-    };
-    let schema = sample_schema(alloc, checks)?;
-    let (pushed, parent, input, after) = types_in_turn(alloc, &schema)?;
-    assert_eq!(rt; pushed.as_str(), "Dog Dog! - -");
-    assert_eq!(rt; parent.as_str(), "Dog Dog! Dog -");
-    assert_eq!(rt; input.as_str(), "- - - Int");
-    assert_eq!(rt; after.as_str(), "- - - -");
-    let known = known_at_first(alloc, &schema)?;
+    let schema = sample_schema(alloc, check_string, refuse_token).expect(&rt, "a schema");
+    let text = types_in_turn(alloc, &schema).expect(&rt, "memory");
+    assert_eq!(rt;
+        text.as_str(),
+        " Dog Dog! - -\n Dog Dog! Dog -\n - - - Int\n - - - -\n"
+    );
+    let known = known_at_first(alloc, &schema).expect(&rt, "memory");
     assert_eq!(rt; known, (false, false));
-    let errors = reported(alloc, &schema)?;
+}
+
+#[test]
+fn a_context_sorts_its_errors(rt: HostRuntime) {
+    let alloc = rt.alloc();
+    let schema = sample_schema(alloc, check_string, refuse_token).expect(&rt, "a schema");
+    let errors = reported(alloc, &schema).expect(&rt, "memory");
     let mut messages = errors.iter().map(|error| error.message());
     for want in ["before", "early", "late", "late"] {
         assert_eq!(rt; messages.next(), Some(want));
     }
     assert_eq!(rt; messages.next(), None);
-    Ok(())
 }
