@@ -1,0 +1,5 @@
+pub mod TypeLemmas
+pub mod TypeLaws
+pub mod ArgumentLaws
+pub mod DirectLaws
+pub mod OwnFieldLaws
