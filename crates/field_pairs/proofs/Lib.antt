@@ -3,3 +3,4 @@ pub mod TypeLaws
 pub mod ArgumentLaws
 pub mod DirectLaws
 pub mod OwnFieldLaws
+pub mod NumberedLaws

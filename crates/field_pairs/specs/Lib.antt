@@ -4,3 +4,4 @@ pub mod TypeConflict
 pub mod DirectReason
 pub mod Texts
 pub mod OwnFields
+pub mod Numbered

@@ -5,6 +5,7 @@
 mod arguments;
 pub mod direct;
 pub mod entry;
+pub mod numbered;
 pub mod own_fields;
 pub mod texts;
 mod type_conflict;

@@ -65,7 +65,7 @@ fn add_own_fields_of<'a, S, C>(
             Ok(())
         }
         Selection::InlineFragment(inline) => {
-            let inside = type_of_condition(schema, parent, &inline.item.type_condition);
+            let inside = type_inside_fragment(schema, parent, &inline.item.type_condition);
             add_own_fields(
                 schema,
                 inside,
@@ -77,8 +77,8 @@ fn add_own_fields_of<'a, S, C>(
     }
 }
 
-// A field under the type of its set.
-fn entry_of_field<'a, S, C>(
+/// A field under the type of its set.
+pub fn entry_of_field<'a, S, C>(
     parent: Option<&'a MetaTypeOf<S, C>>,
     field: &'a Spanning<Field<'a, S>>,
 ) -> Entry<'a, S, C>
@@ -101,8 +101,8 @@ fn metadata_of_field<'a, S, C>(
     parent?.field_by_name(name)
 }
 
-// The type of the condition where it is known, else that round the fragment.
-fn type_of_condition<'a, S, C>(
+/// The type inside an inline fragment: that of its condition where it is known, else that round it.
+pub fn type_inside_fragment<'a, S, C>(
     schema: &'a SchemaTypeOf<S, C>,
     parent: Option<&'a MetaTypeOf<S, C>>,
     condition: &Option<Spanning<&str>>,

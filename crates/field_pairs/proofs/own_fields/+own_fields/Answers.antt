@@ -39,7 +39,7 @@ pub add_own_fields_of-returns-in-InlineFragment-clause-fields : goal.add_own_fie
 add_own_fields_of-returns-in-InlineFragment-clause-fields g t c =
     on_ok_weaker c.add_own_fields.result
     (λ h. h ∙ ap (λ ys. map plain c.args.fields.now.items ++ ys)
-    (ap (λ p. own_fields c.args.schema.now p c.as_slice.result.now) c.type_of_condition-inside.ensures
+    (ap (λ p. own_fields c.args.schema.now p c.as_slice.result.now) c.type_inside_fragment-inside.ensures
     ∙ ap (own_fields c.args.schema.now _) c.as_slice.ensures.value
     ∙ sym (ap (own_fields_of c.args.schema.now (option_copied c.args.parent)) c.in-InlineFragment.is ∙ own_fields_of-Inline c.args.schema.now (option_copied c.args.parent) c.in-InlineFragment.inline)))
     c.add_own_fields.ensures.fields
