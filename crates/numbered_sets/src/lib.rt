@@ -1,0 +1,7 @@
+//! The selection sets of a document by number: own fields by number, and the fragments that each set spreads.
+#![tactic(auto)]
+
+pub mod adding;
+pub mod names;
+pub mod once;
+pub mod table;
