@@ -7,7 +7,7 @@ use Rattle.numbered_sets.proofs.adding.+adding.Goals as goal
 
 pub add_set-returns : goal.add_set-returns
 add_set-returns g t c =
-    IfOk-weaker c.close_set.result
+    IfOk-weaker c.close_set.result _ _
     (λ n closed. adds_set c.args.schema.now (number_in c.args.fragments.now) (option_copied c.args.parent) c.args.set.now _ n _ _ _ _ _ _ c.in_ok-place.ensures c.no_fields-part.ensures c.in_ok-add_selections.ensures closed)
     c.close_set.ensures
 
