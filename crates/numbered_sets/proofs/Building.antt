@@ -1,5 +1,5 @@
 -- What each step adds, put together.
-use Rattle.std.proofs.Common.{◌≡◌, ℕ, suc, ◌+◌, ◌<◌, ◌≤◌, List, [], ◌∷◌, ◌++◌, length, take, get_or, Option, Some, None, slice_get, option_to_list, refl, sym, ap, subst, ◌∙◌, arith, inl, inr, true, false, Bool, ◌||◌, ◌==◌, append_assoc, append-nil, length-append}
+use Rattle.std.proofs.Common.{◌≡◌, ℕ, suc, ◌+◌, ◌<◌, ◌≤◌, List, [], ◌∷◌, ◌++◌, length, take, get_or, Option, Some, None, slice_get, sym, ap, subst, ◌∙◌, arith, inl, inr, ◌==◌, append_assoc, append-nil, length-append}
 use Rattle.std.specs.List.{All}
 use Rattle.std.specs.Option.{option_map_or}
 use Rattle.std.specs.declared.vec.Vec.{Vec}
@@ -22,7 +22,7 @@ use Rattle.numbered_sets.specs.declared.table.OwnField.{OwnField}
 use Rattle.numbered_sets.specs.declared.table.NumberedSet.{NumberedSet}
 use Rattle.numbered_sets.specs.declared.table.Table.{Table}
 use Rattle.numbered_sets.specs.Once.{is_among}
-use Rattle.numbered_sets.specs.Table.{numbered, Extends, IsOwnField, IsWithin, Falling, height}
+use Rattle.numbered_sets.specs.Table.{numbered, IsOwnField, IsWithin, Falling, height}
 use Rattle.numbered_sets.specs.Represents.{Represents, nothing, join, leaf, field, spread, unknown, inline}
 use Rattle.numbered_sets.specs.Adding.{AreWithin, AddsSpread, TakesOver, PushesField, AddsOrder, Keeps, Adds, AddsSet}
 use Rattle.numbered_sets.proofs.Lists.{get_front, get_last, same_some}

@@ -1,5 +1,5 @@
 -- A set that was begun, filled and stored.
-use Rattle.std.proofs.Common.{◌≡◌, ℕ, ◌+◌, ◌<◌, ◌≤◌, List, [], ◌∷◌, ◌++◌, length, map, Option, Some, slice_get, refl, sym, ap, subst, ◌∙◌, arith, inl, inr, true, append_assoc, length-append}
+use Rattle.std.proofs.Common.{◌≡◌, ℕ, ◌+◌, ◌<◌, ◌≤◌, List, [], ◌∷◌, ◌++◌, length, map, Option, Some, slice_get, sym, ap, subst, ◌∙◌, arith, inl, inr, true, append_assoc, length-append}
 use Rattle.std.specs.List.{All}
 use Rattle.std.proofs.Math.Seq.{set-append_seam}
 use Rattle.std.proofs.Math.ListN.{set}
@@ -7,15 +7,14 @@ use Rattle.std.proofs.lemmas.Bool.{cases_order, or_left, or_right, eq-eqb}
 use Rattle.language.specs.declared.tree.Selection.{Selection}
 use Rattle.meta.specs.declared.kinds.MetaTypeOf.{MetaTypeOf}
 use Rattle.schema.specs.Catalog.{Catalog}
-use Rattle.field_pairs.specs.Entries.{PlainEntry, plain}
-use Rattle.numbered_sets.specs.declared.table.OwnField.{OwnField}
+use Rattle.field_pairs.specs.Entries.{plain}
 use Rattle.numbered_sets.specs.declared.table.NumberedSet.{NumberedSet}
 use Rattle.numbered_sets.specs.declared.table.Table.{Table}
-use Rattle.numbered_sets.specs.Names.{Names, KeepsNames, AreApart}
+use Rattle.numbered_sets.specs.Names.{KeepsNames, AreApart}
 use Rattle.numbered_sets.specs.Once.{is_among}
 use Rattle.numbered_sets.specs.Table.{numbered, Numbered, Extends, IsWithin, Falling}
 use Rattle.numbered_sets.specs.Represents.{Represents}
-use Rattle.numbered_sets.specs.Adding.{AreWithin, IsEmptySet, OpensSet, ClosesSet, AddsOrder, Keeps, Adds, AddsSet}
+use Rattle.numbered_sets.specs.Adding.{AreWithin, IsEmptySet, OpensSet, ClosesSet, AddsOrder, Adds, AddsSet}
 use Rattle.numbered_sets.proofs.Lists.{get_more, get_last, All-among}
 use Rattle.numbered_sets.proofs.Representing.{extends_self, extends_then, represents_more}
 use Rattle.numbered_sets.proofs.Building.{Low, low_more, within_more, falling_push}

@@ -1,5 +1,5 @@
 -- What a represented set has of its own is what the definitions say.
-use Rattle.std.proofs.Common.{◌≡◌, ℕ, zero, suc, ◌<◌, List, [], ◌∷◌, ◌++◌, length, Option, Some, None, refl, sym, ap, subst, ◌∙◌, inl, inr, Bool, true, false, ◌||◌, ◌==◌, append-nil, arith}
+use Rattle.std.proofs.Common.{◌≡◌, ℕ, zero, suc, List, [], ◌∷◌, ◌++◌, Option, Some, None, refl, sym, ap, subst, ◌∙◌, inl, inr, Bool, true, false, ◌||◌, ◌==◌, append-nil, arith}
 use Rattle.std.specs.List.{Contains}
 use Rattle.std.proofs.lemmas.List.Folds.{list_any-append}
 use Rattle.std.proofs.lemmas.List.Elements.{Contains-append_left, Contains-append_right, Contains-append_cases}
@@ -10,12 +10,12 @@ use Rattle.language.specs.declared.tree.Selection.TheVariants as selection
 use Rattle.meta.specs.declared.kinds.MetaTypeOf.{MetaTypeOf}
 use Rattle.schema.specs.Catalog.{Catalog}
 use Rattle.field_pairs.specs.Entries.{PlainEntry}
-use Rattle.field_pairs.specs.OwnFields.{Names, entry_under, own_fields, own_fields_of, own_spreads, own_spreads_of}
+use Rattle.field_pairs.specs.OwnFields.{Names, own_fields, own_fields_of, own_spreads, own_spreads_of}
 use Rattle.field_pairs.proofs.OwnFieldLaws.{own_fields_of-Field, own_fields_of-Spread, own_fields_of-Inline, own_spreads_of-Field, own_spreads_of-Spread, own_spreads_of-Inline}
 use Rattle.numbered_sets.specs.declared.table.OwnField.{OwnField}
 use Rattle.numbered_sets.specs.Table.{Numbered}
 use Rattle.numbered_sets.specs.Represents.{Represents, nothing, join, leaf, field, spread, unknown, inline}
-use Rattle.numbered_sets.specs.OwnParts.{IsFieldOf, without_set, with_set, AreFieldsOf, no_fields, more_fields, AreNumbersOf}
+use Rattle.numbered_sets.specs.OwnParts.{without_set, with_set, AreFieldsOf, no_fields, more_fields, AreNumbersOf}
 use Rattle.numbered_sets.specs.Once.{is_among, IsEachOnce}
 use Rattle.numbered_sets.proofs.Lists.{same_some}
 

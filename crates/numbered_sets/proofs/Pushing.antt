@@ -1,5 +1,5 @@
 -- A field that got a number.
-use Rattle.std.proofs.Common.{◌≡◌, ℕ, ◌≤◌, List, [], ◌∷◌, ◌++◌, length, map, Option, Some, slice_get, refl, sym, ap, subst, ◌∙◌, arith}
+use Rattle.std.proofs.Common.{◌≡◌, ℕ, [], ◌∷◌, ◌++◌, length, map, Option, Some, slice_get, refl, sym, ap, subst, ◌∙◌, arith}
 use Rattle.std.proofs.lemmas.List.{map-append, length-map}
 use Rattle.field_pairs.specs.declared.entry.Entry.{Entry}
 use Rattle.field_pairs.specs.Entries.{plain, response_of}
@@ -7,7 +7,6 @@ use Rattle.numbered_sets.specs.declared.table.OwnField.{OwnField}
 use Rattle.numbered_sets.specs.declared.table.NumberedSet.{NumberedSet}
 use Rattle.numbered_sets.specs.declared.table.Table.{Table}
 use Rattle.numbered_sets.specs.Names.{number_in, KeepsNames, AreApart}
-use Rattle.numbered_sets.specs.Table.{numbered}
 use Rattle.numbered_sets.specs.Adding.{PushesField}
 use Rattle.numbered_sets.proofs.Lists.{get_more, get_last}
 

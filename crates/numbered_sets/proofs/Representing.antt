@@ -1,11 +1,10 @@
 -- A table that says more represents the same.
-use Rattle.std.proofs.Common.{◌≡◌, ℕ, ◌<◌, ◌≤◌, List, [], ◌∷◌, ◌++◌, length, Option, Some, slice_get, refl, sym, ap, subst, ◌∙◌, arith, length-append}
+use Rattle.std.proofs.Common.{ℕ, List, Option, arith}
 use Rattle.language.specs.declared.tree.Selection.{Selection}
 use Rattle.meta.specs.declared.kinds.MetaTypeOf.{MetaTypeOf}
 use Rattle.schema.specs.Catalog.{Catalog}
 use Rattle.field_pairs.specs.Entries.{PlainEntry}
 use Rattle.numbered_sets.specs.declared.table.OwnField.{OwnField}
-use Rattle.numbered_sets.specs.declared.table.NumberedSet.{NumberedSet}
 use Rattle.numbered_sets.specs.Table.{Numbered, Extends, IsOwnField}
 use Rattle.numbered_sets.specs.Represents.{Represents, nothing, join, leaf, field, spread, unknown, inline}
 

@@ -1,5 +1,5 @@
 -- What each step adds to a table.
-use Rattle.std.specs.Prelude.{◌≡◌, ◌<◌, ◌≤◌, ℕ, List, [], ◌∷◌, ◌++◌, Option, Some, None, length, slice_get, slice_set, true, option_to_list}
+use Rattle.std.specs.Prelude.{◌≡◌, ◌<◌, ◌≤◌, ℕ, List, [], ◌∷◌, ◌++◌, Option, Some, length, slice_get, slice_set, true, option_to_list}
 use Rattle.std.specs.List.{All}
 use Rattle.language.specs.declared.tree.Selection.{Selection}
 use Rattle.meta.specs.declared.kinds.MetaTypeOf.{MetaTypeOf}
@@ -8,7 +8,7 @@ use Rattle.field_pairs.specs.Entries.{PlainEntry}
 use Rattle.numbered_sets.specs.declared.table.OwnField.{OwnField}
 use Rattle.numbered_sets.specs.declared.table.NumberedSet.{NumberedSet}
 use Rattle.numbered_sets.specs.declared.table.Table.{Table}
-use Rattle.numbered_sets.specs.Names.{number_in, AreApart}
+use Rattle.numbered_sets.specs.Names.{AreApart}
 use Rattle.numbered_sets.specs.Once.{IsEachOnce, is_among}
 use Rattle.numbered_sets.specs.Table.{numbered, Extends, IsOwnField, IsWithin, Falling, height}
 use Rattle.numbered_sets.specs.Represents.{Represents, IsSetOf}

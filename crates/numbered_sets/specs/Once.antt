@@ -1,5 +1,5 @@
 -- Numbers without repeats.
-use Rattle.std.specs.Prelude.{◌≡◌, ◌==◌, ◌<◌, ℕ, List, Bool, Some, slice_get}
+use Rattle.std.specs.Prelude.{◌≡◌, ◌==◌, ℕ, List, Bool, Some, slice_get}
 use Rattle.std.specs.List.{list_any}
 
 abbrev pub is_among : List ℕ → ℕ → Bool

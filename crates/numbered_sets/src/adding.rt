@@ -4,7 +4,8 @@ ghost use Rattle.numbered_sets.specs.Names.{number_in};
 ghost use Rattle.numbered_sets.specs.Adding.{Adds, AddsSet, AddsSpread};
 
 use crate::names::number_of_name;
-use crate::table::{NumberedSet, Table, close_set, no_fields, open_set, push_field, take_over};
+use crate::steps::{close_set, no_fields, open_set, push_field, take_over};
+use crate::table::{NumberedSet, Table};
 use field_pairs::own_fields::{entry_of_field, type_below_field, type_inside_fragment};
 use language::error::OutOfMemory;
 use language::position::Spanning;

@@ -2,6 +2,7 @@
 #![tactic(auto)]
 
 pub mod adding;
-pub mod names;
-pub mod once;
+mod names;
+mod once;
+mod steps;
 pub mod table;

@@ -1,4 +1,4 @@
-use Rattle.std.proofs.Common.{◌≡◌, ◌∷◌, [], OnOk, IfOk, option_copied, refl, sym, ap, ◌∙◌}
+use Rattle.std.proofs.Common.{option_copied, refl}
 use Rattle.std.proofs.lemmas.Result.{on_ok_weaker, IfOk-weaker}
 use Rattle.numbered_sets.specs.Names.{number_in}
 use Rattle.numbered_sets.proofs.Building.{adds_none, adds_next, adds_leaf, adds_field, adds_spread, adds_inline, adds_as}

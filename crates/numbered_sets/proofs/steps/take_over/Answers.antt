@@ -1,6 +1,6 @@
 use Rattle.std.proofs.Common.{Some, ◌++◌, sym, ap, ◌∙◌}
 use Rattle.std.proofs.lemmas.Option.{slice_get-get_or}
-use Rattle.numbered_sets.proofs.table.take_over.Goals as goal
+use Rattle.numbered_sets.proofs.steps.take_over.Goals as goal
 
 pub returns : goal.returns
 returns c = record {

@@ -1,7 +1,7 @@
 use Rattle.std.proofs.Common.{◌≡◌, Some, refl, subst, arith}
 use Rattle.numbered_sets.specs.Names.{number_in}
 use Rattle.numbered_sets.proofs.Pushing.{pushed}
-use Rattle.numbered_sets.proofs.table.push_field.Goals as goal
+use Rattle.numbered_sets.proofs.steps.push_field.Goals as goal
 
 pub returns : goal.returns
 returns g c =

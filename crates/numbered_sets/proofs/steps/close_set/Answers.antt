@@ -1,6 +1,6 @@
 use Rattle.std.proofs.Common.{refl, subst, arith}
 use Rattle.numbered_sets.specs.Once.{IsEachOnce}
-use Rattle.numbered_sets.proofs.table.close_set.Goals as goal
+use Rattle.numbered_sets.proofs.steps.close_set.Goals as goal
 
 pub returns : goal.returns
 returns g c = record {
