@@ -1,0 +1,6 @@
+pub mod TypeLemmas
+pub mod TypeLaws
+pub mod ArgumentLaws
+pub mod DirectLaws
+pub mod OwnFieldLaws
+pub mod NumberedLaws

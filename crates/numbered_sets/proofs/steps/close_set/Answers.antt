@@ -1,0 +1,15 @@
+use Rattle.std.proofs.Common.{refl, subst, arith}
+use Rattle.numbered_sets.specs.Once.{IsEachOnce}
+use Rattle.numbered_sets.proofs.steps.close_set.Goals as goal
+
+pub returns : goal.returns
+returns g c = record {
+  row = record { own = c.args.part.own; spreads = c.in_ok-spreads.spreads };
+  own = refl;
+  once = subst (λ z. IsEachOnce z c.in_ok-spreads.spreads.items) c.as_slice.ensures.value c.in_ok-spreads.ensures;
+  number = omega arith;
+  fields = refl;
+  responses = refl;
+  sets = c.in_ok-push.ensures.items;
+  order = refl;
+}

@@ -1,0 +1,6 @@
+pub mod Names
+pub mod Once
+pub mod Table
+pub mod Represents
+pub mod Adding
+pub mod OwnParts

@@ -1,0 +1,42 @@
+//! What is made of a document's selection sets.
+ghost use Rattle.numbered_sets.specs.Adding.{IsEmptyTable};
+
+use field_pairs::entry::Entry;
+use std::alloc::Global;
+use std::collections::BTreeMap;
+
+/// A field of a set: the numbers of its response name, of itself, and of the set below it.
+#[derive(Clone, Copy, Debug)]
+pub struct OwnField {
+    pub response: usize,
+    pub field: usize,
+    pub below: Option<usize>,
+}
+
+/// A set: its own fields, and the numbers of the fragments that it spreads.
+#[derive(Debug, Drop)]
+pub struct NumberedSet {
+    pub own: Vec<OwnField>,
+    pub spreads: Vec<usize>,
+}
+
+/// The fields, the response names and the sets of a document, by number, and the sets in the order of a walk.
+#[derive(Drop)]
+pub struct Table<'a, S, C> {
+    pub fields: Vec<Entry<'a, S, C>>,
+    pub responses: BTreeMap<&'a str, usize>,
+    pub sets: Vec<NumberedSet>,
+    pub order: Vec<usize>,
+}
+
+/// A table of nothing.
+pub fn no_table<'a, S, C>(alloc: Global) -> Table<'a, S, C>
+    ensures { IsEmptyTable result }
+{
+    Table {
+        fields: Vec::new(alloc),
+        responses: BTreeMap::new(alloc),
+        sets: Vec::new(alloc),
+        order: Vec::new(alloc),
+    }
+}
