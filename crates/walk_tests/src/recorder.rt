@@ -94,12 +94,6 @@ fn told<'e>(event: &'e Heard<'_>) -> (&'static str, &'e str) {
         Event::EnterListValue(_) => ("enter_list_value", ""),
         Event::EnterObjectValue(_) => ("enter_object_value", ""),
         Event::EnterObjectField(k, _) => ("enter_object_field", k.item.as_str()),
-        _ => told_at_exit(event),
-    }
-}
-
-fn told_at_exit<'e>(event: &'e Heard<'_>) -> (&'static str, &'e str) {
-    match event {
         Event::ExitDocument(_) => ("exit_document", ""),
         Event::ExitOperationDefinition(o) => ("exit_operation_definition", name_in(&o.item)),
         Event::ExitFragmentDefinition(f) => ("exit_fragment_definition", f.item.name.item),
@@ -117,6 +111,5 @@ fn told_at_exit<'e>(event: &'e Heard<'_>) -> (&'static str, &'e str) {
         Event::ExitListValue(_) => ("exit_list_value", ""),
         Event::ExitObjectValue(_) => ("exit_object_value", ""),
         Event::ExitObjectField(k, _) => ("exit_object_field", k.item.as_str()),
-        _ => ("", ""),
     }
 }

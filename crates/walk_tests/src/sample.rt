@@ -33,7 +33,7 @@ fragment F on Dog @skip { __typename }
 
 /// A check for each type that has one.
 #[derive(Drop)]
-struct Checks {
+pub struct Checks {
     string: DefaultCheck,
     boolean: DefaultCheck,
     int: DefaultCheck,
@@ -88,7 +88,7 @@ fn pair(alloc: Global, check: DefaultCheck) -> Result<MetaType, OutOfMemory> {
 }
 
 /// The same check for each type of the list.
-fn same_checks(check: InputValueParseFn, token: ScalarTokenParseFn) -> Checks
+pub fn same_checks(check: InputValueParseFn, token: ScalarTokenParseFn) -> Checks
     requires callable { (a : _) (v : _) → InputValueParseFn.pre check a v }
     requires one_answer { (a b : _) (v w : _) (r s : _) → v.now ≡ w.now → InputValueParseFn.post check a v r → InputValueParseFn.post check b w s → SameAnswer r s }
 {
@@ -125,27 +125,16 @@ fn mutation_root(alloc: Global) -> Result<MetaType, OutOfMemory> {
     )
 }
 
-fn schema_of(
+/// The schema of the walks, which has a root of mutations and none of subscriptions.
+pub fn sample_schema(
     alloc: Global,
-    types: Vec<MetaType>,
+    checks: Checks,
 ) -> Result<SchemaType<DefaultScalarValue>, SchemaError> {
     SchemaType::<DefaultScalarValue>::new(
         alloc,
-        types,
+        sample_types(alloc, checks)?,
         "QueryRoot",
         "MutationRoot",
         "_EmptySubscription",
     )
-}
-
-/// The schema of the walks, with this check for each type; it has a root of mutations and none of subscriptions.
-pub fn sample_schema(
-    alloc: Global,
-    check: InputValueParseFn,
-    token: ScalarTokenParseFn,
-) -> Result<SchemaType<DefaultScalarValue>, SchemaError>
-    requires callable { (a : _) (v : _) → InputValueParseFn.pre check a v }
-    requires one_answer { (a b : _) (v w : _) (r s : _) → v.now ≡ w.now → InputValueParseFn.post check a v r → InputValueParseFn.post check b w s → SameAnswer r s }
-{
-    schema_of(alloc, sample_types(alloc, same_checks(check, token))?)
 }

@@ -2,7 +2,7 @@
 
 use crate::kept_fields::count_and_free;
 use crate::recorder::{Recorder, show_types};
-use crate::sample::{DOCUMENT, sample_schema};
+use crate::sample::{DOCUMENT, same_checks, sample_schema};
 use document_reader::read_document;
 use language::error::OutOfMemory;
 use language::position::SourcePosition;
@@ -208,7 +208,9 @@ fn refuses_all<'a>(
 #[test]
 fn every_kind_of_node_is_told(rt: HostRuntime) {
     let alloc = rt.alloc();
-    let schema = sample_schema(alloc, check_string, refuse_token).expect(&rt, "a schema");
+    let schema = sample_schema(alloc, same_checks(check_string, refuse_token)).expect(
+        &rt, "a schema",
+    );
     let document = read_document(alloc, DOCUMENT).expect(&rt, "a document");
     let recorded = recorded_afresh(alloc, &schema, document.as_slice());
     let visitors = recorded.expect(&rt, "memory");
@@ -219,7 +221,9 @@ fn every_kind_of_node_is_told(rt: HostRuntime) {
 #[test]
 fn fields_are_kept(rt: HostRuntime) {
     let alloc = rt.alloc();
-    let schema = sample_schema(alloc, check_string, refuse_token).expect(&rt, "a schema");
+    let schema = sample_schema(alloc, same_checks(check_string, refuse_token)).expect(
+        &rt, "a schema",
+    );
     let document = read_document(alloc, DOCUMENT).expect(&rt, "a document");
     let count = count_and_free(alloc, &schema, document).expect(&rt, "memory");
     assert_eq!(rt; count, 12);
@@ -229,7 +233,7 @@ fn fields_are_kept(rt: HostRuntime) {
 #[test]
 fn a_refused_request_changes_no_walk(rt: HostRuntime) {
     let alloc = rt.alloc();
-    let Ok(schema) = sample_schema(alloc, check_string, refuse_token) else {
+    let Ok(schema) = sample_schema(alloc, same_checks(check_string, refuse_token)) else {
         return;
     };
     let Ok(document) = read_document(alloc, DOCUMENT) else {
@@ -295,7 +299,9 @@ fn reported<'a>(alloc: Global, schema: &'a Schema) -> Result<Vec<RuleError>, Out
 #[test]
 fn a_context_keeps_types(rt: HostRuntime) {
     let alloc = rt.alloc();
-    let schema = sample_schema(alloc, check_string, refuse_token).expect(&rt, "a schema");
+    let schema = sample_schema(alloc, same_checks(check_string, refuse_token)).expect(
+        &rt, "a schema",
+    );
     let text = types_in_turn(alloc, &schema).expect(&rt, "memory");
     assert_eq!(rt;
         text.as_str(),
@@ -308,7 +314,9 @@ fn a_context_keeps_types(rt: HostRuntime) {
 #[test]
 fn a_context_sorts_its_errors(rt: HostRuntime) {
     let alloc = rt.alloc();
-    let schema = sample_schema(alloc, check_string, refuse_token).expect(&rt, "a schema");
+    let schema = sample_schema(alloc, same_checks(check_string, refuse_token)).expect(
+        &rt, "a schema",
+    );
     let errors = reported(alloc, &schema).expect(&rt, "memory");
     let mut messages = errors.iter().map(|error| error.message());
     for want in ["before", "early", "late", "late"] {
