@@ -15,12 +15,17 @@ pub fn time_reading<R: Clock>(
 ) -> Result<Option<u128>, Failure> {
     let mut taken = Vec::new(alloc);
     for _ in 0..times {
-        let start = Instant::now(clock)?;
-        let document = read_document(alloc, text)?;
-        taken.push(start.elapsed(clock)?)?;
-        drop(document);
+        taken.push(time_read(clock, alloc, text)?)?;
     }
     Ok(median(taken))
+}
+
+fn time_read<R: Clock>(clock: &R, alloc: Global, text: &[u8]) -> Result<Duration, Failure> {
+    let start = Instant::now(clock)?;
+    let document = read_document(alloc, text)?;
+    let taken = start.elapsed(clock);
+    drop(document);
+    Ok(taken?)
 }
 
 /// Judges the document by all rules so often.

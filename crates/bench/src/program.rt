@@ -7,7 +7,7 @@ use std::alloc::Global;
 use std::env::{self, Env};
 use std::io::{self, Read};
 use std::rt::Clock;
-use validation::{DefaultScalarValue, Definition, RootNode, SchemaType};
+use validation::{DefaultScalarValue, Definition, SchemaType, ValidatorContext, visit_all_rules};
 
 /// Measures what the words ask for, and answers 0, or 1 where nothing is measured.
 pub fn run<R: Clock + Env + AllocGlobal + Print + Eprint, I: Read>(rt: &R, input: &mut I) -> u8 {
@@ -27,12 +27,23 @@ fn measure<R: Clock + Env + AllocGlobal + Print, I: Read>(
     input.read_to_end(&mut text)?;
     match words.as_slice() {
         [schema, reads, walks] => {
-            let schema = schema_of(rt.alloc(), schema.as_str())?;
             let times = (number(reads)?, number(walks)?);
-            measure_phases(rt, schema, text.as_slice(), times)
+            measure_against(rt, schema.as_str(), text.as_slice(), times)
         }
         _ => Err(Failure::Usage),
     }
+}
+
+fn measure_against<R: Clock + AllocGlobal + Print>(
+    rt: &R,
+    word: &str,
+    text: &[u8],
+    (reads, walks): (usize, usize),
+) -> Result<(), Failure> {
+    println!(rt; "bytes {}", text.len())?;
+    tell(rt, "read", time_reading(rt, rt.alloc(), text, reads)?)?;
+    let schema = schema_of(rt.alloc(), word)?;
+    measure_walks(rt, &schema, text, walks)
 }
 
 /// The words after the program's own name.
@@ -47,25 +58,30 @@ fn number(word: &String) -> Result<usize, Failure> {
     word.parse::<usize>().map_err(|_| Failure::Usage)
 }
 
-fn measure_phases<R: Clock + AllocGlobal + Print>(
+fn measure_walks<R: Clock + AllocGlobal + Print>(
     rt: &R,
-    schema: SchemaType<DefaultScalarValue>,
+    schema: &SchemaType<DefaultScalarValue>,
     text: &[u8],
-    (reads, walks): (usize, usize),
+    walks: usize,
 ) -> Result<(), Failure> {
-    println!(rt; "bytes {}", text.len())?;
-    tell(rt, "read", time_reading(rt, rt.alloc(), text, reads)?)?;
-    let document = read_document(rt.alloc(), text)?;
+    match read_document(rt.alloc(), text) {
+        Ok(document) => measure_walks_over(rt, schema, document.as_slice(), walks),
+        Err(error) => Err(Failure::from(error)),
+    }
+}
+
+fn measure_walks_over<R: Clock + AllocGlobal + Print>(
+    rt: &R,
+    schema: &SchemaType<DefaultScalarValue>,
+    document: &[Definition<'_, DefaultScalarValue>],
+    walks: usize,
+) -> Result<(), Failure> {
     tell(
         rt,
         "walk",
-        time_walking(rt, rt.alloc(), &schema, document.as_slice(), walks)?,
+        time_walking(rt, rt.alloc(), schema, document, walks)?,
     )?;
-    let root = RootNode::new(schema);
-    println!(rt;
-        "errors {}",
-        errors(rt.alloc(), &root, document.as_slice())?
-    )?;
+    println!(rt; "errors {}", count_errors(rt.alloc(), schema, document)?)?;
     Ok(())
 }
 
@@ -76,10 +92,13 @@ fn tell<R: Print>(rt: &R, phase: &str, time: Option<u128>) -> Result<(), Failure
     Ok(())
 }
 
-fn errors(
+fn count_errors<'a>(
     alloc: Global,
-    root: &RootNode,
-    document: &[Definition<'_, DefaultScalarValue>],
+    schema: &'a SchemaType<DefaultScalarValue>,
+    document: &'a [Definition<'_, DefaultScalarValue>],
 ) -> Result<usize, Failure> {
-    Ok(root.validate(alloc, document)?.len())
+    let mut ctx = ValidatorContext::new(alloc, schema, document)?;
+    visit_all_rules(&mut ctx, document)?;
+    let errors = ctx.into_errors()?;
+    Ok(errors.len())
 }

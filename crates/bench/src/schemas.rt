@@ -41,26 +41,31 @@ fn checks() -> Checks {
 
 // A field that takes an input object of so many fields.
 fn wide(alloc: Global, count: usize) -> Result<Vec<MetaType>, OutOfMemory> {
-    let checks = checks();
-    let mut types = common(alloc, checks.string, checks.boolean)?;
-    types.push(scalar(alloc, "Int", checks.int)?)?;
-    let input = InputObjectMetaOf::with_check(
+    let string = DefaultCheck::with_token(check_string, refuse_token);
+    let boolean = DefaultCheck::with_token(check_boolean, refuse_token);
+    let mut types = common(alloc, string, boolean)?;
+    types.push(scalar(
         alloc,
-        "Wide",
-        entries(alloc, count)?,
-        checks.complex_input,
-    )?;
-    types.push(input.into_meta())?;
-    let mut fields = own_fields(alloc)?;
-    fields.push(field(alloc, "wide", "Int")?.argument(argument(alloc, "input", "Wide")?)?)?;
-    types.push(object(alloc, "QueryRoot", &[], fields)?)?;
+        "Int",
+        DefaultCheck::with_token(check_int, refuse_token),
+    )?)?;
+    types.push(wide_input(alloc, count)?)?;
+    types.push(root(alloc)?)?;
     Ok(types)
 }
 
-fn entries(alloc: Global, count: usize) -> Result<Vec<ArgumentMeta>, OutOfMemory> {
-    let mut entries = Vec::new(alloc);
+fn root(alloc: Global) -> Result<MetaType, OutOfMemory> {
+    let mut fields = own_fields(alloc)?;
+    fields.push(field(alloc, "wide", "Int")?.argument(argument(alloc, "input", "Wide")?)?)?;
+    object(alloc, "QueryRoot", &[], fields)
+}
+
+fn wide_input(alloc: Global, count: usize) -> Result<MetaType, OutOfMemory> {
+    let mut entries: Vec<ArgumentMeta> = Vec::new(alloc);
     for number in 0..count {
-        entries.push(argument(alloc, format!(in alloc; "k{number}")?.as_str(), "Int")?)?;
+        let name = format!(in alloc; "k{number}")?;
+        entries.push(argument(alloc, name.as_str(), "Int")?)?;
     }
-    Ok(entries)
+    let check = DefaultCheck::new(check_complex_input);
+    Ok(InputObjectMetaOf::with_check(alloc, "Wide", entries, check)?.into_meta())
 }

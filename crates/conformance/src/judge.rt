@@ -7,11 +7,7 @@ use std::alloc::Global;
 use validation::{DefaultScalarValue, Definition, RootNode, RuleError};
 
 /// The errors of a vector's document, a line each; none where the call of its mode isn't there.
-pub fn judge(
-    alloc: Global,
-    roots: &Roots,
-    vector: &Vector<'_>,
-) -> Result<Option<String>, Failure> {
+pub fn judge(alloc: Global, roots: &Roots, vector: &Vector<'_>) -> Result<Option<String>, Failure> {
     let root = roots.root(vector.sample, vector.mode);
     match vector.mode {
         Mode::Plain | Mode::Closed => Ok(Some(errors_of_text(alloc, root, vector.document)?)),

@@ -47,7 +47,8 @@ impl<'a> Lines<'a> {
                 _ => break,
             }
         }
-        all.get(..all.len().saturating_sub(self.text.len())).unwrap_or(&[])
+        all.get(..all.len().saturating_sub(self.text.len()))
+            .unwrap_or(&[])
     }
 
     // How many bytes the next line has.

@@ -34,33 +34,48 @@ const LIST: &str = "open.txt";
 /// - 5: a read or a write failed.
 pub fn run<R: Files + Env + AllocGlobal + Print + Eprint>(rt: &R) -> u8 {
     let mut report = Report::new(rt.alloc());
-    match judge_files(rt, &mut report) {
+    match judge_and_tell(rt, &mut report) {
         Ok(()) => if report.is_clean() { 0 } else { 1 },
-        Err(failure) => tell(rt, &report, failure),
+        Err(failure) => tell_failure(rt, &report, failure),
     }
 }
 
-fn tell<R: Eprint>(rt: &R, report: &Report, failure: Failure) -> u8 {
+fn judge_and_tell<R: Files + Env + AllocGlobal + Print>(
+    rt: &R,
+    report: &mut Report,
+) -> Result<(), Failure> {
+    judge_files(rt, report)?;
+    report.end()?;
+    rt.print(report.text.as_str())?;
+    Ok(())
+}
+
+fn tell_failure<R: Eprint>(rt: &R, report: &Report, failure: Failure) -> u8 {
     match eprintln!(rt; "conformance: {}: {failure}", report.file) {
         Ok(()) => failure.status(),
         Err(_) => Failure::InputOutput.status(),
     }
 }
 
-fn judge_files<R: Files + Env + AllocGlobal + Print>(
+fn judge_files<R: Files + Env + AllocGlobal>(rt: &R, report: &mut Report) -> Result<(), Failure> {
+    let words = words(rt)?;
+    let roots = Roots::new(rt.alloc())?;
+    judge_named(rt, &roots, words.as_slice(), report)
+}
+
+// Judges the files of these names, or else those at hand.
+fn judge_named<R: Files + AllocGlobal>(
     rt: &R,
+    roots: &Roots,
+    names: &[String],
     report: &mut Report,
 ) -> Result<(), Failure> {
-    let roots = Roots::new(rt.alloc())?;
-    let words = words(rt)?;
-    if words.is_empty() {
-        judge_files_at_hand(rt, &roots, report)?;
+    if names.is_empty() {
+        return judge_files_at_hand(rt, roots, report);
     }
-    for word in words.as_slice() {
-        judge_file(rt, &roots, word.as_str(), "", report)?;
+    for name in names {
+        judge_file(rt, roots, name.as_str(), "", report)?;
     }
-    report.end()?;
-    rt.print(report.text.as_str())?;
     Ok(())
 }
 

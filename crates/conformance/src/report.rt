@@ -67,7 +67,11 @@ impl Report {
     fn count_agreeing(&mut self) -> Result<(), AllocError> {
         self.agree = self.agree.saturating_add(1);
         if self.open.contains(&self.number) {
-            writeln!(self.text, "{} {}: is listed and agrees", self.file, self.number)?;
+            writeln!(
+                self.text,
+                "{} {}: is listed and agrees",
+                self.file, self.number
+            )?;
         }
         Ok(())
     }

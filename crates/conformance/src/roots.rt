@@ -44,7 +44,13 @@ impl Roots {
 }
 
 fn root(alloc: Global, types: Vec<MetaType>) -> Result<RootNode, Failure> {
-    let schema = SchemaType::new(alloc, types, "QueryRoot", "_EmptyMutation", "_EmptySubscription")?;
+    let schema = SchemaType::new(
+        alloc,
+        types,
+        "QueryRoot",
+        "_EmptyMutation",
+        "_EmptySubscription",
+    )?;
     Ok(RootNode::new(schema))
 }
 

@@ -62,7 +62,8 @@ fn take_part<'a>(lines: &mut Lines<'a>, mark: &[u8]) -> Result<&'a [u8], Failure
         return Err(Failure::Format(lines.number()));
     }
     lines.advance();
-    part.strip_suffix(b"\n").ok_or(Failure::Format(lines.number()))
+    part.strip_suffix(b"\n")
+        .ok_or(Failure::Format(lines.number()))
 }
 
 fn asked(header: &[u8]) -> Option<(Sample, Mode)> {
