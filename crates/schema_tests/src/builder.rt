@@ -202,7 +202,7 @@ fn said(alloc: Global, types: Vec<MetaType>, query: &str) -> Result<String, Sche
 }
 
 /// Changes the list.
-fn change(alloc: Global, types: &mut Vec<MetaType>, how: Change) -> Result<(), SchemaError> {
+fn make_change(alloc: Global, types: &mut Vec<MetaType>, how: Change) -> Result<(), SchemaError> {
     if let Some(name) = left_out(how) {
         types.retain(|meta| meta.name() != Some(name));
     }
@@ -214,12 +214,12 @@ fn lists_are_accepted_or_refused_by_name(rt: HostRuntime) {
     let alloc = rt.alloc();
     for row in &DEMO {
         let mut types = demo_types(alloc, check_string, refuse_token).expect(&rt, "the list");
-        change(alloc, &mut types, row.0).expect(&rt, "memory");
+        make_change(alloc, &mut types, row.0).expect(&rt, "memory");
         says(&rt, said(alloc, types, row.1), row.2);
     }
     for row in &PETS {
         let mut types = pets_types(alloc, check_string, refuse_token).expect(&rt, "the list");
-        change(alloc, &mut types, row.0).expect(&rt, "memory");
+        make_change(alloc, &mut types, row.0).expect(&rt, "memory");
         says(&rt, said(alloc, types, row.1), row.2);
     }
 }
