@@ -21,17 +21,17 @@ use Rattle.events.specs.Typing.{Typing}
 use Rattle.walk.specs.ContextState.{scope_of}
 use Rattle.walk.specs.ErrorValue.{ErrorValue}
 use Rattle.walk.specs.Names.{fragment_names, is_among}
-use Rattle.rule_parts.specs.Names.{key_name, text_name}
+use Rattle.rule_parts.specs.Names.{text_name}
 use Rattle.operation_rules.specs.UniqueOperationNames.{operation_name, repeated_operation_message}
 use Rattle.operation_rules.specs.UniqueVariableNames.{repeated_among, repeated_in_operation, repeated_variable_message}
 use Rattle.operation_rules.specs.VariablesAreInputTypes.{non_input_at, not_input}
 use Rattle.argument_rules.specs.UniqueArgumentNames.{repeated_argument_message, repeated_at, repeated_in}
-use Rattle.argument_rules.specs.UniqueInputFieldNames.{repeated_in_object, repeated_key_message}
+use Rattle.argument_rules.specs.UniqueInputFieldNames.{repeated_in_object}
 use Rattle.fragment_rules.specs.KnownFragmentNames.{unknown_spread}
 use Rattle.fragment_rules.specs.KnownTypeNames.{unknown_condition, unknown_type_at}
 use Rattle.fragment_rules.specs.UniqueFragmentNames.{fragment_name, repeated_fragment_message}
 use Rattle.fragment_cycles.proofs.Lists.{none_some, same_some, contains_get}
-use Rattle.validation.specs.CleanStage.{CleanDocument, IsInputType, IsKnownType, Occurs, arguments_of, condition_of, keys_of, listed_arguments, listed_variables, names_in}
+use Rattle.validation.specs.CleanStage.{CleanDocument, IsInputType, IsKnownType, Occurs, arguments_of, condition_of, listed_arguments, listed_variables, names_in}
 use Rattle.validation.specs.NothingFound.{NothingFound}
 use Rattle.validation.proofs.Distinct.{distinct_names, distinct_within, left_none, right_none}
 use Rattle.validation.proofs.Values.{distinct_keys, unique_arguments, whole-document}

@@ -1,5 +1,5 @@
 -- Values of arguments in a document where no object repeats a key.
-use Rattle.std.proofs.Common.{◌≡◌, ℕ, List, [], ◌∷◌, ◌++◌, Option, None, Some, Bool, true, false, ◌&&◌, map, refl, ap, sym, subst, ◌∙◌, inl, inr, arith, string_bytes, String}
+use Rattle.std.proofs.Common.{◌≡◌, List, [], ◌∷◌, ◌++◌, Option, None, Some, Bool, true, ◌&&◌, map, refl, ap, sym, subst, ◌∙◌, inl, inr, arith, string_bytes, String}
 use Rattle.std.specs.Prelude.{Vec}
 use Rattle.std.specs.declared.alloc.Global.{Global}
 use Rattle.std.specs.List.{Contains, flat_map, list_all}
@@ -27,7 +27,7 @@ use Rattle.events.specs.Node as node
 use Rattle.events.specs.SchemaView.{directive_arguments, field_arguments}
 use Rattle.events.specs.Typing.{Typing, at_set, at_items, at_argument, at_object_field, at_variable, at_field, at_inline, at_operation, at_fragment}
 use Rattle.events.specs.Occurrence.{Occurrence, occurrences_of}
-use Rattle.events.specs.Outline.{Outline, empty, entry, beside, each, node_with, if_there, each_if_there, outline_of_bare_value, outline_of_value, outline_of_object_field, outline_of_argument, outline_of_arguments, outline_of_directive, outline_of_directives, outline_of_variable_definition, outline_of_variable_definitions, outline_of_set, outline_of_set_if_there, outline_of_selection, outline_of_definition, outline_of_document}
+use Rattle.events.specs.Outline.{Outline, empty, entry, beside, each, if_there, each_if_there, outline_of_bare_value, outline_of_value, outline_of_object_field, outline_of_argument, outline_of_arguments, outline_of_directive, outline_of_directives, outline_of_variable_definition, outline_of_variable_definitions, outline_of_set, outline_of_set_if_there, outline_of_selection, outline_of_definition, outline_of_document}
 use Rattle.events.proofs.Occurrences.{occurrences-beside}
 use Rattle.events.proofs.ValueOutlines.{of_null, of_scalar, of_enum, of_variable, of_list, of_object}
 use Rattle.events.proofs.SelectionOutlines.{of_field, of_spread, of_inline}
