@@ -1,6 +1,6 @@
 -- What is true of a document where nothing is found.
 use Rattle.std.proofs.Common.{◌≡◌, ℕ, List, [], ◌∷◌, Option, None, Some, Bool, true, false, cond, map, refl, ap, sym, subst, ◌∙◌, zero, suc, slice_get}
-use Rattle.std.specs.List.{flat_map}
+use Rattle.std.specs.List.{Contains, flat_map}
 use Rattle.std.specs.Option.{is_some}
 use Rattle.std.proofs.lemmas.Bool.{true≢false}
 use Rattle.std.proofs.lemmas.Simd.{map-map}
@@ -16,23 +16,25 @@ use Rattle.schema.specs.Catalog.{Catalog, type_in}
 use Rattle.events.specs.Node.{Node, Name, Placed, ObjectEntry, VariableEntry, fragment_spread, object_value}
 use Rattle.events.specs.Node as node
 use Rattle.events.specs.Occurrence.{Occurrence, occurrences}
+use Rattle.events.specs.Outline.{outline_of_document}
 use Rattle.events.specs.Typing.{Typing}
 use Rattle.walk.specs.ContextState.{scope_of}
 use Rattle.walk.specs.ErrorValue.{ErrorValue}
 use Rattle.walk.specs.Names.{fragment_names, is_among}
-use Rattle.rule_parts.specs.Names.{key_name, text_name}
+use Rattle.rule_parts.specs.Names.{text_name}
 use Rattle.operation_rules.specs.UniqueOperationNames.{operation_name, repeated_operation_message}
 use Rattle.operation_rules.specs.UniqueVariableNames.{repeated_among, repeated_in_operation, repeated_variable_message}
 use Rattle.operation_rules.specs.VariablesAreInputTypes.{non_input_at, not_input}
 use Rattle.argument_rules.specs.UniqueArgumentNames.{repeated_argument_message, repeated_at, repeated_in}
-use Rattle.argument_rules.specs.UniqueInputFieldNames.{repeated_in_object, repeated_key_message}
+use Rattle.argument_rules.specs.UniqueInputFieldNames.{repeated_in_object}
 use Rattle.fragment_rules.specs.KnownFragmentNames.{unknown_spread}
 use Rattle.fragment_rules.specs.KnownTypeNames.{unknown_condition, unknown_type_at}
 use Rattle.fragment_rules.specs.UniqueFragmentNames.{fragment_name, repeated_fragment_message}
 use Rattle.fragment_cycles.proofs.Lists.{none_some, same_some, contains_get}
-use Rattle.validation.specs.CleanStage.{CleanDocument, IsInputType, IsKnownType, Occurs, arguments_of, condition_of, keys_of, listed_arguments, listed_variables, names_in}
+use Rattle.validation.specs.CleanStage.{CleanDocument, IsInputType, IsKnownType, Occurs, arguments_of, condition_of, listed_arguments, listed_variables, names_in}
 use Rattle.validation.specs.NothingFound.{NothingFound}
 use Rattle.validation.proofs.Distinct.{distinct_names, distinct_within, left_none, right_none}
+use Rattle.validation.proofs.Values.{distinct_keys, unique_arguments, whole-document}
 use Rattle.validation.proofs.Occurring.{defined, fragments_within, names_at, operation_occurs, operations_within, variable_occurs}
 
 -- where all give nothing, each gives nothing
@@ -65,9 +67,6 @@ module _ {S : Type 0} where
   distinct_at (node.field f) e = distinct_arguments f.item.arguments e
   distinct_at (node.directive d) e = distinct_arguments d.item.arguments e
   distinct_at _ e = refl
-
-  distinct_keys : (v : Placed (List (ObjectEntry S))) → repeated_in_object (object_value v) ≡ [] → are_distinct (keys_of v.item) ≡ true
-  distinct_keys v e = ap are_distinct (sym (map-map (λ n. n.0) key_name v.item)) ∙ distinct_names repeated_key_message (map key_name v.item) e
 
 module _ {S C : Type 0} (schema : Catalog S C) where
   known_type : (name : List ℕ) → is_some (type_in name schema) ≡ true → IsKnownType schema name
@@ -105,6 +104,8 @@ module _ {S C : Type 0} (schema : Catalog S C) where
       variables = λ o c. distinct_variables o.item.variable_definitions (at_node repeated_in_operation h.unique_variable_names (node.operation_definition o) (operation_occurs schema t doc o c));
       arguments = λ n c. distinct_at n (at_node repeated_at h.unique_argument_names n c);
       keys = λ v c. distinct_keys v (at_node repeated_in_object h.unique_input_field_names (object_value v) c);
+      values = λ n k a d.
+          let (o, c, e) = k in unique_arguments schema (outline_of_document schema t doc) (whole-document schema t doc) h.unique_input_field_names o c a (subst (λ m. Contains (arguments_of m) a) (sym e) d);
       spreads = λ s c. defined s.item.name.item.now doc (kept_back (is_among (fragment_names doc) s.item.name.item.now) _ (at_node (unknown_spread (fragment_names doc)) h.known_fragment_names (fragment_spread s) c));
       conditions = λ n c name e. known_at n name e (at_node (unknown_type_at schema) h.known_type_names n c);
       variable_types = λ o c v d.

@@ -6,3 +6,4 @@ pub mod Occurring
 pub mod Reports
 pub mod Root
 pub mod Silent
+pub mod Values

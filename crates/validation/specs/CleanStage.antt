@@ -3,7 +3,7 @@ use Rattle.std.specs.Prelude.{◌≡◌, ℕ, List, [], Option, Some, None, true
 use Rattle.std.specs.List.{Contains, flat_map}
 use Rattle.std.specs.Option.{option_map}
 use Rattle.language.specs.Types.{shape}
-use Rattle.language.specs.ValuesEqual.{are_distinct}
+use Rattle.language.specs.ValuesEqual.{are_distinct, has_unique_keys}
 use Rattle.language.specs.declared.tree.Arguments.{Arguments}
 use Rattle.language.specs.declared.tree.Definition.{Definition}
 use Rattle.language.specs.declared.tree.Definition.TheVariants as definition
@@ -89,6 +89,8 @@ module _ {S C : Type 0} (schema : Catalog S C) where
       pub variables : (o : Placed (Operation S)) → Contains doc (definition.Operation o) → are_distinct (names_in (variables_of o.item)) ≡ true
       pub arguments : (node : Node S) → Occurs node → are_distinct (names_in (arguments_of node)) ≡ true
       pub keys : (v : Placed (List (ObjectEntry S))) → Occurs (object_value v) → are_distinct (keys_of v.item) ≡ true
+      -- so the value of no argument repeats a key, at any depth
+      pub values : (node : Node S) → Occurs node → (a : ArgumentEntry S) → Contains (arguments_of node) a → has_unique_keys a.1.item ≡ true
       -- each spread names a fragment of the document, and each condition a type of the schema
       pub spreads : (s : Placed (FragmentSpread S)) → Occurs (fragment_spread s) → Defines doc s.item.name.item.now
       pub conditions : (node : Node S) → Occurs node → (name : Name) → condition_of node ≡ Some name → IsKnownType name.item.now
