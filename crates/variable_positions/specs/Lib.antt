@@ -1,0 +1,7 @@
+pub mod DefinedVariables
+pub mod FirstVariables
+pub mod PositionLaws
+pub mod Recording
+pub mod RecordingLaws
+pub mod TypedUses
+pub mod VariableInAllowedPosition
