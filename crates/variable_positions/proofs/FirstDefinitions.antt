@@ -1,5 +1,8 @@
 -- First definitions of variables, noted one after another.
-use Rattle.std.proofs.Common.{◌≡◌, ℕ, List, [], ◌∷◌, ◌++◌, Option, None, Some, option_copied, Bool, true, false, cond, ⊥, refl, ap, sym, ◌∙◌}
+use Rattle.std.proofs.Common.{◌≡◌, ℕ, ◌+◌, ◌<◌, List, [], ◌∷◌, ◌++◌, length, take, get_or, Option, None, Some, option_copied, Bool, true, false, cond, refl, ap, sym, ◌∙◌, subst}
+use Rattle.std.proofs.lemmas.Grind.{flat_map-append}
+use Rattle.std.proofs.lemmas.List.{append-nil, take_more}
+use Rattle.std.specs.List.{flat_map}
 use Rattle.std.proofs.lemmas.List.Folds.{find-append}
 use Rattle.std.proofs.lemmas.Slice.Eq.{bytes_eq-Decides}
 use Rattle.std.specs.Map.{update}
@@ -56,3 +59,13 @@ module _ {S : Type 0} where
   pub keeps_more : (xs ys : List (VariableEntry S)) (a b : FirstVariables S) → KeepsFirst xs a → Notes ys a b → KeepsFirst (xs ++ ys) b
   keeps_more xs ys a b k n v =
       n v ∙ ap (λ o. option_or o (first_of ys v)) (k v) ∙ sym (find-append (λ (d : VariableEntry S). bytes_eq d.0.item.now v) xs ys)
+
+  -- those at a place more
+  pub keeps_next : (f : ℕ → List (VariableEntry S)) (places : List ℕ) (i x d : ℕ) (a b : FirstVariables S) → x ≡ get_or places i d → i < length places
+      → KeepsFirst (flat_map f (take i places)) a → Notes (f x) a b → KeepsFirst (flat_map f (take (i + 1) places)) b
+  keeps_next f places i x d a b is l k n =
+      let next : flat_map f (take (i + 1) places) ≡ flat_map f (take i places) ++ f x =
+      ap (flat_map f) (take_more places i d l) ∙ flat_map-append f (take i places) (get_or places i d ∷ [])
+      ∙ ap (λ z. flat_map f (take i places) ++ z) (append-nil (f (get_or places i d)) ∙ ap f (sym is))
+      in
+      subst (λ zs. KeepsFirst zs b) (sym next) (keeps_more (flat_map f (take i places)) (f x) a b k n)

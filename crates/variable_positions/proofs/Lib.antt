@@ -2,5 +2,3 @@ pub mod FirstDefinitions
 pub mod Giving
 pub mod LastList
 pub mod Settled
-pub mod UsesRecorded
-pub mod Within

@@ -1,5 +1,5 @@
 -- Where nothing may be reported, nothing else may.
-use Rattle.std.proofs.Common.{◌≡◌, ℕ, List, [], ◌∷◌, Option, None, Some, inl, inr, ⊥, map, Contains}
+use Rattle.std.proofs.Common.{◌≡◌, ℕ, List, [], ◌∷◌, Option, None, Some, inl, inr, map, Contains}
 use Rattle.language.specs.declared.tree.Definition.{Definition}
 use Rattle.fragment_cycles.proofs.Lists.{get_some}
 use Rattle.meta.specs.declared.kinds.MetaTypeOf.{MetaTypeOf}

@@ -4,4 +4,6 @@ pub mod PositionLaws
 pub mod Recording
 pub mod RecordingLaws
 pub mod TypedUses
+pub mod UsesRecorded
 pub mod VariableInAllowedPosition
+pub mod Within

@@ -1,5 +1,5 @@
 -- Variables that are used where their type may not stand.
-use Rattle.std.specs.Prelude.{◌≡◌, ◌⊎◌, ℕ, List, [], ◌∷◌, ◌++◌, Option, None, Some, is_some, map, slice_get, codes, if◌then◌else◌, ¬◌}
+use Rattle.std.specs.Prelude.{◌≡◌, ◌⊎◌, ℕ, List, [], ◌∷◌, ◌++◌, Option, None, Some, is_some, map, slice_get, codes, if◌then◌else◌}
 use Rattle.std.specs.Option.{unwrap_or}
 use Rattle.language.specs.Types.{TypeShape, shape, non_null_of, printed}
 use Rattle.language.specs.declared.tree.Definition.{Definition}

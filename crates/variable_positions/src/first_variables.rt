@@ -75,6 +75,20 @@ impl<'a, S> FirstVariables<'a, S> {
         Ok(())
     }
 
+    // Notes those of the definition at a place.
+    fn note_place(
+        &mut self,
+        document: &'a [Definition<'a, S>],
+        place: usize,
+    ) -> Result<(), OutOfMemory>
+        ensures { OnOk result (Notes (variables_at document.now place) self.old self.new) }
+    {
+        match document.get(place) {
+            Some(definition) => self.note_definition(definition),
+            None => Ok(()),
+        }
+    }
+
     /// Of the definitions at these places of a document.
     pub fn at(
         alloc: Global,
@@ -85,9 +99,7 @@ impl<'a, S> FirstVariables<'a, S> {
     {
         let mut variables = FirstVariables::none(alloc);
         for place in places {
-            if let Some(definition) = document.get(*place) {
-                variables.note_definition(definition)?;
-            }
+            variables.note_place(document, *place)?;
         }
         Ok(variables)
     }

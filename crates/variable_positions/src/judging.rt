@@ -52,7 +52,7 @@ fn error_message(
     t: &Type,
     expected: BorrowedType<'_>,
 ) -> Result<String, AllocError>
-    ensures { IfOk result (λ message. string_bytes message ≡ position_message variable.now (printed (shape t.now)) (printed (borrowed_shape expected))) }
+    ensures { IfOk result (λ message. string_bytes message ≡ position_message variable.now (printed (shape t.now)) (printed (borrowed_shape expected.entry))) }
 {
     format!(in alloc;
         "Variable \"{variable}\" of type \"{t}\" used in position expecting type \"{expected}\""

@@ -5,6 +5,8 @@ ghost use Rattle.language.specs.Types.{borrowed_shape};
 ghost use Rattle.walk.specs.Entering.{EachGives};
 ghost use Rattle.walk.specs.Rule.{always, Appended};
 ghost use Rattle.walk.specs.Step.{KeepsPlace};
+ghost use Rattle.scopes.specs.Index.{IsIndexOf};
+ghost use Rattle.scopes.specs.Searches.{IsReady};
 ghost use Rattle.variable_positions.specs.FirstVariables.{kept_first};
 ghost use Rattle.variable_positions.specs.PositionLaws.{positions_keep};
 ghost use Rattle.variable_positions.specs.Recording.{recording_step};
@@ -19,6 +21,9 @@ use language::position::SourcePosition;
 use language::tree::Definition;
 use language::types::BorrowedType;
 use meta::check::CheckedScalar;
+use scopes::index::{ScopeIndex, index_scopes};
+use scopes::places::places_in;
+use scopes::reach::{Search, new_search, reached_definitions};
 pub use scopes::scope::Scope;
 use std::alloc::Global;
 use walk::{Event, Fresh, Machine, Rule, ValidatorContext, Visitor};
@@ -66,7 +71,15 @@ impl<'a, S: CheckedScalar> Visitor<'a, S> for VariableInAllowedPosition<'a> {
             Event::EnterFragmentDefinition(_) => begin_definition(self.alloc, &mut self.uses),
             Event::EnterVariableValue(ref value) => {
                 let expected = ctx.current_input_type_literal();
-                add_value(&mut self.uses, expected, value.item.as_str(), value.span.start)
+                add_value(
+                    &mut self.uses,
+                    expected,
+                    value.item.as_str(),
+                    value.span.start,
+                )
+            }
+            Event::ExitDocument(document) => {
+                report_document(self.alloc, ctx, document, self.uses.as_slice())
             }
             _ => Ok(()),
         }
@@ -80,7 +93,7 @@ fn add_value<'a>(
     variable: &'a str,
     place: SourcePosition,
 ) -> Result<(), OutOfMemory>
-    ensures { OnOk result (use_values uses.new.items ≡ with_use_if_expected (λ t. record { variable = variable.now; place = place; expected = t }) (option_map borrowed_shape expected) (use_values uses.old.items)) }
+    ensures { OnOk result (use_values uses.new.items ≡ with_use_if_expected (λ t. record { variable = variable.now; place = place; expected = t }) (option_map borrowed_shape expected.entry) (use_values uses.old.items)) }
 {
     match expected {
         Some(expected) => add_use(
@@ -161,3 +174,61 @@ fn report_places<'a, S: CheckedScalar>(
     Ok(())
 }
 
+// Reports the uses in what the operations of a name reach.
+fn report_operations<'a, S: CheckedScalar>(
+    alloc: Global,
+    ctx: &mut ValidatorContext<'a, S>,
+    document: &'a [Definition<'a, S>],
+    index: &ScopeIndex<'_>,
+    search: &mut Search,
+    name: Option<&str>,
+    uses: &[Vec<TypedUse<'_>>],
+) -> Result<(), OutOfMemory>
+    requires index { IsIndexOf document.now index.now }
+    requires ready { IsReady index.now search.old }
+    ensures ok { IfOk result (λ _. Appended (OperationsGive ctx.old.schema.types document.now (use_values uses.now) (option_map (λ n. n.now) name.entry)) ctx.old ctx.new) }
+    ensures ready { OnOk result (IsReady index.now search.new) }
+    ensures err { OnErr result (KeepsPlace ctx.old ctx.new) }
+{
+    let own = places_in(&index.places, Scope::Operation(name));
+    let variables = FirstVariables::at(alloc, document, own)?;
+    let places = reached_definitions(alloc, document, index, search, name)?;
+    report_places(alloc, ctx, &variables, uses, places.as_slice())
+}
+
+// Reports the uses in what the operations of each of these names reach.
+fn report_names<'a, S: CheckedScalar>(
+    alloc: Global,
+    ctx: &mut ValidatorContext<'a, S>,
+    document: &'a [Definition<'a, S>],
+    index: &ScopeIndex<'_>,
+    search: &mut Search,
+    names: &[Option<&str>],
+    uses: &[Vec<TypedUse<'_>>],
+) -> Result<(), OutOfMemory>
+    requires index { IsIndexOf document.now index.now }
+    requires ready { IsReady index.now search.old }
+    ensures ok { IfOk result (λ _. Appended (EachGives (OperationsGive ctx.old.schema.types document.now (use_values uses.now)) (map (option_map (λ n. n.now)) names.now)) ctx.old ctx.new) }
+    ensures err { OnErr result (KeepsPlace ctx.old ctx.new) }
+{
+    for name in names {
+        report_operations(alloc, ctx, document, index, search, *name, uses)?;
+    }
+    Ok(())
+}
+
+// Reports the uses in a document.
+fn report_document<'a, S: CheckedScalar>(
+    alloc: Global,
+    ctx: &mut ValidatorContext<'a, S>,
+    document: &'a [Definition<'a, S>],
+    uses: &[Vec<TypedUse<'_>>],
+) -> Result<(), OutOfMemory>
+    ensures ok { IfOk result (λ _. Appended (DocumentGives ctx.old.schema.types document.now (use_values uses.now)) ctx.old ctx.new) }
+    ensures err { OnErr result (KeepsPlace ctx.old ctx.new) }
+{
+    let index = index_scopes(alloc, document)?;
+    let mut search = new_search(alloc, &index)?;
+    let names = index.names.as_slice();
+    report_names(alloc, ctx, document, &index, &mut search, names, uses)
+}

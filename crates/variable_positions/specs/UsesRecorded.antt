@@ -16,7 +16,7 @@ use Rattle.walk.specs.ContextState.{DocumentScope}
 use Rattle.walk.specs.Entering.{kept_after}
 use Rattle.variable_positions.specs.RecordingLaws.{kept-append}
 use Rattle.variable_positions.specs.TypedUses.{UseValue, next_uses, recorded_at, typed_uses, use_at, uses_at, with_use}
-use Rattle.variable_positions.proofs.Within.{IsWithin, Within, is_top, within_beside, within_directives, within_occurrences, within_set, within_variables}
+use Rattle.variable_positions.specs.Within.{IsWithin, Within, is_top, within_beside, within_directives, within_occurrences, within_set, within_variables}
 
 with_use-last : (u : UseValue) (lists : List (List UseValue)) (us : List UseValue) → with_use u (lists ++ us ∷ []) ≡ lists ++ (us ++ u ∷ []) ∷ []
 with_use-last u [] us = refl
