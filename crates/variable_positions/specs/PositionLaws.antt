@@ -1,6 +1,6 @@
 -- What the rule reports.
 use Rattle.std.proofs.Common.{◌≡◌, [], subst}
-use Rattle.walk.specs.Rule.{AllowsFrom, always, Settled}
+use Rattle.walk.specs.Rule.{AllowsFrom, always}
 use Rattle.walk.specs.ContextState.{scope_of}
 use Rattle.variable_positions.specs.Recording.{recording_step}
 use Rattle.variable_positions.specs.RecordingLaws.{recording_keeps}

@@ -1,6 +1,6 @@
-use Rattle.std.proofs.Common.{◌≡◌, [], ◌∷◌, ap, append-nil, inl, inr, refl, subst, sym, ◌∙◌, false, true}
+use Rattle.std.proofs.Common.{◌≡◌, [], ◌∷◌, ap, append-nil, inl, inr, refl, subst, sym, ◌∙◌}
 use Rattle.std.proofs.lemmas.Result.{IfOk-weaker}
-use Rattle.language.specs.Types.{TypeShape, borrowed_shape, printed, shape}
+use Rattle.language.specs.Types.{borrowed_shape, printed}
 use Rattle.schema.specs.Subtype.{IsSubtype}
 use Rattle.walk.specs.ContextState.{with_errors}
 use Rattle.variable_positions.specs.TypedUses.{use_value}

@@ -1,4 +1,4 @@
-use Rattle.std.proofs.Common.{arith, length, ◌-◌}
+use Rattle.std.proofs.Common.{arith, ◌-◌}
 use Rattle.variable_positions.proofs.LastList.{set_last}
 use Rattle.variable_positions.proofs.typed_uses.add_use.Goals as goal
 

@@ -1,4 +1,4 @@
-use Rattle.std.proofs.Common.{◌≡◌, [], map, ap, None, refl, slice_get, subst, sym, length, ◌∙◌, option_map}
+use Rattle.std.proofs.Common.{◌≡◌, [], map, ap, None, slice_get, subst, sym, ◌∙◌, option_map}
 use Rattle.std.proofs.lemmas.Option.{slice_get-map, slice_get_past}
 use Rattle.std.specs.Option.{unwrap_or}
 use Rattle.walk.specs.Rule.{Appended}
