@@ -1,0 +1,4 @@
+pub mod FirstDefinitions
+pub mod Giving
+pub mod LastList
+pub mod Settled

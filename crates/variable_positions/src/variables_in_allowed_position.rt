@@ -1,0 +1,234 @@
+//! Each variable is used where its type may stand (GraphQL, section 5.8.5).
+
+ghost use Rattle.std.specs.Prelude.{◌≡◌, [], IfOk, OnErr, OnOk, map, option_map};
+ghost use Rattle.language.specs.Types.{borrowed_shape};
+ghost use Rattle.walk.specs.Entering.{EachGives};
+ghost use Rattle.walk.specs.Rule.{always, Appended};
+ghost use Rattle.walk.specs.Step.{KeepsPlace};
+ghost use Rattle.scopes.specs.Index.{IsIndexOf};
+ghost use Rattle.scopes.specs.Searches.{IsReady};
+ghost use Rattle.variable_positions.specs.FirstVariables.{kept_first};
+ghost use Rattle.variable_positions.specs.PositionLaws.{positions_keep};
+ghost use Rattle.variable_positions.specs.Recording.{recording_step};
+ghost use Rattle.variable_positions.specs.TypedUses.{next_uses, use_value, use_values, with_use_if_expected};
+ghost use Rattle.variable_positions.specs.VariableInAllowedPosition.{given_by_uses, misplaced_variables, recorded_uses, uses_in, DocumentGives, JudgedIfDefined, OperationsGive, UsesGive};
+
+use crate::first_variables::FirstVariables;
+use crate::judging::judge;
+use crate::typed_uses::{TypedUse, add_use, begin_definition};
+use language::error::OutOfMemory;
+use language::position::SourcePosition;
+use language::tree::Definition;
+use language::types::BorrowedType;
+use meta::check::CheckedScalar;
+use scopes::index::{ScopeIndex, index_scopes};
+use scopes::places::places_in;
+use scopes::reach::{Search, new_search, reached_definitions};
+pub use scopes::scope::Scope;
+use std::alloc::Global;
+use walk::{Event, Fresh, Machine, Rule, ValidatorContext, Visitor};
+
+/// Reports, where the document ends, each use of a variable whose type is not below the one that is expected: at the name of the
+/// variable's first definition and at the use. The uses are recorded on the way.
+#[derive(Drop)]
+pub struct VariableInAllowedPosition<'a> {
+    alloc: Global,
+    uses: Vec<Vec<TypedUse<'a>>>,
+}
+
+/// The rule, made ready for one document.
+pub fn factory<'a>(alloc: Global) -> VariableInAllowedPosition<'a>
+    ensures { ⟦<VariableInAllowedPosition<'a> as Fresh>⟧.fresh result }
+{
+    VariableInAllowedPosition {
+        alloc,
+        uses: Vec::new(alloc),
+    }
+}
+
+impl<'a> Fresh for VariableInAllowedPosition<'a> {
+    ghost fresh = { λ a. recorded_uses a ≡ [] };
+}
+
+impl<'a, S, C> Machine<S, C> for VariableInAllowedPosition<'a> {
+    ghost step = { recording_step recorded_uses next_uses given_by_uses };
+}
+
+impl<'a, S, C> Rule<S, C> for VariableInAllowedPosition<'a> {
+    ghost allows = { always misplaced_variables };
+
+    ghost keeps = { positions_keep };
+}
+
+impl<'a, S: CheckedScalar> Visitor<'a, S> for VariableInAllowedPosition<'a> {
+    fn on(
+        &mut self,
+        ctx: &mut ValidatorContext<'a, S>,
+        event: &Event<'a, S>,
+    ) -> Result<(), OutOfMemory> {
+        match *event {
+            Event::EnterOperationDefinition(_) => begin_definition(self.alloc, &mut self.uses),
+            Event::EnterFragmentDefinition(_) => begin_definition(self.alloc, &mut self.uses),
+            Event::EnterVariableValue(ref value) => {
+                let expected = ctx.current_input_type_literal();
+                add_value(
+                    &mut self.uses,
+                    expected,
+                    value.item.as_str(),
+                    value.span.start,
+                )
+            }
+            Event::ExitDocument(document) => {
+                report_document(self.alloc, ctx, document, self.uses.as_slice())
+            }
+            _ => Ok(()),
+        }
+    }
+}
+
+// Records the use of a variable where a type is expected.
+fn add_value<'a>(
+    uses: &mut Vec<Vec<TypedUse<'a>>>,
+    expected: Option<BorrowedType<'a>>,
+    variable: &'a str,
+    place: SourcePosition,
+) -> Result<(), OutOfMemory>
+    ensures { OnOk result (use_values uses.new.items ≡ with_use_if_expected (λ t. record { variable = variable.now; place = place; expected = t }) (option_map borrowed_shape expected.entry) (use_values uses.old.items)) }
+{
+    match expected {
+        Some(expected) => add_use(
+            uses,
+            TypedUse {
+                variable,
+                place,
+                expected,
+            },
+        ),
+        None => Ok(()),
+    }
+}
+
+// Reports a use, if its variable is defined.
+fn report_use<'a, S: CheckedScalar>(
+    alloc: Global,
+    ctx: &mut ValidatorContext<'a, S>,
+    variables: &FirstVariables<'_, S>,
+    found: &TypedUse<'_>,
+) -> Result<(), OutOfMemory>
+    ensures ok { IfOk result (λ _. Appended (JudgedIfDefined ctx.old.schema.types (kept_first variables.now found.now.variable.now) (use_value found.now)) ctx.old ctx.new) }
+    ensures err { OnErr result (KeepsPlace ctx.old ctx.new) }
+{
+    match variables.get(found.variable) {
+        Some(entry) => judge(alloc, ctx, entry, found),
+        None => Ok(()),
+    }
+}
+
+// Reports the uses in a definition.
+fn report_uses<'a, S: CheckedScalar>(
+    alloc: Global,
+    ctx: &mut ValidatorContext<'a, S>,
+    variables: &FirstVariables<'_, S>,
+    uses: &[TypedUse<'_>],
+) -> Result<(), OutOfMemory>
+    ensures ok { IfOk result (λ _. Appended (UsesGive ctx.old.schema.types (kept_first variables.now) (map use_value uses.now)) ctx.old ctx.new) }
+    ensures err { OnErr result (KeepsPlace ctx.old ctx.new) }
+{
+    for found in uses {
+        report_use(alloc, ctx, variables, found)?;
+    }
+    Ok(())
+}
+
+// Reports the uses in the definition at a place.
+fn report_place<'a, S: CheckedScalar>(
+    alloc: Global,
+    ctx: &mut ValidatorContext<'a, S>,
+    variables: &FirstVariables<'_, S>,
+    uses: &[Vec<TypedUse<'_>>],
+    place: usize,
+) -> Result<(), OutOfMemory>
+    ensures ok { IfOk result (λ _. Appended (UsesGive ctx.old.schema.types (kept_first variables.now) (uses_in (use_values uses.now) place)) ctx.old ctx.new) }
+    ensures err { OnErr result (KeepsPlace ctx.old ctx.new) }
+{
+    match uses.get(place) {
+        Some(found) => report_uses(alloc, ctx, variables, found.as_slice()),
+        None => Ok(()),
+    }
+}
+
+// Reports the uses in the definitions at these places.
+fn report_places<'a, S: CheckedScalar>(
+    alloc: Global,
+    ctx: &mut ValidatorContext<'a, S>,
+    variables: &FirstVariables<'_, S>,
+    uses: &[Vec<TypedUse<'_>>],
+    places: &[usize],
+) -> Result<(), OutOfMemory>
+    ensures ok { IfOk result (λ _. Appended (EachGives (λ place fs. UsesGive ctx.old.schema.types (kept_first variables.now) (uses_in (use_values uses.now) place) fs) places.now) ctx.old ctx.new) }
+    ensures err { OnErr result (KeepsPlace ctx.old ctx.new) }
+{
+    for place in places {
+        report_place(alloc, ctx, variables, uses, *place)?;
+    }
+    Ok(())
+}
+
+// Reports the uses in what the operations of a name reach.
+fn report_operations<'a, S: CheckedScalar>(
+    alloc: Global,
+    ctx: &mut ValidatorContext<'a, S>,
+    document: &'a [Definition<'a, S>],
+    index: &ScopeIndex<'_>,
+    search: &mut Search,
+    name: Option<&str>,
+    uses: &[Vec<TypedUse<'_>>],
+) -> Result<(), OutOfMemory>
+    requires index { IsIndexOf document.now index.now }
+    requires ready { IsReady index.now search.old }
+    ensures ok { IfOk result (λ _. Appended (OperationsGive ctx.old.schema.types document.now (use_values uses.now) (option_map (λ n. n.now) name.entry)) ctx.old ctx.new) }
+    ensures ready { OnOk result (IsReady index.now search.new) }
+    ensures err { OnErr result (KeepsPlace ctx.old ctx.new) }
+{
+    let own = places_in(&index.places, Scope::Operation(name));
+    let variables = FirstVariables::at(alloc, document, own)?;
+    let places = reached_definitions(alloc, document, index, search, name)?;
+    report_places(alloc, ctx, &variables, uses, places.as_slice())
+}
+
+// Reports the uses in what the operations of each of these names reach.
+fn report_names<'a, S: CheckedScalar>(
+    alloc: Global,
+    ctx: &mut ValidatorContext<'a, S>,
+    document: &'a [Definition<'a, S>],
+    index: &ScopeIndex<'_>,
+    search: &mut Search,
+    names: &[Option<&str>],
+    uses: &[Vec<TypedUse<'_>>],
+) -> Result<(), OutOfMemory>
+    requires index { IsIndexOf document.now index.now }
+    requires ready { IsReady index.now search.old }
+    ensures ok { IfOk result (λ _. Appended (EachGives (OperationsGive ctx.old.schema.types document.now (use_values uses.now)) (map (option_map (λ n. n.now)) names.now)) ctx.old ctx.new) }
+    ensures err { OnErr result (KeepsPlace ctx.old ctx.new) }
+{
+    for name in names {
+        report_operations(alloc, ctx, document, index, search, *name, uses)?;
+    }
+    Ok(())
+}
+
+// Reports the uses in a document.
+fn report_document<'a, S: CheckedScalar>(
+    alloc: Global,
+    ctx: &mut ValidatorContext<'a, S>,
+    document: &'a [Definition<'a, S>],
+    uses: &[Vec<TypedUse<'_>>],
+) -> Result<(), OutOfMemory>
+    ensures ok { IfOk result (λ _. Appended (DocumentGives ctx.old.schema.types document.now (use_values uses.now)) ctx.old ctx.new) }
+    ensures err { OnErr result (KeepsPlace ctx.old ctx.new) }
+{
+    let index = index_scopes(alloc, document)?;
+    let mut search = new_search(alloc, &index)?;
+    let names = index.names.as_slice();
+    report_names(alloc, ctx, document, &index, &mut search, names, uses)
+}
