@@ -1,5 +1,5 @@
 -- Definitions by scope, and those that an operation reaches.
-use Rattle.std.specs.Prelude.{ℕ, ◌<◌, ◌≤◌, ◌≡◌, ◌↔◌, List, Option, Some, option_map, slice_get, Bool, false}
+use Rattle.std.specs.Prelude.{ℕ, ◌<◌, ◌≤◌, ◌≡◌, ◌↔◌, List, length, Option, Some, option_map, slice_get, Bool, false}
 use Rattle.std.specs.List.{Contains}
 use Rattle.std.specs.Str.{bytes_eq}
 use Rattle.language.specs.declared.position.Span.{Span}
@@ -21,6 +21,10 @@ same_scope (operation a) (fragment b) = false
 same_scope (fragment a) (operation b) = false
 same_scope (fragment a) (fragment b) = bytes_eq a b
 
+-- No member stands twice.
+abbrev pub IsOnce : {X : Type 0} → List X → Type 0
+IsOnce {X} xs = (i j : ℕ) (x : X) → slice_get xs i ≡ Some x → slice_get xs j ≡ Some x → i ≡ j
+
 module _ {S : Type 0} where
   abbrev pub operation_name : Spanning (Operation S) Span → Option (List ℕ)
   operation_name o = option_map (λ n. n.item.now) o.item.name
@@ -32,7 +36,7 @@ module _ {S : Type 0} where
 
   -- The places of the definitions whose scopes the operations of the name reach, each once.
   pub record InReach (document : List (Definition S)) (name : Option (List ℕ)) (places : List ℕ) : Type 0 where
-    pub once : (i j k : ℕ) → slice_get places i ≡ Some k → slice_get places j ≡ Some k → i ≡ j
+    pub once : IsOnce places
     pub within : (k : ℕ) → Contains places k → k < length document
     pub reached : (k : ℕ) (d : Definition S) → slice_get document k ≡ Some d → Contains places k ↔ Reach document name (scope_of d)
 
@@ -42,7 +46,7 @@ module _ {S : Type 0} where
 
   -- The names of the document's operations, each once.
   pub record OperationNames (document : List (Definition S)) (names : List (Option (List ℕ))) : Type 0 where
-    pub once : (i j : ℕ) (name : Option (List ℕ)) → slice_get names i ≡ Some name → slice_get names j ≡ Some name → i ≡ j
+    pub once : IsOnce names
     pub are : (name : Option (List ℕ)) → Contains names name ↔ IsOperationName document name
 
   -- The last operation of the name.

@@ -1,5 +1,5 @@
 //! A document's scopes, each with what it spreads and where it is defined.
-ghost use Rattle.std.specs.Prelude.{◌≡◌, ◌++◌, ⊥, IfOk, IfSome, IfNone, OnOk, map, option_map};
+ghost use Rattle.std.specs.Prelude.{◌≡◌, ◌++◌, IfOk, IfSome, IfNone, OnOk, map, option_map};
 ghost use Rattle.scopes.specs.Scopes.{IsLastOf, IsOperationName, scope_name};
 ghost use Rattle.scopes.specs.Places.{places_at};
 ghost use Rattle.scopes.specs.Index.{AddsDefinition, HasPlaces, IsIndexOf, new_name};
@@ -26,7 +26,7 @@ fn add_name<'a>(
     places: &ScopePlaces<'_>,
     names: &mut Vec<Option<&'a str>>,
 ) -> Result<(), AllocError>
-    ensures { OnOk result (map (option_map (λ n. n.now)) names.new.items ≡ map (option_map (λ n. n.now)) names.old.items ++ new_name (scope_name scope) (places_at places.now (scope_name scope))) }
+    ensures { OnOk result (map (option_map (λ n. n.now)) names.new.items ≡ map (option_map (λ n. n.now)) names.old.items ++ new_name (scope_name scope.entry) (places_at places.now (scope_name scope.entry))) }
 {
     match scope {
         Scope::Operation(name) => {
@@ -78,8 +78,8 @@ pub fn last_operation<'d, 't, S>(
     name: Option<&str>,
 ) -> Option<&'d Spanning<Operation<'t, S>>>
     requires { HasPlaces document.now places.now }
-    ensures some { IfSome result (λ o. IsLastOf document.now (option_map (λ n. n.now) name) o.now) }
-    ensures none { IfNone result (IsOperationName document.now (option_map (λ n. n.now) name) → ⊥) }
+    ensures some { IfSome result (λ o. IsLastOf document.now (option_map (λ n. n.now) name.entry) o.now) }
+    ensures none { IfNone result (IsOperationName document.now (option_map (λ n. n.now) name.entry) → ⊥) }
 {
     match places_in(places, Scope::Operation(name)).last() {
         Some(place) => match document.get(*place) {

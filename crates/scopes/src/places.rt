@@ -41,7 +41,7 @@ fn places_named<'m>(places: &'m BTreeMap<&str, Vec<usize>>, name: &str) -> &'m [
 
 /// The places of the definitions of a scope, ascending.
 pub fn places_in<'m>(places: &'m ScopePlaces<'_>, scope: Scope<'_>) -> &'m [usize]
-    ensures { result.now ≡ places_at places.now (scope_name scope) }
+    ensures { result.now ≡ places_at places.now (scope_name scope.entry) }
 {
     match scope {
         Scope::Operation(None) => places.unnamed.as_slice(),
@@ -85,7 +85,7 @@ pub fn add_place<'a>(
     scope: Scope<'a>,
     place: usize,
 ) -> Result<(), AllocError>
-    ensures { OnOk result ((s : ScopeName) → places_at places.new s ≡ places_at places.old s ++ (if same_scope (scope_name scope) s then place ∷ [] else [])) }
+    ensures { OnOk result ((s : ScopeName) → places_at places.new s ≡ places_at places.old s ++ (if same_scope (scope_name scope.entry) s then place ∷ [] else [])) }
 {
     match scope {
         Scope::Operation(None) => {

@@ -76,7 +76,7 @@ pub fn reached_definitions<S>(
 ) -> Result<Vec<usize>, AllocError>
     requires index { IsIndexOf document.now index.now }
     requires ready { IsReady index.now search.old }
-    ensures reached { IfOk result (λ places. InReach document.now (option_map (λ n. n.now) name) places.items) }
+    ensures reached { IfOk result (λ places. InReach document.now (option_map (λ n. n.now) name.entry) places.items) }
     ensures ready { OnOk result (IsReady index.now search.new) }
 {
     let own = places_in(&index.places, Scope::Operation(name));
