@@ -24,7 +24,7 @@ of_test : {X : Type 0} (b : Bool) (xs : List X) (j : ℕ) (x : X) → slice_get 
 of_test true xs j x h = h
 of_test false xs j x h = absurd (none_some x h)
 
-contains_flat : {X Y : Type 0} (f : X → List Y) (xs : List X) (i : ℕ) (d : X) (j : ℕ) (y : Y) → slice_get xs i ≡ Some d → slice_get (f d) j ≡ Some y → Contains (flat_map f xs) y
+pub contains_flat : {X Y : Type 0} (f : X → List Y) (xs : List X) (i : ℕ) (d : X) (j : ℕ) (y : Y) → slice_get xs i ≡ Some d → slice_get (f d) j ≡ Some y → Contains (flat_map f xs) y
 contains_flat f [] i d j y h g = absurd (none_some d h)
 contains_flat f (x ∷ xs) zero d j y h g =
     Contains-append_left (f x) (flat_map f xs) y (contains_at (f x) j y (ap (λ z. slice_get (f z) j) (same_some x d h) ∙ g))

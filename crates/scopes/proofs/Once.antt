@@ -43,16 +43,16 @@ once_append xs ys a b apart i j x h k = elim (get_append xs ys i x h) [
 once_rest : {X : Type 0} (x : X) (xs : List X) → IsOnce (x ∷ xs) → IsOnce xs
 once_rest x xs once i j y h k = let e = once (suc i) (suc j) y h k in omega (arith, e)
 
+later : {X : Type 0} (x : X) (xs : List X) (a : X) → Contains xs a → Contains (x ∷ xs) a
+later x xs a c = let g = contains_get xs a c in contains_at (x ∷ xs) (suc g.0) a g.1
+
 -- what lists of different members hold, where two share nothing
 pub once_flat : {X Y : Type 0} (f : X → List Y) (xs : List X) → IsOnce xs → ((x : X) → IsOnce (f x))
     → ((a b : X) (y : Y) → Contains xs a → Contains xs b → Contains (f a) y → Contains (f b) y → a ≡ b) → IsOnce (flat_map f xs)
 once_flat f [] once each apart = once_none
 once_flat f (x ∷ xs) once each apart =
-    once_append (f x) (flat_map f xs) (each x) (once_flat f xs (once_rest x xs once) each (λ a b y c d. apart a b y (later a c) (later b d))) (λ y c d.
+    once_append (f x) (flat_map f xs) (each x) (once_flat f xs (once_rest x xs once) each (λ a b y c d. apart a b y (later x xs a c) (later x xs b d))) (λ y c d.
         let at = contains_get (flat_map f xs) y d in
         let (z, (m, there), (n, here)) = flat_get f xs at.0 y at.1 in
         let same : x ≡ z = apart x z y (contains_at (x ∷ xs) 0 x refl) (contains_at (x ∷ xs) (suc m) z there) c (contains_at (f z) n y here) in
         let e = once 0 (suc m) z (ap Some same) there in omega (arith, e))
-where
-  later : (a : _) → Contains xs a → Contains (x ∷ xs) a
-  later a c = let g = contains_get xs a c in contains_at (x ∷ xs) (suc g.0) a g.1

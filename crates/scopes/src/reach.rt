@@ -33,7 +33,22 @@ pub fn new_search(alloc: Global, index: &ScopeIndex<'_>) -> Result<Search, Alloc
     })
 }
 
-// The spreads inside operations at these places.
+// Adds the spreads inside the operation at a place.
+fn add_spreads_at<S>(
+    document: &[Definition<'_, S>],
+    numbers: &Numbers<'_>,
+    place: usize,
+    found: &mut Vec<Spread>,
+) -> Result<(), AllocError>
+    ensures { OnOk result (found.new.items ≡ found.old.items ++ map (resolved numbers.now) (spreads_at document.now place)) }
+{
+    match document.get(place) {
+        Some(definition) => add_operation(numbers, definition, found),
+        None => Ok(()),
+    }
+}
+
+// The spreads inside the operations at these places.
 fn spreads_inside<S>(
     alloc: Global,
     document: &[Definition<'_, S>],
@@ -44,14 +59,24 @@ fn spreads_inside<S>(
 {
     let mut found = Vec::new(alloc);
     for place in places {
-        if let Some(definition) = document.get(*place) {
-            add_operation(numbers, definition, &mut found)?;
-        }
+        add_spreads_at(document, numbers, *place, &mut found)?;
     }
     Ok(found)
 }
 
-// Adds the places of the fragments of these numbers.
+// Adds the places of the fragment of a number.
+fn add_fragment(
+    index: &ScopeIndex<'_>,
+    number: usize,
+    places: &mut Vec<usize>,
+) -> Result<(), AllocError>
+    ensures { OnOk result (places.new.items ≡ places.old.items ++ fragment_places index.now number) }
+{
+    let fragment = Scope::Fragment(name(&index.graph.numbers, number));
+    places.extend_from_slice(places_in(&index.places, fragment))
+}
+
+// Adds those of these numbers.
 fn add_fragments(
     index: &ScopeIndex<'_>,
     order: &[usize],
@@ -60,8 +85,7 @@ fn add_fragments(
     ensures { OnOk result (places.new.items ≡ places.old.items ++ flat_map (fragment_places index.now) order.now) }
 {
     for number in order {
-        let fragment = Scope::Fragment(name(&index.graph.numbers, *number));
-        places.extend_from_slice(places_in(&index.places, fragment))?;
+        add_fragment(index, *number, places)?;
     }
     Ok(())
 }
