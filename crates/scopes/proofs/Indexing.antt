@@ -1,13 +1,15 @@
 -- How the scopes of a document are listed, and which operation of a name is the last.
 use Rattle.std.proofs.Common.{◌≡◌, ℕ, ◌+◌, ◌-◌, ◌<◌, ◌≤◌, take, List, [], ◌∷◌, ◌++◌, length, refl, sym, subst, ap, arith, inl, inr, ◌⊎◌, Bool, true, false, cond, Option, Some, None, slice_get, ◌∙◌, append-nil}
 use Rattle.std.specs.List.{Contains}
+use Rattle.std.proofs.lemmas.List.{length-take-le}
 use Rattle.std.proofs.lemmas.List.Elements.{Contains-append_left, Contains-push, Contains-push_cases}
 use Rattle.language.specs.declared.position.Span.{Span}
 use Rattle.language.specs.declared.position.Spanning.{Spanning}
 use Rattle.language.specs.declared.tree.Definition.{Definition}
 use Rattle.language.specs.declared.tree.Definition.TheVariants as definition
 use Rattle.language.specs.declared.tree.Operation.{Operation}
-use Rattle.fragment_cycles.proofs.Lists.{none_some, same_item, contains_at, contains_get}
+use Rattle.std.proofs.lemmas.Option.{slice_get_within}
+use Rattle.fragment_cycles.proofs.Lists.{none_some, same_item, get_some, contains_at, contains_get}
 use Rattle.reachability.specs.Reach.{ScopeName, operation, fragment, same_name}
 use Rattle.scopes.specs.declared.places.ScopePlaces.{ScopePlaces}
 use Rattle.scopes.specs.Index.{HasPlaces, new_name}
@@ -90,17 +92,41 @@ module _ {S : Type 0} where
       subst (λ z. IsOperationName xs z) (name_same (operation_name o) name is)
       (named_by_place xs (operation_name o) 0 p (ap (λ zs. slice_get zs 0) (sym e)))))
 
-  pub names_more : (xs : List (Definition S)) (d : Definition S) (names : List (Option (List ℕ))) (p : ScopePlaces) → HasPlaces xs p → OperationNames xs names
+  names_next : (xs : List (Definition S)) (d : Definition S) (names : List (Option (List ℕ))) (p : ScopePlaces) → HasPlaces xs p → OperationNames xs names
       → OperationNames (xs ++ d ∷ []) (names ++ new_name (scope_of d) (places_at p (scope_of d)))
-  names_more xs (definition.Operation o) names p places h = with_operation xs o names h (places_at p (operation (operation_name o))) (places (operation (operation_name o)))
-  names_more xs (definition.Fragment f) names p places h =
+  names_next xs (definition.Operation o) names p places h = with_operation xs o names h (places_at p (operation (operation_name o))) (places (operation (operation_name o)))
+  names_next xs (definition.Fragment f) names p places h =
       subst (λ z. OperationNames (xs ++ definition.Fragment f ∷ []) z) (sym (append-nil names)) (names_same xs (definition.Fragment f) names h (λ name is. cc))
 
-  pub names_none : OperationNames {S} [] []
+  pub names_more : (xs : List (Definition S)) (d : Definition S) (names new : List (Option (List ℕ))) (p : ScopePlaces) → HasPlaces xs p → OperationNames xs names
+      → new ≡ names ++ new_name (scope_of d) (places_at p (scope_of d)) → OperationNames (xs ++ d ∷ []) new
+  names_more xs d names new p places h e = subst (OperationNames (xs ++ d ∷ [])) (sym e) (names_next xs d names p places h)
+
+  pub names_none : OperationNames {S = S} [] []
   names_none = record {
     once = once_none;
     are = λ name. (λ c. absurd (omega (arith, c.1)), λ n. let l = n.1.1 in absurd (omega (arith, l)));
   }
+
+  -- the last place of a name has an operation of the name
+  pub last_place : (document : List (Definition S)) (p : ScopePlaces) (name : Option (List ℕ)) (k : ℕ) → HasPlaces document p
+      → slice_get (places_at p (operation name)) (length (places_at p (operation name)) - 1) ≡ Some k → (o : Spanning (Operation S) Span) × (slice_get document k ≡ Some (definition.Operation o))
+  last_place document p name k h at =
+      let end = subst (λ zs. slice_get zs (length zs - 1) ≡ Some k) (h (operation name)) at in
+      let (j, d, e, there, t) = places_get (is_in (operation name)) 0 document (length (places_of document (operation name)) - 1) k end in
+      let (o, is, named) = named_operation d name t in
+      let e' : j ≡ k = omega (arith, e) in
+      (o, ap (slice_get document) (sym e') ∙ there ∙ ap Some is)
+
+  -- and without one there is no such operation
+  pub no_place : (document : List (Definition S)) (p : ScopePlaces) (name : Option (List ℕ)) → HasPlaces document p
+      → slice_get (places_at p (operation name)) (length (places_at p (operation name)) - 1) ≡ None → IsOperationName document name → ⊥
+  no_place document p name h at n =
+      let (k, c) = with_place document name n in
+      let m = contains_get (places_of document (operation name)) k c in
+      let inside = slice_get_within (places_of document (operation name)) m.0 k m.1 in
+      let (x, found) = get_some (places_of document (operation name)) (length (places_of document (operation name)) - 1) (omega (arith, inside)) in
+      none_some x (sym (subst (λ zs. slice_get zs (length zs - 1) ≡ None) (h (operation name)) at) ∙ found)
 
   pub last_of : (document : List (Definition S)) (p : ScopePlaces) (name : Option (List ℕ)) (k : ℕ) (o : Spanning (Operation S) Span) → HasPlaces document p
       → slice_get (places_at p (operation name)) (length (places_at p (operation name)) - 1) ≡ Some k → slice_get document k ≡ Some (definition.Operation o) → IsLastOf document name o
@@ -121,4 +147,4 @@ module _ {S : Type 0} where
       }
 
 pub length_taken : {X : Type 0} (xs : List X) (i : ℕ) → i < length xs → length (take i xs) ≡ i
-length_taken xs i l = ?
+length_taken xs i l = length-take-le i xs (omega (arith, l))

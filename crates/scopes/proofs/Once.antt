@@ -11,7 +11,7 @@ get_append [] ys i y h = inr (i, omega arith, h)
 get_append (x ∷ xs) ys zero y h = inl h
 get_append (x ∷ xs) ys (suc i) y h = elim (get_append xs ys i y h) [ inl a ↦ inl a | inr b ↦ let e = b.1 in inr (b.0, omega (arith, e), b.2) ]
 
-pub once_none : {X : Type 0} → IsOnce {X} []
+pub once_none : {X : Type 0} → IsOnce {X = X} []
 once_none i j x h k = absurd (none_some x h)
 
 -- one more

@@ -23,14 +23,13 @@ pub scope_self : (s : ScopeName) → same_scope s s ≡ true
 scope_self (operation o) = name_self o
 scope_self (fragment f) = (bytes_eq-Decides f f).1 refl
 
+pub scope_same : (s t : ScopeName) → same_scope s t ≡ true → s ≡ t
+scope_same (operation a) (operation b) h = ap operation (name_same a b h)
+scope_same (operation a) (fragment b) h = cc
+scope_same (fragment a) (operation b) h = cc
+scope_same (fragment a) (fragment b) h = ap fragment ((bytes_eq-Decides a b).0 h)
+
 module _ {S : Type 0} where
   -- an operation's scope is that of its name
   pub is_operation : (o : Spanning (Operation S) Span) (name : Option (List ℕ)) → operation_name o ≡ name → same_scope (scope_of (definition.Operation o)) (operation name) ≡ true
   is_operation o name e = subst (λ z. same_name (operation_name o) z ≡ true) e (name_self (operation_name o))
-
-  -- the scope of one test, and of another
-  pub scope_same : (s t : ScopeName) → same_scope s t ≡ true → s ≡ t
-  scope_same (operation a) (operation b) h = ap operation (name_same a b h)
-  scope_same (operation a) (fragment b) h = cc
-  scope_same (fragment a) (operation b) h = cc
-  scope_same (fragment a) (fragment b) h = ap fragment ((bytes_eq-Decides a b).0 h)

@@ -1,6 +1,10 @@
 -- A document's scopes, as they are kept.
-use Rattle.std.specs.Prelude.{ℕ, ◌≡◌, List, [], ◌∷◌, ◌++◌, Option, map, option_map, if◌then◌else◌}
+use Rattle.std.specs.Prelude.{ℕ, ◌≡◌, List, [], ◌∷◌, ◌++◌, Option, Some, map, option_map, slice_get, if◌then◌else◌}
+use Rattle.language.specs.declared.position.Span.{Span}
+use Rattle.language.specs.declared.position.Spanning.{Spanning}
 use Rattle.language.specs.declared.tree.Definition.{Definition}
+use Rattle.language.specs.declared.tree.Definition.TheVariants as definition
+use Rattle.language.specs.declared.tree.Operation.{Operation}
 use Rattle.fragment_cycles.specs.DocumentGraph.{IsGraphOf}
 use Rattle.reachability.specs.Reach.{ScopeName, operation, fragment}
 use Rattle.scopes.specs.declared.index.ScopeIndex.{ScopeIndex}
@@ -30,3 +34,6 @@ pub record AddsDefinition {S : Type 0} (d : Definition S) (place : ℕ) (old new
   pub names : operation_names new ≡ operation_names old ++ new_name (scope_of d) (places_at old.places (scope_of d))
   pub places : (s : ScopeName) → places_at new.places s ≡ places_at old.places s ++ (if same_scope (scope_of d) s then place ∷ [] else [])
   pub graph : new.graph ≡ old.graph
+
+abbrev pub NoOperationAt : {S : Type 0} → List (Definition S) → ℕ → Type 0
+NoOperationAt {S} document place = (o : Spanning (Operation S) Span) → slice_get document place ≡ Some (definition.Operation o) → ⊥

@@ -1,8 +1,8 @@
 //! A document's scopes, each with what it spreads and where it is defined.
-ghost use Rattle.std.specs.Prelude.{◌≡◌, ◌++◌, IfOk, IfSome, IfNone, OnOk, map, option_map};
+ghost use Rattle.std.specs.Prelude.{◌≡◌, ◌-◌, ◌++◌, Some, IfOk, IfSome, IfNone, OnOk, length, map, option_map, slice_get};
 ghost use Rattle.scopes.specs.Scopes.{IsLastOf, IsOperationName, scope_name};
 ghost use Rattle.scopes.specs.Places.{places_at};
-ghost use Rattle.scopes.specs.Index.{AddsDefinition, HasPlaces, IsIndexOf, new_name};
+ghost use Rattle.scopes.specs.Index.{AddsDefinition, HasPlaces, IsIndexOf, NoOperationAt, new_name};
 
 use crate::places::{ScopePlaces, add_place, no_places, places_in, scope_of_definition};
 use crate::scope::Scope;
@@ -71,6 +71,27 @@ pub fn index_scopes<'a, S>(
     Ok(index)
 }
 
+// The last of some places.
+fn last_place(places: &[usize]) -> Option<usize>
+    ensures { result ≡ slice_get places.now (length places.now - 1) }
+{
+    places.last().copied()
+}
+
+// The operation at a place.
+fn operation_at<'d, 't, S>(
+    document: &'d [Definition<'t, S>],
+    place: usize,
+) -> Option<&'d Spanning<Operation<'t, S>>>
+    ensures some { IfSome result (λ o. slice_get document.now place ≡ Some (Definition.Operation o.now)) }
+    ensures none { IfNone result (NoOperationAt document.now place) }
+{
+    match document.get(place) {
+        Some(Definition::Operation(operation)) => Some(operation),
+        _ => None,
+    }
+}
+
 /// The last operation of a name.
 pub fn last_operation<'d, 't, S>(
     document: &'d [Definition<'t, S>],
@@ -81,11 +102,8 @@ pub fn last_operation<'d, 't, S>(
     ensures some { IfSome result (λ o. IsLastOf document.now (option_map (λ n. n.now) name.entry) o.now) }
     ensures none { IfNone result (IsOperationName document.now (option_map (λ n. n.now) name.entry) → ⊥) }
 {
-    match places_in(places, Scope::Operation(name)).last() {
-        Some(place) => match document.get(*place) {
-            Some(Definition::Operation(operation)) => Some(operation),
-            _ => None,
-        },
+    match last_place(places_in(places, Scope::Operation(name))) {
+        Some(place) => operation_at(document, place),
         None => None,
     }
 }

@@ -1,13 +1,17 @@
 //! The variables that a definition uses, in arguments of fields and of directives.
-ghost use Rattle.std.specs.Prelude.{◌≡◌, ◌++◌, IfOk, OnOk, map};
+ghost use Rattle.std.specs.Prelude.{◌≡◌, ◌++◌, IfOk, OnOk, map, option_map};
 ghost use Rattle.std.specs.List.{flat_map};
-ghost use Rattle.language.specs.Values.{variables_of};
-ghost use Rattle.variable_uses.specs.Uses.{argument_uses, arguments_uses, at_place, definition_uses, directive_uses, directives_uses, selection_uses, use_of, used_in_all, variable_definition_uses, variable_definitions_uses};
+ghost use Rattle.scopes.specs.Index.{IsIndexOf};
+ghost use Rattle.scopes.specs.Searches.{IsReady};
+ghost use Rattle.variable_uses.specs.InReachUses.{AllUses, UsedIn, kept_uses};
+ghost use Rattle.variable_uses.specs.Uses.{argument_uses, arguments_uses, at_place, definition_uses, directives_uses, selection_uses, use_of, used_in_all, variable_definitions_uses};
 
 use language::error::OutOfMemory;
 use language::position::{SourcePosition, Spanning};
-use language::tree::{Arguments, Definition, Directive, Selection, VariableDefinition, VariableDefinitions};
+use language::tree::{Arguments, Definition, Directive, Document, Selection, VariableDefinitions};
 use language::value::InputValue;
+use scopes::index::ScopeIndex;
+use scopes::reach::{Search, reached_definitions};
 use std::alloc::Global;
 
 /// A variable inside an argument's value, and where that value starts.
@@ -159,4 +163,62 @@ pub fn variable_uses<'d, S>(
         }
     }
     Ok(found)
+}
+
+/// The uses of each definition of a document.
+pub fn all_uses<'a, S>(
+    alloc: Global,
+    document: Document<'a, S>,
+) -> Result<Vec<Vec<VariableUse<'a>>>, OutOfMemory>
+    ensures { IfOk result (λ all. AllUses document.now all.items) }
+{
+    let mut all = Vec::new(alloc);
+    for definition in document {
+        all.push(variable_uses(alloc, definition)?)?;
+    }
+    Ok(all)
+}
+
+// Those that are kept at a place.
+fn uses_inside<'m, 'a>(all: &'m [Vec<VariableUse<'a>>], place: usize) -> &'m [VariableUse<'a>]
+    ensures { map use_of result.now ≡ kept_uses all.now place }
+{
+    match all.get(place) {
+        Some(uses) => uses.as_slice(),
+        None => &[],
+    }
+}
+
+// Those at these places.
+fn uses_at<'a>(
+    alloc: Global,
+    all: &[Vec<VariableUse<'a>>],
+    places: &[usize],
+) -> Result<Vec<VariableUse<'a>>, OutOfMemory>
+    ensures { IfOk result (λ v. map use_of v.items ≡ flat_map (kept_uses all.now) places.now) }
+{
+    let mut found = Vec::new(alloc);
+    for place in places {
+        found.extend_from_slice(uses_inside(all, *place))?;
+    }
+    Ok(found)
+}
+
+/// The uses that the operations of a name reach.
+pub fn reached_uses<'a, S>(
+    alloc: Global,
+    document: Document<'a, S>,
+    index: &ScopeIndex<'a>,
+    search: &mut Search,
+    all: &[Vec<VariableUse<'a>>],
+    name: Option<&'a str>,
+) -> Result<Vec<VariableUse<'a>>, OutOfMemory>
+    requires index { IsIndexOf document.now index.now }
+    requires ready { IsReady index.now search.old }
+    requires all { AllUses document.now all.now }
+    ensures used { IfOk result (λ v. UsedIn document.now (option_map (λ n. n.now) name.entry) (map use_of v.items)) }
+    ensures ready { OnOk result (IsReady index.now search.new) }
+{
+    let places = reached_definitions(alloc, document, index, search, name)?;
+    uses_at(alloc, all, places.as_slice())
 }

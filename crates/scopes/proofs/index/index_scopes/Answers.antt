@@ -16,7 +16,7 @@ loop-place-preserved g c =
     let new = c.add_definition.new.index in
     let next = sym (next_take doc i d c.index-document-place.is c.loop-place-test.true) in (
       subst (λ zs. OperationNames zs (operation_names new)) next
-          (subst (λ zs. OperationNames _ zs) (sym adds.names) (names_more (take i doc) d (operation_names c.loop-place.index) c.loop-place.index.places places names)),
+          (names_more (take i doc) d (operation_names c.loop-place.index) (operation_names new) c.loop-place.index.places places names adds.names),
       subst (λ zs. HasPlaces zs new.places) next
           (places_more (take i doc) d i c.loop-place.index.places new.places (length_taken doc i c.loop-place-test.true) places adds.places),
       subst (λ z. IsGraphOf doc z) (sym adds.graph) graph,

@@ -21,5 +21,5 @@ returns-clause-reached g c =
     (subst (λ zs. MarksReached zs c.as_slice.result.now marks) c.as_slice-nodes.ensures.value c.in_ok-explore.ensures.reached))
     c.in_ok-explore.ensures.listed
     (c.in_ok-add_fragments.ensures
-    ∙ ap (λ zs. zs ++ flat_map (fragment_places index) c.as_slice-2.result.now) (c.in_ok-places.ensures.items_if_clones_equal (λ y h. h) ∙ c.places_in-own.ensures)
+    ∙ ap (λ zs. zs ++ flat_map (fragment_places index) c.as_slice-2.result.now) (c.in_ok-places.ensures.items_if_clones_equal (λ x y h. h) ∙ c.places_in-own.ensures)
     ∙ ap (λ zs. places_at index.places (operation (option_map (λ n. n.now) c.args.name)) ++ flat_map (fragment_places index) zs) c.as_slice-2.ensures.value)
