@@ -1,2 +1,3 @@
 pub mod Cycles
+pub mod Settled
 pub mod Unused
