@@ -12,12 +12,11 @@ ghost use Rattle.reach.specs.NoUndefinedVariables.{undefined_error, undefined_er
 use language::error::OutOfMemory;
 use language::tree::Document;
 use meta::check::CheckedScalar;
+pub use scopes::scope::Scope;
 use std::alloc::{AllocError, Global};
 use std::marker::PhantomData;
 use variable_uses::undefined::{UndefinedVariable, undefined_variables};
 use walk::{Event, Fresh, Machine, Rule, ValidatorContext, Visitor};
-
-pub use scopes::scope::Scope;
 
 /// Reports, where the document ends, each use of a variable in the reach of the operations of a name that the last of them doesn't
 /// define, at the argument's value and at that operation.
@@ -75,7 +74,10 @@ fn report_all<'a, S: CheckedScalar>(
 {
     for variable in found {
         let message = error_message(alloc, variable.name, variable.operation)?;
-        ctx.report_error(message.as_str(), &[variable.place, variable.operation_place])?;
+        ctx.report_error(
+            message.as_str(),
+            &[variable.place, variable.operation_place],
+        )?;
     }
     Ok(())
 }

@@ -12,12 +12,11 @@ ghost use Rattle.reach.specs.NoUnusedVariables.{unused_variable_error, unused_va
 use language::error::OutOfMemory;
 use language::tree::Document;
 use meta::check::CheckedScalar;
+pub use scopes::scope::Scope;
 use std::alloc::{AllocError, Global};
 use std::marker::PhantomData;
 use variable_uses::unused::{UnusedVariable, unused_variables};
 use walk::{Event, Fresh, Machine, Rule, ValidatorContext, Visitor};
-
-pub use scopes::scope::Scope;
 
 /// Reports, where the document ends, each variable that the last operation of a name defines and that is not used in the reach of
 /// the operations of that name, at its name.

@@ -52,7 +52,7 @@ pub once_flat : {X Y : Type 0} (f : X → List Y) (xs : List X) → IsOnce xs �
 once_flat f [] once each apart = once_none
 once_flat f (x ∷ xs) once each apart =
     once_append (f x) (flat_map f xs) (each x) (once_flat f xs (once_rest x xs once) each (λ a b y c d. apart a b y (later x xs a c) (later x xs b d))) (λ y c d.
-        let at = contains_get (flat_map f xs) y d in
-        let (z, (m, there), (n, here)) = flat_get f xs at.0 y at.1 in
-        let same : x ≡ z = apart x z y (contains_at (x ∷ xs) 0 x refl) (contains_at (x ∷ xs) (suc m) z there) c (contains_at (f z) n y here) in
-        let e = once 0 (suc m) z (ap Some same) there in omega (arith, e))
+    let at = contains_get (flat_map f xs) y d in
+    let (z, (m, there), (n, here)) = flat_get f xs at.0 y at.1 in
+    let same : x ≡ z = apart x z y (contains_at (x ∷ xs) 0 x refl) (contains_at (x ∷ xs) (suc m) z there) c (contains_at (f z) n y here) in
+    let e = once 0 (suc m) z (ap Some same) there in omega (arith, e))

@@ -106,7 +106,12 @@ pub fn reached_definitions<S>(
     let own = places_in(&index.places, Scope::Operation(name));
     let starts = spreads_inside(alloc, document, &index.graph.numbers, own)?;
     let nodes = index.graph.nodes.as_slice();
-    explore(nodes, starts.as_slice(), &mut search.order, &mut search.marks)?;
+    explore(
+        nodes,
+        starts.as_slice(),
+        &mut search.order,
+        &mut search.marks,
+    )?;
     let mut places = own.to_vec(alloc)?;
     add_fragments(index, search.order.as_slice(), &mut places)?;
     forget(&mut search.order, &mut search.marks);

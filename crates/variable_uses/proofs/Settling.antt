@@ -112,7 +112,7 @@ module _ {S : Type 0} (document : List (Definition S)) (name : Option (List ℕ)
       let tells : Spanning (Operation S) Span → Use → List Undefined = λ o. told_undefined (is_among (defined_names o)) name o.span.start in
       let silent = λ (u : Use) (c : Contains a.uses u). let g = contains_get a.uses u c in flat_none (tells a.last) a.uses g.0 u (sym a.told) g.1 in
       b.told ∙ none_flat (tells b.last) b.uses (λ u c.
-          ap (λ o. tells o u) (one_last b.last a.last b.is_last a.is_last) ∙ silent u (use_inside b.uses a.uses b.used a.used u c))
+      ap (λ o. tells o u) (one_last b.last a.last b.is_last a.is_last) ∙ silent u (use_inside b.uses a.uses b.used a.used u c))
 
   name_inside : (us vs : Uses) → UsedIn document name us → UsedIn document name vs → (n : List ℕ) → is_among (map (λ u. u.name) us) n ≡ true → is_among (map (λ u. u.name) vs) n ≡ true
   name_inside us vs p q n h =
@@ -125,11 +125,11 @@ module _ {S : Type 0} (document : List (Definition S)) (name : Option (List ℕ)
   unused_none found a b =
       let none = mapped_none (unused_by name) a.variables (sym a.told) in
       b.told ∙ ap (map (unused_by name)) (no_member b.variables (λ v c.
-          let (stands, free) = (b.unused.are v).0 c in
-          let same = one_last b.last a.last b.is_last a.is_last in
-          let free' = false_kept (is_among (map (λ u. u.name) b.uses) v.0) (is_among (map (λ u. u.name) a.uses) v.0) (name_inside a.uses b.uses a.used b.used v.0) free in
-          let there = (a.unused.are v).1 (subst (λ o. Contains (defined_variables o) v) same stands, free') in
-          let g = contains_get [] v (subst (λ zs. Contains zs v) none there) in none_some v g.1))
+      let (stands, free) = (b.unused.are v).0 c in
+      let same = one_last b.last a.last b.is_last a.is_last in
+      let free' = false_kept (is_among (map (λ u. u.name) b.uses) v.0) (is_among (map (λ u. u.name) a.uses) v.0) (name_inside a.uses b.uses a.used b.used v.0) free in
+      let there = (a.unused.are v).1 (subst (λ o. Contains (defined_variables o) v) same stands, free') in
+      let g = contains_get [] v (subst (λ zs. Contains zs v) none there) in none_some v g.1))
 
 module _ {S : Type 0} (document : List (Definition S)) where
   named_in : (names others : List (Option (List ℕ))) → OperationNames document names → OperationNames document others → (name : Option (List ℕ)) → Contains names name → Contains others name

@@ -52,3 +52,24 @@ then_uses old now new xs ys h e = e ∙ ap (λ z. z ++ ys) h ∙ append_assoc ol
 
 pub no_uses : (old : Uses) → old ≡ old ++ []
 no_uses old = sym (append-nil old)
+
+module _ {S : Type 0} (s : Selection S) (old : Uses) where
+  -- what a field adds: its arguments' uses, its directives', and those of its set
+  pub field_some : (f : Spanning (Field S) Span) (w : Vec (Selection S) Global) (a b new : Uses) → s ≡ v.Field f → (out-Field S f.item).selection_set ≡ Some w
+      → a ≡ old ++ arguments_uses (out-Field S f.item).arguments → b ≡ a ++ directives_uses (out-Field S f.item).directives → new ≡ b ++ used_in_all w.items → new ≡ old ++ selection_uses s
+  field_some f w a b new p q h k e =
+      then_uses old b new (at_field f.item) (used_in_all w.items) (then_uses old a b (arguments_uses (out-Field S f.item).arguments) (directives_uses (out-Field S f.item).directives) h k) e
+      ∙ ap (λ o. old ++ (at_field f.item ++ option_map_or (λ z. used_in_all z.items) o [])) (sym q) ∙ ap (λ z. old ++ z) (sym (uses-Field s f p))
+
+  pub field_none : (f : Spanning (Field S) Span) (a b : Uses) → s ≡ v.Field f → (out-Field S f.item).selection_set ≡ None
+      → a ≡ old ++ arguments_uses (out-Field S f.item).arguments → b ≡ a ++ directives_uses (out-Field S f.item).directives → b ≡ old ++ selection_uses s
+  field_none f a b p q h k =
+      then_uses old a b (arguments_uses (out-Field S f.item).arguments) (directives_uses (out-Field S f.item).directives) h k
+      ∙ ap (λ z. old ++ z) (sym (append-nil (at_field f.item)))
+      ∙ ap (λ o. old ++ (at_field f.item ++ option_map_or (λ z. used_in_all z.items) o [])) (sym q) ∙ ap (λ z. old ++ z) (sym (uses-Field s f p))
+
+  pub inline_uses : (f : Spanning (InlineFragment S) Span) (a new : Uses) → s ≡ v.InlineFragment f
+      → a ≡ old ++ directives_uses (out-InlineFragment S f.item).directives → new ≡ a ++ used_in_all (out-InlineFragment S f.item).selection_set.items → new ≡ old ++ selection_uses s
+  inline_uses f a new p h e =
+      then_uses old a new (directives_uses (out-InlineFragment S f.item).directives) (used_in_all (out-InlineFragment S f.item).selection_set.items) h e
+      ∙ ap (λ z. old ++ z) (sym (uses-Inline s f p))

@@ -28,7 +28,7 @@ true_false b h k = cc
 
 module _ (used : List ℕ → Bool) where
   pub unused_none : UnusedAmong used [] []
-  unused_none = record { once = once_none; are = λ v. (λ c. absurd (omega (arith, c.1)), λ c. let l = c.0.1 in absurd (omega (arith, l))); }
+  unused_none = record { once = once_none; are = λ v. (λ c. absurd (omega (arith, c.1)), λ c. let l = c.0.1 in absurd (omega (arith, l))) }
 
   module _ (variables found : List NameAndSpan) (v : NameAndSpan) (u : UnusedAmong used variables found) where
     kept : (p : NameAndSpan) → Contains found p → Contains (variables ++ v ∷ []) p × (used p.0 ≡ false)

@@ -145,7 +145,15 @@ pub fn unused_variables<'a, S>(
     let mut found = Vec::new(alloc);
     for number in 0..index.names.len() {
         let name = index.names[number];
-        add_unused(alloc, document, &index, all.as_slice(), name, &mut search, &mut found)?;
+        add_unused(
+            alloc,
+            document,
+            &index,
+            all.as_slice(),
+            name,
+            &mut search,
+            &mut found,
+        )?;
     }
     Ok(found)
 }
