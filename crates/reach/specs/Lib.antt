@@ -4,3 +4,4 @@ pub mod NoFragmentCycles
 pub mod NoUndefinedVariables
 pub mod NoUnusedFragments
 pub mod NoUnusedVariables
+pub mod ScopeOrder

@@ -1,9 +1,17 @@
 //! Laws of the rules.
 
 ghost use Rattle.reach.specs.NoFragmentCycles.{CyclesAreTold};
+ghost use Rattle.reach.specs.ScopeOrder.{AreOrdered};
+
+use scopes::scope::Scope;
 
 /// Of the lists of errors that `NoFragmentCycles` may report of a document, none is empty where a fragment leads back to itself,
 /// and no other is but the empty one where none does.
 pub fn cycles_are_told<S>()
     ensures { CyclesAreTold S }
+{}
+
+/// Scopes are in a total order, and two compare as equal just if they are of one kind and one name.
+pub fn scopes_are_ordered<'a>()
+    ensures { AreOrdered ⟦<Scope<'a> as Ord>⟧.cmp }
 {}

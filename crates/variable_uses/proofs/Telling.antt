@@ -1,5 +1,5 @@
 -- Lists that grow by a part for each of some others.
-use Rattle.std.proofs.Common.{◌≡◌, ℕ, ◌+◌, ◌<◌, List, [], ◌∷◌, ◌++◌, length, get_or, take, map, refl, sym, ap, ◌∙◌, append-nil, append_assoc, Option, Some, None, option_map, slice_get, Vec}
+use Rattle.std.proofs.Common.{◌≡◌, ℕ, ◌+◌, ◌<◌, List, [], ◌∷◌, ◌++◌, length, get_or, take, map, refl, sym, ap, ◌∙◌, append-nil, append_assoc, Option, Some, None, option_map, slice_get, Vec, Bool}
 use Rattle.std.specs.List.{Contains, flat_map}
 use Rattle.std.specs.Option.{option_map_or, unwrap_or}
 use Rattle.std.specs.declared.alloc.Global.{Global}
@@ -12,7 +12,10 @@ use Rattle.fragment_cycles.proofs.NamePaths.{get_map}
 use Rattle.scopes.specs.Searches.{inside}
 use Rattle.variable_uses.specs.declared.uses.VariableUse.{VariableUse}
 use Rattle.variable_uses.specs.InReachUses.{InTurn, AllUses, kept_uses}
-use Rattle.variable_uses.specs.Uses.{Uses, definition_uses, use_of}
+use Rattle.language.specs.declared.position.SourcePosition.{SourcePosition}
+use Rattle.std.proofs.lemmas.Grind.{flat_map-append}
+use Rattle.variable_uses.specs.Undefined.{TellsUndefined, Undefined, told_undefined}
+use Rattle.variable_uses.specs.Uses.{Use, Uses, definition_uses, use_of}
 
 pub in_turn_more : {X Y : Type 0} (gives : X → List Y → Type 0) (xs : List X) (ys : List Y) (x : X) (part : List Y) → InTurn gives xs ys → gives x part → InTurn gives (xs ++ x ∷ []) (ys ++ part)
 in_turn_more gives [] ys x part e g = (part, [], g, refl, ap (λ z. z ++ part) e ∙ sym (append-nil part))
@@ -43,3 +46,13 @@ kept_there document all e k =
     or_none f (slice_get all k)
     ∙ ap (λ o. unwrap_or o []) (sym (slice_get-map f all k) ∙ ap (λ zs. slice_get zs k) e ∙ slice_get-map definition_uses document k)
     ∙ sym (or_none definition_uses (slice_get document k))
+
+-- one use more in a loop
+pub more_told : (defined : List ℕ → Bool) (operation : Option (List ℕ)) (start : SourcePosition) (us : List VariableUse) (u : VariableUse) (old now new : List Undefined)
+    → now ≡ old ++ flat_map (told_undefined defined operation start) (map use_of us) → TellsUndefined defined operation start u now new
+    → new ≡ old ++ flat_map (told_undefined defined operation start) (map use_of (us ++ u ∷ []))
+more_told defined operation start us u old now new h t =
+    let f : Use → List Undefined = told_undefined defined operation start in
+    t.told ∙ ap (λ z. z ++ f (use_of u)) h ∙ append_assoc old (flat_map f (map use_of us)) (f (use_of u))
+    ∙ ap (λ z. old ++ z)
+    (ap (λ z. flat_map f (map use_of us) ++ z) (sym (append-nil (f (use_of u)))) ∙ sym (flat_map-append f (map use_of us) (use_of u ∷ [])) ∙ ap (flat_map f) (sym (map-append use_of us (u ∷ []))))

@@ -7,7 +7,10 @@ use Rattle.std.specs.Str.{bytes_eq}
 use Rattle.std.proofs.lemmas.List.Folds.{list_any-append}
 use Rattle.std.proofs.lemmas.List.Elements.{Contains-append_left, Contains-push, Contains-push_cases}
 use Rattle.scopes.proofs.Once.{once_none, once_push}
-use Rattle.variable_uses.specs.Names.{HasNames, NameAndSpan, has_name, is_among}
+use Rattle.std.proofs.lemmas.List.{map-append}
+use Rattle.variable_uses.specs.declared.uses.VariableUse.{VariableUse}
+use Rattle.variable_uses.specs.Uses.{use_of}
+use Rattle.variable_uses.specs.Names.{AddsUse, HasNames, NameAndSpan, has_name, is_among}
 use Rattle.variable_uses.specs.Unused.{AddsVariable, UnusedAmong}
 
 or_other : (b c : Bool) → cond b true c ≡ (c || (b || false))
@@ -22,6 +25,12 @@ pub names_next : (names more : List (List ℕ)) (name : List ℕ) (old new : BTr
 names_next names more name old new e h adds other =
     adds other ∙ ap (λ b. cond (bytes_eq name other) true b) (h other) ∙ or_other (bytes_eq name other) (is_among names other)
     ∙ sym (list_any-append (λ n. bytes_eq n other) names (name ∷ [])) ∙ ap (λ ns. is_among ns other) (sym e)
+
+pub names_used : (us : List VariableUse) (u : VariableUse) (old new : BTreeSet (Bor (List ℕ))) → HasNames old (map (λ z. z.name) (map use_of us)) → AddsUse u old new
+    → HasNames new (map (λ z. z.name) (map use_of (us ++ u ∷ [])))
+names_used us u old new h a =
+    names_next (map (λ z. z.name) (map use_of us)) (map (λ z. z.name) (map use_of (us ++ u ∷ []))) u.name.now old new
+    (ap (map (λ z. z.name)) (map-append use_of us (u ∷ [])) ∙ map-append (λ z. z.name) (map use_of us) (use_of u ∷ [])) h a.adds
 
 pub true_false : (b : Bool) → b ≡ true → b ≡ false → ⊥
 true_false b h k = cc

@@ -10,7 +10,8 @@ use Rattle.scopes.specs.Scopes.{IsLastOf, OperationNames}
 use Rattle.variable_uses.specs.declared.undefined.UndefinedVariable.{UndefinedVariable}
 use Rattle.variable_uses.specs.InReachUses.{InTurn, UsedIn}
 use Rattle.variable_uses.specs.Names.{defined_names, is_among}
-use Rattle.variable_uses.specs.Uses.{Use, Uses}
+use Rattle.variable_uses.specs.Uses.{Use, Uses, use_of}
+use Rattle.variable_uses.specs.declared.uses.VariableUse.{VariableUse}
 
 -- A variable, the name of the operation that doesn't define it, where the argument's value starts that uses it, and where the
 -- operation starts.
@@ -27,6 +28,10 @@ undefined_of u = record { name = u.name.now; operation = option_map (λ n. n.now
 abbrev pub told_undefined : (List ℕ → Bool) → Option (List ℕ) → SourcePosition → Use → List Undefined
 told_undefined defined operation start u =
     if defined u.name then [] else record { name = u.name; operation = operation; place = u.place; operation_place = start } ∷ []
+
+-- A use was told of, if its variable isn't defined.
+pub record TellsUndefined (defined : List ℕ → Bool) (operation : Option (List ℕ)) (start : SourcePosition) (u : VariableUse) (old new : List Undefined) : Type 0 where
+  pub told : new ≡ old ++ told_undefined defined operation start (use_of u)
 
 module _ {S : Type 0} where
   -- Of the operations of a name: each use in their reach whose variable the last of them doesn't define.

@@ -1,7 +1,7 @@
 //! Sets of variables' names.
 ghost use Rattle.std.specs.Prelude.{◌≡◌, ℕ, List, IfOk, OnOk, map, true, if◌then◌else◌};
 ghost use Rattle.std.specs.Str.{bytes_eq};
-ghost use Rattle.variable_uses.specs.Names.{HasNames, defined_names, has_name, variable_list};
+ghost use Rattle.variable_uses.specs.Names.{AddsUse, HasNames, has_name, variable_list};
 ghost use Rattle.variable_uses.specs.Uses.{use_of};
 
 use crate::uses::VariableUse;
@@ -52,6 +52,13 @@ pub fn name_set<'a, S>(
     Ok(set)
 }
 
+// The name of a use more.
+fn add_use<'a>(set: &mut BTreeSet<&'a str>, used: &VariableUse<'a>) -> Result<(), OutOfMemory>
+    ensures { OnOk result (AddsUse used.now set.old set.new) }
+{
+    add_name(set, used.name)
+}
+
 /// The names of the variables that are used.
 pub fn used_names<'a>(
     alloc: Global,
@@ -61,7 +68,7 @@ pub fn used_names<'a>(
 {
     let mut set = BTreeSet::new(alloc);
     for used in uses {
-        add_name(&mut set, used.name)?;
+        add_use(&mut set, used)?;
     }
     Ok(set)
 }

@@ -7,7 +7,7 @@ ghost use Rattle.scopes.specs.Searches.{IsReady};
 ghost use Rattle.variable_uses.specs.InReachUses.{AllUses};
 ghost use Rattle.variable_uses.specs.Names.{has_name};
 ghost use Rattle.variable_uses.specs.Uses.{use_of};
-ghost use Rattle.variable_uses.specs.Undefined.{AddsUndefined, UndefinedVariables, told_undefined, undefined_of};
+ghost use Rattle.variable_uses.specs.Undefined.{AddsUndefined, TellsUndefined, UndefinedVariables, told_undefined, undefined_of};
 
 use crate::names::{is_named, name_set, variables};
 use crate::uses::{VariableUse, all_uses, reached_uses};
@@ -37,7 +37,7 @@ fn tell<'a>(
     used: VariableUse<'a>,
     found: &mut Vec<UndefinedVariable<'a>>,
 ) -> Result<(), OutOfMemory>
-    ensures { OnOk result (map undefined_of found.new.items ≡ map undefined_of found.old.items ++ told_undefined (has_name defined.now) (option_map (λ n. n.now) operation.entry) start (use_of used.entry)) }
+    ensures { OnOk result (TellsUndefined (has_name defined.now) (option_map (λ n. n.now) operation.entry) start used.entry (map undefined_of found.old.items) (map undefined_of found.new.items)) }
 {
     if !is_named(defined, used.name) {
         found.push(UndefinedVariable {
@@ -79,7 +79,7 @@ fn add_undefined<'a, S>(
     requires index { IsIndexOf document.now index.now }
     requires ready { IsReady index.now search.old }
     requires all { AllUses document.now all.now }
-    requires named { IsOperationName document.now (option_map (λ n. n.now) name.entry) }
+    requires named { IsOperationName document.now (option_map (λ n. n.now) name) }
     ensures told { OnOk result (AddsUndefined document.now (option_map (λ n. n.now) name.entry) (map undefined_of found.old.items) (map undefined_of found.new.items)) }
     ensures ready { OnOk result (IsReady index.now search.new) }
 {

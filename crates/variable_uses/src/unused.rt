@@ -116,7 +116,7 @@ fn add_unused<'a, S>(
     requires index { IsIndexOf document.now index.now }
     requires ready { IsReady index.now search.old }
     requires all { AllUses document.now all.now }
-    requires named { IsOperationName document.now (option_map (λ n. n.now) name.entry) }
+    requires named { IsOperationName document.now (option_map (λ n. n.now) name) }
     ensures told { OnOk result (AddsUnused document.now (option_map (λ n. n.now) name.entry) (map unused_of found.old.items) (map unused_of found.new.items)) }
     ensures ready { OnOk result (IsReady index.now search.new) }
 {

@@ -4,11 +4,13 @@ ghost use Rattle.std.specs.List.{flat_map};
 ghost use Rattle.scopes.specs.Index.{IsIndexOf};
 ghost use Rattle.scopes.specs.Searches.{IsReady};
 ghost use Rattle.variable_uses.specs.InReachUses.{AllUses, UsedIn, kept_uses};
-ghost use Rattle.variable_uses.specs.Uses.{argument_uses, arguments_uses, at_place, definition_uses, directives_uses, selection_uses, use_of, used_in_all, variable_definitions_uses};
+ghost use Rattle.variable_uses.specs.Uses.{argument_uses, arguments_uses, at_place, definition_uses, directive_uses, directives_uses, selection_uses, use_of, used_in_all, variable_definition_uses, variable_definitions_uses};
 
 use language::error::OutOfMemory;
 use language::position::{SourcePosition, Spanning};
-use language::tree::{Arguments, Definition, Directive, Document, Selection, VariableDefinitions};
+use language::tree::{
+    Arguments, Definition, Directive, Document, Selection, VariableDefinition, VariableDefinitions,
+};
 use language::value::InputValue;
 use scopes::index::ScopeIndex;
 use scopes::reach::{Search, reached_definitions};
@@ -47,6 +49,20 @@ fn add_argument<'d, S>(
     add_names(argument.1.span.start, names.as_slice(), found)
 }
 
+// Adds those of each of these arguments.
+fn add_each_argument<'d, S>(
+    alloc: Global,
+    arguments: &'d [(Spanning<&str>, Spanning<InputValue<S>>)],
+    found: &mut Vec<VariableUse<'d>>,
+) -> Result<(), OutOfMemory>
+    ensures { OnOk result (map use_of found.new.items ≡ map use_of found.old.items ++ flat_map argument_uses arguments.now) }
+{
+    for argument in arguments {
+        add_argument(alloc, argument, found)?;
+    }
+    Ok(())
+}
+
 // Adds those of all arguments.
 fn add_arguments<'d, S>(
     alloc: Global,
@@ -56,14 +72,23 @@ fn add_arguments<'d, S>(
     ensures { OnOk result (map use_of found.new.items ≡ map use_of found.old.items ++ arguments_uses arguments.now) }
 {
     match arguments {
-        Some(given) => {
-            for argument in given.item.items.as_slice() {
-                add_argument(alloc, argument, found)?;
-            }
-            Ok(())
-        }
+        Some(given) => add_each_argument(alloc, given.item.items.as_slice(), found),
         None => Ok(()),
     }
+}
+
+// Adds those of each of these directives.
+fn add_each_directive<'d, S>(
+    alloc: Global,
+    directives: &'d [Spanning<Directive<'_, S>>],
+    found: &mut Vec<VariableUse<'d>>,
+) -> Result<(), OutOfMemory>
+    ensures { OnOk result (map use_of found.new.items ≡ map use_of found.old.items ++ flat_map directive_uses directives.now) }
+{
+    for directive in directives {
+        add_arguments(alloc, &directive.item.arguments, found)?;
+    }
+    Ok(())
 }
 
 // Adds those of all directives.
@@ -75,12 +100,7 @@ fn add_directives<'d, S>(
     ensures { OnOk result (map use_of found.new.items ≡ map use_of found.old.items ++ directives_uses directives.now) }
 {
     match directives {
-        Some(given) => {
-            for directive in given.as_slice() {
-                add_arguments(alloc, &directive.item.arguments, found)?;
-            }
-            Ok(())
-        }
+        Some(given) => add_each_directive(alloc, given.as_slice(), found),
         None => Ok(()),
     }
 }
@@ -124,6 +144,20 @@ fn add_selection<'d, S>(
     }
 }
 
+// Adds those of the directives at each of these definitions of variables.
+fn add_each_definition<'d, S>(
+    alloc: Global,
+    definitions: &'d [(Spanning<&str>, VariableDefinition<'_, S>)],
+    found: &mut Vec<VariableUse<'d>>,
+) -> Result<(), OutOfMemory>
+    ensures { OnOk result (map use_of found.new.items ≡ map use_of found.old.items ++ flat_map variable_definition_uses definitions.now) }
+{
+    for definition in definitions {
+        add_directives(alloc, &definition.1.directives, found)?;
+    }
+    Ok(())
+}
+
 // Adds those of the directives at definitions of variables; defaults hold no uses.
 fn add_variable_definitions<'d, S>(
     alloc: Global,
@@ -133,12 +167,7 @@ fn add_variable_definitions<'d, S>(
     ensures { OnOk result (map use_of found.new.items ≡ map use_of found.old.items ++ variable_definitions_uses definitions.now) }
 {
     match definitions {
-        Some(given) => {
-            for definition in given.item.items.as_slice() {
-                add_directives(alloc, &definition.1.directives, found)?;
-            }
-            Ok(())
-        }
+        Some(given) => add_each_definition(alloc, given.item.items.as_slice(), found),
         None => Ok(()),
     }
 }
@@ -179,13 +208,20 @@ pub fn all_uses<'a, S>(
     Ok(all)
 }
 
-// Those that are kept at a place.
-fn uses_inside<'m, 'a>(all: &'m [Vec<VariableUse<'a>>], place: usize) -> &'m [VariableUse<'a>]
-    ensures { map use_of result.now ≡ kept_uses all.now place }
+// Adds those that are kept at a place.
+fn add_uses_at<'a>(
+    all: &[Vec<VariableUse<'a>>],
+    place: usize,
+    found: &mut Vec<VariableUse<'a>>,
+) -> Result<(), OutOfMemory>
+    ensures { OnOk result (map use_of found.new.items ≡ map use_of found.old.items ++ kept_uses all.now place) }
 {
     match all.get(place) {
-        Some(uses) => uses.as_slice(),
-        None => &[],
+        Some(uses) => {
+            found.extend_from_slice(uses.as_slice())?;
+            Ok(())
+        }
+        None => Ok(()),
     }
 }
 
@@ -199,7 +235,7 @@ fn uses_at<'a>(
 {
     let mut found = Vec::new(alloc);
     for place in places {
-        found.extend_from_slice(uses_inside(all, *place))?;
+        add_uses_at(all, *place, &mut found)?;
     }
     Ok(found)
 }

@@ -21,14 +21,14 @@ pub add_selection-returns-in-Some : goal.add_selection-returns-in-Some
 add_selection-returns-in-Some g t c =
     on_ok_weaker c.add_set.result
     (λ e. field_some c.args.selection.now (map use_of c.args.found.now.items) c.in-Field.field c.in-Some.inner (map use_of c.add_arguments.new.found.items) (map use_of c.add_directives.new.found.items) (map use_of c.add_set.new.found.items)
-    c.in-Field.is c.in-Some.is c.in_ok-add_arguments.ensures c.in_ok-add_directives.ensures
+    c.in-Field.is c.in-Some.is c.in_ok-add_arguments-in-Field.ensures c.in_ok-add_directives-in-Field.ensures
     (e ∙ ap (λ zs. map use_of c.add_directives.new.found.items ++ used_in_all zs) c.as_slice.ensures.value))
     c.add_set.ensures
 
 pub add_selection-returns-in-None : goal.add_selection-returns-in-None
 add_selection-returns-in-None g t c =
     field_none c.args.selection.now (map use_of c.args.found.now.items) c.in-Field.field (map use_of c.add_arguments.new.found.items) (map use_of c.add_directives.new.found.items)
-    c.in-Field.is c.in-None.is c.in_ok-add_arguments.ensures c.in_ok-add_directives.ensures
+    c.in-Field.is c.in-None.is c.in_ok-add_arguments-in-Field.ensures c.in_ok-add_directives-in-Field.ensures
 
 pub add_selection-returns-in-FragmentSpread : goal.add_selection-returns-in-FragmentSpread
 add_selection-returns-in-FragmentSpread g t c =
@@ -36,8 +36,8 @@ add_selection-returns-in-FragmentSpread g t c =
     (λ e. e ∙ ap (λ zs. map use_of c.args.found.now.items ++ zs) (sym (uses-Spread c.args.selection.now c.in-FragmentSpread.spread c.in-FragmentSpread.is)))
     c.add_directives-in-FragmentSpread.ensures
 
-pub add_selection-returns-in-InlineFragment : goal.add_selection-returns-in-InlineFragment
-add_selection-returns-in-InlineFragment g t c =
+pub add_selection-returns-in_ok-add_directives-in-InlineFragment : goal.add_selection-returns-in-InlineFragment
+add_selection-returns-in_ok-add_directives-in-InlineFragment g t c =
     on_ok_weaker c.add_set-in-InlineFragment.result
     (λ e. inline_uses c.args.selection.now (map use_of c.args.found.now.items) c.in-InlineFragment.inline (map use_of c.add_directives-in-InlineFragment.new.found.items) (map use_of c.add_set-in-InlineFragment.new.found.items)
     c.in-InlineFragment.is c.in_ok-add_directives-in-InlineFragment.ensures

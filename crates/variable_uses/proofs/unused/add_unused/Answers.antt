@@ -1,0 +1,7 @@
+use Rattle.variable_uses.proofs.unused.add_unused.Goals as goal
+
+pub returns-in-Some-clause-told : goal.returns-in-Some-clause-told
+returns-in-Some-clause-told g c = ?
+
+pub returns-in-None-clause-told : goal.returns-in-None-clause-told
+returns-in-None-clause-told g c = ?
