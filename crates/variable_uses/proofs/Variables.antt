@@ -9,8 +9,12 @@ use Rattle.std.proofs.lemmas.List.Elements.{Contains-append_left, Contains-push,
 use Rattle.scopes.proofs.Once.{once_none, once_push}
 use Rattle.std.proofs.lemmas.List.{map-append}
 use Rattle.variable_uses.specs.declared.uses.VariableUse.{VariableUse}
-use Rattle.variable_uses.specs.Uses.{use_of}
-use Rattle.variable_uses.specs.Names.{AddsUse, HasNames, NameAndSpan, has_name, is_among}
+use Rattle.language.specs.declared.position.Span.{Span}
+use Rattle.language.specs.declared.position.Spanning.{Spanning}
+use Rattle.language.specs.declared.tree.Operation.{Operation}
+use Rattle.language.specs.declared.tree.VariableDefinition.{VariableDefinition}
+use Rattle.variable_uses.specs.Uses.{Uses, use_of}
+use Rattle.variable_uses.specs.Names.{AddsUse, HasNames, NameAndSpan, defined_variables, has_name, is_among, variable_list}
 use Rattle.variable_uses.specs.Unused.{AddsVariable, UnusedAmong}
 
 or_other : (b c : Bool) → cond b true c ≡ (c || (b || false))
@@ -76,3 +80,18 @@ module _ (used : List ℕ → Bool) where
     pub unused_next : (more new : List NameAndSpan) → more ≡ variables ++ v ∷ [] → AddsVariable used v found new → UnusedAmong used more new
     unused_next more new e (inl (why, same)) = subst (λ vs. UnusedAmong used vs new) (sym e) (subst (UnusedAmong used (variables ++ v ∷ [])) (sym same) (same_on why))
     unused_next more new e (inr (unused, free, is)) = subst (λ vs. UnusedAmong used vs new) (sym e) (subst (UnusedAmong used (variables ++ v ∷ [])) (sym is) (more_on unused free))
+
+-- by the test of the names that are used, of the definitions of an operation
+pub unused_in : {S : Type 0} (us : Uses) (o : Spanning (Operation S) Span) (found : List VariableUse) (set : BTreeSet (Bor (List ℕ))) (definitions : List (Spanning (Bor (List ℕ)) Span × VariableDefinition S)) (vs : List NameAndSpan)
+    → definitions ≡ variable_list o → map use_of found ≡ us → HasNames set (map (λ u. u.name) (map use_of found)) → UnusedAmong (has_name set) (map (λ v. (v.0.item.now, v.0.span)) definitions) vs
+    → UnusedAmong (is_among (map (λ u. u.name) us)) (defined_variables o) vs
+unused_in us o found set definitions vs is same h u =
+    let u' = subst (λ ds. UnusedAmong (has_name set) (map (λ v. (v.0.item.now, v.0.span)) ds) vs) is u in
+    let test : (n : List ℕ) → has_name set n ≡ is_among (map (λ u. u.name) us) n = λ n. h n ∙ ap (λ zs. is_among (map (λ u. u.name) zs) n) same in
+    record {
+      once = u'.once;
+      are = λ v. (
+        λ c. let r = (u'.are v).0 c in (r.0, sym (test v.0) ∙ r.1),
+        λ (c, free). (u'.are v).1 (c, test v.0 ∙ free),
+      );
+    }
