@@ -1,3 +1,4 @@
 pub mod Cycles
 pub mod Meeting
+pub mod Settled
 pub mod Unused

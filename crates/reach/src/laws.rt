@@ -2,6 +2,9 @@
 
 ghost use Rattle.reach.specs.NoFragmentCycles.{CyclesAreTold};
 ghost use Rattle.reach.specs.NoUnusedFragments.{UnusedAreTold};
+ghost use Rattle.reach.specs.ScopeOrder.{AreOrdered};
+
+use scopes::scope::Scope;
 
 /// Of the lists of errors that `NoFragmentCycles` may report of a document, none is empty where a fragment leads back to itself,
 /// and no other is but the empty one where none does.
@@ -13,4 +16,9 @@ pub fn cycles_are_told<S>()
 /// and no other is but the empty one where there is no such fragment.
 pub fn unused_are_told<S>()
     ensures { UnusedAreTold S }
+{}
+
+/// Scopes are in a total order, and two compare as equal just if they are of one kind and one name.
+pub fn scopes_are_ordered<'a>()
+    ensures { AreOrdered ⟦<Scope<'a> as Ord>⟧.cmp }
 {}

@@ -3,4 +3,6 @@
 
 pub mod laws;
 pub mod no_fragment_cycles;
+pub mod no_undefined_variables;
 pub mod no_unused_fragments;
+pub mod no_unused_variables;

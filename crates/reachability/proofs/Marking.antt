@@ -5,7 +5,7 @@ use Rattle.std.proofs.lemmas.List.{length-replicate}
 use Rattle.std.proofs.lemmas.List.Elements.{Contains-append_left, Contains-append_right}
 use Rattle.fragment_cycles.specs.declared.graph.Spread.{Spread}
 use Rattle.fragment_cycles.proofs.Lists.{same_some, none_some, get_more, get_snoc, get_end, get_some, set_same, set_keep, set_other, contains_at, contains_get, contains_one}
-use Rattle.reachability.specs.Search.{IsMarked, unmarked, WellMarked, Marks}
+use Rattle.reachability.specs.Search.{IsClear, IsListed, IsMarked, unmarked, WellMarked, Marks}
 
 false_true : false ≡ true → ⊥
 false_true e = cc
@@ -30,6 +30,10 @@ module _ (order : List ℕ) (marks : List Bool) (x : Spread) (w : WellMarked ord
   mark_kept : (v : ℕ) → IsMarked marks v → IsMarked (slice_set marks x.target true) v
   mark_kept v h = set_keep marks x.target v false true true new false_true h
 
+  -- it was not listed
+  not_listed : (i v : ℕ) → slice_get order i ≡ Some v → x.target ≡ v → ⊥
+  not_listed i v a e = false_true (same_some false true (sym new ∙ subst (λ (u : ℕ). IsMarked marks u) (sym e) (w.marked i v a)))
+
   pub marks_one : Marks (x ∷ []) order marks (order ++ x.target ∷ []) (slice_set marks x.target true)
   marks_one = record {
     sized = length-set marks x.target true;
@@ -52,6 +56,10 @@ module _ (order : List ℕ) (marks : List Bool) (x : Spread) (w : WellMarked ord
     counted =
         let c = w.counted in
         omega (arith, c, unmarked-set marks x.target new, length-append order (x.target ∷ []), length-set marks x.target true);
+    once = λ i j v h k. elim (get_snoc order x.target i v h) [
+      | inl a ↦ elim (get_snoc order x.target j v k) [ inl b ↦ w.once i j v a b | inr b ↦ absurd (not_listed i v a b.1) ]
+      | inr a ↦ elim (get_snoc order x.target j v k) [ inl b ↦ absurd (not_listed j v b a.1) | inr b ↦ a.0 ∙ sym b.0 ]
+    ];
   }
 
 -- nothing to mark
@@ -108,23 +116,43 @@ none_marked zero v h = none_some true h
 none_marked (suc n) zero h = false_true (same_some false true h)
 none_marked (suc n) (suc v) h = none_marked n v h
 
-all_unmarked : (n : ℕ) → unmarked (replicate n false) ≡ n
-all_unmarked zero = refl
-all_unmarked (suc n) = omega (arith, all_unmarked n)
+all_unmarked : (marks : List Bool) → ((v : ℕ) → IsMarked marks v → ⊥) → unmarked marks ≡ length marks
+all_unmarked [] h = refl
+all_unmarked (true ∷ bs) h = absurd (h 0 refl)
+all_unmarked (false ∷ bs) h = omega (arith, all_unmarked bs (λ v. h (suc v)))
 
 -- at first there are no marks
-pub unmarked_first : (n : ℕ) (marks : List Bool) → marks ≡ replicate n false → (v : ℕ) → IsMarked marks v → ⊥
-unmarked_first n marks e v h = none_marked n v (subst (λ (zs : List Bool). IsMarked zs v) e h)
-
-pub well_first : (n : ℕ) (marks : List Bool) → marks ≡ replicate n false → WellMarked [] marks
-well_first n marks e = record {
-  listed = λ v h. absurd (unmarked_first n marks e v h);
-  marked = λ i v h. absurd (none_some v h);
-  counted =
-      let u : unmarked marks ≡ n = ap unmarked e ∙ all_unmarked n in
-      let l : length marks ≡ n = ap length e ∙ length-replicate n false in
-      omega (arith, u, l);
+pub clear_first : (n : ℕ) (order : List ℕ) (marks : List Bool) → order ≡ [] → marks ≡ replicate n false → IsClear n order marks
+clear_first n order marks none e = record {
+  none_listed = none;
+  sized = ap length e ∙ length-replicate n false;
+  none_marked = λ v h. none_marked n v (subst (λ (zs : List Bool). IsMarked zs v) e h);
 }
 
-pub sized_first : (n : ℕ) (marks : List Bool) → marks ≡ replicate n false → length marks ≡ n
-sized_first n marks e = ap length e ∙ length-replicate n false
+pub well_first : (n : ℕ) (order : List ℕ) (marks : List Bool) → IsClear n order marks → WellMarked order marks
+well_first n order marks c = record {
+  listed = λ v h. absurd (c.none_marked v h);
+  marked = λ i v h. absurd (none_some v (ap (λ (zs : List ℕ). slice_get zs i) (sym c.none_listed) ∙ h));
+  counted =
+      let none : length order ≡ 0 = ap length c.none_listed in
+      omega (arith, none, all_unmarked marks c.none_marked);
+  once = λ i j v h k. absurd (none_some v (ap (λ (zs : List ℕ). slice_get zs i) (sym c.none_listed) ∙ h));
+}
+
+marked_nowhere : (marks : List Bool) (u : ℕ) → IsMarked (slice_set marks u false) u → ⊥
+marked_nowhere [] u h = none_some true h
+marked_nowhere (b ∷ bs) zero h = false_true (same_some false true h)
+marked_nowhere (b ∷ bs) (suc u) h = marked_nowhere bs u h
+
+-- a mark that is taken from a listed node
+pub forgotten : (order order' : List ℕ) (marks : List Bool) (u : ℕ) → order ≡ order' ++ u ∷ [] → ((v : ℕ) → IsMarked marks v → IsListed order v)
+    → (v : ℕ) → IsMarked (slice_set marks u false) v → IsListed order' v
+forgotten order order' marks u e listed v h = elim (cases_eq v u) [
+  | inl same ↦ absurd (marked_nowhere marks u (subst (λ (w : ℕ). IsMarked (slice_set marks u false) w) same h))
+  | inr other ↦
+      let at = listed v (sym (set_other marks u v false other) ∙ h) in
+      elim (get_snoc order' u at.0 v (ap (λ (zs : List ℕ). slice_get zs at.0) (sym e) ∙ at.1)) [
+        | inl before ↦ (at.0, before)
+        | inr last ↦ absurd (other (sym last.1))
+      ]
+]

@@ -10,7 +10,7 @@ use Rattle.fragment_cycles.specs.declared.graph.Node.{Node}
 use Rattle.fragment_cycles.specs.declared.graph.Spread.{Spread}
 use Rattle.fragment_cycles.specs.declared.numbers.Numbers.{Numbers}
 use Rattle.fragment_cycles.specs.declared.document_graph.DocumentGraph.{DocumentGraph}
-use Rattle.fragment_cycles.specs.Spreads.{PlacedSpread, placed_spreads_of_all, spreads_of_name}
+use Rattle.fragment_cycles.specs.Spreads.{PlacedSpread, PlacedSpreads, placed_spreads_of_all, spreads_of_name}
 use Rattle.fragment_cycles.specs.Numbers.{number_of, names_of}
 use Rattle.fragment_cycles.specs.DocumentGraph.{resolved, IsGraphOf}
 use Rattle.fragment_cycles.proofs.Lists.{none_some, same_some, contains_at, contains_get}
@@ -24,7 +24,7 @@ of_test : {X : Type 0} (b : Bool) (xs : List X) (j : ℕ) (x : X) → slice_get 
 of_test true xs j x h = h
 of_test false xs j x h = absurd (none_some x h)
 
-contains_flat : {X Y : Type 0} (f : X → List Y) (xs : List X) (i : ℕ) (d : X) (j : ℕ) (y : Y) → slice_get xs i ≡ Some d → slice_get (f d) j ≡ Some y → Contains (flat_map f xs) y
+pub contains_flat : {X Y : Type 0} (f : X → List Y) (xs : List X) (i : ℕ) (d : X) (j : ℕ) (y : Y) → slice_get xs i ≡ Some d → slice_get (f d) j ≡ Some y → Contains (flat_map f xs) y
 contains_flat f [] i d j y h g = absurd (none_some d h)
 contains_flat f (x ∷ xs) zero d j y h g =
     Contains-append_left (f x) (flat_map f xs) y (contains_at (f x) j y (ap (λ z. slice_get (f z) j) (same_some x d h) ∙ g))
@@ -59,7 +59,8 @@ module _ {S : Type 0} where
       let (p, there) = to_named d here.0 x here.1 in
       (p, contains_flat (operation_named p) document at.0 d here.0 x at.1 there)
 
-module _ {S : Type 0} (document : List (Definition S)) (g : DocumentGraph) (h : IsGraphOf document g) where
+-- fragments that are reached from some spreads of the document
+module _ {S : Type 0} (document : List (Definition S)) (g : DocumentGraph) (h : IsGraphOf document g) (xs : PlacedSpreads) where
   abbrev n : Numbers
   n = g.numbers
 
@@ -67,29 +68,20 @@ module _ {S : Type 0} (document : List (Definition S)) (g : DocumentGraph) (h : 
   nodes = g.nodes.items
 
   abbrev starts : List Spread
-  starts = map (resolved n) (operation_spreads document)
+  starts = map (resolved n) xs
 
-  begin_at : (p : Option (List ℕ)) (x : PlacedSpread) → Contains (flat_map (operation_named p) document) x → (k : ℕ) → number_of n x.name ≡ Some k → Reached nodes starts k
-  begin_at p x c k e =
-      let i = contains_get (operation_spreads document) x (among_all document p x c) in
+  pub begin_at : (x : PlacedSpread) → Contains xs x → (k : ℕ) → number_of n x.name ≡ Some k → Reached nodes starts k
+  begin_at x c k e =
+      let i = contains_get xs x c in
       subst (λ (v : ℕ). Reached nodes starts v) (ap (λ o. unwrap_or o (length (names_of n))) e)
-      (begin (resolved n x) (contains_at starts i.0 (resolved n x) (get_map (resolved n) (operation_spreads document) i.0 x i.1)))
+      (begin (resolved n x) (contains_at starts i.0 (resolved n x) (get_map (resolved n) xs i.0 x i.1)))
 
-  further_at : (f : List ℕ) (x : PlacedSpread) → Contains (spreads_of_name document f) x → ((k : ℕ) → number_of n f ≡ Some k → Reached nodes starts k)
+  pub further_at : (f : List ℕ) (x : PlacedSpread) → Contains (spreads_of_name document f) x → ((k : ℕ) → number_of n f ≡ Some k → Reached nodes starts k)
       → (l : ℕ) → number_of n x.name ≡ Some l → Reached nodes starts l
   further_at f x c ih l e =
       let k = has document n nodes h.numbers h.nodes f x.name (x, c, refl) in
       let s = edge document n nodes h.numbers h.nodes f x.name k.0 l k.1 e (x, c, refl) in
       subst (λ (v : ℕ). Reached nodes starts v) s.2 (further (ih k.0 k.1) s.0 s.1)
-
-  abbrev AtNumber : ScopeName → Type 0
-  AtNumber (operation p) = Unit {0}
-  AtNumber (fragment f) = (k : ℕ) → number_of n f ≡ Some k → Reached nodes starts k
-
-  reached_number : {p : Option (List ℕ)} {t : ScopeName} → Reach document p t → AtNumber t
-  reached_number start = tt
-  reached_number (onward {s = operation q} r x c) = λ k e. begin_at q x c k e
-  reached_number (onward {s = fragment f} r x c) = λ k e. further_at f x c (reached_number r) k e
 
   -- a spread's target has the number that it was resolved to
   same_target : (x : Spread) (y : PlacedSpread) (f : List ℕ) → resolved n y ≡ x → number_of n f ≡ Some x.target → y.name ≡ f
@@ -99,23 +91,46 @@ module _ {S : Type 0} (document : List (Definition S)) (g : DocumentGraph) (h : 
         | inr past ↦ let low = below n h.numbers.numbered f x.target e in absurd (omega (arith, low, past))
       ]
 
-  named_reached : {k : ℕ} → Reached nodes starts k → (f : List ℕ) → number_of n f ≡ Some k → IsReached document f
-  named_reached (begin x c) f e =
+  -- what holds of the fragments that are spread first, and with one of those that it spreads, holds of all that are reached
+  pub named_reached : (P : List ℕ → Type 0) → ((y : PlacedSpread) → Contains xs y → P y.name)
+      → ((f : List ℕ) (y : PlacedSpread) → P f → Contains (spreads_of_name document f) y → P y.name)
+      → {k : ℕ} → Reached nodes starts k → (f : List ℕ) → number_of n f ≡ Some k → P f
+  named_reached P first next (begin x c) f e =
       let i = contains_get starts x c in
-      let (y, at, is) = map_get (resolved n) (operation_spreads document) i.0 x i.1 in
-      let (p, stands) = of_operation document i.0 y at in
-      (p, subst (λ (z : List ℕ). Reach document p (fragment z)) (same_target x y f is e) (onward start y stands))
-  named_reached (further {u = u} r x c) f e =
+      let (y, at, is) = map_get (resolved n) xs i.0 x i.1 in
+      subst P (same_target x y f is e) (first y (contains_at xs i.0 y at))
+  named_reached P first next (further {u = u} r x c) f e =
       let from = name_of document n nodes h.numbers h.nodes u (inside nodes u x.target (x, c, refl)) in
-      let (p, before) = named_reached r from.0 from.1 in
       let (y, stands, is) = origin document n nodes h.numbers h.nodes from.0 u x from.1 c in
-      (p, subst (λ (z : List ℕ). Reach document p (fragment z)) (same_target x y f is e) (onward before y stands))
+      subst P (same_target x y f is e) (next from.0 y (named_reached P first next r from.0 from.1) stands)
 
-  pub marks_names : (marks : List Bool) → MarksReached nodes starts marks → (f : List ℕ) (k : ℕ) → number_of n f ≡ Some k → IsMarked marks k ↔ IsReached document f
+  pub marked_at : (marks : List Bool) → MarksReached nodes starts marks → (f : List ℕ) (k : ℕ) → number_of n f ≡ Some k → Reached nodes starts k → IsMarked marks k
+  marked_at marks m f k e r =
+      let low = below n h.numbers.numbered f k e in
+      let sized = h.nodes.sized in
+      m.all k (omega (arith, low, sized)) r
+
+-- those that some operation reaches
+module _ {S : Type 0} (document : List (Definition S)) (g : DocumentGraph) (h : IsGraphOf document g) where
+  abbrev all : PlacedSpreads
+  all = operation_spreads document
+
+  abbrev AtNumber : ScopeName → Type 0
+  AtNumber (operation p) = Unit {0}
+  AtNumber (fragment f) = (k : ℕ) → number_of g.numbers f ≡ Some k → Reached g.nodes.items (map (resolved g.numbers) all) k
+
+  reached_number : {p : Option (List ℕ)} {t : ScopeName} → Reach document p t → AtNumber t
+  reached_number start = tt
+  reached_number (onward {s = operation q} r x c) = λ k e. begin_at document g h all x (among_all document q x c) k e
+  reached_number (onward {s = fragment f} r x c) = λ k e. further_at document g h all f x c (reached_number r) k e
+
+  first_reached : (y : PlacedSpread) → Contains all y → IsReached document y.name
+  first_reached y c =
+      let i = contains_get all y c in
+      let (p, stands) = of_operation document i.0 y i.1 in (p, onward start y stands)
+
+  pub marks_names : (marks : List Bool) → MarksReached g.nodes.items (map (resolved g.numbers) all) marks → (f : List ℕ) (k : ℕ) → number_of g.numbers f ≡ Some k → IsMarked marks k ↔ IsReached document f
   marks_names marks m f k e = (
-    λ marked. named_reached (m.real k marked) f e,
-    λ reached.
-        let low = below n h.numbers.numbered f k e in
-        let sized = h.nodes.sized in
-        m.all k (omega (arith, low, sized)) (reached_number reached.1 k e),
+    λ marked. named_reached document g h all (IsReached document) first_reached (λ f' y (p, before) stands. (p, onward before y stands)) (m.real k marked) f e,
+    λ reached. marked_at document g h all marks m f k e (reached_number reached.1 k e),
   )

@@ -32,6 +32,13 @@ pub record WellMarked (order : List ℕ) (marks : List Bool) : Type 0 where
   pub listed : (v : ℕ) → IsMarked marks v → IsListed order v
   pub marked : (i v : ℕ) → slice_get order i ≡ Some v → IsMarked marks v
   pub counted : length order + unmarked marks ≡ length marks
+  pub once : (i j v : ℕ) → slice_get order i ≡ Some v → slice_get order j ≡ Some v → i ≡ j
+
+-- So many nodes, none with a mark and none listed.
+pub record IsClear (count : ℕ) (order : List ℕ) (marks : List Bool) : Type 0 where
+  pub none_listed : order ≡ []
+  pub sized : length marks ≡ count
+  pub none_marked : (v : ℕ) → IsMarked marks v → ⊥
 
 -- The targets of these spreads got marks, as far as they are nodes, and no others.
 pub record Marks (xs : List Spread) (order : List ℕ) (marks : List Bool) (order' : List ℕ) (marks' : List Bool) : Type 0 where

@@ -30,8 +30,8 @@ pub fn is_reached(reached: &ReachedFragments<'_>, name: &str) -> bool
     }
 }
 
-// Adds the spreads of a definition, if it is an operation.
-fn add_operation<S>(
+/// Adds the spreads of a definition, if it is an operation.
+pub fn add_operation<S>(
     numbers: &Numbers<'_>,
     definition: &Definition<'_, S>,
     found: &mut Vec<Spread>,

@@ -1,6 +1,6 @@
 //! The search for the nodes of a graph that are reached from some spreads.
-ghost use Rattle.std.specs.Prelude.{◌≡◌, ◌<◌, ◌∷◌, [], length, false, Some, OnOk, IfOk, IsTrue, ◌↔◌, slice_get};
-ghost use Rattle.reachability.specs.Search.{IsMarked, Marks, MarksReached, WellMarked};
+ghost use Rattle.std.specs.Prelude.{◌≡◌, ◌∷◌, [], length, false, Some, OnOk, IfOk, IsTrue, ◌↔◌, slice_get, slice_set};
+ghost use Rattle.reachability.specs.Search.{IsClear, IsMarked, Marks, MarksReached, WellMarked};
 
 use fragment_cycles::graph::{Node, Spread, spreads};
 use std::alloc::{AllocError, Global};
@@ -54,6 +54,47 @@ fn mark_all(
     Ok(())
 }
 
+/// Marks the nodes that are reached from these spreads, where no node has a mark, and lists them; the spreads of each are looked at
+/// once.
+pub fn explore(
+    graph: &[Node],
+    starts: &[Spread],
+    order: &mut Vec<usize>,
+    marks: &mut Vec<bool>,
+) -> Result<(), AllocError>
+    requires { IsClear (length graph.now) order.old.items marks.old.items }
+    ensures reached { OnOk result (MarksReached graph.now starts.now marks.new.items) }
+    ensures listed { OnOk result (WellMarked order.new.items marks.new.items) }
+{
+    mark_all(starts, order, marks)?;
+    let mut next: usize = 0;
+    while next < order.len() {
+        let node = order[next];
+        mark_all(spreads(graph, node), order, marks)?;
+        next += 1;
+    }
+    Ok(())
+}
+
+// Takes the mark from a node.
+fn unmark(marks: &mut Vec<bool>, node: usize)
+    ensures { marks.new.items ≡ slice_set marks.old.items node false }
+{
+    if node < marks.len() {
+        marks[node] = false;
+    }
+}
+
+/// Takes the marks from the nodes that are listed, and lists none.
+pub fn forget(order: &mut Vec<usize>, marks: &mut Vec<bool>)
+    requires { WellMarked order.old.items marks.old.items }
+    ensures { IsClear (length marks.old.items) order.new.items marks.new.items }
+{
+    while let Some(node) = order.pop() {
+        unmark(marks, node);
+    }
+}
+
 /// Marks the nodes that are reached from these spreads; the spreads of each are looked at once.
 pub fn mark_reached(
     alloc: Global,
@@ -64,12 +105,6 @@ pub fn mark_reached(
 {
     let mut order: Vec<usize> = Vec::new(alloc);
     let mut marks = vec![in alloc; false; graph.len()]?;
-    mark_all(starts, &mut order, &mut marks)?;
-    let mut next: usize = 0;
-    while next < order.len() {
-        let node = order[next];
-        mark_all(spreads(graph, node), &mut order, &mut marks)?;
-        next += 1;
-    }
+    explore(graph, starts, &mut order, &mut marks)?;
     Ok(marks)
 }

@@ -1,22 +1,18 @@
-use Rattle.std.proofs.Common.{ℕ, List, length, subst, sym, arith, refl, ◌<◌}
+use Rattle.std.proofs.Common.{List, length, subst, arith, refl, ◌<◌}
 use Rattle.std.proofs.lemmas.Option.{slice_get_read}
 use Rattle.fragment_cycles.specs.declared.graph.Spread.{Spread}
-use Rattle.reachability.specs.Search.{Marks, WellMarked}
-use Rattle.reachability.proofs.Marking.{well_first, unmarked_first, sized_first}
+use Rattle.reachability.specs.Search.{Marks}
+use Rattle.reachability.proofs.Marking.{well_first}
 use Rattle.reachability.proofs.Searches.{started, searched_on, search_done}
-use Rattle.reachability.proofs.search.mark_reached.Goals as goal
+use Rattle.reachability.proofs.search.explore.Goals as goal
 
 pub mark_all-requires : goal.mark_all-requires
-mark_all-requires c =
-    subst (λ (zs : List ℕ). WellMarked zs c.in_ok-marks.marks.items) (sym c.new-order.ensures.items)
-    (well_first _ c.in_ok-marks.marks.items (c.in_ok-marks.ensures.items_if_clones_equal (λ y h. h)))
+mark_all-requires c = well_first (length c.args.graph.now) c.args.order.now.items c.args.marks.now.items c.requires
 
 pub loop-next-init : goal.loop-next-init
 loop-next-init c =
-    let marks = c.in_ok-marks.marks.items in
-    let none = c.in_ok-marks.ensures.items_if_clones_equal (λ y h. h) in
-    started c.args.graph.now c.args.starts.now marks c.mark_all.new.marks.items c.new-order.result.items c.mark_all.new.order.items
-    (sized_first (length c.args.graph.now) marks none) (unmarked_first _ marks none) c.in_ok-mark_all.ensures.marks c.in_ok-mark_all.ensures.well
+    started c.args.graph.now c.args.starts.now c.args.marks.now.items c.mark_all.new.marks.items c.args.order.now.items c.mark_all.new.order.items
+    c.requires.sized c.requires.none_marked c.in_ok-mark_all.ensures.marks c.in_ok-mark_all.ensures.well
 
 pub loop-next-preserved : goal.loop-next-preserved
 loop-next-preserved c =
@@ -32,7 +28,7 @@ loop-next-preserved c =
     (subst (λ (zs : List Spread). Marks zs order marks c.mark_all-in-loop-next.new.order.items c.mark_all-in-loop-next.new.marks.items) c.spreads.ensures c.in_ok-mark_all-2.ensures.marks)
     c.in_ok-mark_all-2.ensures.well
 
-pub returns : goal.returns
-returns c =
+pub returns-clause-reached : goal.returns-clause-reached
+returns-clause-reached c =
     search_done c.args.graph.now c.args.starts.now c.loop-next.order.items c.loop-next.marks.items c.loop-next.next c.loop-next.invariant
     (let past = c.loop-next-test.false in let same = c.loop-next.order.ok.0 in let e = c.len.ensures in omega (arith, past, same, e))

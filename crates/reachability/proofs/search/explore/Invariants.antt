@@ -1,6 +1,6 @@
 use Rattle.std.proofs.Common.{◌-◌, length}
 use Rattle.reachability.specs.Search.{Searching}
-use Rattle.reachability.proofs.search.mark_reached.Given as goal
+use Rattle.reachability.proofs.search.explore.Given as goal
 
 abbrev pub invariant-loop-next : goal.invariant-loop-next
 invariant-loop-next l = Searching l.graph l.starts l.order.items l.marks.items l.next

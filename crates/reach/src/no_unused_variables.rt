@@ -1,0 +1,104 @@
+//! Each variable that an operation defines is used by it (GraphQL, section 5.8.4).
+
+ghost use Rattle.std.specs.Prelude.{◌≡◌, List, IfOk, OnErr, map, option_map, string_bytes};
+ghost use Rattle.walk.specs.ContextState.{with_errors};
+ghost use Rattle.walk.specs.Rule.{any_value};
+ghost use Rattle.walk.specs.Step.{KeepsPlace};
+ghost use Rattle.variable_uses.specs.Unused.{Unused, UnusedVariables, unused_of};
+ghost use Rattle.reach.specs.AtDocument.{document_step, given_at_end};
+ghost use Rattle.reach.specs.AtDocumentLaws.{document_keeps};
+ghost use Rattle.reach.specs.NoUnusedVariables.{unused_variable_error, unused_variable_errors, unused_variable_message};
+
+use language::error::OutOfMemory;
+use language::tree::Document;
+use meta::check::CheckedScalar;
+pub use scopes::scope::Scope;
+use std::alloc::{AllocError, Global};
+use std::marker::PhantomData;
+use variable_uses::unused::{UnusedVariable, unused_variables};
+use walk::{Event, Fresh, Machine, Rule, ValidatorContext, Visitor};
+
+/// Reports, where the document ends, each variable that the last operation of a name defines and that is not used in the reach of
+/// the operations of that name, at its name.
+#[derive(Drop)]
+pub struct NoUnusedVariables<'a> {
+    alloc: Global,
+    document: PhantomData<&'a str>,
+}
+
+/// The rule, made ready for one document.
+pub fn factory<'a>(alloc: Global) -> NoUnusedVariables<'a>
+    ensures { ⟦<NoUnusedVariables<'a> as Fresh>⟧.fresh result }
+{
+    NoUnusedVariables {
+        alloc,
+        document: PhantomData,
+    }
+}
+
+impl<'a> Fresh for NoUnusedVariables<'a> {
+    ghost fresh = { any_value };
+}
+
+impl<'a, S, C> Machine<S, C> for NoUnusedVariables<'a> {
+    ghost step = { document_step unused_variable_errors };
+}
+
+impl<'a, S, C> Rule<S, C> for NoUnusedVariables<'a> {
+    ghost allows = { given_at_end unused_variable_errors };
+
+    ghost keeps = { document_keeps unused_variable_errors };
+}
+
+impl<'a, S: CheckedScalar> Visitor<'a, S> for NoUnusedVariables<'a> {
+    fn on(
+        &mut self,
+        ctx: &mut ValidatorContext<'a, S>,
+        event: &Event<'a, S>,
+    ) -> Result<(), OutOfMemory> {
+        match *event {
+            Event::ExitDocument(document) => report_unused(self.alloc, ctx, document),
+            _ => Ok(()),
+        }
+    }
+}
+
+// Reports these.
+fn report_all<'a, S: CheckedScalar>(
+    alloc: Global,
+    ctx: &mut ValidatorContext<'a, S>,
+    found: &[UnusedVariable<'_>],
+) -> Result<(), OutOfMemory>
+    ensures ok { IfOk result (λ _. ctx.new ≡ with_errors ctx.old (map unused_variable_error (map unused_of found.now))) }
+    ensures err { OnErr result (KeepsPlace ctx.old ctx.new) }
+{
+    for variable in found {
+        let message = error_message(alloc, variable.name, variable.operation)?;
+        ctx.report_error(message.as_str(), &[variable.span.start])?;
+    }
+    Ok(())
+}
+
+// Reports the variables that are not used.
+fn report_unused<'a, S: CheckedScalar>(
+    alloc: Global,
+    ctx: &mut ValidatorContext<'a, S>,
+    document: Document<'_, S>,
+) -> Result<(), OutOfMemory>
+    ensures ok { IfOk result (λ _. (found : List Unused) × UnusedVariables document.now found × (ctx.new ≡ with_errors ctx.old (map unused_variable_error found))) }
+    ensures err { OnErr result (KeepsPlace ctx.old ctx.new) }
+{
+    let found = unused_variables(alloc, document)?;
+    report_all(alloc, ctx, found.as_slice())
+}
+
+fn error_message(alloc: Global, name: &str, operation: Option<&str>) -> Result<String, AllocError>
+    ensures { IfOk result (λ message. string_bytes message ≡ unused_variable_message name.now (option_map (λ n. n.now) operation.entry)) }
+{
+    match operation {
+        Some(called) => {
+            format!(in alloc; "Variable \"${name}\" is not used by operation \"{called}\"")
+        }
+        None => format!(in alloc; "Variable \"${name}\" is not used"),
+    }
+}

@@ -1,0 +1,7 @@
+pub mod InReaching
+pub mod Indexing
+pub mod Joined
+pub mod Keeping
+pub mod Once
+pub mod PlaceLists
+pub mod ScopeTests

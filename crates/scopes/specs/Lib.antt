@@ -1,0 +1,4 @@
+pub mod Index
+pub mod Places
+pub mod Scopes
+pub mod Searches

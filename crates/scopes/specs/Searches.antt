@@ -1,0 +1,26 @@
+-- What a search for the definitions in reach passes on.
+use Rattle.std.specs.Prelude.{ℕ, ◌≡◌, List, [], Bool, false, length, slice_get}
+use Rattle.std.specs.List.{All}
+use Rattle.std.specs.Option.{option_map_or, unwrap_or}
+use Rattle.language.specs.declared.tree.Definition.{Definition}
+use Rattle.fragment_cycles.specs.Numbers.{names_of}
+use Rattle.fragment_cycles.specs.Spreads.{PlacedSpreads}
+use Rattle.reachability.specs.Reach.{fragment, definition_spreads}
+use Rattle.reachability.specs.Search.{IsClear}
+use Rattle.scopes.specs.declared.index.ScopeIndex.{ScopeIndex}
+use Rattle.scopes.specs.declared.reach.Search.{Search}
+use Rattle.scopes.specs.Places.{places_at}
+
+-- No fragment is noted.
+abbrev pub IsReady : ScopeIndex → Search → Type 0
+IsReady index s = IsClear (length index.graph.nodes.items) s.order.items s.marks.items
+
+-- What is inside the definition at a place.
+abbrev pub inside : {S X : Type 0} → (Definition S → List X) → List (Definition S) → ℕ → List X
+inside f document place = option_map_or f (slice_get document place) []
+
+abbrev pub spreads_at : {S : Type 0} → List (Definition S) → ℕ → PlacedSpreads
+spreads_at document place = inside definition_spreads document place
+
+abbrev pub fragment_places : ScopeIndex → ℕ → List ℕ
+fragment_places index number = places_at index.places (fragment (unwrap_or (slice_get (names_of index.graph.numbers) number) []))

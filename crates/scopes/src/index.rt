@@ -1,0 +1,109 @@
+//! A document's scopes, each with what it spreads and where it is defined.
+ghost use Rattle.std.specs.Prelude.{◌≡◌, ◌-◌, ◌++◌, Some, IfOk, IfSome, IfNone, OnOk, length, map, option_map, slice_get};
+ghost use Rattle.scopes.specs.Scopes.{IsLastOf, IsOperationName, scope_name};
+ghost use Rattle.scopes.specs.Places.{places_at};
+ghost use Rattle.scopes.specs.Index.{AddsDefinition, HasPlaces, IsIndexOf, NoOperationAt, new_name};
+
+use crate::places::{ScopePlaces, add_place, no_places, places_in, scope_of_definition};
+use crate::scope::Scope;
+use fragment_cycles::document_graph::{DocumentGraph, graph_of};
+use language::position::Spanning;
+use language::tree::{Definition, Document, Operation};
+use std::alloc::{AllocError, Global};
+
+/// A document's scopes: the names of its operations, each once; the places of its definitions, by scope; what its fragments
+/// spread.
+#[derive(Drop)]
+pub struct ScopeIndex<'a> {
+    pub names: Vec<Option<&'a str>>,
+    pub places: ScopePlaces<'a>,
+    pub graph: DocumentGraph<'a>,
+}
+
+// Lists the name of operations that have no place yet.
+fn add_name<'a>(
+    scope: Scope<'a>,
+    places: &ScopePlaces<'_>,
+    names: &mut Vec<Option<&'a str>>,
+) -> Result<(), AllocError>
+    ensures { OnOk result (map (option_map (λ n. n.now)) names.new.items ≡ map (option_map (λ n. n.now)) names.old.items ++ new_name (scope_name scope.entry) (places_at places.now (scope_name scope.entry))) }
+{
+    match scope {
+        Scope::Operation(name) => {
+            if places_in(places, scope).is_empty() {
+                names.push(name)?;
+            }
+            Ok(())
+        }
+        Scope::Fragment(_) => Ok(()),
+    }
+}
+
+// Adds a definition and its place.
+fn add_definition<'a, S>(
+    alloc: Global,
+    definition: &Definition<'a, S>,
+    place: usize,
+    index: &mut ScopeIndex<'a>,
+) -> Result<(), AllocError>
+    ensures { OnOk result (AddsDefinition definition.now place index.old index.new) }
+{
+    let scope = scope_of_definition(definition);
+    add_name(scope, &index.places, &mut index.names)?;
+    add_place(alloc, &mut index.places, scope, place)
+}
+
+/// The scopes of a document.
+pub fn index_scopes<'a, S>(
+    alloc: Global,
+    document: Document<'a, S>,
+) -> Result<ScopeIndex<'a>, AllocError>
+    ensures { IfOk result (IsIndexOf document.now) }
+{
+    let mut index = ScopeIndex {
+        names: Vec::new(alloc),
+        places: no_places(alloc),
+        graph: graph_of(alloc, document)?,
+    };
+    for place in 0..document.len() {
+        add_definition(alloc, &document[place], place, &mut index)?;
+    }
+    Ok(index)
+}
+
+// The last of some places.
+fn last_place(places: &[usize]) -> Option<usize>
+    ensures { result ≡ slice_get places.now (length places.now - 1) }
+{
+    places.last().copied()
+}
+
+// The operation at a place.
+fn operation_at<'d, 't, S>(
+    document: &'d [Definition<'t, S>],
+    place: usize,
+) -> Option<&'d Spanning<Operation<'t, S>>>
+    ensures some { IfSome result (λ o. slice_get document.now place ≡ Some (Definition.Operation o.now)) }
+    ensures none { IfNone result (NoOperationAt document.now place) }
+{
+    match document.get(place) {
+        Some(Definition::Operation(operation)) => Some(operation),
+        _ => None,
+    }
+}
+
+/// The last operation of a name.
+pub fn last_operation<'d, 't, S>(
+    document: &'d [Definition<'t, S>],
+    places: &ScopePlaces<'_>,
+    name: Option<&str>,
+) -> Option<&'d Spanning<Operation<'t, S>>>
+    requires { HasPlaces document.now places.now }
+    ensures some { IfSome result (λ o. IsLastOf document.now (option_map (λ n. n.now) name.entry) o.now) }
+    ensures none { IfNone result (IsOperationName document.now (option_map (λ n. n.now) name.entry) → ⊥) }
+{
+    match last_place(places_in(places, Scope::Operation(name))) {
+        Some(place) => operation_at(document, place),
+        None => None,
+    }
+}

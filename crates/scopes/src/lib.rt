@@ -1,0 +1,7 @@
+//! The scopes of a document, which are its operations and its fragments by name, and what each operation reaches.
+#![tactic(auto)]
+
+pub mod index;
+pub mod places;
+pub mod reach;
+pub mod scope;

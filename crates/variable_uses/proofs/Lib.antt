@@ -1,0 +1,4 @@
+pub mod Settling
+pub mod Telling
+pub mod UseLemmas
+pub mod Variables

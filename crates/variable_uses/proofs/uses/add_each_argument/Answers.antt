@@ -1,0 +1,10 @@
+use Rattle.std.proofs.Common.{map}
+use Rattle.variable_uses.specs.Uses.{argument_uses, use_of}
+use Rattle.variable_uses.proofs.UseLemmas.{more_uses}
+use Rattle.variable_uses.proofs.uses.add_each_argument.Goals as goal
+
+pub loop-argument-preserved : goal.loop-argument-preserved
+loop-argument-preserved g c =
+    more_uses argument_uses c.args.arguments.now c.loop-argument.argument-index c.argument-item.result
+    (map use_of c.args.found.now.items) (map use_of c.loop-argument.found.items) (map use_of c.add_argument.new.found.items)
+    c.argument-item.is c.loop-argument-test.true c.loop-argument.invariant c.in_ok-add_argument.ensures

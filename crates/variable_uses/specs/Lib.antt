@@ -1,0 +1,5 @@
+pub mod InReachUses
+pub mod Names
+pub mod Undefined
+pub mod Unused
+pub mod Uses

@@ -1,0 +1,120 @@
+//! Variables that are used where they are not defined.
+ghost use Rattle.std.specs.Prelude.{◌≡◌, ◌++◌, ℕ, List, IfOk, OnOk, map, option_map};
+ghost use Rattle.std.specs.List.{flat_map};
+ghost use Rattle.scopes.specs.Index.{IsIndexOf};
+ghost use Rattle.scopes.specs.Scopes.{IsOperationName};
+ghost use Rattle.scopes.specs.Searches.{IsReady};
+ghost use Rattle.variable_uses.specs.InReachUses.{AllUses};
+ghost use Rattle.variable_uses.specs.Names.{has_name};
+ghost use Rattle.variable_uses.specs.Uses.{use_of};
+ghost use Rattle.variable_uses.specs.Undefined.{AddsUndefined, TellsUndefined, UndefinedVariables, told_undefined, undefined_of};
+
+use crate::names::{is_named, name_set, variables};
+use crate::uses::{VariableUse, all_uses, reached_uses};
+use language::error::OutOfMemory;
+use language::position::SourcePosition;
+use language::tree::Document;
+use scopes::index::{ScopeIndex, index_scopes, last_operation};
+use scopes::reach::{Search, new_search};
+use std::alloc::Global;
+use std::collections::BTreeSet;
+
+/// A variable that is used, the name of the operation that doesn't define it, where the argument's value starts that holds the
+/// use, and where the last operation of that name starts.
+#[derive(Clone, Copy, Debug)]
+pub struct UndefinedVariable<'a> {
+    pub name: &'a str,
+    pub operation: Option<&'a str>,
+    pub place: SourcePosition,
+    pub operation_place: SourcePosition,
+}
+
+// Tells of a use whose variable is not among those that are defined.
+fn tell<'a>(
+    defined: &BTreeSet<&str>,
+    operation: Option<&'a str>,
+    start: SourcePosition,
+    used: VariableUse<'a>,
+    found: &mut Vec<UndefinedVariable<'a>>,
+) -> Result<(), OutOfMemory>
+    ensures { OnOk result (TellsUndefined (has_name defined.now) (option_map (λ n. n.now) operation.entry) start used.entry (map undefined_of found.old.items) (map undefined_of found.new.items)) }
+{
+    if !is_named(defined, used.name) {
+        found.push(UndefinedVariable {
+            name: used.name,
+            operation,
+            place: used.place,
+            operation_place: start,
+        })?;
+    }
+    Ok(())
+}
+
+// Tells of all of these uses.
+fn tell_all<'a>(
+    defined: &BTreeSet<&str>,
+    operation: Option<&'a str>,
+    start: SourcePosition,
+    uses: &[VariableUse<'a>],
+    found: &mut Vec<UndefinedVariable<'a>>,
+) -> Result<(), OutOfMemory>
+    ensures { OnOk result (map undefined_of found.new.items ≡ map undefined_of found.old.items ++ flat_map (told_undefined (has_name defined.now) (option_map (λ n. n.now) operation.entry) start) (map use_of uses.now)) }
+{
+    for used in uses {
+        tell(defined, operation, start, *used, found)?;
+    }
+    Ok(())
+}
+
+// Tells of the uses that the operations of a name reach.
+fn add_undefined<'a, S>(
+    alloc: Global,
+    document: Document<'a, S>,
+    index: &ScopeIndex<'a>,
+    all: &[Vec<VariableUse<'a>>],
+    name: Option<&'a str>,
+    search: &mut Search,
+    found: &mut Vec<UndefinedVariable<'a>>,
+) -> Result<(), OutOfMemory>
+    requires index { IsIndexOf document.now index.now }
+    requires ready { IsReady index.now search.old }
+    requires all { AllUses document.now all.now }
+    requires named { IsOperationName document.now (option_map (λ n. n.now) name) }
+    ensures told { OnOk result (AddsUndefined document.now (option_map (λ n. n.now) name.entry) (map undefined_of found.old.items) (map undefined_of found.new.items)) }
+    ensures ready { OnOk result (IsReady index.now search.new) }
+{
+    match last_operation(document, &index.places, name) {
+        Some(last) => {
+            let uses = reached_uses(alloc, document, index, search, all, name)?;
+            let defined = name_set(alloc, variables(last))?;
+            tell_all(&defined, name, last.span.start, uses.as_slice(), found)
+        }
+        None => Ok(()),
+    }
+}
+
+/// The uses of variables that the last operation of a name doesn't define, for each name (GraphQL October 2021, section 5.8.3).
+pub fn undefined_variables<'a, S>(
+    alloc: Global,
+    document: Document<'a, S>,
+) -> Result<Vec<UndefinedVariable<'a>>, OutOfMemory>
+    ensures { IfOk result (λ found. UndefinedVariables document.now (map undefined_of found.items)) }
+{
+    let index = index_scopes(alloc, document)?;
+    let all = all_uses(alloc, document)?;
+    let mut search = new_search(alloc, &index)?;
+    let mut found = Vec::new(alloc);
+    for number in 0..index.names.len() {
+        let name = index.names[number];
+        add_undefined(
+            alloc,
+            document,
+            &index,
+            all.as_slice(),
+            name,
+            &mut search,
+            &mut found,
+        )?;
+    }
+    Ok(found)
+}

@@ -1,0 +1,159 @@
+//! Variables that are defined and not used.
+ghost use Rattle.std.specs.Prelude.{◌≡◌, ◌++◌, ◌↔◌, IfOk, IsTrue, OnOk, map, option_map};
+ghost use Rattle.std.specs.List.{Contains};
+ghost use Rattle.scopes.specs.Index.{IsIndexOf};
+ghost use Rattle.scopes.specs.Scopes.{IsOperationName};
+ghost use Rattle.scopes.specs.Searches.{IsReady};
+ghost use Rattle.variable_uses.specs.InReachUses.{AllUses};
+ghost use Rattle.variable_uses.specs.Names.{has_name};
+ghost use Rattle.variable_uses.specs.Unused.{AddsUnused, AddsVariable, UnusedAmong, UnusedVariables, name_and_span, unused_by, unused_of, variable_at};
+
+use crate::names::{is_named, used_names, variables};
+use crate::uses::{VariableUse, all_uses, reached_uses};
+use language::error::OutOfMemory;
+use language::position::{Span, Spanning};
+use language::tree::{Document, VariableDefinition};
+use scopes::index::{ScopeIndex, index_scopes, last_operation};
+use scopes::reach::{Search, new_search};
+use std::alloc::Global;
+use std::collections::BTreeSet;
+
+/// A variable that is not used, where it stands in its definition, and the name of the operation that defines it.
+#[derive(Clone, Copy, Debug)]
+pub struct UnusedVariable<'a> {
+    pub name: &'a str,
+    pub span: Span,
+    pub operation: Option<&'a str>,
+}
+
+// A variable's name, and where it stands.
+#[derive(Clone, Copy, Debug)]
+struct Variable<'a> {
+    name: &'a str,
+    span: Span,
+}
+
+// Whether two have one name and one span.
+fn is_same(a: &Variable<'_>, b: &Spanning<&str>) -> bool
+    ensures { IsTrue result ↔ (name_and_span a.now ≡ variable_at b.now) }
+{
+    a.name == b.item && a.span == b.span
+}
+
+// Whether one of these has the name and the span of this one.
+fn stands_among(found: &[Variable<'_>], variable: &Spanning<&str>) -> bool
+    ensures { IsTrue result ↔ Contains (map name_and_span found.now) (variable_at variable.now) }
+{
+    for earlier in found {
+        if is_same(earlier, variable) {
+            return true;
+        }
+    }
+    false
+}
+
+// Adds a variable, unless its name is used or it is there.
+fn add_variable<'a>(
+    used: &BTreeSet<&str>,
+    variable: &Spanning<&'a str>,
+    found: &mut Vec<Variable<'a>>,
+) -> Result<(), OutOfMemory>
+    ensures { OnOk result (AddsVariable (has_name used.now) (variable_at variable.now) (map name_and_span found.old.items) (map name_and_span found.new.items)) }
+{
+    if is_named(used, variable.item) || stands_among(found.as_slice(), variable) {
+        return Ok(());
+    }
+    found.push(Variable {
+        name: variable.item,
+        span: variable.span,
+    })?;
+    Ok(())
+}
+
+// Those of these variables that are not used, each once.
+fn unused_among<'a, S>(
+    alloc: Global,
+    used: &BTreeSet<&str>,
+    definitions: &[(Spanning<&'a str>, VariableDefinition<'_, S>)],
+) -> Result<Vec<Variable<'a>>, OutOfMemory>
+    ensures { IfOk result (λ found. UnusedAmong (has_name used.now) (map (λ v. (v.0.item.now, v.0.span)) definitions.now) (map name_and_span found.items)) }
+{
+    let mut found = Vec::new(alloc);
+    for definition in definitions {
+        add_variable(used, &definition.0, &mut found)?;
+    }
+    Ok(found)
+}
+
+// Tells of these variables.
+fn tell_all<'a>(
+    variables: &[Variable<'a>],
+    operation: Option<&'a str>,
+    found: &mut Vec<UnusedVariable<'a>>,
+) -> Result<(), OutOfMemory>
+    ensures { OnOk result (map unused_of found.new.items ≡ map unused_of found.old.items ++ map (unused_by (option_map (λ n. n.now) operation.entry)) (map name_and_span variables.now)) }
+{
+    for variable in variables {
+        found.push(UnusedVariable {
+            name: variable.name,
+            span: variable.span,
+            operation,
+        })?;
+    }
+    Ok(())
+}
+
+// Tells of the variables of the last operation of a name.
+fn add_unused<'a, S>(
+    alloc: Global,
+    document: Document<'a, S>,
+    index: &ScopeIndex<'a>,
+    all: &[Vec<VariableUse<'a>>],
+    name: Option<&'a str>,
+    search: &mut Search,
+    found: &mut Vec<UnusedVariable<'a>>,
+) -> Result<(), OutOfMemory>
+    requires index { IsIndexOf document.now index.now }
+    requires ready { IsReady index.now search.old }
+    requires all { AllUses document.now all.now }
+    requires named { IsOperationName document.now (option_map (λ n. n.now) name) }
+    ensures told { OnOk result (AddsUnused document.now (option_map (λ n. n.now) name.entry) (map unused_of found.old.items) (map unused_of found.new.items)) }
+    ensures ready { OnOk result (IsReady index.now search.new) }
+{
+    match last_operation(document, &index.places, name) {
+        Some(last) => {
+            let uses = reached_uses(alloc, document, index, search, all, name)?;
+            let used = used_names(alloc, uses.as_slice())?;
+            let unused = unused_among(alloc, &used, variables(last))?;
+            tell_all(unused.as_slice(), name, found)
+        }
+        None => Ok(()),
+    }
+}
+
+/// The variables that the last operation of a name defines and that no use in the reach of the operations of that name has, for
+/// each name (GraphQL October 2021, section 5.8.4).
+pub fn unused_variables<'a, S>(
+    alloc: Global,
+    document: Document<'a, S>,
+) -> Result<Vec<UnusedVariable<'a>>, OutOfMemory>
+    ensures { IfOk result (λ found. UnusedVariables document.now (map unused_of found.items)) }
+{
+    let index = index_scopes(alloc, document)?;
+    let all = all_uses(alloc, document)?;
+    let mut search = new_search(alloc, &index)?;
+    let mut found = Vec::new(alloc);
+    for number in 0..index.names.len() {
+        let name = index.names[number];
+        add_unused(
+            alloc,
+            document,
+            &index,
+            all.as_slice(),
+            name,
+            &mut search,
+            &mut found,
+        )?;
+    }
+    Ok(found)
+}

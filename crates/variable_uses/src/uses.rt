@@ -1,0 +1,260 @@
+//! The variables that a definition uses, in arguments of fields and of directives.
+ghost use Rattle.std.specs.Prelude.{◌≡◌, ◌++◌, IfOk, OnOk, map, option_map};
+ghost use Rattle.std.specs.List.{flat_map};
+ghost use Rattle.scopes.specs.Index.{IsIndexOf};
+ghost use Rattle.scopes.specs.Searches.{IsReady};
+ghost use Rattle.variable_uses.specs.InReachUses.{AllUses, UsedIn, kept_uses};
+ghost use Rattle.variable_uses.specs.Uses.{argument_uses, arguments_uses, at_place, definition_uses, directive_uses, directives_uses, selection_uses, use_of, used_in_all, variable_definition_uses, variable_definitions_uses};
+
+use language::error::OutOfMemory;
+use language::position::{SourcePosition, Spanning};
+use language::tree::{
+    Arguments, Definition, Directive, Document, Selection, VariableDefinition, VariableDefinitions,
+};
+use language::value::InputValue;
+use scopes::index::ScopeIndex;
+use scopes::reach::{Search, reached_definitions};
+use std::alloc::Global;
+
+/// A variable inside an argument's value, and where that value starts.
+#[derive(Clone, Copy, Debug)]
+pub struct VariableUse<'d> {
+    pub name: &'d str,
+    pub place: SourcePosition,
+}
+
+// Adds uses of these names, at one place.
+fn add_names<'d>(
+    place: SourcePosition,
+    names: &[&'d str],
+    found: &mut Vec<VariableUse<'d>>,
+) -> Result<(), OutOfMemory>
+    ensures { OnOk result (map use_of found.new.items ≡ map use_of found.old.items ++ map (at_place place) (map (λ n. n.now) names.now)) }
+{
+    for name in names {
+        found.push(VariableUse { name: *name, place })?;
+    }
+    Ok(())
+}
+
+// Adds those of an argument.
+fn add_argument<'d, S>(
+    alloc: Global,
+    argument: &'d (Spanning<&str>, Spanning<InputValue<S>>),
+    found: &mut Vec<VariableUse<'d>>,
+) -> Result<(), OutOfMemory>
+    ensures { OnOk result (map use_of found.new.items ≡ map use_of found.old.items ++ argument_uses argument.now) }
+{
+    let names = argument.1.item.referenced_variables(alloc)?;
+    add_names(argument.1.span.start, names.as_slice(), found)
+}
+
+// Adds those of each of these arguments.
+fn add_each_argument<'d, S>(
+    alloc: Global,
+    arguments: &'d [(Spanning<&str>, Spanning<InputValue<S>>)],
+    found: &mut Vec<VariableUse<'d>>,
+) -> Result<(), OutOfMemory>
+    ensures { OnOk result (map use_of found.new.items ≡ map use_of found.old.items ++ flat_map argument_uses arguments.now) }
+{
+    for argument in arguments {
+        add_argument(alloc, argument, found)?;
+    }
+    Ok(())
+}
+
+// Adds those of all arguments.
+fn add_arguments<'d, S>(
+    alloc: Global,
+    arguments: &'d Option<Spanning<Arguments<'_, S>>>,
+    found: &mut Vec<VariableUse<'d>>,
+) -> Result<(), OutOfMemory>
+    ensures { OnOk result (map use_of found.new.items ≡ map use_of found.old.items ++ arguments_uses arguments.now) }
+{
+    match arguments {
+        Some(given) => add_each_argument(alloc, given.item.items.as_slice(), found),
+        None => Ok(()),
+    }
+}
+
+// Adds those of each of these directives.
+fn add_each_directive<'d, S>(
+    alloc: Global,
+    directives: &'d [Spanning<Directive<'_, S>>],
+    found: &mut Vec<VariableUse<'d>>,
+) -> Result<(), OutOfMemory>
+    ensures { OnOk result (map use_of found.new.items ≡ map use_of found.old.items ++ flat_map directive_uses directives.now) }
+{
+    for directive in directives {
+        add_arguments(alloc, &directive.item.arguments, found)?;
+    }
+    Ok(())
+}
+
+// Adds those of all directives.
+fn add_directives<'d, S>(
+    alloc: Global,
+    directives: &'d Option<Vec<Spanning<Directive<'_, S>>>>,
+    found: &mut Vec<VariableUse<'d>>,
+) -> Result<(), OutOfMemory>
+    ensures { OnOk result (map use_of found.new.items ≡ map use_of found.old.items ++ directives_uses directives.now) }
+{
+    match directives {
+        Some(given) => add_each_directive(alloc, given.as_slice(), found),
+        None => Ok(()),
+    }
+}
+
+#[cycle(uses)]
+fn add_set<'d, S>(
+    alloc: Global,
+    set: &'d [Selection<'_, S>],
+    found: &mut Vec<VariableUse<'d>>,
+) -> Result<(), OutOfMemory>
+    ensures { OnOk result (map use_of found.new.items ≡ map use_of found.old.items ++ used_in_all set.now) }
+{
+    for selection in set {
+        add_selection(alloc, selection, found)?;
+    }
+    Ok(())
+}
+
+#[cycle(uses)]
+fn add_selection<'d, S>(
+    alloc: Global,
+    selection: &'d Selection<'_, S>,
+    found: &mut Vec<VariableUse<'d>>,
+) -> Result<(), OutOfMemory>
+    ensures { OnOk result (map use_of found.new.items ≡ map use_of found.old.items ++ selection_uses selection.now) }
+{
+    match selection {
+        Selection::Field(field) => {
+            add_arguments(alloc, &field.item.arguments, found)?;
+            add_directives(alloc, &field.item.directives, found)?;
+            match &field.item.selection_set {
+                Some(inner) => add_set(alloc, inner.as_slice(), found),
+                None => Ok(()),
+            }
+        }
+        Selection::FragmentSpread(spread) => add_directives(alloc, &spread.item.directives, found),
+        Selection::InlineFragment(inline) => {
+            add_directives(alloc, &inline.item.directives, found)?;
+            add_set(alloc, inline.item.selection_set.as_slice(), found)
+        }
+    }
+}
+
+// Adds those of the directives at each of these definitions of variables.
+fn add_each_definition<'d, S>(
+    alloc: Global,
+    definitions: &'d [(Spanning<&str>, VariableDefinition<'_, S>)],
+    found: &mut Vec<VariableUse<'d>>,
+) -> Result<(), OutOfMemory>
+    ensures { OnOk result (map use_of found.new.items ≡ map use_of found.old.items ++ flat_map variable_definition_uses definitions.now) }
+{
+    for definition in definitions {
+        add_directives(alloc, &definition.1.directives, found)?;
+    }
+    Ok(())
+}
+
+// Adds those of the directives at definitions of variables; defaults hold no uses.
+fn add_variable_definitions<'d, S>(
+    alloc: Global,
+    definitions: &'d Option<Spanning<VariableDefinitions<'_, S>>>,
+    found: &mut Vec<VariableUse<'d>>,
+) -> Result<(), OutOfMemory>
+    ensures { OnOk result (map use_of found.new.items ≡ map use_of found.old.items ++ variable_definitions_uses definitions.now) }
+{
+    match definitions {
+        Some(given) => add_each_definition(alloc, given.item.items.as_slice(), found),
+        None => Ok(()),
+    }
+}
+
+/// The variables that a definition uses, in the order of the document, with repeats. Where there is none it asks for no memory.
+pub fn variable_uses<'d, S>(
+    alloc: Global,
+    definition: &'d Definition<'_, S>,
+) -> Result<Vec<VariableUse<'d>>, OutOfMemory>
+    ensures { IfOk result (λ v. map use_of v.items ≡ definition_uses definition.now) }
+{
+    let mut found = Vec::new(alloc);
+    match definition {
+        Definition::Operation(operation) => {
+            add_variable_definitions(alloc, &operation.item.variable_definitions, &mut found)?;
+            add_directives(alloc, &operation.item.directives, &mut found)?;
+            add_set(alloc, operation.item.selection_set.as_slice(), &mut found)?;
+        }
+        Definition::Fragment(fragment) => {
+            add_directives(alloc, &fragment.item.directives, &mut found)?;
+            add_set(alloc, fragment.item.selection_set.as_slice(), &mut found)?;
+        }
+    }
+    Ok(found)
+}
+
+/// The uses of each definition of a document.
+pub fn all_uses<'a, S>(
+    alloc: Global,
+    document: Document<'a, S>,
+) -> Result<Vec<Vec<VariableUse<'a>>>, OutOfMemory>
+    ensures { IfOk result (λ all. AllUses document.now all.items) }
+{
+    let mut all = Vec::new(alloc);
+    for definition in document {
+        all.push(variable_uses(alloc, definition)?)?;
+    }
+    Ok(all)
+}
+
+// Adds those that are kept at a place.
+fn add_uses_at<'a>(
+    all: &[Vec<VariableUse<'a>>],
+    place: usize,
+    found: &mut Vec<VariableUse<'a>>,
+) -> Result<(), OutOfMemory>
+    ensures { OnOk result (map use_of found.new.items ≡ map use_of found.old.items ++ kept_uses all.now place) }
+{
+    match all.get(place) {
+        Some(uses) => {
+            found.extend_from_slice(uses.as_slice())?;
+            Ok(())
+        }
+        None => Ok(()),
+    }
+}
+
+// Those at these places.
+fn uses_at<'a>(
+    alloc: Global,
+    all: &[Vec<VariableUse<'a>>],
+    places: &[usize],
+) -> Result<Vec<VariableUse<'a>>, OutOfMemory>
+    ensures { IfOk result (λ v. map use_of v.items ≡ flat_map (kept_uses all.now) places.now) }
+{
+    let mut found = Vec::new(alloc);
+    for place in places {
+        add_uses_at(all, *place, &mut found)?;
+    }
+    Ok(found)
+}
+
+/// The uses that the operations of a name reach.
+pub fn reached_uses<'a, S>(
+    alloc: Global,
+    document: Document<'a, S>,
+    index: &ScopeIndex<'a>,
+    search: &mut Search,
+    all: &[Vec<VariableUse<'a>>],
+    name: Option<&'a str>,
+) -> Result<Vec<VariableUse<'a>>, OutOfMemory>
+    requires index { IsIndexOf document.now index.now }
+    requires ready { IsReady index.now search.old }
+    requires all { AllUses document.now all.now }
+    ensures used { IfOk result (λ v. UsedIn document.now (option_map (λ n. n.now) name.entry) (map use_of v.items)) }
+    ensures ready { OnOk result (IsReady index.now search.new) }
+{
+    let places = reached_definitions(alloc, document, index, search, name)?;
+    uses_at(alloc, all, places.as_slice())
+}
