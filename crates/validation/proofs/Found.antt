@@ -1,5 +1,5 @@
 -- Nothing may be reported just if nothing is found.
-use Rattle.std.proofs.Common.{◌≡◌, ◌↔◌, ℕ, List, [], ◌∷◌, refl, subst, sym, IsPermutation, arith}
+use Rattle.std.proofs.Common.{◌≡◌, ◌↔◌, ℕ, List, [], ◌∷◌, map, refl, subst, sym, IsPermutation, arith}
 use Rattle.std.proofs.lemmas.List.{nil_from_length}
 use Rattle.std.proofs.lemmas.List.Sorted.{IsPermutation-refl, length_permutation}
 use Rattle.language.specs.declared.tree.Definition.{Definition}
@@ -13,8 +13,12 @@ use Rattle.fragment_cycles.proofs.Lists.{none_some}
 use Rattle.reach.specs.NoUnusedFragments.{NoneUnused}
 use Rattle.reach.proofs.Cycles.{silent}
 use Rattle.reach.proofs.Unused.{none_unused_just_if}
+use Rattle.reach.specs.NoUndefinedVariables.{undefined_error}
+use Rattle.reach.specs.NoUnusedVariables.{unused_variable_error}
+use Rattle.variable_uses.specs.Undefined.{UndefinedVariables}
+use Rattle.variable_uses.specs.Unused.{UnusedVariables}
 use Rattle.validation.specs.NothingFound.{NothingFound}
-use Rattle.validation.specs.StageOne.{all_of, groups, of_arguments, of_cycles, of_fields, of_fragments, of_operations, of_reach, of_unused, of_values, stage_one}
+use Rattle.validation.specs.StageOne.{all_of, groups, of_arguments, of_cycles, of_fields, of_fragments, of_operations, of_reach, of_undefined, of_unused, of_unused_variables, of_values, stage_one}
 use Rattle.validation.proofs.Groups.{nothing_parts, nothing_whole}
 
 pub none_of : {X : Type 0} (xs : List X) → IsPermutation xs [] → xs ≡ []
@@ -23,9 +27,19 @@ none_of xs p = nil_from_length xs (sym (length_permutation xs [] p))
 pub of_none : {X : Type 0} (xs : List X) → xs ≡ [] → IsPermutation xs []
 of_none xs e = subst (λ z. IsPermutation z []) (sym e) (IsPermutation-refl [])
 
+pub told_none : {X Y : Type 0} (f : X → Y) (xs : List X) → [] ≡ map f xs → xs ≡ []
+told_none f [] e = refl
+told_none f (x ∷ xs) e = cc
+
 module _ {S C : Type 0} (may : Answers (InputValue S) C) (shown : InputValue S → List ℕ) (scope : DocumentScope S C) (t : Typing S C) (doc : List (Definition S)) where
   no_cycles : of_cycles scope t doc [] → HasNoCycle doc
   no_cycles (reports, found, e) = silent doc reports found (sym e)
+
+  none_undefined : of_undefined scope t doc [] → UndefinedVariables doc []
+  none_undefined (uses, told, e) = subst (UndefinedVariables doc) (told_none undefined_error uses e) told
+
+  none_unused : of_unused_variables scope t doc [] → UnusedVariables doc []
+  none_unused (variables, told, e) = subst (UnusedVariables doc) (told_none unused_variable_error variables e) told
 
   nothing_found : AllowNothing (stage_one may shown) scope t doc → NothingFound may shown scope t doc
   nothing_found (spreads, all) =
@@ -35,7 +49,7 @@ module _ {S C : Type 0} (may : Answers (InputValue S) C) (shown : InputValue S �
       let (arguments, r₄) = nothing_parts scope t doc of_arguments (all_of (of_fields ∷ of_operations ∷ [])) r₃ in
       let (fields, r₅) = nothing_parts scope t doc of_fields (all_of (of_operations ∷ [])) r₄ in
       let (operations, r₆) = nothing_parts scope t doc of_operations [] r₅ in
-      let (unused, (cycles, u₁)) = reach in
+      let (positions, (unused_variables, (unused, (undefined, (cycles, u₁))))) = reach in
       let (defaults, (wrong, u₂)) = values in
       let (twice, (types, (unknown, (others, u₃)))) = fragments in
       let (keys, (repeated, (missing, (directives, (arguments_unknown, u₄))))) = arguments in
@@ -59,8 +73,11 @@ module _ {S C : Type 0} (may : Answers (InputValue S) C) (shown : InputValue S �
         arguments_of_correct_type = wrong;
         default_values_of_correct_type = defaults;
         no_fragment_cycles = no_cycles cycles;
+        no_undefined_variables = none_undefined undefined;
         no_unused_fragments = (none_unused_just_if doc [] unused).0 refl;
+        no_unused_variables = none_unused unused_variables;
         possible_fragment_spreads = none_of _ spreads;
+        variables_in_allowed_position = positions;
       }
 
   no_reports : HasNoCycle doc → of_cycles scope t doc []
@@ -76,9 +93,11 @@ module _ {S C : Type 0} (may : Answers (InputValue S) C) (shown : InputValue S �
       let fields : AllowNothing of_fields scope t doc = (of_none _ h.scalar_leafs, (of_none _ h.fields_on_correct_type, tt)) in
       let arguments : AllowNothing of_arguments scope t doc =
       (of_none _ h.unique_input_field_names, (of_none _ h.unique_argument_names, (of_none _ h.provided_non_null_arguments, (of_none _ h.known_directives, (of_none _ h.known_argument_names, tt))))) in
-      let fragments : AllowNothing of_fragments scope t doc = (of_none _ h.unique_fragment_names, (of_none _ h.known_type_names, (of_none _ h.known_fragment_names, (of_none _ h.fragments_on_composite_types, tt)))) in (
+      let fragments : AllowNothing of_fragments scope t doc = (of_none _ h.unique_fragment_names, (of_none _ h.known_type_names, (of_none _ h.known_fragment_names, (of_none _ h.fragments_on_composite_types, tt)))) in
+      let across : AllowNothing of_reach scope t doc =
+      (h.variables_in_allowed_position, (([], h.no_unused_variables, refl), (no_unused h.no_unused_fragments, (([], h.no_undefined_variables, refl), (no_reports h.no_fragment_cycles, tt))))) in (
         of_none _ h.possible_fragment_spreads,
-        nothing_whole scope t doc of_reach (all_of (groups may shown)) (no_unused h.no_unused_fragments, (no_reports h.no_fragment_cycles, tt))
+        nothing_whole scope t doc of_reach (all_of (groups may shown)) across
             (nothing_whole scope t doc (of_values may shown) (all_of (of_fragments ∷ of_arguments ∷ of_fields ∷ of_operations ∷ [])) (h.default_values_of_correct_type, (h.arguments_of_correct_type, tt))
             (nothing_whole scope t doc of_fragments (all_of (of_arguments ∷ of_fields ∷ of_operations ∷ [])) fragments
             (nothing_whole scope t doc of_arguments (all_of (of_fields ∷ of_operations ∷ [])) arguments

@@ -1,5 +1,5 @@
 -- No error is reported just if each rule allows none.
-use Rattle.std.proofs.Common.{ℕ, List, [], ◌∷◌, ◌∙◌, refl, sym}
+use Rattle.std.proofs.Common.{ℕ, List, [], ◌∷◌, ◌∙◌, ap, map, refl, subst, sym}
 use Rattle.language.specs.declared.value.InputValue.{InputValue}
 use Rattle.meta.specs.Answers.{Answers}
 use Rattle.literals.specs.Laws.{OneAnswer}
@@ -8,7 +8,14 @@ use Rattle.walk.specs.Rule.{AllSettled, Settled}
 use Rattle.walk.proofs.Sums.{exactly_settled}
 use Rattle.reach.proofs.Cycles.{silent, without_cycles}
 use Rattle.reach.proofs.Unused.{none_unused_just_if}
-use Rattle.validation.specs.StageOne.{of_arguments, of_cycles, of_fields, of_fragments, of_operations, of_reach, of_unused, of_values, stage_one, all_of, groups}
+use Rattle.reach.specs.NoUndefinedVariables.{undefined_error}
+use Rattle.reach.specs.NoUnusedVariables.{unused_variable_error}
+use Rattle.variable_positions.proofs.Settled.{positions_settled}
+use Rattle.variable_uses.specs.Undefined.{UndefinedVariables}
+use Rattle.variable_uses.specs.Unused.{UnusedVariables}
+use Rattle.variable_uses.proofs.Settling.{undefined_settled, unused_settled}
+use Rattle.validation.specs.StageOne.{of_arguments, of_cycles, of_fields, of_fragments, of_operations, of_reach, of_undefined, of_unused, of_unused_variables, of_values, stage_one, all_of, groups}
+use Rattle.validation.proofs.Found.{told_none}
 use Rattle.validation.proofs.Groups.{settled_append}
 
 -- a word for each rule, in the order of its group
@@ -31,11 +38,21 @@ module _ {S C : Type 0} where
       e' ∙ without_cycles doc reports others (silent doc none found (sym e))
 
   -- nor is a fragment unused
-  unused_settled : Settled (of_unused {S = S} {C = C})
-  unused_settled scope t doc es none some = (none_unused_just_if doc es some).1 ((none_unused_just_if doc [] none).0 refl)
+  fragments_used_settled : Settled (of_unused {S = S} {C = C})
+  fragments_used_settled scope t doc es none some = (none_unused_just_if doc es some).1 ((none_unused_just_if doc [] none).0 refl)
+
+  -- nor is a variable undefined
+  undefined_variables_settled : Settled (of_undefined {S = S} {C = C})
+  undefined_variables_settled scope t doc es (none, silent, e) (uses, told, is) =
+      is ∙ ap (map undefined_error) (undefined_settled doc uses (subst (UndefinedVariables doc) (told_none undefined_error none e) silent) told)
+
+  -- nor unused
+  unused_variables_settled : Settled (of_unused_variables {S = S} {C = C})
+  unused_variables_settled scope t doc es (none, silent, e) (variables, told, is) =
+      is ∙ ap (map unused_variable_error) (unused_settled doc variables (subst (UnusedVariables doc) (told_none unused_variable_error none e) silent) told)
 
   reach_settled : AllSettled (of_reach {S = S} {C = C})
-  reach_settled = (unused_settled, (cycles_settled, tt))
+  reach_settled = (positions_settled, (unused_variables_settled, (fragments_used_settled, (undefined_variables_settled, (cycles_settled, tt)))))
 
 module _ {S C : Type 0} (may : Answers (InputValue S) C) (shown : InputValue S → List ℕ) (one : OneAnswer may) where
   values_settled : AllSettled (of_values may shown)

@@ -27,9 +27,13 @@ use Rattle.literal_rules.specs.ArgumentsOfCorrectType.{wrong_arguments}
 use Rattle.literal_rules.specs.DefaultValuesOfCorrectType.{wrong_defaults}
 use Rattle.fragment_cycles.specs.DocumentCycles.{HasNoCycle}
 use Rattle.reach.specs.NoUnusedFragments.{NoneUnused}
+use Rattle.variable_uses.specs.Undefined.{UndefinedVariables}
+use Rattle.variable_uses.specs.Unused.{UnusedVariables}
+use Rattle.variable_positions.specs.VariableInAllowedPosition.{misplaced_variables}
 
 module _ {S C : Type 0} (may : Answers (InputValue S) C) (shown : InputValue S → List ℕ) where
-  -- every collection of a rule is empty, no value has a fault, no fragment leads back to itself and none is unused
+  -- every collection of a rule is empty, no value has a fault, no fragment leads back to itself and none is unused, and no variable
+  -- is undefined, unused, or where its type may not stand
   pub record NothingFound (scope : DocumentScope S C) (t : Typing S C) (doc : List (Definition S)) : Type 0 where
     pub lone_anonymous_operation : found_by has_several anonymous_among scope t doc ≡ []
     pub unique_operation_names : repeated repeated_operation_message operation_name scope t doc ≡ []
@@ -49,5 +53,8 @@ module _ {S C : Type 0} (may : Answers (InputValue S) C) (shown : InputValue S �
     pub arguments_of_correct_type : given (wrong_arguments may shown) scope t doc []
     pub default_values_of_correct_type : given (wrong_defaults may shown) scope t doc []
     pub no_fragment_cycles : HasNoCycle doc
+    pub no_undefined_variables : UndefinedVariables doc []
     pub no_unused_fragments : NoneUnused doc
+    pub no_unused_variables : UnusedVariables doc []
     pub possible_fragment_spreads : found_by conditions impossible_spreads scope t doc ≡ []
+    pub variables_in_allowed_position : misplaced_variables scope t doc []

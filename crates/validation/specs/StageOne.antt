@@ -28,7 +28,12 @@ use Rattle.fragment_rules.specs.PossibleFragmentSpreads.{conditions, impossible_
 use Rattle.fragment_rules.specs.UniqueFragmentNames.{fragment_name, repeated_fragment_message}
 use Rattle.fragment_cycles.specs.DocumentCycles.{FindsCycles, NameAndPlace}
 use Rattle.reach.specs.NoFragmentCycles.{cycle_error}
+use Rattle.reach.specs.NoUndefinedVariables.{undefined_error}
 use Rattle.reach.specs.NoUnusedFragments.{UnusedErrors}
+use Rattle.reach.specs.NoUnusedVariables.{unused_variable_error}
+use Rattle.variable_uses.specs.Undefined.{Undefined, UndefinedVariables}
+use Rattle.variable_uses.specs.Unused.{Unused, UnusedVariables}
+use Rattle.variable_positions.specs.VariableInAllowedPosition.{misplaced_variables}
 use Rattle.literal_rules.specs.ArgumentsOfCorrectType.{wrong_arguments}
 use Rattle.literal_rules.specs.DefaultValuesOfCorrectType.{wrong_defaults}
 
@@ -80,9 +85,17 @@ module _ {S C : Type 0} where
   abbrev pub of_unused : Allowance S C
   of_unused scope t doc es = UnusedErrors doc es
 
-  -- what leads across the document
+  -- each use of a variable, in the reach of an operation, that the operation doesn't define (5.8.3)
+  abbrev pub of_undefined : Allowance S C
+  of_undefined scope t doc es = (uses : List Undefined) × UndefinedVariables doc uses × (es ≡ map undefined_error uses)
+
+  -- each variable of an operation that nothing in its reach uses (5.8.4)
+  abbrev pub of_unused_variables : Allowance S C
+  of_unused_variables scope t doc es = (variables : List Unused) × UnusedVariables doc variables × (es ≡ map unused_variable_error variables)
+
+  -- what leads across the document; last the uses of variables where their types may not stand (5.8.5)
   abbrev pub of_reach : List (Allowance S C)
-  of_reach = of_unused ∷ of_cycles ∷ []
+  of_reach = misplaced_variables ∷ of_unused_variables ∷ of_unused ∷ of_undefined ∷ of_cycles ∷ []
 
   -- what each rule of these groups allows
   abbrev pub all_of : List (List (Allowance S C)) → List (Allowance S C)

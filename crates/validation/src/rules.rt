@@ -43,9 +43,15 @@ pub use operation_rules::{
     variables_are_input_types,
 };
 use reach::no_fragment_cycles::NoFragmentCycles;
+use reach::no_undefined_variables::NoUndefinedVariables;
 use reach::no_unused_fragments::NoUnusedFragments;
-pub use reach::{no_fragment_cycles, no_unused_fragments};
+use reach::no_unused_variables::NoUnusedVariables;
+pub use reach::{
+    no_fragment_cycles, no_undefined_variables, no_unused_fragments, no_unused_variables,
+};
 use std::alloc::Global;
+pub use variable_positions::variables_in_allowed_position;
+use variable_positions::variables_in_allowed_position::VariableInAllowedPosition;
 use walk::{Fresh, MultiVisitorCons, MultiVisitorNil, ValidatorContext, visit_rules};
 
 // A list of rules, the newest first. One long list of all rules is dear to prove, so they come in groups.
@@ -95,9 +101,18 @@ type OfValues = MultiVisitorCons<
     MultiVisitorCons<ArgumentsOfCorrectType, MultiVisitorNil>,
 >;
 
-type OfReach = MultiVisitorCons<
-    NoUnusedFragments,
-    MultiVisitorCons<NoFragmentCycles, MultiVisitorNil>,
+type OfReach<'a> = MultiVisitorCons<
+    VariableInAllowedPosition<'a>,
+    MultiVisitorCons<
+        NoUnusedVariables<'a>,
+        MultiVisitorCons<
+            NoUnusedFragments,
+            MultiVisitorCons<
+                NoUndefinedVariables<'a>,
+                MultiVisitorCons<NoFragmentCycles, MultiVisitorNil>,
+            >,
+        >,
+    >,
 >;
 
 // The rules on operations and their variables.
@@ -153,16 +168,19 @@ fn of_values(alloc: Global) -> OfValues
 }
 
 // The rules on what leads across the document.
-fn of_reach(alloc: Global) -> OfReach
-    ensures { ⟦<OfReach as Fresh>⟧.fresh result }
+fn of_reach<'a>(alloc: Global) -> OfReach<'a>
+    ensures { ⟦<OfReach<'a> as Fresh>⟧.fresh result }
 {
     MultiVisitorNil
         .with_rule(no_fragment_cycles::factory(alloc))
+        .with_rule(no_undefined_variables::factory(alloc))
         .with_rule(no_unused_fragments::factory(alloc))
+        .with_rule(no_unused_variables::factory(alloc))
+        .with_rule(variables_in_allowed_position::factory(alloc))
 }
 
 /// Tries every rule on a document, and appends the errors of the rules, in a context that was made for it: none just if every collection of a
-/// rule is empty, no value has a fault, no fragment leads back to itself and none is unused. In any other context it appends errors alone.
+/// rule is empty, no value has a fault, no fragment leads back to itself and none is unused, and each variable is defined, used, and where its type may stand. In any other context it appends errors alone.
 ///
 /// It walks over the document once. The answer is the number of pairs of fragments that were compared; no rule that compares
 /// any is there yet, so it is 0.

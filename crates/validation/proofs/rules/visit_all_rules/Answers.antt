@@ -1,10 +1,14 @@
 use Rattle.std.proofs.Common.{[], ◌∷◌}
 use Rattle.language.specs.ValuesPrinted.{printed_value}
 use Rattle.walk.specs.ContextState.{typing, scope_of}
+use Rattle.walk.specs.Rule.{always}
 use Rattle.walk.proofs.Sums.{silent_just_if}
 use Rattle.reach.specs.AtDocument.{given_at_end}
 use Rattle.reach.specs.NoFragmentCycles.{cycle_errors}
+use Rattle.reach.specs.NoUndefinedVariables.{undefined_errors}
 use Rattle.reach.specs.NoUnusedFragments.{unused_errors}
+use Rattle.reach.specs.NoUnusedVariables.{unused_variable_errors}
+use Rattle.variable_positions.specs.VariableInAllowedPosition.{misplaced_variables}
 use Rattle.validation.specs.StageOne.{groups, of_reach, of_spreads, stage_one}
 use Rattle.validation.proofs.Found.{nothing_just_if}
 use Rattle.validation.proofs.Groups.{appended_all}
@@ -17,9 +21,10 @@ returns-clause-appended g c =
     -- the rules across the document, in the states that they end in
     let across = c.visit_rules.new.rules.1.0 in
     appended_all (scope_of c.args.ctx.now.schema c.args.document.now) (typing c.args.ctx.now) c.args.document.now of_spreads
-    (given_at_end unused_errors across.0 ∷ given_at_end cycle_errors across.1.0 ∷ []) of_reach
+    (always misplaced_variables across.0 ∷ given_at_end unused_variable_errors across.1.0 ∷ given_at_end unused_errors across.1.1.0
+    ∷ given_at_end undefined_errors across.1.1.1.0 ∷ given_at_end cycle_errors across.1.1.1.1.0 ∷ []) of_reach
     (groups g.S.CheckedScalar.may_answer (printed_value g.S.ScalarValue.text g.S.ScalarValue.str_of)) c.args.ctx.now c.visit_rules.new.ctx
-    (λ es h. h, (λ es h. (h.reports, h.found, h.told), tt)) (c.in_ok-visit_rules.ensures.appended known)
+    (λ es h. h, (λ es h. h, (λ es h. h, (λ es h. h, (λ es h. (h.reports, h.found, h.told), tt))))) (c.in_ok-visit_rules.ensures.appended known)
 
 pub returns-clause-silent : goal.returns-clause-silent
 returns-clause-silent g c =
