@@ -1,5 +1,5 @@
-use Rattle.std.proofs.Common.{◌++◌, ◌∷◌, [], ◌<◌, ◌≤◌, length, length-map, map, option_map, subst, sym, arith, take}
-use Rattle.std.proofs.lemmas.List.{take_all}
+use Rattle.std.proofs.Common.{◌++◌, ◌∷◌, [], ◌<◌, ◌≤◌, length, map, option_map, subst, sym, arith, take}
+use Rattle.std.proofs.lemmas.List.{length-map, take_all}
 use Rattle.scopes.specs.Index.{operation_names}
 use Rattle.variable_uses.specs.InReachUses.{InTurn}
 use Rattle.variable_uses.specs.Undefined.{UndefinedIn, undefined_of}
@@ -31,7 +31,7 @@ pub returns : goal.returns
 returns g c =
     let names = c.in_ok-index.index.names in
     let all : length (operation_names c.in_ok-index.index) ≤ c.loop-number.number =
-    let t = c.loop-number-test.false in let e = c.len-number-end.ensures in let same = names.ok.0 in omega (arith, t, e, same, length-map {A = _} {B = _} (option_map (λ n. n.now)) names.items)
+    let t = c.loop-number-test.false in let e = c.len-number-end.ensures in let same = names.ok.0 in omega (arith, t, e, same, length-map (option_map (λ n. n.now)) names.items)
     in (
       operation_names c.in_ok-index.index,
       c.in_ok-index.ensures.names,

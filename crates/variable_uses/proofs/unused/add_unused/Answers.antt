@@ -23,7 +23,7 @@ returns-in_ok-unused-in-Some-clause-told g c =
         unused = unused_in us last c.as_slice.result.now c.in_ok-used-in-Some.used c.variables.result.now vs c.variables.ensures (ap (map use_of) c.as_slice.ensures.value) c.in_ok-used-in-Some.ensures c.in_ok-unused-in-Some.ensures;
         told = refl;
       },
-      e ∙ ap (λ zs. map unused_of c.args.found.now.items ++ map (unused_by name) (map name_and_span zs)) c.as_slice-2.ensures.value,
+      e ∙ ap (λ zs. map unused_of c.args.found.now.items ++ map (unused_by name) (map name_and_span zs)) c.as_slice-in-Some.ensures.value,
     ))
     c.tell_all.ensures
 

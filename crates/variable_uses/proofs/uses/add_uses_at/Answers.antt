@@ -15,4 +15,4 @@ returns-in_ok-extend_from_slice-in-Some c =
     let found = map use_of c.args.found.now.items in
     ap (map use_of) (c.in_ok-extend_from_slice-in-Some.ensures.items ∙ ap (λ zs. c.args.found.now.items ++ zs) c.as_slice.ensures.value)
     ∙ map-append use_of c.args.found.now.items c.in-Some.uses.now.items
-    ∙ ap (λ o. found ++ option_map_or (λ v. map use_of v.items) o []) (sym (slice_get_read c.args.all.now (length c.args.all.now) c.args.place c.in-Some.uses.now refl c.in-Some.ensures.lookup.3.0 ?))
+    ∙ ap (λ o. found ++ option_map_or (λ v. map use_of v.items) o []) (sym (slice_get_read c.args.all.now (length c.args.all.now) c.args.place c.in-Some.uses.now refl c.in-Some.ensures.lookup.3.0 c.in-Some.ensures.lookup.1))
