@@ -31,7 +31,7 @@ pub returns : goal.returns
 returns g c =
     let names = c.in_ok-index.index.names in
     let all : length (operation_names c.in_ok-index.index) ≤ c.loop-number.number =
-    let t = c.loop-number-test.false in let e = c.len-number-end.ensures in let same = names.ok.0 in omega (arith, t, e, same, length-map (option_map (λ n. n.now)) names.items)
+    let t = c.loop-number-test.false in let e = c.len-number-end.ensures in let same = names.ok.0 in omega (arith, t, e, same, length-map names.items (option_map (λ n. n.now)))
     in (
       operation_names c.in_ok-index.index,
       c.in_ok-index.ensures.names,
