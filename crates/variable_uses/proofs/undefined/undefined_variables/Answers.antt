@@ -1,5 +1,5 @@
-use Rattle.std.proofs.Common.{◌++◌, ◌∷◌, [], ◌<◌, ◌≤◌, length, length-map, map, option_map, subst, sym, arith, take}
-use Rattle.std.proofs.lemmas.List.{take_all}
+use Rattle.std.proofs.Common.{◌++◌, ◌∷◌, [], ◌<◌, ◌≤◌, length, map, option_map, subst, sym, arith, take}
+use Rattle.std.proofs.lemmas.List.{length-map, take_all}
 use Rattle.scopes.specs.Index.{operation_names}
 use Rattle.variable_uses.specs.InReachUses.{InTurn}
 use Rattle.variable_uses.specs.Undefined.{UndefinedIn, undefined_of}
@@ -9,7 +9,7 @@ use Rattle.variable_uses.proofs.undefined.undefined_variables.Goals as goal
 pub add_undefined-requires-clause-named : goal.add_undefined-requires-clause-named
 add_undefined-requires-clause-named g c =
     let names = c.in_ok-index.index.names in
-    let low : c.loop-number.number < length names.items = let t = c.loop-number-test.true in let e = c.len.ensures in let same = names.ok.0 in omega (arith, t, e, same) in
+    let low : c.loop-number.number < length names.items = let t = c.loop-number-test.true in let e = c.len-number-end.ensures in let same = names.ok.0 in omega (arith, t, e, same) in
     (c.in_ok-index.ensures.names.are (option_map (λ n. n.now) c.index-name.result.now)).0
     (mapped_contains (option_map (λ n. n.now)) names.items c.loop-number.number c.index-name.result.now c.index-name.ensures low)
 
@@ -18,7 +18,7 @@ loop-number-preserved g c =
     let doc = c.args.document.now in
     let names = c.in_ok-index.index.names in
     let i = c.loop-number.number in
-    let low : i < length names.items = let t = c.loop-number-test.true in let e = c.len.ensures in let same = names.ok.0 in omega (arith, t, e, same) in
+    let low : i < length names.items = let t = c.loop-number-test.true in let e = c.len-number-end.ensures in let same = names.ok.0 in omega (arith, t, e, same) in
     let (part, given, more) = c.in_ok-add_undefined.ensures.told in
     let new = map undefined_of c.add_undefined.new.found.items in (
       subst (λ xs. InTurn (UndefinedIn doc) xs new) (sym (mapped_next (option_map (λ n. n.now)) names.items i c.index-name.result.now c.index-name.ensures low))
@@ -31,7 +31,7 @@ pub returns : goal.returns
 returns g c =
     let names = c.in_ok-index.index.names in
     let all : length (operation_names c.in_ok-index.index) ≤ c.loop-number.number =
-    let t = c.loop-number-test.false in let e = c.len.ensures in let same = names.ok.0 in omega (arith, t, e, same, length-map {A = _} {B = _} (option_map (λ n. n.now)) names.items)
+    let t = c.loop-number-test.false in let e = c.len-number-end.ensures in let same = names.ok.0 in omega (arith, t, e, same, length-map names.items (option_map (λ n. n.now)))
     in (
       operation_names c.in_ok-index.index,
       c.in_ok-index.ensures.names,

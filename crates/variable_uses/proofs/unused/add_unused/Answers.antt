@@ -5,12 +5,12 @@ use Rattle.variable_uses.specs.Uses.{use_of}
 use Rattle.variable_uses.proofs.Variables.{unused_in}
 use Rattle.variable_uses.proofs.unused.add_unused.Goals as goal
 
-pub returns-in-Some-clause-told : goal.returns-in-Some-clause-told
-returns-in-Some-clause-told g c =
+pub returns-in_ok-unused-in-Some-clause-told : goal.returns-in_ok-unused-in-Some-clause-told
+returns-in_ok-unused-in-Some-clause-told g c =
     let last = c.in-Some.last.now in
     let name = option_map (λ n. n.now) c.args.name in
-    let us = map use_of c.in_ok-uses.uses.items in
-    let vs = map name_and_span c.in_ok-unused.unused.items in
+    let us = map use_of c.in_ok-uses-in-Some.uses.items in
+    let vs = map name_and_span c.in_ok-unused-in-Some.unused.items in
     on_ok_weaker c.tell_all.result
     (λ e. (
       map (unused_by name) vs,
@@ -18,14 +18,17 @@ returns-in-Some-clause-told g c =
         last = last;
         is_last = c.in-Some.ensures.some;
         uses = us;
-        used = c.in_ok-uses.ensures.used;
+        used = c.in_ok-uses-in-Some.ensures.used;
         variables = vs;
-        unused = unused_in us last c.as_slice.result.now c.in_ok-used.used c.variables.result.now vs c.variables.ensures (ap (map use_of) c.as_slice.ensures.value) c.in_ok-used.ensures c.in_ok-unused.ensures;
+        unused = unused_in us last c.as_slice.result.now c.in_ok-used-in-Some.used c.variables.result.now vs c.variables.ensures (ap (map use_of) c.as_slice.ensures.value) c.in_ok-used-in-Some.ensures c.in_ok-unused-in-Some.ensures;
         told = refl;
       },
-      e ∙ ap (λ zs. map unused_of c.args.found.now.items ++ map (unused_by name) (map name_and_span zs)) c.as_slice-2.ensures.value,
+      e ∙ ap (λ zs. map unused_of c.args.found.now.items ++ map (unused_by name) (map name_and_span zs)) c.as_slice-in-Some.ensures.value,
     ))
     c.tell_all.ensures
 
 pub returns-in-None-clause-told : goal.returns-in-None-clause-told
 returns-in-None-clause-told g c = absurd (c.in-None.ensures.none c.requires.named)
+
+pub returns-in_ok-unused-in-Some-clause-ready : goal.returns-in_ok-unused-in-Some-clause-ready
+returns-in_ok-unused-in-Some-clause-ready g c = on_ok_weaker c.tell_all.result (λ e. c.in_ok-uses-in-Some.ensures.ready) c.tell_all.ensures

@@ -36,7 +36,7 @@ add_selection-returns-in-FragmentSpread g t c =
     (λ e. e ∙ ap (λ zs. map use_of c.args.found.now.items ++ zs) (sym (uses-Spread c.args.selection.now c.in-FragmentSpread.spread c.in-FragmentSpread.is)))
     c.add_directives-in-FragmentSpread.ensures
 
-pub add_selection-returns-in_ok-add_directives-in-InlineFragment : goal.add_selection-returns-in-InlineFragment
+pub add_selection-returns-in_ok-add_directives-in-InlineFragment : goal.add_selection-returns-in_ok-add_directives-in-InlineFragment
 add_selection-returns-in_ok-add_directives-in-InlineFragment g t c =
     on_ok_weaker c.add_set-in-InlineFragment.result
     (λ e. inline_uses c.args.selection.now (map use_of c.args.found.now.items) c.in-InlineFragment.inline (map use_of c.add_directives-in-InlineFragment.new.found.items) (map use_of c.add_set-in-InlineFragment.new.found.items)

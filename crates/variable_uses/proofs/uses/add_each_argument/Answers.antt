@@ -1,4 +1,6 @@
-use Rattle.std.proofs.Common.{map}
+use Rattle.std.proofs.Common.{map, ◌++◌, ap, ◌∙◌}
+use Rattle.std.specs.List.{flat_map}
+use Rattle.std.proofs.lemmas.List.{take_all}
 use Rattle.variable_uses.specs.Uses.{argument_uses, use_of}
 use Rattle.variable_uses.proofs.UseLemmas.{more_uses}
 use Rattle.variable_uses.proofs.uses.add_each_argument.Goals as goal
@@ -8,3 +10,7 @@ loop-argument-preserved g c =
     more_uses argument_uses c.args.arguments.now c.loop-argument.argument-index c.argument-item.result
     (map use_of c.args.found.now.items) (map use_of c.loop-argument.found.items) (map use_of c.add_argument.new.found.items)
     c.argument-item.is c.loop-argument-test.true c.loop-argument.invariant c.in_ok-add_argument.ensures
+
+pub returns : goal.returns
+returns g c =
+    c.loop-argument.invariant ∙ ap (λ zs. map use_of c.args.found.now.items ++ flat_map argument_uses zs) (take_all c.loop-argument.argument-index c.args.arguments.now c.loop-argument-test.false)
