@@ -1,0 +1,12 @@
+pub mod Adding
+pub mod Core
+pub mod Distinct
+pub mod Falls
+pub mod Flips
+pub mod Laws
+pub mod Logs
+pub mod Opened
+pub mod Order
+pub mod Rows
+pub mod Tallying
+pub mod Work

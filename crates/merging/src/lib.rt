@@ -1,0 +1,11 @@
+//! The search for fields that can't be merged, over numbered sets of numbered fields.
+#![tactic(auto)]
+
+pub mod graph;
+pub mod judge;
+pub mod log;
+pub mod node;
+pub mod opening;
+pub mod search;
+pub mod state;
+pub mod view;
