@@ -49,8 +49,8 @@ module _ (w : World) (e : Bool) where
     placed = All-append P f.roots d.roots f.placed d.placed;
   }
 
-  pub adds_moved : (P : Root → Type 0) {xs ys zs : List Finding} → zs ≡ xs → Adds w e P xs ys → Adds w e P zs ys
-  adds_moved P {xs} {ys} eq d = subst (λ us. Adds w e P us ys) (sym eq) d
+  pub adds_from : (P : Root → Type 0) {xs ys zs : List Finding} → ys ≡ xs → Adds w e P ys zs → Adds w e P xs zs
+  adds_from P {xs} {ys} {zs} eq d = subst (λ us. Adds w e P us zs) eq d
 
   pub adds_leaf : (a b : Entry) (xs ys : List Finding) → conflict_of w e a b ≡ true → ys ≡ xs ++ Direct a b e ∷ [] → Adds w e (AtFields a b) xs ys
   adds_leaf a b xs ys h eq = record {
@@ -103,6 +103,9 @@ module _ (w : World) (e : Bool) where
   pub all_start : {X : Type 0} (P : Root → Type 0) (Q : X → Root → Type 0) (items : List X) (d : X) (xs : List Finding) → AddsAll w e P (Upto items 0 d Q) xs xs
   all_start P Q items d xs = record { adds = adds_none P xs; tells = λ r at fails. absurd (omega (arith, at.1)) }
 
+  pub all_begin : (P : Root → Type 0) (Q : ℕ → Root → Type 0) (xs : List Finding) → AddsAll w e P (UptoIndex 0 Q) xs xs
+  all_begin P Q xs = record { adds = adds_none P xs; tells = λ r at fails. absurd (omega (arith, at.1)) }
+
   pub all_next : (P R : Root → Type 0) (Q : ℕ → Root → Type 0) (k : ℕ) {xs ys zs : List Finding}
       → ((r : Root) → R r → P r) → AddsAll w e P (UptoIndex k Q) xs ys → AddsAll w e R (Q k) ys zs → AddsAll w e P (UptoIndex (k + 1) Q) xs zs
   unfolding adds_then adds_map
@@ -137,6 +140,14 @@ module _ (w : World) (e : Bool) where
         inl q ↦ Contains-append_right new.adds.roots had.adds.roots r (had.tells r q fails)
       | inr z ↦ Contains-append_left new.adds.roots had.adds.roots r (new.tells r z fails) ];
   }
+
+  pub all_from : (P Q : Root → Type 0) {xs ys zs : List Finding} → ys ≡ xs → AddsAll w e P Q ys zs → AddsAll w e P Q xs zs
+  all_from P Q {xs} {ys} {zs} eq d = subst (λ us. AddsAll w e P Q us zs) eq d
+
+  -- the same places, told otherwise
+  pub all_change : (P P' Q Q' : Root → Type 0) {xs ys : List Finding} → ((r : Root) → P r → P' r) → ((r : Root) → Q' r → Q r) → AddsAll w e P Q xs ys → AddsAll w e P' Q' xs ys
+  unfolding adds_map
+  all_change P P' Q Q' f g d = record { adds = adds_map P P' f d.adds; tells = λ r at fails. d.tells r (g r at) fails }
 
   pub all_told : (P Q R : Root → Type 0) {xs ys : List Finding} → ((r : Root) → R r → Q r) → AddsAll w e P Q xs ys → AddsAll w e P R xs ys
   all_told P Q R f d = record { adds = d.adds; tells = λ r at fails. d.tells r (f r at) fails }

@@ -1,8 +1,10 @@
 pub mod Adding
 pub mod Core
+pub mod Counting
 pub mod Distinct
 pub mod Falls
 pub mod Flips
+pub mod Judging
 pub mod Laws
 pub mod Logs
 pub mod Opened
@@ -10,3 +12,4 @@ pub mod Order
 pub mod Rows
 pub mod Tallying
 pub mod Work
+pub mod Gathering

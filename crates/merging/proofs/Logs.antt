@@ -1,6 +1,6 @@
 -- How questions are added.
-use Rattle.std.proofs.Common.{◌≡◌, ℕ, refl, sym, subst, ◌∙◌, arith, Bool, false, true, cond, inl, inr, ◌⊎◌}
-use Rattle.std.specs.Ordering.{Ordering, nat_cmp, is_eq, ordering_then}
+use Rattle.std.proofs.Common.{◌≡◌, ℕ, refl, sym, subst, ◌∙◌, arith, Bool, false, true, cond, inl, inr, ◌⊎◌, Ordering}
+use Rattle.std.specs.Ordering.{nat_cmp, is_eq, ordering_then}
 use Rattle.std.specs.declared.cmp.Ordering.TheVariants.{Less, Equal, Greater}
 use Rattle.std.specs.BTreeSet.{BTreeSet, contains}
 use Rattle.std.proofs.lemmas.Bool.Decides.{nat_tests}

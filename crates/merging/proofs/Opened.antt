@@ -43,6 +43,7 @@ gains_new f s t u fresh os ws =
       only = λ h c. elim (cases h c) [ inl old ↦ inl old | inr is ↦ inr (one_of f h is, subst (λ zs. Contains zs h) (sym ws) (subst (λ (x : ℕ). Contains (s.waiting.items ++ f ∷ []) x) is (Contains-push s.waiting.items f))) ];
       waits = λ h c. subst (λ zs. Contains zs h) (sym ws) (Contains-append_left s.waiting.items (f ∷ []) h c);
       waiting = λ h c. elim (Contains-push_cases s.waiting.items f h (subst (λ zs. Contains zs h) ws c)) [ inl old ↦ inl old | inr is ↦ inr (subst (λ (x : ℕ). Contains t.order.items x) is here) ];
+      longer = omega (arith, ap length os, length-append s.order.items (f ∷ []));
       left = omega (arith, ap length os, ap length ws, length-append s.order.items (f ∷ []), length-append s.waiting.items (f ∷ []));
     }
 
@@ -64,6 +65,7 @@ gains_old f s t u seen os ws =
       only = λ h c. inl (back h c);
       waits = λ h c. subst (λ v. Contains v.items h) (sym ws) c;
       waiting = λ h c. inl (subst (λ v. Contains v.items h) ws c);
+      longer = omega (arith, ap (λ v. length v.items) os);
       left = omega (arith, ap (λ v. length v.items) os, ap (λ v. length v.items) ws);
     }
 
@@ -75,6 +77,7 @@ gains_none xs s = record {
   only = λ h c. inl c;
   waits = λ h c. c;
   waiting = λ h c. inl c;
+  longer = omega arith;
   left = refl;
 }
 
@@ -92,6 +95,7 @@ gains_more xs k d {s} {t} {u} l a b = record {
     | inr z ↦ inr (subst (λ (x : ℕ). Contains xs x) (same_one (get_or xs k d) h z.0) (Contains-get_or xs k d l), z.1) ];
   waits = λ h c. b.waits h (a.waits h c);
   waiting = λ h c. elim (b.waiting h c) [ inl old ↦ elim (a.waiting h old) [ inl older ↦ inl older | inr z ↦ inr (b.kept h z) ] | inr z ↦ inr z ];
+  longer = omega (arith, a.longer, b.longer);
   left = omega (arith, a.left, b.left);
 }
 
@@ -164,8 +168,14 @@ opens_end w g o s none = record {
 }
 
 -- each step leaves less to do
-pub less_left : (n a b p q : ℕ) → q + a ≡ p + b → a ≤ b → b ≤ n → (2 * n + q) - 2 * b < (2 * n + (p + 1)) - 2 * a
-less_left n a b p q eq le top = omega arith
+pub less_left : (n : ℕ) (f : ℕ) (fs gs : List ℕ) (s m t : Opening) → m.order ≡ s.order → s.waiting.items ≡ m.waiting.items ++ f ∷ [] → Gains fs gs m t → length t.order.items ≤ n
+    → (2 * n + length t.waiting.items) - 2 * length t.order.items < (2 * n + length s.waiting.items) - 2 * length s.order.items
+less_left n f fs gs s m t os ws a top =
+    omega (arith, ap length ws, length-append m.waiting.items (f ∷ []), ap (λ v. length v.items) os, a.left, a.longer, top)
+
+pub nil_of_length : (xs : List ℕ) → length xs ≡ 0 → xs ≡ []
+nil_of_length [] h = refl
+nil_of_length (x ∷ xs) h = absurd (omega (arith, h))
 
 pub flag_new : (r b : Bool) → r ≡ not b → r ≡ true → b ≡ false
 flag_new r true h k = cc

@@ -1,7 +1,7 @@
 -- Two of a list, the first before the second, and what a filter keeps of them.
 use Rattle.std.proofs.Common.{◌≡◌, ◌==◌, ℕ, zero, suc, ◌+◌, ◌-◌, ◌<◌, ◌≤◌, List, [], ◌∷◌, length, take, drop, get_or, refl, sym, subst, ap, ◌∙◌, arith, Bool, true, false, cond, Some, Option, inl, inr, ◌⊎◌, slice_get, length-drop}
 use Rattle.std.specs.List.{All, Contains, filter}
-use Rattle.std.proofs.lemmas.List.{take_all, get_or-drop}
+use Rattle.std.proofs.lemmas.List.{take_all, get_or-drop, get_or_default}
 use Rattle.std.proofs.lemmas.List.Elements.{All-contains, All-filter, All-contains_itself, Contains-append_right, Contains-get_or, Contains-push}
 use Rattle.std.proofs.lemmas.Option.{get_or_from_slice_get, slice_get_within, slice_get-get_or}
 use Rattle.merging.specs.declared.node.Entry.{Entry}
@@ -41,7 +41,7 @@ before_to (x ∷ xs) a b (inl h) = (0, suc (h.1.0), omega arith, ap (λ y. Some 
 before_to (x ∷ xs) a b (inr h) = let z = before_to xs a b h in (suc (z.0), suc (z.1), omega (arith, z.2), z.3, z.4)
 
 kept_in : (test : Entry → Bool) (xs : List Entry) (a : Entry) → Contains xs a → test a ≡ true → Contains (filter test xs) a
-kept_in test xs a c yes = All-contains (λ x. test x ≡ true → Contains (filter test xs) x) xs a (kept test xs) c yes
+kept_in test xs a c is = All-contains (λ x. test x ≡ true → Contains (filter test xs) x) xs a (kept test xs) c is
 
 filter_in : (test : Entry → Bool) (xs : List Entry) (a : Entry) → Contains (filter test xs) a → Contains xs a
 filter_in test xs a c = All-contains (λ x. Contains xs x) (filter test xs) a (All-filter test (λ x. Contains xs x) xs (All-contains_itself xs)) c
@@ -115,7 +115,7 @@ in_rest xs k l x lt p =
     (l - (k + 1), omega (arith, length-drop (k + 1) xs, inside, lt), get_or-drop (k + 1) xs (l - (k + 1)) x ∙ (ap (λ (i : ℕ). get_or xs i x) moved ∙ get_or_from_slice_get xs l x x p))
 
 pub tell_rest : (xs : List Entry) (k : ℕ) → length xs ≤ k → (r : Root) → AtBefore xs r → (m : ℕ) × (m < k) × AtRest (get_or xs m no_entry) (drop (m + 1) xs) r
-tell_rest xs k le r h = (h.0, omega (arith, slice_get_within xs h.1 r.right h.4, h.2, le), sym (get_or_from_slice_get xs h.0 r.left no_entry h.3), in_rest xs h.0 h.1 r.right h.2 h.4)
+tell_rest xs k le r h = (h.0, omega (arith, slice_get_within xs h.1 r.right h.4, h.2, le), (sym (get_or_from_slice_get xs h.0 r.left no_entry h.3), in_rest xs h.0 h.1 r.right h.2 h.4))
 
 -- each with those after it is each two
 pub rest_all : {X : Type 0} (P : X → X → Type 0) (xs : List X) (d : X) (n : ℕ) → length xs ≤ n
@@ -123,3 +123,10 @@ pub rest_all : {X : Type 0} (P : X → X → Type 0) (xs : List X) (d : X) (n : 
 rest_all P xs d n le h k l a b lt p q =
     let inside : l < length xs = slice_get_within xs l b q in
     subst (λ x. P x b) (get_or_from_slice_get xs k a d p) (All-contains (P (get_or xs k d)) (drop (k + 1) xs) b (h k (omega (arith, inside, lt, le))) (in_rest xs k l b lt q))
+
+-- the numbers of a list, one by one
+pub all_at : {X : Type 0} (P : X → Type 0) (xs : List X) (e : X) (n : ℕ) → length xs ≤ n → ((i : ℕ) → i < n → P (get_or xs i e)) → All P xs
+all_at P xs e n le h = λ k d l. subst P (get_or_default xs k e d l) (h k (omega (arith, l, le)))
+
+pub all_rest : {X : Type 0} (P : X → Type 0) (xs : List X) (n : ℕ) → All P xs → All P (drop n xs)
+all_rest P xs n h = λ k d l. subst P (sym (get_or-drop n xs k d)) (h (n + k) d (omega (arith, l, length-drop n xs)))

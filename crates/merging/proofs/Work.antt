@@ -1,5 +1,5 @@
 -- How pieces of work join.
-use Rattle.std.proofs.Common.{◌≡◌, ℕ, ◌+◌, ◌*◌, ◌<◌, ◌≤◌, List, [], ◌∷◌, ◌++◌, length, take, get_or, refl, sym, subst, arith, Bool, true, false, None, inl, inr, ◌⊎◌, min, max, ◌||◌, ◌&&◌}
+use Rattle.std.proofs.Common.{◌≡◌, ℕ, ◌+◌, ◌*◌, ◌<◌, ◌≤◌, List, [], ◌∷◌, ◌++◌, length, take, get_or, refl, sym, subst, arith, Bool, true, false, None, inl, inr, ◌⊎◌, min, max, ◌||◌, ◌&&◌, below_more}
 use Rattle.std.specs.List.{All, Contains}
 use Rattle.std.proofs.lemmas.List.{take_all, length-take}
 use Rattle.std.proofs.lemmas.List.Elements.{All-more, All-contains, Contains-push, Contains-append_left}
@@ -190,3 +190,7 @@ module _ (w : World) where
     closes = λ M g c. e.closes M g (e.holds M g) (d.closes M (grows_then e.grows g) c);
     keeps = λ h. e.keeps (d.keeps h);
   }
+
+  pub did_next : (P : ℕ → Search → Type 0) (k : ℕ) {s t u : Search}
+      → Did w (λ M. (i : ℕ) → i < k → P i M) s t → Did w (P k) t u → Did w (λ M. (i : ℕ) → i < k + 1 → P i M) s u
+  did_next P k a b = did_map _ _ (λ M h. below_more (λ i. P i M) k h.0 h.1) (did_then _ _ a b)

@@ -11,3 +11,4 @@ pub mod Counts
 pub mod State
 pub mod Sound
 pub mod Tops
+pub mod Groups

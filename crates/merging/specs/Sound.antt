@@ -1,5 +1,5 @@
 -- A search's fragments as far as they were opened.
-use Rattle.std.specs.Prelude.{ℕ, ◌+◌, ◌<◌, List, length, Some, true, ◌≡◌, ◌⊎◌, slice_get}
+use Rattle.std.specs.Prelude.{ℕ, ◌+◌, ◌<◌, ◌≤◌, List, length, Some, true, ◌≡◌, ◌⊎◌, slice_get}
 use Rattle.std.specs.List.{All, Contains}
 use Rattle.std.specs.Ordering.{nat_cmp}
 use Rattle.std.specs.BTreeSet.{contains}
@@ -25,6 +25,7 @@ pub record Gains (fs gs : List ℕ) (old new : Opening) : Type 0 where
   pub only : (h : ℕ) → Contains new.order.items h → Contains old.order.items h ⊎ (Contains gs h × Contains new.waiting.items h)
   pub waits : (h : ℕ) → Contains old.waiting.items h → Contains new.waiting.items h
   pub waiting : (h : ℕ) → Contains new.waiting.items h → Contains old.waiting.items h ⊎ Contains new.order.items h
+  pub longer : length old.order.items ≤ length new.order.items
   pub left : length new.waiting.items + length old.order.items ≡ length old.waiting.items + length new.order.items
 
 -- What is open is reached, and what an open one spreads is open, unless it waits.

@@ -2,10 +2,12 @@
 #![tactic(auto)]
 
 pub mod graph;
+pub mod groups;
 pub mod judge;
 pub mod log;
 pub mod node;
 pub mod opening;
 pub mod search;
 pub mod state;
+pub mod top;
 pub mod view;

@@ -30,6 +30,13 @@ pub fn group<J: Judge>(graph: &Graph<J>, s: usize, name: usize) -> &[Entry]
     }
 }
 
+/// The sets in the order in which they are searched.
+pub fn order<J>(graph: &Graph<J>) -> &[usize]
+    ensures { result.now ≡ graph.now.order.items }
+{
+    graph.order.as_slice()
+}
+
 /// The fragments that a set spreads.
 pub fn spreads<J: Judge>(graph: &Graph<J>, s: usize) -> &[usize]
     ensures { result.now ≡ spreads_of (world J.judgement graph.now) s }

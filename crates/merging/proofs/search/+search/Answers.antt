@@ -10,29 +10,29 @@ use Rattle.merging.specs.Work.{pair_in, search_in, Searched, Pair, Done, stood, 
 use Rattle.merging.specs.Reports.{Adds, AddsAll, NestedRoot, AtFields, AtWith, AtNamed, AtOwn, AtSearch, AtSearches, AtFragments, AtFirst, AtSecond, AtSpreads, AtBelow}
 use Rattle.merging.proofs.Falls.{spread_falls, own_falls, reach_falls}
 use Rattle.merging.proofs.Work.{did_none, did_start, did_then, did_map, did_more, did_all, did_list, did_opened, owes_search, owes_none, owes_start, owes_more, owes_full, did_fragments, did_report, no_entry, covers_yes, covers_no}
-use Rattle.merging.proofs.Adding.{adds_none, adds_map, adds_then, adds_moved, adds_leaf, adds_node, adds_same, all_leaf, all_quiet, all_start, all_more, all_done, all_map}
+use Rattle.merging.proofs.Adding.{adds_none, adds_map, adds_then, adds_from, adds_leaf, adds_node, adds_same, all_leaf, all_quiet, all_start, all_more, all_done, all_map}
 use Rattle.merging.proofs.Rows.{in_list, row_with, row_named, row_own, tell_with, tell_named, tell_own, own_pairs, row_opened, row_fragments, row_first, row_second, row_below_own, row_below_forth, row_below_back, row_below_spreads, row_nested}
 use Rattle.merging.proofs.search.+search.Goals as goal
 
 pub all_against_all-fragment_against_all-requires : goal.all_against_all-fragment_against_all-requires
 all_against_all-fragment_against_all-requires g t c =
     let v = world g.J.Judge.judgement c.args.graph.now in
-    let low = spread_falls v c.args.i c.spreads-g-items.result.now c.loop-g.g-index c.args.graph.now.falling c.loop-g.invariant.0 c.loop-g-test.true in λ κs u. (omega (arith, c.decreases, low.1), (u.0, low.0))
+    let low = spread_falls v c.args.i c.spreads-g-items.result.now c.loop-g.g-index c.args.graph.now.falling c.loop-g.invariant.0 c.loop-g-test.true in λ κs u. (omega (arith, c.decreases, low.1), (u, low.0))
 
 pub all_against_fragment-compare_fragments-requires : goal.all_against_fragment-compare_fragments-requires
 all_against_fragment-compare_fragments-requires g t c =
     let v = world g.J.Judge.judgement c.args.graph.now in
-    let low = spread_falls v c.args.i c.spreads-h-items.result.now c.loop-h.h-index c.args.graph.now.falling c.loop-h.invariant.0 c.loop-h-test.true in λ κs u. (omega (arith, c.decreases, low.1), (u.0, (low.0, c.requires)))
+    let low = spread_falls v c.args.i c.spreads-h-items.result.now c.loop-h.h-index c.args.graph.now.falling c.loop-h.invariant.0 c.loop-h-test.true in λ κs u. (omega (arith, c.decreases, low.1), (u, (low.0, c.requires)))
 
 pub fragment_against_all-compare_fragments-requires : goal.fragment_against_all-compare_fragments-requires
 fragment_against_all-compare_fragments-requires g t c =
     let v = world g.J.Judge.judgement c.args.graph.now in
-    let low = spread_falls v c.args.j c.spreads-h-items.result.now c.loop-h.h-index c.args.graph.now.falling c.loop-h.invariant.0 c.loop-h-test.true in λ κs u. (omega (arith, c.decreases, low.1), (u.0, (c.requires, low.0)))
+    let low = spread_falls v c.args.j c.spreads-h-items.result.now c.loop-h.h-index c.args.graph.now.falling c.loop-h.invariant.0 c.loop-h-test.true in λ κs u. (omega (arith, c.decreases, low.1), (u, (c.requires, low.0)))
 
 pub own_against_all-own_against-requires : goal.own_against_all-own_against-requires
 own_against_all-own_against-requires g t c =
     let v = world g.J.Judge.judgement c.args.graph.now in
-    let low = spread_falls v c.args.j c.spreads-h-items.result.now c.loop-h.h-index c.args.graph.now.falling c.loop-h.invariant.0 c.loop-h-test.true in λ κs u. (omega (arith, c.decreases, low.1), (u.0, low.0))
+    let low = spread_falls v c.args.j c.spreads-h-items.result.now c.loop-h.h-index c.args.graph.now.falling c.loop-h.invariant.0 c.loop-h-test.true in λ κs u. (omega (arith, c.decreases, low.1), (u, low.0))
 
 pub open_all-open_fragment-requires : goal.open_all-open_fragment-requires
 open_all-open_fragment-requires g t c =
@@ -52,7 +52,7 @@ compare_with-compare_fields-requires g t c =
 pub own_against-open_all-requires : goal.own_against-open_all-requires
 own_against-open_all-requires g t c =
     let v = world g.J.Judge.judgement c.args.graph.now in
-    λ κs u. (omega (arith, c.decreases), (u.0, subst (λ zs. Opens v c.args.g zs) (sym c.as_slice.ensures.value) c.in_ok-opened.ensures))
+    λ κs u. (omega (arith, c.decreases), (u, subst (λ zs. Opens v c.args.g zs) (sym c.as_slice.ensures.value) c.in_ok-opening.ensures))
 
 pub all_against_all-loop-g-init : goal.all_against_all-loop-g-init
 all_against_all-loop-g-init g t c =
@@ -274,17 +274,17 @@ pub open_fragment-returns : goal.open_fragment-returns
 open_fragment-returns g t c =
     let v = world g.J.Judge.judgement c.args.graph.now in
     record {
-      done = on_ok_weaker c.compare_own.result (λ d. owes_search v c.args.e c.args.i c.args.g c.in_ok-note_search.ensures (subst (λ (s : ℕ). Rattle.merging.specs.Work.Did v (λ M. OwnPairs v M c.args.e c.args.i s) _ _) c.set.ensures d)) c.compare_own.ensures.done;
-      real = on_ok_weaker c.compare_own.result (λ d. subst (λ (s : ℕ). Adds v c.args.e (AtOwn v c.args.i s) _ _) c.set.ensures (subst (λ zs. Adds v c.args.e (AtOwn v c.args.i c.set.result) zs _) c.in_ok-note_search.ensures.found d.adds)) c.compare_own.ensures.real;
+      done = on_ok_weaker c.compare_own.result (λ d. owes_search v c.args.e c.args.i c.args.g c.in_ok-note_search.ensures (did_map v _ _ (λ M z. subst (λ (s : ℕ). OwnPairs v M c.args.e c.args.i s) c.set.ensures z) d)) c.compare_own.ensures.done;
+      real = on_ok_weaker c.compare_own.result (λ d. adds_from v c.args.e _ c.in_ok-note_search.ensures.found (adds_map v c.args.e _ _ (λ r z. subst (λ (s : ℕ). AtOwn v c.args.i s r) c.set.ensures z) d.adds)) c.compare_own.ensures.real;
     }
 
 pub own_against-returns : goal.own_against-returns
 own_against-returns g t c =
     let v = world g.J.Judge.judgement c.args.graph.now in
     record {
-      done = on_ok_weaker c.open_all.result (λ d. did_map v _ _ (λ M z. All-contains (λ h. Searched M c.args.e c.args.i h) c.as_slice.result.now c.args.g z (subst (λ zs. Contains zs c.args.g) (sym c.as_slice.ensures.value) c.in_ok-opened.ensures.first))
-          (did_opened v (λ h M. Searched M c.args.e c.args.i h) c.as_slice.result.now (did_list v c.count_list.ensures (omega (arith, c.in_ok-opened.ensures.few)) (omega (arith, c.requires))) d)) c.open_all.ensures.done;
-      real = on_ok_weaker c.open_all.result (λ d. subst (λ zs. Adds v c.args.e (AtSearch v c.args.i c.args.g) zs _) c.count_list.ensures.found d) c.open_all.ensures.real;
+      done = on_ok_weaker c.open_all.result (λ d. did_map v _ _ (λ M z. All-contains (λ h. Searched M c.args.e c.args.i h) c.as_slice.result.now c.args.g z (subst (λ zs. Contains zs c.args.g) (sym c.as_slice.ensures.value) c.in_ok-opening.ensures.first))
+          (did_opened v (λ h M. Searched M c.args.e c.args.i h) c.as_slice.result.now (did_list v c.count_list.ensures (omega (arith, c.in_ok-opening.ensures.few)) (omega (arith, c.requires))) d)) c.open_all.ensures.done;
+      real = on_ok_weaker c.open_all.result (λ d. adds_from v c.args.e _ c.count_list.ensures.found d) c.open_all.ensures.real;
     }
 
 pub compare_fragments-returns-then-f-g : goal.compare_fragments-returns-then-f-g
@@ -303,22 +303,22 @@ compare_fragments-returns-then-is_compared g t c =
 pub compare_fragments-returns : goal.compare_fragments-returns
 compare_fragments-returns g t c =
     let v = world g.J.Judge.judgement c.args.graph.now in
-    let f = set_of v c.args.f in let h = set_of v c.args.g in
     record {
       done = on_ok_weaker c.all_against_fragment.result
           (λ d. did_fragments v c.args.e c.args.f c.args.g c.in_ok-note_pair.ensures c.if-f-g.false c.requires.first c.requires.second
           (covers_no (pair_in c.args.search.now) c.args.e c.args.f c.args.g (sym c.is_compared.ensures ∙ c.if-is_compared.false))
-          (did_map v _ _ (λ M z. (z.0.0, z.0.1, z.1)) (did_then v _ _ (did_then v _ _
-            (subst (λ (s : ℕ). Rattle.merging.specs.Work.Did v (λ M. OwnPairs v M c.args.e s h) _ _) c.set.ensures (subst (λ (s : ℕ). Rattle.merging.specs.Work.Did v (λ M. OwnPairs v M c.args.e c.set.result s) _ _) c.set-2.ensures c.in_ok-compare_own.ensures.done))
-            (subst (λ (s : ℕ). Rattle.merging.specs.Work.Did v (λ M. All (λ k. Pair M c.args.e c.args.f k) (spreads_of v s)) _ _) c.set-3.ensures c.in_ok-fragment_against_all.ensures.done))
-            (subst (λ (s : ℕ). Rattle.merging.specs.Work.Did v (λ M. All (λ k. Pair M c.args.e k c.args.g) (spreads_of v s)) _ _) c.set-4.ensures d))))
+          (did_map v _ _ (λ M z. (
+            subst (λ (s : ℕ). OwnPairs v M c.args.e s (set_of v c.args.g)) c.set.ensures (subst (λ (s : ℕ). OwnPairs v M c.args.e c.set.result s) c.set-2.ensures z.0.0),
+            subst (λ (s : ℕ). All (λ k. Pair M c.args.e c.args.f k) (spreads_of v s)) c.set-3.ensures z.0.1,
+            subst (λ (s : ℕ). All (λ k. Pair M c.args.e k c.args.g) (spreads_of v s)) c.set-4.ensures z.1,
+          )) (did_then v _ _ (did_then v _ _ c.in_ok-compare_own.ensures.done c.in_ok-fragment_against_all.ensures.done) d)))
           c.all_against_fragment.ensures.done;
       real = on_ok_weaker c.all_against_fragment.result
-          (λ d. subst (λ zs. Adds v c.args.e (AtFragments v c.args.f c.args.g) zs _) c.in_ok-note_pair.ensures.found (adds_then v c.args.e _ (adds_then v c.args.e _
-          (adds_map v c.args.e _ _ (row_fragments v c.args.f c.args.g c.if-f-g.false)
-            (subst (λ (s : ℕ). Adds v c.args.e (AtOwn v s h) _ _) c.set.ensures (subst (λ (s : ℕ). Adds v c.args.e (AtOwn v c.set.result s) _ _) c.set-2.ensures c.in_ok-compare_own.ensures.real.adds)))
-          (adds_map v c.args.e _ _ (row_first v c.args.f c.args.g c.if-f-g.false) (subst (λ (s : ℕ). Adds v c.args.e (AtFirst v c.args.f s) _ _) c.set-3.ensures c.in_ok-fragment_against_all.ensures.real)))
-          (adds_map v c.args.e _ _ (row_second v c.args.f c.args.g c.if-f-g.false) (subst (λ (s : ℕ). Adds v c.args.e (AtSecond v s c.args.g) _ _) c.set-4.ensures d))))
+          (λ d. adds_from v c.args.e _ c.in_ok-note_pair.ensures.found (adds_then v c.args.e _ (adds_then v c.args.e _
+          (adds_map v c.args.e _ _ (λ r z. row_fragments v c.args.f c.args.g c.if-f-g.false r
+            (subst (λ (s : ℕ). AtOwn v s (set_of v c.args.g) r) c.set.ensures (subst (λ (s : ℕ). AtOwn v c.set.result s r) c.set-2.ensures z))) c.in_ok-compare_own.ensures.real.adds)
+          (adds_map v c.args.e _ _ (λ r z. row_first v c.args.f c.args.g c.if-f-g.false r (subst (λ (s : ℕ). AtFirst v c.args.f s r) c.set-3.ensures z)) c.in_ok-fragment_against_all.ensures.real))
+          (adds_map v c.args.e _ _ (λ r z. row_second v c.args.f c.args.g c.if-f-g.false r (subst (λ (s : ℕ). AtSecond v s c.args.g r) c.set-4.ensures z)) d)))
           c.all_against_fragment.ensures.real;
     }
 

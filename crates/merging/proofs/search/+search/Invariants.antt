@@ -28,25 +28,25 @@ abbrev pub decreases-compare_own : goal.decreases-compare_own
 decreases-compare_own g l = 8 * (l.i + l.j) + 3
 
 abbrev pub decreases-open_fragment : goal.decreases-open_fragment
-decreases-open_fragment g l = 8 * (l.i + set_of (world g.J.Judge.judgement l.graph) l.g) + 4
+decreases-open_fragment g l = 8 * (l.i + set_of (world g.J.Judge.judgement l.graph.now) l.g) + 4
 
 abbrev pub decreases-open_all : goal.decreases-open_all
-decreases-open_all g l = 8 * (l.i + set_of (world g.J.Judge.judgement l.graph) l.g) + 5
+decreases-open_all g l = 8 * (l.i + set_of (world g.J.Judge.judgement l.graph.now) l.g) + 5
 
 abbrev pub decreases-own_against : goal.decreases-own_against
-decreases-own_against g l = 8 * (l.i + set_of (world g.J.Judge.judgement l.graph) l.g) + 6
+decreases-own_against g l = 8 * (l.i + set_of (world g.J.Judge.judgement l.graph.now) l.g) + 6
 
 abbrev pub decreases-own_against_all : goal.decreases-own_against_all
 decreases-own_against_all g l = 8 * (l.i + l.j) + 2
 
 abbrev pub decreases-compare_fragments : goal.decreases-compare_fragments
-decreases-compare_fragments g l = 8 * (set_of (world g.J.Judge.judgement l.graph) l.f + set_of (world g.J.Judge.judgement l.graph) l.g) + 4
+decreases-compare_fragments g l = 8 * (set_of (world g.J.Judge.judgement l.graph.now) l.f + set_of (world g.J.Judge.judgement l.graph.now) l.g) + 4
 
 abbrev pub decreases-fragment_against_all : goal.decreases-fragment_against_all
-decreases-fragment_against_all g l = 8 * (set_of (world g.J.Judge.judgement l.graph) l.f + l.j) + 2
+decreases-fragment_against_all g l = 8 * (set_of (world g.J.Judge.judgement l.graph.now) l.f + l.j) + 2
 
 abbrev pub decreases-all_against_fragment : goal.decreases-all_against_fragment
-decreases-all_against_fragment g l = 8 * (l.i + set_of (world g.J.Judge.judgement l.graph) l.g) + 2
+decreases-all_against_fragment g l = 8 * (l.i + set_of (world g.J.Judge.judgement l.graph.now) l.g) + 2
 
 abbrev pub decreases-all_against_all : goal.decreases-all_against_all
 decreases-all_against_all g l = 8 * (l.i + l.j) + 2
@@ -71,7 +71,7 @@ invariant-compare_own-loop-name g l =
 
 abbrev pub invariant-open_all-loop-h : goal.invariant-open_all-loop-h
 invariant-open_all-loop-h g l =
-    Owes (world g.J.Judge.judgement l.graph) (λ M. All (λ h. Searched M l.e l.i h) l.opening) (λ M. All (λ h. Searched M l.e l.i h) (take l.h-index l.h-items)) l.fn.search l.search
+    Owes (world g.J.Judge.judgement l.graph) (λ M. All (λ h. Searched M l.e l.i h) l.opening) (λ M. All (λ h. Searched M l.e l.i h) (take l.h-index l.opening)) l.fn.search l.search
     × Adds (world g.J.Judge.judgement l.graph) l.e (AtSearch (world g.J.Judge.judgement l.graph) l.i l.g) l.fn.search.found.items l.search.found.items
 
 abbrev pub invariant-own_against_all-loop-h : goal.invariant-own_against_all-loop-h
