@@ -137,8 +137,9 @@ module _ (w : World) (e : Bool) where
   all_both P Q R had new = record {
     adds = adds_then P had.adds new.adds;
     tells = λ r at fails. elim at [
-        inl q ↦ Contains-append_right new.adds.roots had.adds.roots r (had.tells r q fails)
-      | inr z ↦ Contains-append_left new.adds.roots had.adds.roots r (new.tells r z fails) ];
+      | inl q ↦ Contains-append_right new.adds.roots had.adds.roots r (had.tells r q fails)
+      | inr z ↦ Contains-append_left new.adds.roots had.adds.roots r (new.tells r z fails)
+    ];
   }
 
   pub all_from : (P Q : Root → Type 0) {xs ys zs : List Finding} → ys ≡ xs → AddsAll w e P Q ys zs → AddsAll w e P Q xs zs

@@ -265,7 +265,7 @@ module _ (w : World) (M : Search) (falling : Falling w.sets w.fragments) (closed
     ]
 
     exact_one : {e : Bool} {a b : Entry} → e ≡ false → Done w M e a b
-      → ((conflict_of w false a b ≡ true) × Contains M.found.items (Direct a b false)) ⊎ (conflict_of w false a b ≡ false)
+        → ((conflict_of w false a b ≡ true) × Contains M.found.items (Direct a b false)) ⊎ (conflict_of w false a b ≡ false)
     exact_one {a = a} {b = b} eq (stood h r) = inl (subst (λ x. conflict_of w x a b ≡ true) eq h, subst (λ x. Contains M.found.items (Direct a b x)) eq r)
     exact_one {a = a} {b = b} eq (shallow n none) = inr (subst (λ x. conflict_of w x a b ≡ false) eq n)
     exact_one {a = a} {b = b} eq (deep n sa tb oo asked) = inr (subst (λ x. conflict_of w x a b ≡ false) eq n)
@@ -277,10 +277,12 @@ module _ (w : World) (M : Search) (falling : Falling w.sets w.fragments) (closed
 
     pub failing : {s : ℕ} {a b : Entry} → Stands w s a → Stands w s b → Same a b → conflict_of w false a b ≡ true → Told w M.found.items a b
     failing {s} {a} {b} p q same h = elim (within (suc s) (omega arith) p q same) [
-        inl eq ↦ absurd (clash (conflict_of w false a b) h (subst (λ y. conflict_of w false a y ≡ false) eq (conflict_self w laws false a)))
+      | inl eq ↦ absurd (clash (conflict_of w false a b) h (subst (λ y. conflict_of w false a y ≡ false) eq (conflict_self w laws false a)))
       | inr d ↦ elim (exact_pair refl d) [
-          inl x ↦ x
-        | inr n ↦ absurd (clash (conflict_of w false a b) h n) ] ]
+        | inl x ↦ x
+        | inr n ↦ absurd (clash (conflict_of w false a b) h n)
+      ]
+    ]
 
     module _ (quiet : (a b : Entry) (e : Bool) → Contains M.found.items (Direct a b e) → ⊥) where
       no_good : {a b : Entry} → Good M.found.items a b → ⊥

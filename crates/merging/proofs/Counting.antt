@@ -20,10 +20,12 @@ use Rattle.merging.proofs.Laws.{same_some}
 
 place_inj : (m a b c d : ℕ) → b < m → d < m → m * a + b ≡ m * c + d → (a ≡ c) × (b ≡ d)
 place_inj m a b c d lb ld e = elim (cases_order a c) [
-    inl eq ↦ (eq, omega (arith, lb, ld, subst (λ (x : ℕ). m * a + b ≡ m * x + d) (sym eq) e))
+  | inl eq ↦ (eq, omega (arith, lb, ld, subst (λ (x : ℕ). m * a + b ≡ m * x + d) (sym eq) e))
   | inr o ↦ elim o [
-      inl l ↦ absurd (omega (arith, mul-le-mul_left m l, e, lb, ld))
-    | inr g ↦ absurd (omega (arith, mul-le-mul_left m g, e, lb, ld)) ] ]
+    | inl l ↦ absurd (omega (arith, mul-le-mul_left m l, e, lb, ld))
+    | inr g ↦ absurd (omega (arith, mul-le-mul_left m g, e, lb, ld))
+  ]
+]
 
 abbrev pub high : Compared → ℕ
 high r = max r.first r.second
@@ -39,20 +41,21 @@ abbrev pub code_of : ℕ → Compared → ℕ
 code_of m r = code_at m r.flag (low r) (high r)
 
 codes_apart : (m : ℕ) (e x : Bool) (lo hi lo' hi' : ℕ) → lo < hi → hi < m + 1 → lo' < hi' → hi' < m + 1
-  → code_at m e lo hi ≡ code_at m x lo' hi' → (e ≡ x) × (lo ≡ lo') × (hi ≡ hi')
+    → code_at m e lo hi ≡ code_at m x lo' hi' → (e ≡ x) × (lo ≡ lo') × (hi ≡ hi')
 codes_apart m false false lo hi lo' hi' l h l' h' e =
-  let z = place_inj m lo (hi - 1) lo' (hi' - 1) (omega (arith, l, h)) (omega (arith, l', h')) e in (refl, z.0, omega (arith, z.1, l, l'))
+    let z = place_inj m lo (hi - 1) lo' (hi' - 1) (omega (arith, l, h)) (omega (arith, l', h')) e in (refl, z.0, omega (arith, z.1, l, l'))
 codes_apart m true true lo hi lo' hi' l h l' h' e =
-  let z = place_inj m hi lo hi' lo' (omega (arith, l, h)) (omega (arith, l', h')) e in (refl, z.1, z.0)
+    let z = place_inj m hi lo hi' lo' (omega (arith, l, h)) (omega (arith, l', h')) e in (refl, z.1, z.0)
 codes_apart m false true lo hi lo' hi' l h l' h' e =
-  let z = place_inj m lo (hi - 1) hi' lo' (omega (arith, l, h)) (omega (arith, l', h')) e in absurd (omega (arith, z.0, z.1, l, l'))
+    let z = place_inj m lo (hi - 1) hi' lo' (omega (arith, l, h)) (omega (arith, l', h')) e in absurd (omega (arith, z.0, z.1, l, l'))
 codes_apart m true false lo hi lo' hi' l h l' h' e =
-  let z = place_inj m hi lo lo' (hi' - 1) (omega (arith, l, h)) (omega (arith, l', h')) e in absurd (omega (arith, z.0, z.1, l, l'))
+    let z = place_inj m hi lo lo' (hi' - 1) (omega (arith, l, h)) (omega (arith, l', h')) e in absurd (omega (arith, z.0, z.1, l, l'))
 
 same_pair : (f g f' g' : ℕ) → min f g ≡ min f' g' → max f g ≡ max f' g' → ((f ≡ f') × (g ≡ g')) ⊎ ((f ≡ g') × (g ≡ f'))
 same_pair f g f' g' p q = elim (cases_order f f') [
-    inl eq ↦ inl (eq, omega (arith, p, q, eq))
-  | inr o ↦ inr (elim o [ inl l ↦ (omega (arith, p, q, l), omega (arith, p, q, l)) | inr l ↦ (omega (arith, p, q, l), omega (arith, p, q, l)) ]) ]
+  | inl eq ↦ inl (eq, omega (arith, p, q, eq))
+  | inr o ↦ inr (elim o [ inl l ↦ (omega (arith, p, q, l), omega (arith, p, q, l)) | inr l ↦ (omega (arith, p, q, l), omega (arith, p, q, l)) ])
+]
 
 below_at : (m : ℕ) (e : Bool) (lo hi : ℕ) → lo < hi → hi < m + 1 → code_at m e lo hi < (m + 1) * m
 below_at m false lo hi l h = let up : lo + 1 ≤ m = omega (arith, l, h) in omega (arith, mul-le-mul_left m up, l, h)
@@ -60,12 +63,12 @@ below_at m true lo hi l h = let up : hi ≤ m = omega (arith, h) in omega (arith
 
 -- Different records have different codes.
 pub codes_differ : (m : ℕ) (r q : Compared) → (r.first ≡ r.second → ⊥) → (q.first ≡ q.second → ⊥)
-  → high r < m + 1 → high q < m + 1 → (Repeats r q → ⊥) → code_of m r ≡ code_of m q → ⊥
+    → high r < m + 1 → high q < m + 1 → (Repeats r q → ⊥) → code_of m r ≡ code_of m q → ⊥
 codes_differ m r q nr nq hr hq apart e =
-  let lr : low r < high r = omega (arith, nr) in
-  let lq : low q < high q = omega (arith, nq) in
-  let z = codes_apart m r.flag q.flag (low r) (high r) (low q) (high q) lr hr lq hq e in
-  apart (z.0, same_pair r.first r.second q.first q.second z.1 z.2)
+    let lr : low r < high r = omega (arith, nr) in
+    let lq : low q < high q = omega (arith, nq) in
+    let z = codes_apart m r.flag q.flag (low r) (high r) (low q) (high q) lr hr lq hq e in
+    apart (z.0, same_pair r.first r.second q.first q.second z.1 z.2)
 
 pub code_below : (m : ℕ) (r : Compared) → (r.first ≡ r.second → ⊥) → high r < m + 1 → code_of m r < (m + 1) * m
 code_below m r nr hr = below_at m r.flag (low r) (high r) (omega (arith, nr)) hr
@@ -83,7 +86,7 @@ codes_once m log d h k l x lt p q =
     let a = mapped m log k x p in
     let b = mapped m log l x q in
     codes_differ m (a.0) (b.0) (member log k (a.0) a.1 (λ r. r.first ≡ r.second → ⊥) d.different) (member log l (b.0) b.1 (λ r. r.first ≡ r.second → ⊥) d.different)
-        (member log k (a.0) a.1 (λ r. high r < m + 1) h) (member log l (b.0) b.1 (λ r. high r < m + 1) h) (λ same. d.apart k l (a.0) (b.0) lt a.1 b.1 same) (a.2 ∙ sym b.2)
+    (member log k (a.0) a.1 (λ r. high r < m + 1) h) (member log l (b.0) b.1 (λ r. high r < m + 1) h) (λ same. d.apart k l (a.0) (b.0) lt a.1 b.1 same) (a.2 ∙ sym b.2)
 
 both_below : (n : ℕ) (r : Compared) → (r.first < n) × (r.second < n) → high r < n
 both_below n r h = omega (arith, h.0, h.1)
@@ -92,8 +95,8 @@ counted : (m : ℕ) (log : List Compared) → Distinct log → All (λ r. high r
 counted m log d h =
     subst (λ (k : ℕ). k ≤ (m + 1) * m) (length-map log (λ r. code_of m r))
     (few_below (map (λ r. code_of m r) log) ((m + 1) * m) (codes_once m log d h)
-      (All-map (λ y. y < (m + 1) * m) (λ q. code_of m q) log
-        (λ k e l. code_below m (get_or log k e) (All-get_or (λ x. x.first ≡ x.second → ⊥) log k e l d.different) (All-get_or (λ x. high x < m + 1) log k e l h))))
+    (All-map (λ y. y < (m + 1) * m) (λ q. code_of m q) log
+    (λ k e l. code_below m (get_or log k e) (All-get_or (λ x. x.first ≡ x.second → ⊥) log k e l d.different) (All-get_or (λ x. high x < m + 1) log k e l h))))
 
 no_log : (log : List Compared) → All (λ r. (r.first < 0) × (r.second < 0)) log → length log ≤ 0
 no_log [] h = omega arith
@@ -105,8 +108,10 @@ few_pairs (suc m) log d h = subst (λ (k : ℕ). length log ≤ k * (k - 1)) (on
   where
     one_more : (m : ℕ) → m + 1 ≡ suc m
     one_more m = omega arith
+
     back : (m : ℕ) → m ≡ (m + 1) - 1
     back m = omega arith
+
     below : (r : Compared) → (r.first < suc m) × (r.second < suc m) → high r < m + 1
     below r z = omega (arith, z.0, z.1)
 
@@ -167,18 +172,20 @@ placed log (p ∷ ps) once h =
           let same : z.0 ≡ here.0 = same_some (z.0) (here.0) (slice_get log k) z.2 at in
           let q = z.1 in
           once 0 (suc (z.3.0)) p q (omega arith) refl (slice_get-get_or ps (z.3.0) q z.3.1 ∙ ap (λ y. Some y) z.3.2)
-            (chained (here.0.first, here.0.second) p q here.2 (subst (λ (r : Compared). IsPair r q) same z.4)));
+          (chained (here.0.first, here.0.second) p q here.2 (subst (λ (r : Compared). IsPair r q) same z.4)));
       inside = All-cons (λ i. i < length log) k rest.places here.1.1 rest.inside;
       each = λ i c. elim (in_cons k rest.places i c) [
-          inl is ↦ (here.0, p, subst (λ (j : ℕ). slice_get log j ≡ Some (here.0)) is at, (0, omega arith, refl), here.2)
-        | inr old ↦ let z = rest.each i old in (z.0, z.1, z.2, Contains-append_right (p ∷ []) ps (z.1) z.3, z.4) ];
+        | inl is ↦ (here.0, p, subst (λ (j : ℕ). slice_get log j ≡ Some (here.0)) is at, (0, omega arith, refl), here.2)
+        | inr old ↦ let z = rest.each i old in (z.0, z.1, z.2, Contains-append_right (p ∷ []) ps (z.1) z.3, z.4)
+      ];
     }
 
 in_log_pair : (s : Search) (n : ℕ) (t : Tally (pair_in s) n s) (f g : ℕ) → (f ≡ g → ⊥) → Pair s false f g → InLog t.log (f, g)
 in_log_pair s n t f g ne (inl eq) = absurd (ne eq)
 in_log_pair s n t f g ne (inr c) = elim (t.listed c.0 f g c.2) [
-    inl x ↦ (record { first = f; second = g; flag = c.0 }, x, inl (refl, refl))
-  | inr x ↦ (record { first = g; second = f; flag = c.0 }, x, inr (refl, refl)) ]
+  | inl x ↦ (record { first = f; second = g; flag = c.0 }, x, inl (refl, refl))
+  | inr x ↦ (record { first = g; second = f; flag = c.0 }, x, inr (refl, refl))
+]
 
 -- Two spreads of a set are compared.
 spread_pair : (w : World) (s : Search) → ((i : ℕ) → Top w s i) → (i f g : ℕ) → Contains (spreads_of w i) f → Contains (spreads_of w i) g → (f ≡ g → ⊥) → Pair s false f g
@@ -197,6 +204,6 @@ spread_pair w s top i f g p q ne = elim (cases_order p.0 q.0) [
 pub at_least : (w : World) (n : ℕ) (s : Search) → ((i : ℕ) → Top w s i) → (t : Tally (pair_in s) n s) → n * (n - 1) ≤ greatest → (ps : List (ℕ × ℕ)) → Together w ps → length ps ≤ s.compared
 at_least w n s top t small ps h =
     let z : Placed t.log ps = placed t.log ps h.once (λ k d l.
-        let p = get_or ps k d in let u = h.spread k d l in
-        in_log_pair s n t (p.0) (p.1) u.0 (spread_pair w s top u.1.0 (p.0) (p.1) u.1.1 u.1.2 u.0)) in
+    let p = get_or ps k d in let u = h.spread k d l in
+    in_log_pair s n t (p.0) (p.1) u.0 (spread_pair w s top u.1.0 (p.0) (p.1) u.1.1 u.1.2 u.0)) in
     omega (arith, z.as_many, few_below z.places (length t.log) z.once z.inside, t.counted, few_pairs n t.log t.distinct t.within, small)

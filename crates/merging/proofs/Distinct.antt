@@ -31,8 +31,9 @@ any_below : (n : ℕ) (xs : List ℕ) → All (λ x. x < n) xs → (q : ℕ) →
 any_below n [] h q e = cc
 any_below n (x ∷ xs) h q e =
     elim (eqb q x) as (λ b. eqb q x ≡ b → (b || list_any (eqb q) xs) ≡ true → q < n) [
-      true ↦ λ is z. subst (λ (k : ℕ). k < n) (sym (eqb_is q x is)) (All-head (λ y. y < n) x xs h)
-    | false ↦ λ is z. any_below n xs (All-tail (λ y. y < n) x xs h) q z ] refl e
+      | true ↦ λ is z. subst (λ (k : ℕ). k < n) (sym (eqb_is q x is)) (All-head (λ y. y < n) x xs h)
+      | false ↦ λ is z. any_below n xs (All-tail (λ y. y < n) x xs h) q z
+    ] refl e
 
 pub few_below : (xs : List ℕ) (n : ℕ) → NoRepeats xs → All (λ x. x < n) xs → length xs ≤ n
 few_below xs n d h = length-le_from_distinct_below xs n (distinct_eqb xs d) (any_below n xs h)

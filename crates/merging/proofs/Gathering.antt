@@ -65,10 +65,11 @@ gathers_more own k s t l had new =
           ∙ (ap (λ xs. xs ++ cond (a.response == n) (a ∷ []) []) (had.fields n)
           ∙ sym (filter_more (λ x. x.response == n) own k no_entry l)));
       listed = elim (is_nil (group_of s a.response)) [
-          inl none ↦ subst (λ ns. AreListed ns (take (k + 1) own)) (sym (new.names.0 none))
-              (All-more (λ x. list_any (λ n. x.response == n) (s.names.items ++ a.response ∷ []) ≡ true) own k no_entry l (listed_more s.names.items (a.response ∷ []) old had.listed) (listed_last s.names.items a.response))
+        | inl none ↦ subst (λ ns. AreListed ns (take (k + 1) own)) (sym (new.names.0 none))
+            (All-more (λ x. list_any (λ n. x.response == n) (s.names.items ++ a.response ∷ []) ≡ true) own k no_entry l (listed_more s.names.items (a.response ∷ []) old had.listed) (listed_last s.names.items a.response))
         | inr some ↦ subst (λ ns. AreListed ns (take (k + 1) own)) (sym (new.names.1 some))
-              (All-more (λ x. list_any (λ n. x.response == n) s.names.items ≡ true) own k no_entry l had.listed (found (first_of_some (group_of s a.response) some))) ];
+            (All-more (λ x. list_any (λ n. x.response == n) s.names.items ≡ true) own k no_entry l had.listed (found (first_of_some (group_of s a.response) some)))
+      ];
     }
   where
     found : Contains (group_of s (get_or own k no_entry).response) (get_or (group_of s (get_or own k no_entry).response) 0 no_entry) → list_any (λ n. (get_or own k no_entry).response == n) s.names.items ≡ true

@@ -48,9 +48,11 @@ places_written w s f v r h = (own_spread h.0 v h.1, h.2)
 
 pub places_listed : (w : World) (s k : ℕ) (xs : List ℕ) → xs ≡ spreads_of w s → k < length xs → (r : Root) → AtListed w (get_or xs k 0) (drop (k + 1) xs) r → AtPlaces w s r
 places_listed w s k xs eq lt r h =
-    let z = rest_places xs k h.0 h.1 in
-    (two_spreads (subst (λ ys. slice_get ys k ≡ Some (get_or xs k 0)) eq (slice_get-get_or xs k 0 lt)) (subst (λ ys. slice_get ys (z.0) ≡ Some (h.0)) eq z.2)
-        (λ same. omega (arith, z.1, same)) h.2.1 h.2.2, h.2.3)
+    let z = rest_places xs k h.0 h.1 in (
+      two_spreads (subst (λ ys. slice_get ys k ≡ Some (get_or xs k 0)) eq (slice_get-get_or xs k 0 lt)) (subst (λ ys. slice_get ys (z.0) ≡ Some (h.0)) eq z.2)
+          (λ same. omega (arith, z.1, same)) h.2.1 h.2.2,
+      h.2.3,
+    )
 
 no_own : (w : World) (s : ℕ) → length w.sets ≤ s → length (own_of w s) ≡ 0
 no_own w s le = ap (λ o. length (option_map_or (λ n. n.own.items) o [])) (slice_get_past w.sets s le)
@@ -79,8 +81,9 @@ at_order order n P le h s c = subst P (get_or_default order c.0 0 s c.1 ∙ c.2)
 
 pub all_tops : (w : World) (M : Search) (order : List ℕ) (n : ℕ) → IsWhole w.sets order → length order ≤ n → ((i : ℕ) → i < n → Top w M (get_or order i 0)) → (s : ℕ) → Top w M s
 all_tops w M order n whole le h s = elim (lt_or_le s (length w.sets)) [
-    inl l ↦ at_order order n (λ t. Top w M t) le h s (in_order w order whole s l)
-  | inr g ↦ past_end w M s g ]
+  | inl l ↦ at_order order n (λ t. Top w M t) le h s (in_order w order whole s l)
+  | inr g ↦ past_end w M s g
+]
 
 nothing_in : {X : Type 0} (xs : List X) (x : X) → xs ≡ [] → Contains xs x → ⊥
 nothing_in xs x eq c = omega (arith, c.1, ap length eq)
@@ -114,8 +117,9 @@ module _ (w : World) (laws : Lawful w.judgement) (order : List ℕ) (whole : IsW
 
   pub top_root : (s : ℕ) (a b : Entry) → Contains (own_of w s) a → Stands w s b → Same a b → conflict_of w false a b ≡ true → IsRoot roots a b
   top_root s a b p q same fails = elim (lt_or_le s (length w.sets)) [
-      inl l ↦ root_in s (in_order w order whole s l) a b p q same fails
-    | inr g ↦ absurd (omega (arith, p.1, no_own w s g)) ]
+    | inl l ↦ root_in s (in_order w order whole s l) a b p q same fails
+    | inr g ↦ absurd (omega (arith, p.1, no_own w s g))
+  ]
 
 all_of_merged : (w : World) → ((s : ℕ) (a b : Entry) → Stands w s a → Stands w s b → Same a b → Merges w false a b) → (s : ℕ) → SetMerges w s
 all_of_merged w h s a b apart same = let at = apart_stands apart in h s a b at.0 at.1 same
@@ -161,7 +165,7 @@ judged_at w M order items n eq le falling whole had real =
     let all : IsWhole w.sets items = subst (λ zs. IsWhole w.sets zs) (sym eq) whole in
     let end = had M (grows_same M) in
     judged w M items falling all end.0 (all_tops w M items n all le end.1) real.adds
-        (λ s c r at fails. real.tells r (c.0, omega (arith, c.1, le), subst (λ t. AtTop w t r) (sym (get_or_default items c.0 0 s c.1 ∙ c.2)) at) fails)
+    (λ s c r at fails. real.tells r (c.0, omega (arith, c.1, le), subst (λ t. AtTop w t r) (sym (get_or_default items c.0 0 s c.1 ∙ c.2)) at) fails)
 
 -- all of a fragment, from the own fields of those that a search opens
 own_in : (w : World) (M : Search) (s t g : ℕ) (hs : List ℕ) → t ≡ set_of w g → ((h k : ℕ) → Contains hs h → Contains (spreads_of w (set_of w h)) k → Contains hs k)

@@ -49,8 +49,9 @@ still f g i j old new u h = u (i, j) ∙ cond_right (is_eq (by_both (f, g) (i, j
 
 only_one : (f g i j : ℕ) (old new : BTreeSet (ℕ × ℕ)) → Inserts f g old new → contains by_both new (i, j) ≡ true → (contains by_both old (i, j) ≡ true) ⊎ ((i ≡ f) × (j ≡ g))
 only_one f g i j old new u h = elim (cond_cases (is_eq (by_both (f, g) (i, j))) (contains by_both old (i, j)) (sym (u (i, j)) ∙ h)) [
-    inl is ↦ let z = both_equal (nat_cmp f i) (nat_cmp g j) is in inr (sym (equal_is f i z.0), sym (equal_is g j z.1))
-  | inr old ↦ inl old ]
+  | inl is ↦ let z = both_equal (nat_cmp f i) (nat_cmp g j) is in inr (sym (equal_is f i z.0), sym (equal_is g j z.1))
+  | inr old ↦ inl old
+]
 
 pub notes_flagged : (f g : ℕ) (old new : Log) → new.plain ≡ old.plain → Inserts f g old.flagged new.flagged → Notes true f g (in_log old) (in_log new)
 notes_flagged f g old new same u = record { noted = inserted f g old.flagged new.flagged u; kept = kept; only = only }
@@ -58,6 +59,7 @@ notes_flagged f g old new same u = record { noted = inserted f g old.flagged new
     kept : (x : Bool) (i j : ℕ) → in_log old x i j ≡ true → in_log new x i j ≡ true
     kept true i j h = still f g i j old.flagged new.flagged u h
     kept false i j h = subst (λ s. contains by_both s (i, j) ≡ true) (sym same) h
+
     only : (x : Bool) (i j : ℕ) → in_log new x i j ≡ true → (in_log old x i j ≡ true) ⊎ ((x ≡ true) × (i ≡ f) × (j ≡ g))
     only true i j h = elim (only_one f g i j old.flagged new.flagged u h) [ inl o ↦ inl o | inr z ↦ inr (refl, z.0, z.1) ]
     only false i j h = inl (subst (λ s. contains by_both s (i, j) ≡ true) same h)
@@ -68,6 +70,7 @@ notes_plain f g old new same u = record { noted = inserted f g old.plain new.pla
     kept : (x : Bool) (i j : ℕ) → in_log old x i j ≡ true → in_log new x i j ≡ true
     kept false i j h = still f g i j old.plain new.plain u h
     kept true i j h = subst (λ s. contains by_both s (i, j) ≡ true) (sym same) h
+
     only : (x : Bool) (i j : ℕ) → in_log new x i j ≡ true → (in_log old x i j ≡ true) ⊎ ((x ≡ false) × (i ≡ f) × (j ≡ g))
     only false i j h = elim (only_one f g i j old.plain new.plain u h) [ inl o ↦ inl o | inr z ↦ inr (refl, z.0, z.1) ]
     only true i j h = inl (subst (λ s. contains by_both s (i, j) ≡ true) same h)

@@ -31,11 +31,13 @@ gains_new f s t u fresh os ws =
     record {
       once = λ o. record {
         seen = λ h z. elim (cond_cases (is_eq (nat_cmp f h)) (contains nat_cmp s.seen h) (sym (u h) ∙ z)) [
-            inl is ↦ subst (λ (x : ℕ). Contains t.order.items x) (equal_is f h is) here
-          | inr old ↦ kept h (o.seen h old) ];
+          | inl is ↦ subst (λ (x : ℕ). Contains t.order.items x) (equal_is f h is) here
+          | inr old ↦ kept h (o.seen h old)
+        ];
         noted = λ h c. u h ∙ (elim (cases h c) [
-            inl old ↦ cond_right (is_eq (nat_cmp f h)) (contains nat_cmp s.seen h) (o.noted h old)
-          | inr is ↦ subst (λ (x : ℕ). cond (is_eq (nat_cmp f x)) true (contains nat_cmp s.seen x) ≡ true) is (subst (λ b. cond b true (contains nat_cmp s.seen f) ≡ true) (sym (equal_self f)) refl) ]);
+          | inl old ↦ cond_right (is_eq (nat_cmp f h)) (contains nat_cmp s.seen h) (o.noted h old)
+          | inr is ↦ subst (λ (x : ℕ). cond (is_eq (nat_cmp f x)) true (contains nat_cmp s.seen x) ≡ true) is (subst (λ b. cond b true (contains nat_cmp s.seen f) ≡ true) (sym (equal_self f)) refl)
+        ]);
         distinct = subst (λ zs. NoRepeats zs) (sym os) (repeats_push s.order.items f o.distinct (λ c. clash (contains nat_cmp s.seen f) (o.noted f c) fresh));
       };
       opened = λ o. All-cons (λ h. Contains t.order.items h) f [] here (All-nil (λ h. Contains t.order.items h));
@@ -55,8 +57,9 @@ gains_old f s t u seen os ws =
     record {
       once = λ o. record {
         seen = λ h z. elim (cond_cases (is_eq (nat_cmp f h)) (contains nat_cmp s.seen h) (sym (u h) ∙ z)) [
-            inl is ↦ kept h (o.seen h (subst (λ (x : ℕ). contains nat_cmp s.seen x ≡ true) (equal_is f h is) seen))
-          | inr old ↦ kept h (o.seen h old) ];
+          | inl is ↦ kept h (o.seen h (subst (λ (x : ℕ). contains nat_cmp s.seen x ≡ true) (equal_is f h is) seen))
+          | inr old ↦ kept h (o.seen h old)
+        ];
         noted = λ h c. u h ∙ cond_right (is_eq (nat_cmp f h)) (contains nat_cmp s.seen h) (o.noted h (back h c));
         distinct = subst (λ v. NoRepeats v.items) (sym os) o.distinct;
       };
@@ -91,8 +94,9 @@ gains_more xs k d {s} {t} {u} l a b = record {
       (All-contains (λ h. Contains u.order.items h) (get_or xs k d ∷ []) (get_or xs k d) (b.opened (a.once o)) (Contains-push [] (get_or xs k d)));
   kept = λ h c. b.kept h (a.kept h c);
   only = λ h c. elim (b.only h c) [
-      inl old ↦ elim (a.only h old) [ inl older ↦ inl older | inr z ↦ inr (z.0, b.waits h z.1) ]
-    | inr z ↦ inr (subst (λ (x : ℕ). Contains xs x) (same_one (get_or xs k d) h z.0) (Contains-get_or xs k d l), z.1) ];
+    | inl old ↦ elim (a.only h old) [ inl older ↦ inl older | inr z ↦ inr (z.0, b.waits h z.1) ]
+    | inr z ↦ inr (subst (λ (x : ℕ). Contains xs x) (same_one (get_or xs k d) h z.0) (Contains-get_or xs k d l), z.1)
+  ];
   waits = λ h c. b.waits h (a.waits h c);
   waiting = λ h c. elim (b.waiting h c) [ inl old ↦ elim (a.waiting h old) [ inl older ↦ inl older | inr z ↦ inr (b.kept h z) ] | inr z ↦ inr z ];
   longer = omega (arith, a.longer, b.longer);
@@ -136,22 +140,28 @@ sound_next w g f s m t falling o se os ws a =
       once = a.once once;
       first = fwd g o.first;
       reached = λ k d l. elim (a.only (get_or t.order.items k d) (Contains-get_or t.order.items k d l)) [
-          inl old ↦ All-contains (Reaches w g) s.order.items (get_or t.order.items k d) o.reached (back (get_or t.order.items k d) old)
-        | inr z ↦ step (All-contains (Reaches w g) s.order.items f o.reached there) z.0 ];
+        | inl old ↦ All-contains (Reaches w g) s.order.items (get_or t.order.items k d) o.reached (back (get_or t.order.items k d) old)
+        | inr z ↦ step (All-contains (Reaches w g) s.order.items f o.reached there) z.0
+      ];
       below = λ k d l. elim (a.only (get_or t.order.items k d) (Contains-get_or t.order.items k d l)) [
-          inl old ↦ All-contains (λ h. h < length w.fragments) s.order.items (get_or t.order.items k d) o.below (back (get_or t.order.items k d) old)
-        | inr z ↦ spread (get_or t.order.items k d) z.0 ];
+        | inl old ↦ All-contains (λ h. h < length w.fragments) s.order.items (get_or t.order.items k d) o.below (back (get_or t.order.items k d) old)
+        | inr z ↦ spread (get_or t.order.items k d) z.0
+      ];
       waiting = λ k d l. elim (a.waiting (get_or t.waiting.items k d) (Contains-get_or t.waiting.items k d l)) [
-          inl old ↦ fwd (get_or t.waiting.items k d) (All-contains (λ h. Contains s.order.items h) s.waiting.items (get_or t.waiting.items k d) o.waiting
-              (subst (λ zs. Contains zs (get_or t.waiting.items k d)) (sym ws) (Contains-append_left m.waiting.items (f ∷ []) (get_or t.waiting.items k d) old)))
-        | inr z ↦ z ];
+        | inl old ↦ fwd (get_or t.waiting.items k d) (All-contains (λ h. Contains s.order.items h) s.waiting.items (get_or t.waiting.items k d) o.waiting
+            (subst (λ zs. Contains zs (get_or t.waiting.items k d)) (sym ws) (Contains-append_left m.waiting.items (f ∷ []) (get_or t.waiting.items k d) old)))
+        | inr z ↦ z
+      ];
       followed = λ h c. elim (a.only h c) [
-          inl old ↦ elim (o.followed h (back h old)) [
-              inl waits ↦ elim (Contains-push_cases m.waiting.items f h (subst (λ zs. Contains zs h) ws waits)) [
-                  inl still ↦ inl (a.waits h still)
-                | inr is ↦ inr (subst (λ (x : ℕ). All (λ k. Contains t.order.items k) (spreads_of w (set_of w x))) is done) ]
-            | inr all ↦ inr (All-weaker (λ k. Contains s.order.items k) (λ k. Contains t.order.items k) fwd (spreads_of w (set_of w h)) all) ]
-        | inr z ↦ inl z.1 ];
+        | inl old ↦ elim (o.followed h (back h old)) [
+          | inl waits ↦ elim (Contains-push_cases m.waiting.items f h (subst (λ zs. Contains zs h) ws waits)) [
+            | inl still ↦ inl (a.waits h still)
+            | inr is ↦ inr (subst (λ (x : ℕ). All (λ k. Contains t.order.items k) (spreads_of w (set_of w x))) is done)
+          ]
+          | inr all ↦ inr (All-weaker (λ k. Contains s.order.items k) (λ k. Contains t.order.items k) fwd (spreads_of w (set_of w h)) all)
+        ]
+        | inr z ↦ inl z.1
+      ];
     }
 
 pub few_open : (w : World) (g : ℕ) (o : Opening) → Sound w g o → length o.order.items ≤ length w.fragments
@@ -161,8 +171,9 @@ pub opens_end : (w : World) (g : ℕ) (o : Opening) → Sound w g o → o.waitin
 opens_end w g o s none = record {
   first = s.first;
   followed = λ h k c d. elim (s.followed h c) [
-      inl waits ↦ absurd (omega (arith, waits.1, ap length none))
-    | inr all ↦ All-contains (λ i. Contains o.order.items i) (spreads_of w (set_of w h)) k all d ];
+    | inl waits ↦ absurd (omega (arith, waits.1, ap length none))
+    | inr all ↦ All-contains (λ i. Contains o.order.items i) (spreads_of w (set_of w h)) k all d
+  ];
   reached = s.reached;
   few = few_open w g o s;
 }
@@ -172,10 +183,6 @@ pub less_left : (n : ℕ) (f : ℕ) (fs gs : List ℕ) (s m t : Opening) → m.o
     → (2 * n + length t.waiting.items) - 2 * length t.order.items < (2 * n + length s.waiting.items) - 2 * length s.order.items
 less_left n f fs gs s m t os ws a top =
     omega (arith, ap length ws, length-append m.waiting.items (f ∷ []), ap (λ v. length v.items) os, a.left, a.longer, top)
-
-pub nil_of_length : (xs : List ℕ) → length xs ≡ 0 → xs ≡ []
-nil_of_length [] h = refl
-nil_of_length (x ∷ xs) h = absurd (omega (arith, h))
 
 pub flag_new : (r b : Bool) → r ≡ not b → r ≡ true → b ≡ false
 flag_new r true h k = cc

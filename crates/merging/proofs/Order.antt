@@ -84,9 +84,10 @@ own_within w M s names listed h k l a b lt p q same =
 -- where the roots lie
 pub row_within : (w : World) (s n : ℕ) (xs : List Entry) → xs ≡ named n (own_of w s) → (r : Root) → AtBefore xs r → AtWithin w s r
 row_within w s n xs eq r h =
-    let z : Places (named n (own_of w s)) r.left r.right = subst (λ ys. Places ys r.left r.right) eq h in
-    (places_named n (own_of w s) r.left r.right z,
-     named_is n (own_of w s) r.left (at_of (named n (own_of w s)) z.0 r.left z.3) ∙ sym (named_is n (own_of w s) r.right (at_of (named n (own_of w s)) z.1 r.right z.4)))
+    let z : Places (named n (own_of w s)) r.left r.right = subst (λ ys. Places ys r.left r.right) eq h in (
+      places_named n (own_of w s) r.left r.right z,
+      named_is n (own_of w s) r.left (at_of (named n (own_of w s)) z.0 r.left z.3) ∙ sym (named_is n (own_of w s) r.right (at_of (named n (own_of w s)) z.1 r.right z.4)),
+    )
 
 pub tell_within : (w : World) (s : ℕ) (names : List ℕ) → AreListed names (own_of w s) → (r : Root) → AtWithin w s r → (n : ℕ) × Contains names n × AtBefore (named n (own_of w s)) r
 tell_within w s names listed r h = (

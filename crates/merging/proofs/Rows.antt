@@ -38,7 +38,7 @@ kept test [] = λ k d l. absurd (omega (arith, l))
 kept test (x ∷ xs) = All-cons (λ a. test a ≡ true → Contains (filter test (x ∷ xs)) a) x xs
     (λ yes. subst (λ b. Contains (cond b (x ∷ filter test xs) (filter test xs)) x) (sym yes) (Contains-append_left (x ∷ []) (filter test xs) x (Contains-push [] x)))
     (All-weaker (λ a. test a ≡ true → Contains (filter test xs) a) (λ a. test a ≡ true → Contains (filter test (x ∷ xs)) a)
-      (λ a f yes. further (test x) x (filter test xs) a (f yes)) xs (kept test xs))
+    (λ a f yes. further (test x) x (filter test xs) a (f yes)) xs (kept test xs))
 
 pub named_in : (n : ℕ) (xs : List Entry) (a : Entry) → Contains xs a → a.response ≡ n → Contains (named n xs) a
 named_in n xs a c is = All-contains (λ x. (x.response == n) ≡ true → Contains (named n xs) x) xs a (kept (λ x. x.response == n) xs) c (eq_to a.response n is)

@@ -85,7 +85,7 @@ not_repeated s e f g r fresh h same = elim same.1 [
 
 listed_new : (log : List Compared) (e x : Bool) (f g i j : ℕ) → (x ≡ e) × (((i ≡ f) × (j ≡ g)) ⊎ ((i ≡ g) × (j ≡ f)))
     → Contains (log ++ record { first = f; second = g; flag = e } ∷ []) (record { first = i; second = j; flag = x })
-      ⊎ Contains (log ++ record { first = f; second = g; flag = e } ∷ []) (record { first = j; second = i; flag = x })
+    ⊎ Contains (log ++ record { first = f; second = g; flag = e } ∷ []) (record { first = j; second = i; flag = x })
 listed_new log e x f g i j (is, inl p) = inl (subst (λ (y : Bool). Contains (log ++ record { first = f; second = g; flag = e } ∷ []) (record { first = i; second = j; flag = y })) (sym is)
     (subst (λ (k : ℕ). Contains (log ++ record { first = f; second = g; flag = e } ∷ []) (record { first = k; second = j; flag = e })) (sym p.0)
     (subst (λ (k : ℕ). Contains (log ++ record { first = f; second = g; flag = e } ∷ []) (record { first = f; second = k; flag = e })) (sym p.1) (Contains-push log (record { first = f; second = g; flag = e })))))
@@ -100,7 +100,7 @@ either_more log new a b (inr c) = inr (Contains-append_left log (new ∷ []) b c
 listed_more : (log : List Compared) (e x : Bool) (f g i j : ℕ)
     → (Contains log (record { first = i; second = j; flag = x }) ⊎ Contains log (record { first = j; second = i; flag = x })) ⊎ ((x ≡ e) × (((i ≡ f) × (j ≡ g)) ⊎ ((i ≡ g) × (j ≡ f))))
     → Contains (log ++ record { first = f; second = g; flag = e } ∷ []) (record { first = i; second = j; flag = x })
-      ⊎ Contains (log ++ record { first = f; second = g; flag = e } ∷ []) (record { first = j; second = i; flag = x })
+    ⊎ Contains (log ++ record { first = f; second = g; flag = e } ∷ []) (record { first = j; second = i; flag = x })
 listed_more log e x f g i j (inl c) = either_more log (record { first = f; second = g; flag = e }) (record { first = i; second = j; flag = x }) (record { first = j; second = i; flag = x }) c
 listed_more log e x f g i j (inr p) = listed_new log e x f g i j p
 

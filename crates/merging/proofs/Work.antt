@@ -164,8 +164,11 @@ module _ (w : World) where
   -- something was reported, after other work
   pub did_report : (P : Search → Type 0) (y : Finding) {s t u : Search} → Reports y t u → Did w P s t → Did w (λ M. P M × Contains M.found.items y) s u
   did_report P y {s} {t} {u} n d =
-      let up : Grows t u = record { more_pairs = pair_from t u n.pairs; more_searched = search_from t u n.searched;
-        more_found = λ z h. subst (λ zs. Contains zs z) (sym n.found) (Contains-append_left t.found.items (y ∷ []) z h) } in
+      let up : Grows t u = record {
+        more_pairs = pair_from t u n.pairs;
+        more_searched = search_from t u n.searched;
+        more_found = λ z h. subst (λ zs. Contains zs z) (sym n.found) (Contains-append_left t.found.items (y ∷ []) z h);
+      } in
       record {
         keeps = λ h. tally_same n.pairs n.compared (λ o. subst (λ (k : ℕ). k ≤ length w.fragments * u.lists) (sym n.opened) (subst (λ (k : ℕ). t.opened ≤ length w.fragments * k) (sym n.lists) o)) (d.keeps h);
         grows = grows_then d.grows up;

@@ -58,11 +58,7 @@ fn gather(alloc: Global, own: &[Entry]) -> Result<Groups, AllocError>
 }
 
 /// A set of these own fields, which spreads these fragments.
-pub fn make_set(
-    alloc: Global,
-    own: Vec<Entry>,
-    spreads: Vec<usize>,
-) -> Result<SetNode, AllocError>
+pub fn make_set(alloc: Global, own: Vec<Entry>, spreads: Vec<usize>) -> Result<SetNode, AllocError>
     ensures own { IfOk result (λ set. set.own ≡ own) }
     ensures spreads { IfOk result (λ set. set.spreads ≡ spreads) }
 {

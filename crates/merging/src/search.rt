@@ -11,7 +11,9 @@ use crate::graph::Graph;
 use crate::judge::Judge;
 use crate::node::Entry;
 use crate::opening::opened;
-use crate::state::{Finding, Search, count_list, is_compared, is_searched, note_pair, note_search, report};
+use crate::state::{
+    Finding, Search, count_list, is_compared, is_searched, note_pair, note_search, report,
+};
 use crate::view::{are_exclusive, are_in_conflict, group, names, set, spreads};
 use std::alloc::AllocError;
 

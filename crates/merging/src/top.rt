@@ -133,11 +133,7 @@ fn compare_spreads<J: Judge>(
 }
 
 // All that one set asks for.
-fn compare_set<J: Judge>(
-    graph: &Graph<J>,
-    s: usize,
-    search: &mut Search,
-) -> Result<(), AllocError>
+fn compare_set<J: Judge>(graph: &Graph<J>, s: usize, search: &mut Search) -> Result<(), AllocError>
     ensures done { OnOk result (Did (world J.judgement graph.now) (λ M. Top (world J.judgement graph.now) M s) search.old search.new) }
     ensures real { OnOk result (AddsAll (world J.judgement graph.now) false (AtPlaces (world J.judgement graph.now) s) (AtTop (world J.judgement graph.now) s) search.old.found.items search.new.found.items) }
 {

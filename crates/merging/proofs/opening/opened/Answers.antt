@@ -1,7 +1,8 @@
-use Rattle.std.proofs.Common.{rules, ◌≡◌, [], refl, length, arith, None}
-use Rattle.merging.specs.World.{world, set_of, spreads_of}
+use Rattle.std.proofs.Common.{rules, ◌≡◌, [], refl, length, arith}
+use Rattle.std.proofs.lemmas.Grind.{common_steps}
+use Rattle.merging.specs.World.{world}
 use Rattle.merging.specs.declared.opening.Opening.{Opening}
-use Rattle.merging.proofs.Opened.{sound_start, sound_next, opens_end, few_open, less_left, nil_of_length}
+use Rattle.merging.proofs.Opened.{sound_start, sound_next, opens_end, few_open, less_left}
 use Rattle.merging.proofs.opening.opened.Goals as goal
 
 pub loop-f-init : goal.loop-f-init
@@ -24,5 +25,5 @@ loop-f-smaller g c =
 
 pub returns : goal.returns
 returns g c =
-    let none : c.loop-f.opening.waiting.items ≡ [] = first_of (search rules, nil_of_length c.loop-f.opening.waiting.items (search rules), nil_of_length c.loop-f.opening.waiting.items (omega (arith, c.in_default.ensures.len, c.in_default.ensures.items))) in
+    let none : c.loop-f.opening.waiting.items ≡ [] = first_of (search rules, grind (arith, common_steps)) in
     opens_end (world g.J.Judge.judgement c.args.graph.now) c.args.g c.loop-f.opening c.loop-f.invariant none

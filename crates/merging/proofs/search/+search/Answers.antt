@@ -61,8 +61,7 @@ all_against_all-loop-g-init g t c =
 
 pub all_against_all-loop-g-preserved : goal.all_against_all-loop-g-preserved
 all_against_all-loop-g-preserved g t c =
-    let v = world g.J.Judge.judgement c.args.graph.now in
-    (
+    let v = world g.J.Judge.judgement c.args.graph.now in (
       c.loop-g.invariant.0,
       did_more v (λ k M. All (λ h. Pair M c.args.e k h) (spreads_of v c.args.j)) _ c.loop-g.g-index 0 c.loop-g-test.true c.loop-g.invariant.1 c.in_ok-fragment_against_all.ensures.done,
       adds_then v c.args.e _ c.loop-g.invariant.2 (adds_map v c.args.e _ _ (λ r z. (get_or c.spreads-g-items.result.now c.loop-g.g-index 0, in_list c.spreads-g-items.result.now (spreads_of v c.args.i) c.loop-g.g-index 0 c.loop-g.invariant.0 c.loop-g-test.true, z)) c.in_ok-fragment_against_all.ensures.real),
@@ -83,8 +82,7 @@ all_against_fragment-loop-h-init g t c =
 
 pub all_against_fragment-loop-h-preserved : goal.all_against_fragment-loop-h-preserved
 all_against_fragment-loop-h-preserved g t c =
-    let v = world g.J.Judge.judgement c.args.graph.now in
-    (
+    let v = world g.J.Judge.judgement c.args.graph.now in (
       c.loop-h.invariant.0,
       did_more v (λ h M. Pair M c.args.e h c.args.g) _ c.loop-h.h-index 0 c.loop-h-test.true c.loop-h.invariant.1 c.in_ok-compare_fragments.ensures.done,
       adds_then v c.args.e _ c.loop-h.invariant.2 (adds_map v c.args.e _ _ (λ r z. (get_or c.spreads-h-items.result.now c.loop-h.h-index 0, in_list c.spreads-h-items.result.now (spreads_of v c.args.i) c.loop-h.h-index 0 c.loop-h.invariant.0 c.loop-h-test.true, z)) c.in_ok-compare_fragments.ensures.real),
@@ -105,8 +103,7 @@ fragment_against_all-loop-h-init g t c =
 
 pub fragment_against_all-loop-h-preserved : goal.fragment_against_all-loop-h-preserved
 fragment_against_all-loop-h-preserved g t c =
-    let v = world g.J.Judge.judgement c.args.graph.now in
-    (
+    let v = world g.J.Judge.judgement c.args.graph.now in (
       c.loop-h.invariant.0,
       did_more v (λ h M. Pair M c.args.e c.args.f h) _ c.loop-h.h-index 0 c.loop-h-test.true c.loop-h.invariant.1 c.in_ok-compare_fragments.ensures.done,
       adds_then v c.args.e _ c.loop-h.invariant.2 (adds_map v c.args.e _ _ (λ r z. (get_or c.spreads-h-items.result.now c.loop-h.h-index 0, in_list c.spreads-h-items.result.now (spreads_of v c.args.j) c.loop-h.h-index 0 c.loop-h.invariant.0 c.loop-h-test.true, z)) c.in_ok-compare_fragments.ensures.real),
@@ -127,8 +124,7 @@ own_against_all-loop-h-init g t c =
 
 pub own_against_all-loop-h-preserved : goal.own_against_all-loop-h-preserved
 own_against_all-loop-h-preserved g t c =
-    let v = world g.J.Judge.judgement c.args.graph.now in
-    (
+    let v = world g.J.Judge.judgement c.args.graph.now in (
       c.loop-h.invariant.0,
       did_more v (λ h M. Searched M c.args.e c.args.i h) _ c.loop-h.h-index 0 c.loop-h-test.true c.loop-h.invariant.1 c.in_ok-own_against.ensures.done,
       adds_then v c.args.e _ c.loop-h.invariant.2 (adds_map v c.args.e _ _ (λ r z. (get_or c.spreads-h-items.result.now c.loop-h.h-index 0, in_list c.spreads-h-items.result.now (spreads_of v c.args.j) c.loop-h.h-index 0 c.loop-h.invariant.0 c.loop-h-test.true, z)) c.in_ok-own_against.ensures.real),
@@ -151,8 +147,7 @@ pub open_all-loop-h-preserved : goal.open_all-loop-h-preserved
 open_all-loop-h-preserved g t c =
     let v = world g.J.Judge.judgement c.args.graph.now in
     let h = get_or c.args.opening.now c.loop-h.h-index 0 in
-    let at : Contains c.args.opening.now h = Contains-get_or c.args.opening.now c.loop-h.h-index 0 c.loop-h-test.true in
-    (
+    let at : Contains c.args.opening.now h = Contains-get_or c.args.opening.now c.loop-h.h-index 0 c.loop-h-test.true in (
       owes_more v (λ M. All (λ h. Searched M c.args.e c.args.i h) c.args.opening.now) (λ M. All (λ k. Searched M c.args.e c.args.i k) (spreads_of v (set_of v h))) (λ h M. Searched M c.args.e c.args.i h) c.args.opening.now c.loop-h.h-index 0 c.loop-h-test.true
           (λ M all k d l. All-contains (λ i. Searched M c.args.e c.args.i i) c.args.opening.now (get_or (spreads_of v (set_of v h)) k d) all (c.requires.followed h (get_or (spreads_of v (set_of v h)) k d) at (Contains-get_or (spreads_of v (set_of v h)) k d l)))
           c.loop-h.invariant.0 c.in_ok-open_fragment.ensures.done,
@@ -171,8 +166,7 @@ compare_with-loop-b-init g t c =
 
 pub compare_with-loop-b-preserved : goal.compare_with-loop-b-preserved
 compare_with-loop-b-preserved g t c =
-    let v = world g.J.Judge.judgement c.args.graph.now in
-    (
+    let v = world g.J.Judge.judgement c.args.graph.now in (
       c.loop-b.invariant.0,
       did_more v (λ b M. Done v M c.args.e c.args.a b) _ c.loop-b.b-index no_entry c.loop-b-test.true c.loop-b.invariant.1 c.in_ok-compare_fields.ensures.done,
       all_more v c.args.e _ _ (λ b. AtFields c.args.a b) c.group-b-items.result.now c.loop-b.b-index no_entry
@@ -196,8 +190,7 @@ compare_named-loop-a-init g t c =
 
 pub compare_named-loop-a-preserved : goal.compare_named-loop-a-preserved
 compare_named-loop-a-preserved g t c =
-    let v = world g.J.Judge.judgement c.args.graph.now in
-    (
+    let v = world g.J.Judge.judgement c.args.graph.now in (
       c.loop-a.invariant.0,
       did_more v (λ a M. All (λ b. Done v M c.args.e a b) (named a.response (own_of v c.args.j))) _ c.loop-a.a-index no_entry c.loop-a-test.true c.loop-a.invariant.1 c.in_ok-compare_with.ensures.done,
       all_more v c.args.e _ _ (λ a. AtWith v a c.args.j) c.group-a-items.result.now c.loop-a.a-index no_entry
@@ -221,8 +214,7 @@ compare_own-loop-name-init g t c =
 
 pub compare_own-loop-name-preserved : goal.compare_own-loop-name-preserved
 compare_own-loop-name-preserved g t c =
-    let v = world g.J.Judge.judgement c.args.graph.now in
-    (
+    let v = world g.J.Judge.judgement c.args.graph.now in (
       c.loop-name.invariant.0,
       did_more v (λ n M. All (λ a. All (λ b. Done v M c.args.e a b) (named a.response (own_of v c.args.j))) (named n (own_of v c.args.i))) _ c.loop-name.name-index 0 c.loop-name-test.true c.loop-name.invariant.1 c.in_ok-compare_named.ensures.done,
       all_more v c.args.e _ _ (λ n. AtNamed v c.args.i c.args.j n) c.names-name-items.result.now c.loop-name.name-index 0
@@ -316,7 +308,7 @@ compare_fragments-returns g t c =
       real = on_ok_weaker c.all_against_fragment.result
           (λ d. adds_from v c.args.e _ c.in_ok-note_pair.ensures.found (adds_then v c.args.e _ (adds_then v c.args.e _
           (adds_map v c.args.e _ _ (λ r z. row_fragments v c.args.f c.args.g c.if-f-g.false r
-            (subst (λ (s : ℕ). AtOwn v s (set_of v c.args.g) r) c.set.ensures (subst (λ (s : ℕ). AtOwn v c.set.result s r) c.set-2.ensures z))) c.in_ok-compare_own.ensures.real.adds)
+          (subst (λ (s : ℕ). AtOwn v s (set_of v c.args.g) r) c.set.ensures (subst (λ (s : ℕ). AtOwn v c.set.result s r) c.set-2.ensures z))) c.in_ok-compare_own.ensures.real.adds)
           (adds_map v c.args.e _ _ (λ r z. row_first v c.args.f c.args.g c.if-f-g.false r (subst (λ (s : ℕ). AtFirst v c.args.f s r) c.set-3.ensures z)) c.in_ok-fragment_against_all.ensures.real))
           (adds_map v c.args.e _ _ (λ r z. row_second v c.args.f c.args.g c.if-f-g.false r (subst (λ (s : ℕ). AtSecond v s c.args.g r) c.set-4.ensures z)) d)))
           c.all_against_fragment.ensures.real;
@@ -377,4 +369,3 @@ compare_fields-returns-in_default-2 g t c =
       done = did_none v _ c.args.search.now (λ M grown. shallow passes (inl c.in_default.is-0));
       real = all_quiet v c.args.e c.args.a c.args.b passes (adds_none v c.args.e _ _);
     }
-

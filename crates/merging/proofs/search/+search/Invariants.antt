@@ -97,4 +97,3 @@ invariant-all_against_all-loop-g g l =
     (l.g-items ≡ spreads_of (world g.J.Judge.judgement l.graph) l.i)
     × Did (world g.J.Judge.judgement l.graph) (λ M. All (λ k. All (λ h. Pair M l.e k h) (spreads_of (world g.J.Judge.judgement l.graph) l.j)) (take l.g-index l.g-items)) l.fn.search l.search
     × Adds (world g.J.Judge.judgement l.graph) l.e (AtSpreads (world g.J.Judge.judgement l.graph) l.i l.j) l.fn.search.found.items l.search.found.items
-

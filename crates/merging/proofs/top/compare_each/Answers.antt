@@ -30,8 +30,7 @@ loop-k-init g c =
 pub loop-k-preserved : goal.loop-k-preserved
 loop-k-preserved g c =
     let v = world g.J.Judge.judgement c.args.graph.now in
-    let x = get_or c.args.fields.now c.loop-k.k no_entry in
-    (
+    let x = get_or c.args.fields.now c.loop-k.k no_entry in (
       did_next v (λ i M. All (Done v M false (get_or c.args.fields.now i no_entry)) (drop (i + 1) c.args.fields.now)) c.loop-k.k c.loop-k.invariant.0 (did_map v _ _ (λ M z. subst (λ ys. All (Done v M false x) ys) (rest_is c.args.fields.now (c.loop-k.k + 1)) z) c.in_ok-compare_rest.ensures.done),
       all_next v false _ _ (λ m. AtRest (get_or c.args.fields.now m no_entry) (drop (m + 1) c.args.fields.now)) c.loop-k.k (row_rest c.args.fields.now c.loop-k.k c.loop-k-test.true) c.loop-k.invariant.1
           (all_change v false _ (AtRest x (drop (c.loop-k.k + 1) c.args.fields.now)) _ (AtRest x (drop (c.loop-k.k + 1) c.args.fields.now)) (λ r z. subst (λ ys. AtRest x ys r) (rest_is c.args.fields.now (c.loop-k.k + 1)) z) (λ r z. subst (λ ys. AtRest x ys r) (sym (rest_is c.args.fields.now (c.loop-k.k + 1))) z) c.in_ok-compare_rest.ensures.real),

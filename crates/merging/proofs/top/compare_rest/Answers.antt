@@ -29,8 +29,7 @@ loop-b-init g c =
 
 pub loop-b-preserved : goal.loop-b-preserved
 loop-b-preserved g c =
-    let v = world g.J.Judge.judgement c.args.graph.now in
-    (
+    let v = world g.J.Judge.judgement c.args.graph.now in (
       did_more v (λ b M. Done v M false c.args.a b) c.args.rest.now c.loop-b.b-index no_entry c.loop-b-test.true c.loop-b.invariant.0 c.in_ok-compare_fields.ensures.done,
       all_more v false _ _ (λ b. AtFields c.args.a b) c.args.rest.now c.loop-b.b-index no_entry
           (λ r z. (z.0, subst (λ x. Contains c.args.rest.now x) (sym z.1) (Contains-get_or c.args.rest.now c.loop-b.b-index no_entry c.loop-b-test.true))) c.loop-b.invariant.1 c.in_ok-compare_fields.ensures.real,

@@ -43,8 +43,7 @@ loop-k-init g c =
 pub loop-k-preserved : goal.loop-k-preserved
 loop-k-preserved g c =
     let v = world g.J.Judge.judgement c.args.graph.now in
-    let x = get_or c.spreads-list.result.now c.loop-k.k 0 in
-    (
+    let x = get_or c.spreads-list.result.now c.loop-k.k 0 in (
       c.loop-k.invariant.0,
       did_next v (λ i M. OwnWritten v M c.args.s (get_or c.spreads-list.result.now i 0) × All (Pair M false (get_or c.spreads-list.result.now i 0)) (drop (i + 1) c.spreads-list.result.now)) c.loop-k.k c.loop-k.invariant.1 (did_then v _ _ c.in_ok-write_out.ensures.done (did_map v _ _ (λ M z. subst (λ ys. All (Pair M false x) ys) (rest_is c.spreads-list.result.now (c.loop-k.k + 1)) z) c.in_ok-pair_all.ensures.done)),
       all_plus v false _ _ _ (places_listed v c.args.s c.loop-k.k c.spreads-list.result.now c.loop-k.invariant.0 c.loop-k-test.true)

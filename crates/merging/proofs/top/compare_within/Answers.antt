@@ -29,8 +29,7 @@ loop-name-init g c =
 
 pub loop-name-preserved : goal.loop-name-preserved
 loop-name-preserved g c =
-    let v = world g.J.Judge.judgement c.args.graph.now in
-    (
+    let v = world g.J.Judge.judgement c.args.graph.now in (
       c.loop-name.invariant.0,
       did_more v (λ n M. AllBefore (Done v M false) (named n (own_of v c.args.s))) c.names-name-items.result.now c.loop-name.name-index 0 c.loop-name-test.true c.loop-name.invariant.1 (did_map v _ _ (λ M z. subst (λ ys. AllBefore (Done v M false) ys) c.group.ensures z) c.in_ok-compare_each.ensures.done),
       all_more v false _ _ (λ n. AtBefore (named n (own_of v c.args.s))) c.names-name-items.result.now c.loop-name.name-index 0

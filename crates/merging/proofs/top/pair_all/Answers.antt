@@ -34,8 +34,7 @@ loop-g-init g c =
 
 pub loop-g-preserved : goal.loop-g-preserved
 loop-g-preserved g c =
-    let v = world g.J.Judge.judgement c.args.graph.now in
-    (
+    let v = world g.J.Judge.judgement c.args.graph.now in (
       did_more v (λ k M. Pair M false c.args.f k) c.args.rest.now c.loop-g.g-index 0 c.loop-g-test.true c.loop-g.invariant.0 c.in_ok-compare_fragments.ensures.done,
       adds_then v false _ c.loop-g.invariant.1 (adds_map v false _ _ (λ x z. (get_or c.args.rest.now c.loop-g.g-index 0, Contains-get_or c.args.rest.now c.loop-g.g-index 0 c.loop-g-test.true, z)) c.in_ok-compare_fragments.ensures.real),
     )

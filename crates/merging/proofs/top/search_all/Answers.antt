@@ -26,8 +26,7 @@ use Rattle.merging.proofs.top.search_all.Goals as goal
 pub loop-s-init : goal.loop-s-init
 loop-s-init g c =
     let v = world g.J.Judge.judgement c.args.graph.now in
-    let b = c.no_search-search.ensures in
-    (
+    let b = c.no_search-search.ensures in (
       c.order-s-items.ensures,
       no_tops v c.order-s-items.result.now c.no_search-search.result b,
       subst (λ ys. AddsAll v false (λ r. (s : ℕ) × AtPlaces v s r) (Upto c.order-s-items.result.now 0 0 (λ s. AtTop v s)) [] ys) (sym b.found) (all_start v false _ (λ s. AtTop v s) c.order-s-items.result.now 0 []),
@@ -36,8 +35,7 @@ loop-s-init g c =
 
 pub loop-s-preserved : goal.loop-s-preserved
 loop-s-preserved g c =
-    let v = world g.J.Judge.judgement c.args.graph.now in
-    (
+    let v = world g.J.Judge.judgement c.args.graph.now in (
       c.loop-s.invariant.0,
       next_tops v c.order-s-items.result.now c.loop-s.s-index c.loop-s.invariant.1 c.in_ok-compare_set.ensures.done,
       all_more v false _ _ (λ s. AtTop v s) c.order-s-items.result.now c.loop-s.s-index 0 (λ r z. (get_or c.order-s-items.result.now c.loop-s.s-index 0, z)) c.loop-s.invariant.2 c.in_ok-compare_set.ensures.real,

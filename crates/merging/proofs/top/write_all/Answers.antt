@@ -30,8 +30,7 @@ loop-h-init g c =
 pub loop-h-preserved : goal.loop-h-preserved
 loop-h-preserved g c =
     let v = world g.J.Judge.judgement c.args.graph.now in
-    let h = get_or c.args.opening.now c.loop-h.h-index 0 in
-    (
+    let h = get_or c.args.opening.now c.loop-h.h-index 0 in (
       did_more v (λ h M. OwnPairs v M false c.args.s (set_of v h)) c.args.opening.now c.loop-h.h-index 0 c.loop-h-test.true c.loop-h.invariant.0 (did_map v _ _ (λ M z. subst (λ (s : ℕ). OwnPairs v M false c.args.s s) c.set.ensures z) c.in_ok-compare_own.ensures.done),
       all_more v false _ _ (λ k. AtOwn v c.args.s (set_of v k)) c.args.opening.now c.loop-h.h-index 0
           (row_opened v c.args.s c.args.g h (All-get_or (Reaches v c.args.g) c.args.opening.now c.loop-h.h-index 0 c.loop-h-test.true c.requires.reached)) c.loop-h.invariant.1
