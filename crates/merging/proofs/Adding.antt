@@ -10,7 +10,7 @@ use Rattle.merging.specs.declared.state.Finding.TheVariants.{Direct, Nested}
 use Rattle.merging.specs.Judgement.{Lawful}
 use Rattle.merging.specs.World.{World, conflict_of, exclusive_of}
 use Rattle.merging.specs.Merging.{Below, below, Merges, merges}
-use Rattle.merging.specs.Reports.{Root, NestedRoot, Trees, none, leaf, node, Adds, AddsAll, Tells, AtFields}
+use Rattle.merging.specs.Reports.{Root, NestedRoot, Trees, none, leaf, node, Adds, AddsAll, AtFields}
 use Rattle.merging.proofs.Laws.{conflict_flip, exclusive_flip, clash}
 use Rattle.merging.proofs.Work.{no_entry}
 

@@ -1,5 +1,5 @@
 -- What a closed log says of every pair of a written-out set.
-use Rattle.std.proofs.Common.{refl, ℕ, zero, suc, ◌<◌, ◌≤◌, ◌+◌, List, Some, None, Bool, true, false, ◌≡◌, ◌⊎◌, inl, inr, subst, sym, arith, slice_get, ◌∙◌, ap, length, min, max}
+use Rattle.std.proofs.Common.{refl, ℕ, zero, suc, ◌<◌, ◌≤◌, List, Some, None, Bool, true, false, ◌≡◌, ◌⊎◌, inl, inr, subst, sym, arith, slice_get, ◌∙◌, ap, length}
 use Rattle.std.specs.List.{All, Contains}
 use Rattle.std.proofs.lemmas.List.Elements.{All-contains}
 use Rattle.std.proofs.lemmas.Option.{slice_get-get_or}
@@ -11,7 +11,7 @@ use Rattle.merging.specs.Judgement.{Lawful}
 use Rattle.merging.specs.Graph.{Falling, height}
 use Rattle.merging.specs.World.{World, own_of, spreads_of, set_of, conflict_of, exclusive_of, Same}
 use Rattle.merging.specs.Log.{Covers}
-use Rattle.merging.specs.Work.{pair_in, search_in, Searched, Pair, Asked, Done, stood, shallow, deep, OwnPairs, ClosedSearch, ClosedPair, AllClosed}
+use Rattle.merging.specs.Work.{pair_in, Searched, Pair, Asked, Done, stood, shallow, deep, OwnPairs, ClosedPair, AllClosed}
 use Rattle.merging.specs.Merging.{Stands, own, spread, Below, below, Merges, merges, Way, here, down, Good, Passes, Top}
 use Rattle.merging.specs.Reports.{Told}
 use Rattle.merging.proofs.Laws.{Le, least, even, up, both, conflict_up, exclusive_up, conflict_flip, exclusive_flip, conflict_self, clash, clash_some, same_some}

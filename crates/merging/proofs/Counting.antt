@@ -1,19 +1,18 @@
 -- How many pairs of fragments are compared.
-use Rattle.std.proofs.Common.{◌≡◌, ℕ, zero, suc, ◌+◌, ◌-◌, ◌*◌, ◌^◌, ◌<◌, ◌≤◌, min, max, List, [], ◌∷◌, length, map, refl, sym, subst, ap, ◌∙◌, arith, Bool, false, true, inl, inr, ◌⊎◌, Some, None, Option, slice_get, get_or}
+use Rattle.std.proofs.Common.{◌≡◌, ℕ, zero, suc, ◌+◌, ◌-◌, ◌*◌, ◌^◌, ◌<◌, ◌≤◌, min, max, List, [], ◌∷◌, length, map, refl, sym, subst, ap, ◌∙◌, arith, Bool, false, true, inl, inr, ◌⊎◌, Some, slice_get, get_or}
 use Rattle.std.specs.List.{All, Contains}
-use Rattle.std.proofs.lemmas.List.Elements.{All-head, All-tail, All-get_or, All-contains, All-map, All-nil, All-cons, Contains-get_or, Contains-append_right}
+use Rattle.std.proofs.lemmas.List.Elements.{All-head, All-tail, All-get_or, All-contains, All-map, All-nil, All-cons, Contains-append_right}
 use Rattle.std.proofs.lemmas.List.{length-map}
 use Rattle.std.proofs.lemmas.Option.{slice_get-get_or, slice_get_within, get_or_from_slice_get}
 use Rattle.std.proofs.Math.Nat.{mul-le-mul_left}
 use Rattle.std.proofs.lemmas.Bool.{cases_order}
 use Rattle.merging.specs.declared.state.Search.{Search}
-use Rattle.merging.specs.World.{World, spreads_of, set_of}
-use Rattle.merging.specs.Log.{Covers}
+use Rattle.merging.specs.World.{World, spreads_of}
 use Rattle.merging.specs.Work.{pair_in, Pair}
 use Rattle.merging.specs.Merging.{Top}
 use Rattle.merging.specs.Counts.{Compared, Distinct, Repeats, Tally, greatest}
 use Rattle.merging.specs.Sound.{NoRepeats}
-use Rattle.merging.specs.Tops.{SamePair, SpreadTogether, Together}
+use Rattle.merging.specs.Tops.{SamePair, Together}
 use Rattle.merging.proofs.Distinct.{few_below}
 use Rattle.merging.proofs.Flips.{flip_pair}
 use Rattle.merging.proofs.Laws.{same_some}

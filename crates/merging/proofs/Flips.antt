@@ -1,7 +1,7 @@
 -- Two fragments in either order.
-use Rattle.std.proofs.Common.{ℕ, Bool, true, false, ◌≡◌, ◌⊎◌, inl, inr, sym, subst, ap, ◌∙◌, min, max, arith}
+use Rattle.std.proofs.Common.{ℕ, Bool, true, ◌≡◌, inl, inr, sym, subst, min, max, arith}
 use Rattle.merging.specs.declared.state.Search.{Search}
-use Rattle.merging.specs.Log.{in_log, Covers}
+use Rattle.merging.specs.Log.{in_log}
 use Rattle.merging.specs.Work.{pair_in, Pair}
 
 max_flip : (f g : ℕ) → max f g ≡ max g f

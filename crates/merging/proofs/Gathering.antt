@@ -1,9 +1,8 @@
 -- How fields are gathered.
-use Rattle.std.proofs.Common.{◌≡◌, ◌==◌, ℕ, ◌+◌, ◌<◌, ◌≤◌, List, [], ◌∷◌, ◌++◌, length, take, get_or, refl, sym, subst, ap, ◌∙◌, arith, Bool, true, false, cond, ◌||◌, Option, Some, None, inl, inr, ◌⊎◌, append-nil, length-append}
-use Rattle.std.specs.List.{All, Contains, filter, list_any}
+use Rattle.std.proofs.Common.{◌≡◌, ◌==◌, ℕ, ◌+◌, ◌<◌, ◌≤◌, List, [], ◌∷◌, ◌++◌, length, take, get_or, refl, sym, subst, ap, ◌∙◌, arith, Bool, true, false, cond, ◌||◌, Option, Some, None, inl, inr, ◌⊎◌, append-nil}
+use Rattle.std.specs.List.{Contains, list_any}
 use Rattle.std.specs.Option.{option_map_or}
 use Rattle.std.specs.Ordering.{nat_cmp, is_eq}
-use Rattle.std.specs.BTreeMap.{get}
 use Rattle.std.proofs.lemmas.Bool.Decides.{nat_tests}
 use Rattle.std.proofs.lemmas.List.{take_all, length-take}
 use Rattle.std.proofs.lemmas.List.Folds.{list_any-append}
@@ -11,7 +10,7 @@ use Rattle.std.proofs.lemmas.List.Elements.{filter_more, All-more, All-weaker, A
 use Rattle.merging.specs.declared.node.Entry.{Entry}
 use Rattle.merging.specs.declared.groups.Groups.{Groups}
 use Rattle.merging.specs.Names.{named, AreListed}
-use Rattle.merging.specs.Groups.{group_of, Takes, AddsField, Gathers}
+use Rattle.merging.specs.Groups.{group_of, AddsField, Gathers}
 use Rattle.merging.proofs.Rows.{named_own, named_is}
 use Rattle.merging.proofs.Work.{no_entry}
 

@@ -1,13 +1,13 @@
 -- Two of a list, the first before the second, and what a filter keeps of them.
-use Rattle.std.proofs.Common.{◌≡◌, ◌==◌, ℕ, zero, suc, ◌+◌, ◌-◌, ◌<◌, ◌≤◌, List, [], ◌∷◌, length, take, drop, get_or, refl, sym, subst, ap, ◌∙◌, arith, Bool, true, false, cond, Some, Option, inl, inr, ◌⊎◌, slice_get, length-drop}
+use Rattle.std.proofs.Common.{◌≡◌, ◌==◌, ℕ, zero, suc, ◌+◌, ◌-◌, ◌<◌, ◌≤◌, List, [], ◌∷◌, length, take, drop, get_or, refl, sym, subst, ap, ◌∙◌, arith, Bool, true, false, cond, Some, inl, inr, ◌⊎◌, slice_get, length-drop}
 use Rattle.std.specs.List.{All, Contains, filter}
 use Rattle.std.proofs.lemmas.List.{take_all, get_or-drop, get_or_default}
-use Rattle.std.proofs.lemmas.List.Elements.{All-contains, All-filter, All-contains_itself, Contains-append_right, Contains-get_or, Contains-push}
+use Rattle.std.proofs.lemmas.List.Elements.{All-contains, All-filter, All-contains_itself}
 use Rattle.std.proofs.lemmas.Option.{get_or_from_slice_get, slice_get_within, slice_get-get_or}
 use Rattle.merging.specs.declared.node.Entry.{Entry}
 use Rattle.merging.specs.declared.state.Search.{Search}
 use Rattle.merging.specs.Names.{named, AreListed}
-use Rattle.merging.specs.World.{World, own_of, Same}
+use Rattle.merging.specs.World.{World, own_of}
 use Rattle.merging.specs.Work.{Done}
 use Rattle.merging.specs.Merging.{OwnWithin}
 use Rattle.merging.specs.Reports.{Root}

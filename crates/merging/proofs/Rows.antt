@@ -1,12 +1,12 @@
 -- Where the roots of reports lie.
-use Rattle.std.proofs.Common.{◌≡◌, ◌==◌, ℕ, ◌<◌, ◌≤◌, List, [], ◌∷◌, length, get_or, refl, sym, subst, ap, ◌∙◌, arith, Bool, true, false, cond, Some, inl, inr, ◌⊎◌}
+use Rattle.std.proofs.Common.{◌≡◌, ◌==◌, ℕ, ◌<◌, List, [], ◌∷◌, length, get_or, refl, sym, subst, ap, ◌∙◌, arith, Bool, true, false, cond, Some, inl, inr}
 use Rattle.std.specs.List.{All, Contains, filter, list_any}
 use Rattle.std.proofs.lemmas.List.Elements.{Contains-get_or, Contains-push, Contains-append_left, Contains-append_right, All-cons, All-weaker, All-contains, All-contains_itself, All-filter, filter_passes}
 use Rattle.std.proofs.lemmas.Map.Views.{Contains-from_any}
 use Rattle.merging.specs.declared.node.Entry.{Entry}
 use Rattle.merging.specs.declared.state.Search.{Search}
 use Rattle.merging.specs.Names.{named, AreListed}
-use Rattle.merging.specs.World.{World, own_of, spreads_of, set_of, Same}
+use Rattle.merging.specs.World.{World, own_of, set_of, Same}
 use Rattle.merging.specs.Work.{Done, OwnPairs}
 use Rattle.merging.specs.Opening.{Reaches, start, step}
 use Rattle.merging.specs.Merging.{Stands, own, spread, below}

@@ -1,11 +1,11 @@
 -- How counts grow.
 use Rattle.std.proofs.Common.{◌≡◌, ℕ, ◌+◌, ◌*◌, ◌<◌, ◌≤◌, List, [], ◌∷◌, ◌++◌, length, min, refl, sym, subst, arith, Bool, true, false, Some, inl, inr, ◌⊎◌, zero, suc, Option, slice_get, ◌∙◌, length-append}
-use Rattle.std.specs.List.{All, Contains}
+use Rattle.std.specs.List.{Contains}
 use Rattle.std.proofs.lemmas.Option.{slice_get_within, get_or_from_slice_get}
 use Rattle.std.proofs.lemmas.Bool.{cases_order}
 use Rattle.std.proofs.lemmas.List.Elements.{All-contains, All-push, All-nil, All-weaker, Contains-push, Contains-append_left}
 use Rattle.merging.specs.declared.state.Search.{Search}
-use Rattle.merging.specs.Log.{in_log, NotesBoth}
+use Rattle.merging.specs.Log.{in_log}
 use Rattle.merging.specs.Work.{pair_in}
 use Rattle.merging.specs.Counts.{Compared, Repeats, Distinct, Tally, greatest}
 use Rattle.merging.specs.State.{NotesPair, CountsList, Begins}

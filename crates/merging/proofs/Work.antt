@@ -1,17 +1,16 @@
 -- How pieces of work join.
-use Rattle.std.proofs.Common.{◌≡◌, ℕ, ◌+◌, ◌*◌, ◌<◌, ◌≤◌, List, [], ◌∷◌, ◌++◌, length, take, get_or, refl, sym, subst, arith, Bool, true, false, None, inl, inr, ◌⊎◌, min, max, ◌||◌, ◌&&◌, below_more}
+use Rattle.std.proofs.Common.{◌≡◌, ℕ, ◌+◌, ◌*◌, ◌<◌, ◌≤◌, List, [], ◌∷◌, length, take, get_or, refl, sym, subst, arith, Bool, true, false, None, inl, inr, ◌⊎◌, min, max, ◌||◌, ◌&&◌, below_more}
 use Rattle.std.specs.List.{All, Contains}
 use Rattle.std.proofs.lemmas.List.{take_all, length-take}
-use Rattle.std.proofs.lemmas.List.Elements.{All-more, All-contains, Contains-push, Contains-append_left}
+use Rattle.std.proofs.lemmas.List.Elements.{All-more, Contains-push, Contains-append_left}
 use Rattle.merging.specs.declared.node.Entry.{Entry}
 use Rattle.merging.specs.declared.state.Search.{Search}
 use Rattle.merging.specs.declared.state.Finding.{Finding}
-use Rattle.merging.specs.World.{World, own_of, spreads_of, set_of, Same}
+use Rattle.merging.specs.World.{World, spreads_of, set_of}
 use Rattle.merging.specs.Log.{in_log, covers_of, Covers}
-use Rattle.merging.specs.Work.{pair_in, search_in, Searched, Pair, Done, OwnPairs, ClosedSearch, ClosedPair, AllClosed, Grows, Did, Owes}
+use Rattle.merging.specs.Work.{pair_in, search_in, Searched, Pair, OwnPairs, ClosedSearch, ClosedPair, Grows, Did, Owes}
 use Rattle.merging.specs.State.{NotesPair, NotesSearch, Reports, CountsList}
 use Rattle.merging.proofs.Tallying.{tally_same, tally_pair, tally_list}
-use Rattle.merging.proofs.Flips.{flip_in}
 
 abbrev pub no_entry : Entry
 no_entry = record { response = 0; field = 0; below = None }

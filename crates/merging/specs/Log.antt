@@ -1,7 +1,7 @@
 -- Questions that were asked: of two numbers, under a flag.
 use Rattle.std.specs.Prelude.{ℕ, Bool, true, false, ◌≡◌, ◌⊎◌, ◌&&◌, ◌||◌, if◌then◌else◌}
 use Rattle.std.specs.Ordering.{nat_cmp, ordering_then}
-use Rattle.std.specs.BTreeSet.{BTreeSet, contains}
+use Rattle.std.specs.BTreeSet.{contains}
 use Rattle.merging.specs.declared.log.Log.{Log}
 
 abbrev pub in_log : Log → Bool → ℕ → ℕ → Bool

@@ -1,5 +1,5 @@
 -- What was found is a list of true reasons, in postfix order.
-use Rattle.std.specs.Prelude.{ℕ, ◌<◌, ◌≤◌, List, [], ◌∷◌, ◌++◌, length, slice_get, Some, Bool, true, false, ◌≡◌, ◌⊎◌}
+use Rattle.std.specs.Prelude.{ℕ, ◌<◌, List, [], ◌∷◌, ◌++◌, length, Bool, true, false, ◌≡◌, ◌⊎◌}
 use Rattle.std.specs.List.{All, Contains}
 use Rattle.merging.specs.declared.node.Entry.{Entry}
 use Rattle.merging.specs.declared.state.Finding.{Finding}

@@ -1,5 +1,5 @@
 -- The single steps of a search.
-use Rattle.std.specs.Prelude.{ℕ, ◌+◌, min, List, [], ◌∷◌, ◌++◌, Bool, false, ◌≡◌}
+use Rattle.std.specs.Prelude.{ℕ, ◌+◌, min, [], ◌∷◌, ◌++◌, Bool, false, ◌≡◌}
 use Rattle.merging.specs.declared.state.Search.{Search}
 use Rattle.merging.specs.declared.state.Finding.{Finding}
 use Rattle.merging.specs.Log.{Notes, NotesBoth}

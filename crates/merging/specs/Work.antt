@@ -1,5 +1,5 @@
 -- What a search has done, seen from any later state M.
-use Rattle.std.specs.Prelude.{ℕ, ◌<◌, ◌≤◌, ◌*◌, ◌^◌, ◌-◌, min, max, List, length, Some, None, Bool, true, false, ◌≡◌, ◌⊎◌, slice_get}
+use Rattle.std.specs.Prelude.{ℕ, min, max, length, Some, None, Bool, true, false, ◌≡◌, ◌⊎◌}
 use Rattle.std.specs.List.{All, Contains}
 use Rattle.merging.specs.declared.node.Entry.{Entry}
 use Rattle.merging.specs.declared.state.Search.{Search}

@@ -1,5 +1,5 @@
 use Rattle.std.proofs.Common.{ℕ, ap, ◌∙◌}
-use Rattle.merging.specs.World.{world, set_of, spreads_of}
+use Rattle.merging.specs.World.{world, spreads_of}
 use Rattle.merging.proofs.Opened.{gains_none, gains_more, gains_all}
 use Rattle.merging.proofs.opening.follow.Goals as goal
 

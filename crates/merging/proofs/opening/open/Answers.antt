@@ -1,4 +1,4 @@
-use Rattle.std.proofs.Common.{◌≡◌, Bool, true, false, not, refl}
+use Rattle.std.proofs.Common.{refl}
 use Rattle.merging.specs.declared.opening.Opening.{Opening}
 use Rattle.merging.proofs.Opened.{gains_new, gains_old, flag_new, flag_old}
 use Rattle.merging.proofs.opening.open.Goals as goal

@@ -1,16 +1,16 @@
-use Rattle.std.proofs.Common.{rules, ◌≡◌, ℕ, ◌+◌, ◌<◌, ◌≤◌, ◌++◌, [], ◌∷◌, arith, refl, sym, subst, Some, None, inl, inr, false, true, ◌∙◌, get_or, length}
+use Rattle.std.proofs.Common.{ℕ, arith, refl, sym, subst, inl, inr, ◌∙◌, get_or}
 use Rattle.std.specs.List.{All, Contains}
 use Rattle.std.proofs.lemmas.Result.{on_ok_weaker}
 use Rattle.std.proofs.lemmas.List.Elements.{All-contains, All-get_or, Contains-get_or}
-use Rattle.merging.specs.declared.state.Finding.TheVariants.{Direct, Nested}
+use Rattle.merging.specs.declared.state.Finding.TheVariants.{Direct}
 use Rattle.merging.specs.Names.{named}
-use Rattle.merging.specs.World.{world, own_of, spreads_of, set_of, Same}
+use Rattle.merging.specs.World.{world, own_of, spreads_of, set_of}
 use Rattle.merging.specs.Opening.{Opens, Reaches}
 use Rattle.merging.specs.Work.{pair_in, search_in, Searched, Pair, Done, stood, shallow, deep, SetsDone, OwnPairs}
-use Rattle.merging.specs.Reports.{Adds, AddsAll, NestedRoot, AtFields, AtWith, AtNamed, AtOwn, AtSearch, AtSearches, AtFragments, AtFirst, AtSecond, AtSpreads, AtBelow}
+use Rattle.merging.specs.Reports.{Adds, NestedRoot, AtFields, AtWith, AtNamed, AtOwn, AtFirst, AtSecond}
 use Rattle.merging.proofs.Falls.{spread_falls, own_falls, reach_falls}
 use Rattle.merging.proofs.Work.{did_none, did_start, did_then, did_map, did_more, did_all, did_list, did_opened, owes_search, owes_none, owes_start, owes_more, owes_full, did_fragments, did_report, no_entry, covers_yes, covers_no}
-use Rattle.merging.proofs.Adding.{adds_none, adds_map, adds_then, adds_from, adds_leaf, adds_node, adds_same, all_leaf, all_quiet, all_start, all_more, all_done, all_map}
+use Rattle.merging.proofs.Adding.{adds_none, adds_map, adds_then, adds_from, adds_node, adds_same, all_leaf, all_quiet, all_start, all_more, all_done}
 use Rattle.merging.proofs.Rows.{in_list, row_with, row_named, row_own, tell_with, tell_named, tell_own, own_pairs, row_opened, row_fragments, row_first, row_second, row_below_own, row_below_forth, row_below_back, row_below_spreads, row_nested}
 use Rattle.merging.proofs.search.+search.Goals as goal
 
