@@ -1,0 +1,15 @@
+pub mod Adding
+pub mod Core
+pub mod Counting
+pub mod Distinct
+pub mod Falls
+pub mod Flips
+pub mod Judging
+pub mod Laws
+pub mod Logs
+pub mod Opened
+pub mod Order
+pub mod Rows
+pub mod Tallying
+pub mod Work
+pub mod Gathering

@@ -1,0 +1,16 @@
+use Rattle.std.proofs.Common.{refl, sym, subst}
+use Rattle.merging.specs.Log.{in_log, Notes}
+use Rattle.merging.proofs.Logs.{notes_flagged, notes_plain}
+use Rattle.merging.proofs.log.note.Goals as goal
+
+pub returns-in_ok-insert : goal.returns-in_ok-insert
+returns-in_ok-insert c =
+    let old = c.args.log.now in
+    let new : Rattle.merging.specs.declared.log.Log.Log = record { flagged = c.insert.new.self; plain = old.plain } in
+    subst (λ x. Notes x c.args.f c.args.g (in_log old) (in_log new)) (sym c.if-e.true) (notes_flagged c.args.f c.args.g old new refl c.in_ok-insert.ensures.updates.0)
+
+pub returns-in_ok-insert-2 : goal.returns-in_ok-insert-2
+returns-in_ok-insert-2 c =
+    let old = c.args.log.now in
+    let new : Rattle.merging.specs.declared.log.Log.Log = record { flagged = old.flagged; plain = c.insert-else-e.new.self } in
+    subst (λ x. Notes x c.args.f c.args.g (in_log old) (in_log new)) (sym c.if-e.false) (notes_plain c.args.f c.args.g old new refl c.in_ok-insert-2.ensures.updates.0)

@@ -1,0 +1,14 @@
+pub mod Judgement
+pub mod Names
+pub mod Graph
+pub mod World
+pub mod Log
+pub mod Opening
+pub mod Work
+pub mod Merging
+pub mod Reports
+pub mod Counts
+pub mod State
+pub mod Sound
+pub mod Tops
+pub mod Groups

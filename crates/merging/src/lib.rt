@@ -1,0 +1,13 @@
+//! The search for fields that can't be merged, over numbered sets of numbered fields.
+#![tactic(auto)]
+
+pub mod graph;
+pub mod groups;
+pub mod judge;
+pub mod log;
+pub mod node;
+pub mod opening;
+pub mod search;
+pub mod state;
+pub mod top;
+pub mod view;

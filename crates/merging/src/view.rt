@@ -1,0 +1,72 @@
+//! What a search reads of a graph.
+ghost use Rattle.std.specs.Prelude.{◌≡◌};
+ghost use Rattle.merging.specs.Names.{named, AreListed};
+ghost use Rattle.merging.specs.World.{world, own_of, spreads_of, set_of, exclusive_of, conflict_of};
+
+use crate::graph::Graph;
+use crate::judge::Judge;
+use crate::node::Entry;
+
+/// The response names of a set, in the order in which they stand first.
+pub fn names<J: Judge>(graph: &Graph<J>, s: usize) -> &[usize]
+    ensures { AreListed result.now (own_of (world J.judgement graph.now) s) }
+{
+    match graph.sets.get(s) {
+        Some(node) => node.names.as_slice(),
+        None => &[],
+    }
+}
+
+/// The own fields of a set that have a response name.
+pub fn group<J: Judge>(graph: &Graph<J>, s: usize, name: usize) -> &[Entry]
+    ensures { result.now ≡ named name (own_of (world J.judgement graph.now) s) }
+{
+    match graph.sets.get(s) {
+        Some(node) => match node.groups.get(&name) {
+            Some(fields) => fields.as_slice(),
+            None => &[],
+        },
+        None => &[],
+    }
+}
+
+/// The sets in the order in which they are searched.
+pub fn order<J>(graph: &Graph<J>) -> &[usize]
+    ensures { result.now ≡ graph.now.order.items }
+{
+    graph.order.as_slice()
+}
+
+/// The fragments that a set spreads.
+pub fn spreads<J: Judge>(graph: &Graph<J>, s: usize) -> &[usize]
+    ensures { result.now ≡ spreads_of (world J.judgement graph.now) s }
+{
+    match graph.sets.get(s) {
+        Some(node) => node.spreads.as_slice(),
+        None => &[],
+    }
+}
+
+/// The set of a fragment.
+pub fn set<J: Judge>(graph: &Graph<J>, f: usize) -> usize
+    ensures { result ≡ set_of (world J.judgement graph.now) f }
+{
+    match graph.fragments.get(f) {
+        Some(s) => *s,
+        None => 0,
+    }
+}
+
+/// Whether two fields can never be asked of one object.
+pub fn are_exclusive<J: Judge>(graph: &Graph<J>, e: bool, a: Entry, b: Entry) -> bool
+    ensures { result ≡ exclusive_of (world J.judgement graph.now) e a b }
+{
+    graph.judge.are_exclusive(e, a.field, b.field)
+}
+
+/// Whether two fields fail of themselves.
+pub fn are_in_conflict<J: Judge>(graph: &Graph<J>, e: bool, a: Entry, b: Entry) -> bool
+    ensures { result ≡ conflict_of (world J.judgement graph.now) e a b }
+{
+    graph.judge.are_in_conflict(e, a.field, b.field)
+}
