@@ -2,7 +2,8 @@
 //!
 //! Its words are a schema (`pets`, or a number: a schema whose field `wide` takes an input object of so many fields `k0: Int`,
 //! `k1: Int` and so on), how often the document on the standard input is to be read, and how often to be judged. It prints the
-//! bytes of the document, the errors of the rules, and for each phase that is asked for the median of its times in nanoseconds.
+//! bytes of the document, the errors of the rules, and for each phase that is asked for the median of its times, in nanoseconds
+//! of the processor.
 #![tactic(auto)]
 
 mod failure;

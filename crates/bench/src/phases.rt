@@ -1,13 +1,14 @@
-//! The phases that are timed. Each answers the median of its times in nanoseconds, or none where it is asked for no time.
+//! The phases that are timed, by the processor's time that they take. Each answers the median of its times in nanoseconds, or none
+//! where it is asked for no time.
 use crate::failure::Failure;
 use document_reader::read_document;
 use std::alloc::Global;
-use std::rt::Clock;
-use std::time::{Duration, Instant};
+use std::rt::CpuClock;
+use std::time::Duration;
 use validation::{DefaultScalarValue, Definition, SchemaType, ValidatorContext, visit_all_rules};
 
 /// Reads the text so often. The trees' release isn't timed.
-pub fn time_reading<R: Clock>(
+pub fn time_reading<R: CpuClock>(
     clock: &R,
     alloc: Global,
     text: &[u8],
@@ -20,16 +21,16 @@ pub fn time_reading<R: Clock>(
     Ok(median(taken))
 }
 
-fn time_read<R: Clock>(clock: &R, alloc: Global, text: &[u8]) -> Result<Duration, Failure> {
-    let start = Instant::now(clock)?;
+fn time_read<R: CpuClock>(clock: &R, alloc: Global, text: &[u8]) -> Result<Duration, Failure> {
+    let start = clock.process_cpu_time()?;
     let document = read_document(alloc, text)?;
-    let taken = start.elapsed(clock);
+    let end = clock.process_cpu_time();
     drop(document);
-    Ok(taken?)
+    Ok(end?.saturating_sub(start))
 }
 
 /// Judges the document by all rules so often.
-pub fn time_walking<R: Clock>(
+pub fn time_walking<R: CpuClock>(
     clock: &R,
     alloc: Global,
     schema: &SchemaType<DefaultScalarValue>,
@@ -43,16 +44,17 @@ pub fn time_walking<R: Clock>(
     Ok(median(taken))
 }
 
-fn time_walk<'a, R: Clock>(
+fn time_walk<'a, R: CpuClock>(
     clock: &R,
     alloc: Global,
     schema: &'a SchemaType<DefaultScalarValue>,
     document: &'a [Definition<'_, DefaultScalarValue>],
 ) -> Result<Duration, Failure> {
     let mut ctx = ValidatorContext::new(alloc, schema, document)?;
-    let start = Instant::now(clock)?;
+    let start = clock.process_cpu_time()?;
     visit_all_rules(&mut ctx, document)?;
-    Ok(start.elapsed(clock)?)
+    let end = clock.process_cpu_time()?;
+    Ok(end.saturating_sub(start))
 }
 
 fn median(mut taken: Vec<Duration>) -> Option<u128> {

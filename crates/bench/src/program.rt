@@ -6,11 +6,11 @@ use document_reader::read_document;
 use std::alloc::Global;
 use std::env::{self, Env};
 use std::io::{self, Read};
-use std::rt::Clock;
+use std::rt::CpuClock;
 use validation::{DefaultScalarValue, Definition, SchemaType, ValidatorContext, visit_all_rules};
 
 /// Measures what the words ask for, and answers 0, or 1 where nothing is measured.
-pub fn run<R: Clock + Env + AllocGlobal + Print + Eprint, I: Read>(rt: &R, input: &mut I) -> u8 {
+pub fn run<R: CpuClock + Env + AllocGlobal + Print + Eprint, I: Read>(rt: &R, input: &mut I) -> u8 {
     let Err(failure) = measure(rt, input) else {
         return 0;
     };
@@ -18,7 +18,7 @@ pub fn run<R: Clock + Env + AllocGlobal + Print + Eprint, I: Read>(rt: &R, input
     1
 }
 
-fn measure<R: Clock + Env + AllocGlobal + Print, I: Read>(
+fn measure<R: CpuClock + Env + AllocGlobal + Print, I: Read>(
     rt: &R,
     input: &mut I,
 ) -> Result<(), Failure> {
@@ -34,7 +34,7 @@ fn measure<R: Clock + Env + AllocGlobal + Print, I: Read>(
     }
 }
 
-fn measure_against<R: Clock + AllocGlobal + Print>(
+fn measure_against<R: CpuClock + AllocGlobal + Print>(
     rt: &R,
     word: &str,
     text: &[u8],
@@ -58,7 +58,7 @@ fn number(word: &String) -> Result<usize, Failure> {
     word.parse::<usize>().map_err(|_| Failure::Usage)
 }
 
-fn measure_walks<R: Clock + AllocGlobal + Print>(
+fn measure_walks<R: CpuClock + AllocGlobal + Print>(
     rt: &R,
     schema: &SchemaType<DefaultScalarValue>,
     text: &[u8],
@@ -70,7 +70,7 @@ fn measure_walks<R: Clock + AllocGlobal + Print>(
     }
 }
 
-fn measure_walks_over<R: Clock + AllocGlobal + Print>(
+fn measure_walks_over<R: CpuClock + AllocGlobal + Print>(
     rt: &R,
     schema: &SchemaType<DefaultScalarValue>,
     document: &[Definition<'_, DefaultScalarValue>],

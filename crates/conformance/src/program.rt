@@ -7,6 +7,7 @@ use crate::report::Report;
 use crate::roots::Roots;
 use crate::vectors::next_vector;
 use std::alloc::Global;
+use std::collections::BTreeSet;
 use std::env::{self, Env};
 use std::rt::Files;
 use std::{fs, io};
@@ -92,6 +93,7 @@ fn judge_files_at_hand<R: Files + AllocGlobal>(
     roots: &Roots,
     report: &mut Report,
 ) -> Result<(), Failure> {
+    report.begin(LIST, BTreeSet::new(rt.alloc()))?;
     let list = fs::read_to_string(rt, LIST)?;
     for file in FILES {
         judge_file(rt, roots, file, list.as_str(), report)?;
