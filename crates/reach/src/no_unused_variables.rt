@@ -1,6 +1,6 @@
 //! Each variable that an operation defines is used by it (GraphQL, section 5.8.4).
 
-ghost use Rattle.std.specs.Prelude.{◌≡◌, List, IfOk, OnErr, map, option_map, string_bytes};
+ghost use Rattle.std.specs.Prelude.{◌≡◌, List, Some, IfOk, OnErr, map, option_map, string_bytes};
 ghost use Rattle.walk.specs.ContextState.{with_errors};
 ghost use Rattle.walk.specs.Rule.{any_value};
 ghost use Rattle.walk.specs.Step.{KeepsPlace};
@@ -92,13 +92,17 @@ fn report_unused<'a, S: CheckedScalar>(
     report_all(alloc, ctx, found.as_slice())
 }
 
+fn named_message(alloc: Global, name: &str, called: &str) -> Result<String, AllocError>
+    ensures { IfOk result (λ message. string_bytes message ≡ unused_variable_message name.now (Some called.now)) }
+{
+    format!(in alloc; "Variable \"${name}\" is not used by operation \"{called}\"")
+}
+
 fn error_message(alloc: Global, name: &str, operation: Option<&str>) -> Result<String, AllocError>
     ensures { IfOk result (λ message. string_bytes message ≡ unused_variable_message name.now (option_map (λ n. n.now) operation.entry)) }
 {
     match operation {
-        Some(called) => {
-            format!(in alloc; "Variable \"${name}\" is not used by operation \"{called}\"")
-        }
+        Some(called) => named_message(alloc, name, called),
         None => format!(in alloc; "Variable \"${name}\" is not used"),
     }
 }
