@@ -1,0 +1,68 @@
+-- Keys that no input field has, as they are noted.
+use Rattle.std.proofs.Common.{◌≡◌, ℕ, ◌+◌, ◌<◌, List, [], ◌∷◌, ◌++◌, Bool, true, false, cond, not, ◌||◌, map, fold, take, length, get_or, Bor, refl, ap, sym, ◌∙◌, subst, if◌then◌else◌}
+use Rattle.std.specs.BTreeSet.{BTreeSet, Updates}
+use Rattle.std.specs.Cmp.Lexicographic.{slice_cmp}
+use Rattle.std.specs.Ordering.{nat_cmp}
+use Rattle.std.specs.Str.{bytes_eq}
+use Rattle.std.proofs.lemmas.Map.Text.{is_eq-slice_cmp}
+use Rattle.std.proofs.lemmas.List.Folds.{list_any-append}
+use Rattle.std.proofs.lemmas.Slice.Eq.{bytes_eq-Decides}
+use Rattle.schema.specs.Possible.{is_among}
+use Rattle.walk.specs.NameSet.{has_name}
+use Rattle.variable_values.specs.Keys.{noted}
+
+-- a set of names, after a name more
+pub has_more : (k : Bor (List ℕ)) (s n : BTreeSet (Bor (List ℕ))) → Updates (λ x y. slice_cmp nat_cmp x.now y.now) s n k true → (name : List ℕ) → has_name n name ≡ cond (bytes_eq k.now name) true (has_name s name)
+has_more k s n h name = h.0 (record { ref_ptr = k.ref_ptr; now = name }) ∙ ap (λ b. cond b true (has_name s name)) (is_eq-slice_cmp k.now name)
+
+last_of : (a b : Bool) → cond b true a ≡ (a || (b || false))
+last_of true true = refl
+last_of true false = refl
+last_of false true = refl
+last_of false false = refl
+
+last_of_both : (a b c : Bool) → cond c true (a || b) ≡ (a || (b || (c || false)))
+last_of_both true true true = refl
+last_of_both true true false = refl
+last_of_both true false true = refl
+last_of_both true false false = refl
+last_of_both false true true = refl
+last_of_both false true false = refl
+last_of_both false false true = refl
+last_of_both false false false = refl
+
+-- the names in it are those of a list, with a name more
+pub is_among-more : (k : Bor (List ℕ)) (s n : BTreeSet (Bor (List ℕ))) (names : List (List ℕ)) → Updates (λ x y. slice_cmp nat_cmp x.now y.now) s n k true
+    → ((name : List ℕ) → has_name s name ≡ is_among names name)
+    → (name : List ℕ) → has_name n name ≡ is_among (names ++ k.now ∷ []) name
+is_among-more k s n names h p name =
+    has_more k s n h name ∙ ap (λ a. cond (bytes_eq k.now name) true a) (p name) ∙ last_of (is_among names name) (bytes_eq k.now name)
+    ∙ sym (list_any-append (λ q. bytes_eq q name) names (k.now ∷ []))
+
+-- the names in it are those of fields and those that were noted
+abbrev pub HasBoth : BTreeSet (Bor (List ℕ)) → List (List ℕ) → List (List ℕ) → Type 0
+HasBoth s fields names = (name : List ℕ) → has_name s name ≡ (is_among fields name || is_among names name)
+
+there_already : (b : Bool) (k name : List ℕ) (t : Bool) → bytes_eq k name ≡ b → (k ≡ name → t ≡ true) → cond b true t ≡ t
+there_already true k name t e h = sym (h ((bytes_eq-Decides k name).0 e))
+there_already false k name t e h = refl
+
+-- a key that is there already is noted no more
+pub noted_again : (k : Bor (List ℕ)) (s n : BTreeSet (Bor (List ℕ))) (fields names : List (List ℕ)) → Updates (λ x y. slice_cmp nat_cmp x.now y.now) s n k true
+    → HasBoth s fields names → has_name s k.now ≡ true → (noted fields names k.now ≡ names) × HasBoth n fields names
+noted_again k s n fields names h p there = (
+  ap (λ b. if b then names else names ++ k.now ∷ []) (sym (p k.now) ∙ there),
+  λ name.
+      has_more k s n h name ∙ there_already (bytes_eq k.now name) k.now name (has_name s name) refl (λ e. subst (λ q. has_name s q ≡ true) e there)
+      ∙ p name,
+)
+
+-- any other is
+pub noted_first : (k : Bor (List ℕ)) (s n : BTreeSet (Bor (List ℕ))) (fields names : List (List ℕ)) → Updates (λ x y. slice_cmp nat_cmp x.now y.now) s n k true
+    → HasBoth s fields names → has_name s k.now ≡ false → (noted fields names k.now ≡ names ++ k.now ∷ []) × HasBoth n fields (names ++ k.now ∷ [])
+noted_first k s n fields names h p missing = (
+  ap (λ b. if b then names else names ++ k.now ∷ []) (sym (p k.now) ∙ missing),
+  λ name.
+      has_more k s n h name ∙ ap (λ a. cond (bytes_eq k.now name) true a) (p name) ∙ last_of_both (is_among fields name) (is_among names name) (bytes_eq k.now name)
+      ∙ ap (λ a. is_among fields name || a) (sym (list_any-append (λ q. bytes_eq q name) names (k.now ∷ []))),
+)

@@ -1,0 +1,9 @@
+pub mod FieldInputs
+pub mod InTurns
+pub mod KeyLaws
+pub mod LastValues
+pub mod OneList
+pub mod PlaceLaws
+pub mod RowLaws
+pub mod Told
+pub mod Unfold
