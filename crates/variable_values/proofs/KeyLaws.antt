@@ -5,6 +5,7 @@ use Rattle.std.specs.Cmp.Lexicographic.{slice_cmp}
 use Rattle.std.specs.Ordering.{nat_cmp}
 use Rattle.std.specs.Str.{bytes_eq}
 use Rattle.std.proofs.lemmas.Map.Text.{is_eq-slice_cmp}
+use Rattle.std.proofs.lemmas.List.{map-append, take_more}
 use Rattle.std.proofs.lemmas.List.Folds.{list_any-append}
 use Rattle.std.proofs.lemmas.Slice.Eq.{bytes_eq-Decides}
 use Rattle.schema.specs.Possible.{is_among}
@@ -66,3 +67,7 @@ noted_first k s n fields names h p missing = (
       has_more k s n h name ∙ ap (λ a. cond (bytes_eq k.now name) true a) (p name) ∙ last_of_both (is_among fields name) (is_among names name) (bytes_eq k.now name)
       ∙ ap (λ a. is_among fields name || a) (sym (list_any-append (λ q. bytes_eq q name) names (k.now ∷ []))),
 )
+
+-- what is made of one element more
+pub map_more : {A B : Type 0} (f : A → B) (xs : List A) (i : ℕ) (x : A) → i < length xs → x ≡ get_or xs i x → map f (take (i + 1) xs) ≡ map f (take i xs) ++ f x ∷ []
+map_more f xs i x here is = ap (map f) (take_more xs i x here) ∙ map-append f (take i xs) (get_or xs i x ∷ []) ∙ ap (λ y. map f (take i xs) ++ f y ∷ []) (sym is)

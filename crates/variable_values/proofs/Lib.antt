@@ -1,3 +1,4 @@
+pub mod Accepted
 pub mod FieldInputs
 pub mod InTurns
 pub mod KeyLaws

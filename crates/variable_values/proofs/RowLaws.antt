@@ -3,7 +3,7 @@ use Rattle.std.proofs.Common.{◌≡◌, ℕ, ◌-◌, ◌+◌, ◌<◌, List, [
 use Rattle.std.specs.Prelude.{slice_get}
 use Rattle.std.proofs.Math.Path.{transport}
 use Rattle.std.proofs.Math.Seq.{take-length}
-use Rattle.std.proofs.lemmas.List.{reverse-append, reverse-reverse, take_more}
+use Rattle.std.proofs.lemmas.List.{reverse-append, reverse-reverse, length-take, take_more}
 use Rattle.std.proofs.lemmas.Option.{slice_get_within, get_or_from_slice_get, slice_get-get_or}
 use Rattle.language.specs.declared.types.TypeModifier.{TypeModifier}
 use Rattle.language.specs.declared.types.TypeModifier.TheVariants as m
@@ -30,6 +30,14 @@ all_taken xs i x e g =
 -- a type by its outermost modifier
 pub unwrapped : (t : TypeShape) (x : TypeModifier) → outermost t.modifiers ≡ Some x → t ≡ wrapped_by x (inner_of t)
 unwrapped t x e = ap (λ (ms : List TypeModifier). let r : TypeShape = record { name = t.name; modifiers = ms } in r) (all_taken t.modifiers (length t.modifiers - 1) x refl e)
+
+-- the inner type has fewer modifiers
+pub shorter : (t u : TypeShape) (x : TypeModifier) → outermost t.modifiers ≡ Some x → u ≡ inner_of t → length u.modifiers < length t.modifiers
+shorter t u x e i =
+    let here : length t.modifiers - 1 < length t.modifiers = slice_get_within t.modifiers (length t.modifiers - 1) x e in
+    let same : length u.modifiers ≡ length (take (length t.modifiers - 1) t.modifiers) = ap (λ (w : TypeShape). length w.modifiers) i in
+    let few = length-take (length t.modifiers - 1) t.modifiers in
+    omega (arith, few)
 
 pub no_modifier : (ms : List TypeModifier) → outermost ms ≡ None → ms ≡ []
 no_modifier [] e = refl

@@ -1,7 +1,7 @@
 -- What is told of faults, as it grows.
-use Rattle.std.proofs.Common.{◌≡◌, ℕ, ◌+◌, List, [], ◌∷◌, ◌++◌, append_assoc, map, length, refl, ap, sym, ◌∙◌, arith}
+use Rattle.std.proofs.Common.{◌≡◌, ℕ, ◌+◌, List, [], ◌∷◌, ◌++◌, append_assoc, codes, map, length, refl, ap, sym, ◌∙◌, arith}
 use Rattle.std.proofs.lemmas.List.{map-append, length-append, length-map, append-nil}
-use Rattle.variable_values.specs.Faults.{Fault, Step, under}
+use Rattle.variable_values.specs.Faults.{Fault, Step, under, unknown_field}
 use Rattle.variable_values.specs.Messages.{Adds, printed_path, printed_step, told_after}
 
 -- what is told of a fault one step down
@@ -53,3 +53,18 @@ none-told before old new fs e n =
     let all : length new ≡ length old + length (map (told_after before) fs) = ap length e ∙ length-append old (map (told_after before) fs) in
     let same : length (map (told_after before) fs) ≡ length fs = length-map fs (told_after before) in
     length-zero fs (omega arith)
+
+-- what is told of a key that no field has
+pub unknown-told : (before key : List ℕ) → before ++ (codes "In field \"" ++ (key ++ codes "\": Unknown field.")) ≡ told_after before (unknown_field key)
+unknown-told before key =
+    let step = codes "In field \"" ++ (key ++ codes "\": ") in
+    ap (λ z. before ++ z)
+    (sym
+    (ap (λ z. z ++ codes "Unknown field.") (append-nil step) ∙ append_assoc (codes "In field \"") (key ++ codes "\": ") (codes "Unknown field.")
+    ∙ ap (λ z. codes "In field \"" ++ z) (append_assoc key (codes "\": ") (codes "Unknown field."))))
+
+-- what was told so far, and more
+pub told-more : (before : List ℕ) (start old new : List (List ℕ)) (done fs : List Fault) → old ≡ start ++ map (told_after before) done → new ≡ old ++ map (told_after before) fs → new ≡ start ++ map (told_after before) (done ++ fs)
+told-more before start old new done fs d e =
+    e ∙ ap (λ ts. ts ++ map (told_after before) fs) d ∙ append_assoc start (map (told_after before) done) (map (told_after before) fs)
+    ∙ ap (λ ts. start ++ ts) (sym (map-append (told_after before) done fs))

@@ -1,3 +1,4 @@
+pub mod Asks
 pub mod Faults
 pub mod InTurn
 pub mod Inputs

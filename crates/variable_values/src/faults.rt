@@ -41,12 +41,12 @@ use std::alloc::Global;
 /// A text is made where a fault is found, and nowhere else. An object takes memory for a map of its values and a set of the
 /// names of its fields.
 #[cycle(faults)]
-pub fn add_faults<S: CheckedScalar>(
+pub fn add_faults<'p, S: CheckedScalar>(
     alloc: Global,
-    schema: &SchemaType<S>,
+    schema: &'p SchemaType<S>,
     value: &InputValue<S>,
-    expected: BorrowedType<'_>,
-    place: &Place<'_>,
+    expected: BorrowedType<'p>,
+    place: &'p Place<'p>,
     messages: &mut Vec<String>,
 ) -> Result<(), OutOfMemory>
     requires { is_input_in schema.now (borrowed_shape expected).name ≡ true }
@@ -72,12 +72,12 @@ pub fn add_faults<S: CheckedScalar>(
 
 // Tells of each fault of the items of a list.
 #[cycle(faults)]
-fn add_faults_of_items<S: CheckedScalar>(
+fn add_faults_of_items<'p, S: CheckedScalar>(
     alloc: Global,
-    schema: &SchemaType<S>,
+    schema: &'p SchemaType<S>,
     items: &[Spanning<InputValue<S>>],
-    inner: BorrowedType<'_>,
-    place: &Place<'_>,
+    inner: BorrowedType<'p>,
+    place: &'p Place<'p>,
     messages: &mut Vec<String>,
 ) -> Result<(), OutOfMemory>
     requires { is_input_in schema.now (borrowed_shape inner).name ≡ true }
@@ -92,12 +92,12 @@ fn add_faults_of_items<S: CheckedScalar>(
 
 // Tells of each fault of a value that isn't null against metadata.
 #[cycle(faults)]
-fn add_faults_of_named<S: CheckedScalar>(
+fn add_faults_of_named<'p, S: CheckedScalar>(
     alloc: Global,
-    schema: &SchemaType<S>,
+    schema: &'p SchemaType<S>,
     value: &InputValue<S>,
-    meta: &MetaTypeOf<S, S::Check>,
-    place: &Place<'_>,
+    meta: &'p MetaTypeOf<S, S::Check>,
+    place: &'p Place<'p>,
     messages: &mut Vec<String>,
 ) -> Result<(), OutOfMemory>
     requires known { IsIn schema.now meta.now }
@@ -130,13 +130,13 @@ fn add_faults_of_named<S: CheckedScalar>(
 
 // Tells of each fault of an object against an input object.
 #[cycle(faults)]
-fn add_faults_of_object<S: CheckedScalar>(
+fn add_faults_of_object<'p, S: CheckedScalar>(
     alloc: Global,
-    schema: &SchemaType<S>,
+    schema: &'p SchemaType<S>,
     value: &InputValue<S>,
     entries: &[(Spanning<String>, Spanning<InputValue<S>>)],
-    object: &InputObjectMetaOf<S, S::Check>,
-    place: &Place<'_>,
+    object: &'p InputObjectMetaOf<S, S::Check>,
+    place: &'p Place<'p>,
     messages: &mut Vec<String>,
 ) -> Result<(), OutOfMemory>
     requires known { IsIn schema.now (MetaTypeOf.InputObject object.now) }
@@ -161,12 +161,12 @@ fn add_faults_of_object<S: CheckedScalar>(
 
 // Tells of each fault at the fields of an input object.
 #[cycle(faults)]
-fn add_faults_of_fields<S: CheckedScalar>(
+fn add_faults_of_fields<'p, S: CheckedScalar>(
     alloc: Global,
-    schema: &SchemaType<S>,
+    schema: &'p SchemaType<S>,
     value: &InputValue<S>,
-    object: &InputObjectMetaOf<S, S::Check>,
-    place: &Place<'_>,
+    object: &'p InputObjectMetaOf<S, S::Check>,
+    place: &'p Place<'p>,
     messages: &mut Vec<String>,
 ) -> Result<(), OutOfMemory>
     requires { IsIn schema.now (MetaTypeOf.InputObject object.now) }

@@ -4,6 +4,7 @@
 mod faults;
 mod inputs;
 mod keys;
+pub mod laws;
 mod messages;
 mod place;
 mod rows;
