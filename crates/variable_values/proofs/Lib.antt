@@ -3,6 +3,7 @@ pub mod FieldInputs
 pub mod InTurns
 pub mod KeyLaws
 pub mod LastValues
+pub mod ObjectLaws
 pub mod OneList
 pub mod PlaceLaws
 pub mod RowLaws

@@ -1,6 +1,12 @@
 -- What stands round a type, row by row.
 use Rattle.std.proofs.Common.{◌≡◌, ℕ, ◌-◌, ◌+◌, ◌<◌, List, [], ◌∷◌, ◌++◌, Option, Some, None, true, is_some, length, take, get_or, reverse, refl, ap, sym, ◌∙◌, subst, arith}
-use Rattle.std.specs.Prelude.{slice_get}
+use Rattle.std.specs.Prelude.{Vec, slice_get}
+use Rattle.std.specs.BTreeMap.{BTreeMap}
+use Rattle.std.specs.declared.alloc.Global.{Global}
+use denote.Ref.{Bor}
+use Rattle.language.specs.declared.position.Span.{Span}
+use Rattle.language.specs.declared.position.Spanning.{Spanning}
+use Rattle.meta.specs.declared.arguments.Argument.{Argument}
 use Rattle.std.proofs.Math.Path.{transport}
 use Rattle.std.proofs.Math.Seq.{take-length}
 use Rattle.std.proofs.lemmas.List.{reverse-append, reverse-reverse, length-take, take_more}
@@ -11,12 +17,12 @@ use Rattle.language.specs.declared.value.InputValue.{InputValue, roll-InputValue
 use Rattle.language.specs.declared.value.InputValue.TheVariants as variant
 use Rattle.language.specs.declared.value.InputValue.TheOpen as v
 use Rattle.language.specs.Types.{TypeShape, wrapped_by, inner_of, outermost, printed}
-use Rattle.language.specs.Values.{list_items, items_layer}
+use Rattle.language.specs.Values.{Entry, IsMapOfObject, entries_layer, list_items, items_layer, object_entries}
 use Rattle.meta.specs.Answers.{Answers}
 use Rattle.meta.specs.declared.kinds.MetaTypeOf.{MetaTypeOf}
 use Rattle.schema.specs.Catalog.{Catalog, type_in}
 use Rattle.variable_values.specs.Faults.{Fault, Faults, Of, OfMeta, OfNamed, here, judge_of, within, wrong_length}
-use Rattle.variable_values.specs.Rows.{ByMeta, ByName, OfItems, SaysItems}
+use Rattle.variable_values.specs.Rows.{ByMeta, ByName, OfEntries, OfItems, SaysItems}
 use Rattle.variable_values.specs.Texts.{null_text}
 use Rattle.variable_values.proofs.Unfold.{faults-roll}
 
@@ -152,3 +158,35 @@ module _ {S C : Type 0} (schema : Catalog S C) (may : Answers (InputValue S) C) 
   pub by_meta : (value : InputValue S) (o : Option (MetaTypeOf S C)) (meta : MetaTypeOf S C) (fs : List Fault) → (value ≡ variant.Null → ⊥) → o ≡ Some meta → ByMeta schema may text str_of value meta fs → ByName schema may text str_of value o fs
   by_meta value o meta fs n e j =
       subst (λ q. ByName schema may text str_of value q fs) (sym e) (named_as value (out-InputValue S value) meta fs (is_roll value (out-InputValue S value) refl) n j)
+
+  -- a value that is no list
+  no_items : (value : InputValue S) (x : v.InputValue-F S (InputValue S)) → value ≡ roll-InputValue S x → ((xs : Vec (Spanning (InputValue S) Span) Global) → value ≡ variant.List xs → ⊥) → items_layer x ≡ None
+  no_items value v.Null e n = refl
+  no_items value (v.Scalar s) e n = refl
+  no_items value (v.Enum s) e n = refl
+  no_items value (v.Variable s) e n = refl
+  no_items value (v.Object s) e n = refl
+  no_items value (v.List s) e n = absurd (n s (e ∙ variant.rolls-List s))
+
+  pub no_list : (value : InputValue S) → ((xs : Vec (Spanning (InputValue S) Span) Global) → value ≡ variant.List xs → ⊥) → list_items value ≡ None
+  no_list value n = no_items value (out-InputValue S value) (is_roll value (out-InputValue S value) refl) n
+
+  -- the items of a list
+  listed : (value : InputValue S) (xs : Vec (Spanning (InputValue S) Span) Global) → value ≡ variant.List xs → list_items value ≡ Some xs.items
+  listed value xs e = ap list_items (e ∙ sym (variant.rolls-List xs)) ∙ ap items_layer (out-roll-InputValue S (v.List xs))
+
+  pub says_list : (value : InputValue S) (xs : Vec (Spanning (InputValue S) Span) Global) (n : ℕ) (ys : List (Spanning (InputValue S) Span)) (t : TypeShape) (size : Option ℕ) (fs gs : List Fault) → value ≡ variant.List xs → n ≡ length xs.items → ys ≡ xs.items
+      → fs ≡ wrong_length size n → OfItems schema may text str_of t ys gs → SaysItems schema may text str_of (list_items value) t size (fs ++ gs)
+  says_list value xs n ys t size fs gs e len same f h =
+      subst (λ o. SaysItems schema may text str_of o t size (fs ++ gs)) (sym (listed value xs e))
+      (gs, subst (λ zs. OfItems schema may text str_of t zs gs) same h, ap (λ z. z ++ gs) (f ∙ ap (wrong_length size) len))
+
+  -- the entries of an object
+  pub entered : (value : InputValue S) (es : Vec (Entry (InputValue S)) Global) → value ≡ variant.Object es → object_entries value ≡ Some es.items
+  entered value es e = ap object_entries (e ∙ sym (variant.rolls-Object es)) ∙ ap entries_layer (out-roll-InputValue S (v.Object es))
+
+  -- none where there is no map of them
+  pub no_entries : (fields : List (Argument S)) (o : Option (BTreeMap (Bor (List ℕ)) (Bor (InputValue S)))) (es : Option (List (Entry (InputValue S)))) → o ≡ None → IsMapOfObject o es → OfEntries schema may text str_of fields es []
+  no_entries fields (Some m) es n h = cc
+  no_entries fields None (Some es) n h = absurd h
+  no_entries fields None None n h = refl

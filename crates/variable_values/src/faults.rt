@@ -11,7 +11,7 @@ ghost use Rattle.variable_values.specs.Faults.{Checked, Faults, absent, accepted
 ghost use Rattle.variable_values.specs.Inputs.{is_input_in};
 ghost use Rattle.variable_values.specs.Messages.{Adds, texts_of};
 ghost use Rattle.variable_values.specs.Places.{before};
-ghost use Rattle.variable_values.specs.Rows.{Answered, ByMeta, IsIn, OfEntries, OfItems, OfWhole};
+ghost use Rattle.variable_values.specs.Rows.{Answered, ByMeta, ByName, IsIn, OfEntries, OfItems, OfWhole};
 ghost use Rattle.variable_values.specs.Texts.{input_text, scalar_text};
 
 use crate::keys::add_unknown_keys;
@@ -64,7 +64,6 @@ pub fn add_faults<'p, S: CheckedScalar>(
         },
         Row::Named(name) => match schema.concrete_type_by_name(name) {
             None => unreachable!(),
-            Some(_) if value.is_null() => Ok(()),
             Some(meta) => add_faults_of_named(alloc, schema, value, meta, place, messages),
         },
     }
@@ -90,9 +89,30 @@ fn add_faults_of_items<'p, S: CheckedScalar>(
     Ok(())
 }
 
-// Tells of each fault of a value that isn't null against metadata.
+// Tells of each fault of a value against metadata.
 #[cycle(faults)]
 fn add_faults_of_named<'p, S: CheckedScalar>(
+    alloc: Global,
+    schema: &'p SchemaType<S>,
+    value: &InputValue<S>,
+    meta: &'p MetaTypeOf<S, S::Check>,
+    place: &'p Place<'p>,
+    messages: &mut Vec<String>,
+) -> Result<(), OutOfMemory>
+    requires known { IsIn schema.now meta.now }
+    requires input { is_input_meta meta.now ≡ true }
+    ensures { OnOk result (Adds (ByName schema.now S.may_answer S.text S.str_of value.now (Some meta.now)) (before place.now) (texts_of messages.old) (texts_of messages.new)) }
+{
+    if value.is_null() {
+        Ok(())
+    } else {
+        add_faults_of_meta(alloc, schema, value, meta, place, messages)
+    }
+}
+
+// Tells of each fault of a value that isn't null against metadata.
+#[cycle(faults)]
+fn add_faults_of_meta<'p, S: CheckedScalar>(
     alloc: Global,
     schema: &'p SchemaType<S>,
     value: &InputValue<S>,
@@ -172,8 +192,9 @@ fn add_faults_of_fields<'p, S: CheckedScalar>(
     requires { IsIn schema.now (MetaTypeOf.InputObject object.now) }
     ensures { OnOk result (Adds (OfEntries schema.now S.may_answer S.text S.str_of object.now.input_fields.items (object_entries value.now)) (before place.now) (texts_of messages.old) (texts_of messages.new)) }
 {
-    let Some(values) = value.to_object_value(alloc)? else {
-        return Ok(());
+    let values = match value.to_object_value(alloc)? {
+        None => return Ok(()),
+        Some(values) => values,
     };
     for field in object.input_fields.as_slice() {
         let name = field.name.as_str();

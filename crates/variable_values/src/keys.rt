@@ -1,5 +1,6 @@
 //! Keys that no input field has.
-ghost use Rattle.std.specs.Prelude.{◌≡◌, ◌++◌, ℕ, List, IfOk, OnOk, map};
+ghost use Rattle.std.specs.Prelude.{◌≡◌, [], ◌∷◌, ◌++◌, ℕ, List, IfOk, OnOk, if◌then◌else◌, map, true};
+ghost use Rattle.std.specs.Str.{bytes_eq};
 ghost use Rattle.walk.specs.NameSet.{has_name};
 ghost use Rattle.schema.specs.Possible.{is_among};
 ghost use Rattle.variable_values.specs.Faults.{unknown_field};
@@ -29,12 +30,28 @@ pub fn add_unknown_keys<S>(
 {
     let mut noted = names_of(alloc, fields)?;
     for (key, _) in entries {
-        let name = key.item.as_str();
-        if noted.insert(name)? {
-            add(unknown_message(alloc, place, name)?, messages)?;
-        }
+        note_key(alloc, key.item.as_str(), place, &mut noted, messages)?;
     }
     Ok(())
+}
+
+// Tells of a key that isn't noted, and notes it.
+#[tactic(auto, using(crate::proofs::KeyLaws::has_more))]
+fn note_key<'k>(
+    alloc: Global,
+    key: &'k str,
+    place: &Place<'_>,
+    noted: &mut BTreeSet<&'k str>,
+    messages: &mut Vec<String>,
+) -> Result<(), OutOfMemory>
+    ensures told { OnOk result (texts_of messages.new ≡ texts_of messages.old ++ (if has_name noted.old key.now then [] else told_after (before place.now) (unknown_field key.now) ∷ [])) }
+    ensures noted { OnOk result ((n : List ℕ) → has_name noted.new n ≡ (if bytes_eq key.now n then true else has_name noted.old n)) }
+{
+    if noted.insert(key)? {
+        add(unknown_message(alloc, place, key)?, messages)
+    } else {
+        Ok(())
+    }
 }
 
 // The names of the fields, as a set, since strangers choose the keys that are looked up in it.
