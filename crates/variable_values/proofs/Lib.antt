@@ -6,6 +6,7 @@ pub mod LastValues
 pub mod ObjectLaws
 pub mod OneList
 pub mod PlaceLaws
+pub mod PlacesOfEntries
 pub mod RowLaws
 pub mod Told
 pub mod Unfold

@@ -1,16 +1,12 @@
 -- Objects, field by field and whole.
-use Rattle.std.proofs.Common.{◌≡◌, ℕ, List, [], ◌∷◌, ◌++◌, Option, Some, None, Bor, map, string_bytes, refl, ap, sym, ◌∙◌, subst}
+use Rattle.std.proofs.Common.{◌≡◌, ℕ, List, [], ◌∷◌, ◌++◌, Option, Some, None, map, string_bytes, refl, ap, sym, ◌∙◌, subst}
 use Rattle.std.specs.Prelude.{Vec}
-use Rattle.std.specs.BTreeMap.{BTreeMap, get_by}
-use Rattle.std.specs.Cmp.Lexicographic.{slice_cmp}
-use Rattle.std.specs.Option.{option_copied}
-use Rattle.std.specs.Ordering.{nat_cmp}
 use Rattle.std.specs.declared.alloc.Global.{Global}
 use Rattle.language.specs.declared.value.InputValue.{InputValue, out-InputValue, out-roll-InputValue, roll-InputValue, roll-out-InputValue}
 use Rattle.language.specs.declared.value.InputValue.TheOpen as v
 use Rattle.language.specs.declared.value.InputValue.TheVariants as variant
 use Rattle.language.specs.Types.{TypeShape, shape}
-use Rattle.language.specs.Values.{Entry, IsMapOf, IsMapOfObject, last_value, object_entries}
+use Rattle.language.specs.Values.{Entry}
 use Rattle.language.specs.ValuesPrinted.{printed_value}
 use Rattle.meta.specs.Answers.{Answers}
 use Rattle.meta.specs.Kept.{input_object_check}
@@ -23,16 +19,6 @@ use Rattle.variable_values.specs.Faults.{Checked, Fault, OfInput, OfMeta, OrChec
 use Rattle.variable_values.specs.Keys.{field_names, keys_of, unknown_keys}
 use Rattle.variable_values.specs.Rows.{Below, ByMeta, OfField, OfFields, OfWhole}
 use Rattle.variable_values.specs.Texts.{input_text, no_object_text}
-
--- the entries of which a map is
-pub mapped_entries : {A : Type 0} (m : BTreeMap (Bor (List ℕ)) (Bor A)) (o : Option (BTreeMap (Bor (List ℕ)) (Bor A))) (es : Option (List (Entry A))) → o ≡ Some m → IsMapOfObject o es → (entries : List (Entry A)) × (es ≡ Some entries) × IsMapOf m entries
-mapped_entries m None es e h = cc
-mapped_entries m (Some n) None e h = absurd h
-mapped_entries m (Some n) (Some es) e h = let same : n ≡ m = cc in (es, refl, subst (λ w. IsMapOf w es) same h)
-
--- what a map has under a key
-pub looked_up : {A : Type 0} (m : BTreeMap (Bor (List ℕ)) (Bor A)) (es : List (Entry A)) (key name : List ℕ) (found : Option (Bor (Bor A))) → IsMapOf m es → option_copied found ≡ get_by (λ k. slice_cmp nat_cmp key k.now) m → key ≡ name → last_value name es ≡ option_copied (option_copied found)
-looked_up m es key name found h e n = ap (λ q. last_value q es) (sym n) ∙ sym (h key) ∙ ap option_copied (sym e)
 
 module _ {S C : Type 0} (schema : Catalog S C) (may : Answers (InputValue S) C) (text : S → List ℕ) (str_of : S → Option (List ℕ)) where
   -- a field without a value

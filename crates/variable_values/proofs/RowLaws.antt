@@ -1,12 +1,14 @@
 -- What stands round a type, row by row.
-use Rattle.std.proofs.Common.{◌≡◌, ℕ, ◌-◌, ◌+◌, ◌<◌, List, [], ◌∷◌, ◌++◌, Option, Some, None, true, is_some, length, take, get_or, reverse, refl, ap, sym, ◌∙◌, subst, arith}
+use Rattle.std.specs.Option.{option_map_or}
+use Rattle.meta.specs.Kinds.{is_input_meta}
+use Rattle.variable_values.specs.declared.rows.Row.{Row}
+use Rattle.variable_values.specs.declared.rows.Row.TheVariants as r
+use Rattle.variable_values.specs.Inputs.{is_input_in}
+use Rattle.std.proofs.Common.{◌≡◌, false, ℕ, ◌-◌, ◌+◌, ◌<◌, List, [], ◌∷◌, ◌++◌, Option, Some, None, true, is_some, length, take, get_or, reverse, refl, ap, sym, ◌∙◌, subst, arith}
 use Rattle.std.specs.Prelude.{Vec, slice_get}
-use Rattle.std.specs.BTreeMap.{BTreeMap}
 use Rattle.std.specs.declared.alloc.Global.{Global}
-use denote.Ref.{Bor}
 use Rattle.language.specs.declared.position.Span.{Span}
 use Rattle.language.specs.declared.position.Spanning.{Spanning}
-use Rattle.meta.specs.declared.arguments.Argument.{Argument}
 use Rattle.std.proofs.Math.Path.{transport}
 use Rattle.std.proofs.Math.Seq.{take-length}
 use Rattle.std.proofs.lemmas.List.{reverse-append, reverse-reverse, length-take, take_more}
@@ -17,12 +19,12 @@ use Rattle.language.specs.declared.value.InputValue.{InputValue, roll-InputValue
 use Rattle.language.specs.declared.value.InputValue.TheVariants as variant
 use Rattle.language.specs.declared.value.InputValue.TheOpen as v
 use Rattle.language.specs.Types.{TypeShape, wrapped_by, inner_of, outermost, printed}
-use Rattle.language.specs.Values.{Entry, IsMapOfObject, entries_layer, list_items, items_layer, object_entries}
+use Rattle.language.specs.Values.{list_items, items_layer}
 use Rattle.meta.specs.Answers.{Answers}
 use Rattle.meta.specs.declared.kinds.MetaTypeOf.{MetaTypeOf}
 use Rattle.schema.specs.Catalog.{Catalog, type_in}
 use Rattle.variable_values.specs.Faults.{Fault, Faults, Of, OfMeta, OfNamed, here, judge_of, within, wrong_length}
-use Rattle.variable_values.specs.Rows.{ByMeta, ByName, OfEntries, OfItems, SaysItems}
+use Rattle.variable_values.specs.Rows.{ByMeta, ByName, HasName, IsKnownRow, OfItems, SaysItems}
 use Rattle.variable_values.specs.Texts.{null_text}
 use Rattle.variable_values.proofs.Unfold.{faults-roll}
 
@@ -50,6 +52,20 @@ no_modifier [] e = refl
 no_modifier (x ∷ ms) e =
     let last : slice_get (x ∷ ms) (length (x ∷ ms) - 1) ≡ Some (get_or (x ∷ ms) (length (x ∷ ms) - 1) x) = slice_get-get_or (x ∷ ms) (length (x ∷ ms) - 1) x (omega arith) in
     cc
+
+-- a row whose names are a known type's
+pub known_names : {S C : Type 0} (schema : Catalog S C) (t : TypeShape) (x : Row) → is_input_in schema t.name ≡ true → HasName t x → IsKnownRow schema x
+known_names schema t r.Nothing k h = h
+known_names schema t (r.Null at) k h = h
+known_names schema t (r.Items inner size) k h = ap (is_input_in schema) h ∙ k
+known_names schema t (r.Named name) k h = ap (is_input_in schema) h ∙ k
+
+-- the type of a name that is an input type's
+pub known_input : {S C : Type 0} (schema : Catalog S C) (name : List ℕ) (meta : MetaTypeOf S C) → type_in name schema ≡ Some meta → is_input_in schema name ≡ true → is_input_meta meta ≡ true
+known_input schema name meta e k = sym (ap (λ o. option_map_or is_input_meta o false) e) ∙ k
+
+pub no_type : {S C : Type 0} (schema : Catalog S C) (name : List ℕ) → type_in name schema ≡ None → is_input_in schema name ≡ true → ⊥
+no_type schema name e k = let bad : false ≡ true = sym (ap (λ o. option_map_or is_input_meta o false) e) ∙ k in cc
 
 pub within_of : (t : TypeShape) → within (reverse t.modifiers) t.name ≡ t
 within_of t = ap (λ (ms : List TypeModifier). let r : TypeShape = record { name = t.name; modifiers = ms } in r) (reverse-reverse t.modifiers)
@@ -180,13 +196,3 @@ module _ {S C : Type 0} (schema : Catalog S C) (may : Answers (InputValue S) C) 
   says_list value xs n ys t size fs gs e len same f h =
       subst (λ o. SaysItems schema may text str_of o t size (fs ++ gs)) (sym (listed value xs e))
       (gs, subst (λ zs. OfItems schema may text str_of t zs gs) same h, ap (λ z. z ++ gs) (f ∙ ap (wrong_length size) len))
-
-  -- the entries of an object
-  pub entered : (value : InputValue S) (es : Vec (Entry (InputValue S)) Global) → value ≡ variant.Object es → object_entries value ≡ Some es.items
-  entered value es e = ap object_entries (e ∙ sym (variant.rolls-Object es)) ∙ ap entries_layer (out-roll-InputValue S (v.Object es))
-
-  -- none where there is no map of them
-  pub no_entries : (fields : List (Argument S)) (o : Option (BTreeMap (Bor (List ℕ)) (Bor (InputValue S)))) (es : Option (List (Entry (InputValue S)))) → o ≡ None → IsMapOfObject o es → OfEntries schema may text str_of fields es []
-  no_entries fields (Some m) es n h = cc
-  no_entries fields None (Some es) n h = absurd h
-  no_entries fields None None n h = refl

@@ -1,8 +1,10 @@
 -- What is told of faults, as it grows.
-use Rattle.std.proofs.Common.{◌≡◌, ℕ, ◌+◌, List, [], ◌∷◌, ◌++◌, append_assoc, codes, map, length, refl, ap, sym, ◌∙◌, arith}
+use Rattle.std.proofs.Common.{◌≡◌, ℕ, ◌+◌, List, [], ◌∷◌, ◌++◌, append_assoc, codes, map, length, string_bytes, vec_len, refl, ap, sym, ◌∙◌, arith}
+use Rattle.std.specs.Prelude.{String, Vec}
+use Rattle.std.specs.declared.alloc.Global.{Global}
 use Rattle.std.proofs.lemmas.List.{map-append, length-append, length-map, append-nil}
 use Rattle.variable_values.specs.Faults.{Fault, Step, under, unknown_field}
-use Rattle.variable_values.specs.Messages.{Adds, printed_path, printed_step, told_after}
+use Rattle.variable_values.specs.Messages.{Adds, printed_path, printed_step, texts_of, told_after}
 
 -- what is told of a fault one step down
 pub told-under : (before : List ℕ) (step : Step) (f : Fault) → told_after (before ++ printed_step step) f ≡ told_after before (under step f)
@@ -53,6 +55,16 @@ none-told before old new fs e n =
     let all : length new ≡ length old + length (map (told_after before) fs) = ap length e ∙ length-append old (map (told_after before) fs) in
     let same : length (map (told_after before) fs) ≡ length fs = length-map fs (told_after before) in
     length-zero fs (omega arith)
+
+as_long : (v : Vec (String Global) Global) (n : ℕ) → n ≡ vec_len v → length (texts_of v) ≡ n
+as_long v n e = let ok = v.ok.0 in let same = length-map v.items (λ t. string_bytes t) in omega (arith, ok, same)
+
+-- lists of messages that are as long
+pub as_many : (old new : Vec (String Global) Global) (m n : ℕ) → m ≡ vec_len old → n ≡ vec_len new → n ≡ m → length (texts_of new) ≡ length (texts_of old)
+as_many old new m n o p e = as_long new n p ∙ e ∙ sym (as_long old m o)
+
+pub fewer : (old new : Vec (String Global) Global) (m n : ℕ) → m ≡ vec_len old → n ≡ vec_len new → texts_of new ≡ texts_of old → n ≡ m
+fewer old new m n o p e = sym (as_long new n p) ∙ ap length e ∙ as_long old m o
 
 -- what is told of a key that no field has
 pub unknown-told : (before key : List ℕ) → before ++ (codes "In field \"" ++ (key ++ codes "\": Unknown field.")) ≡ told_after before (unknown_field key)

@@ -1,4 +1,5 @@
 pub mod Asks
+pub mod Entries
 pub mod Faults
 pub mod InTurn
 pub mod Inputs

@@ -14,6 +14,7 @@ use Rattle.variable_values.specs.declared.rows.Row.{Row}
 use Rattle.variable_values.specs.declared.rows.Row.TheVariants as r
 use Rattle.variable_values.specs.Faults.{Fault, Faults, Step, AtField, AtFields, OfMeta, OfNamed, OfObject, absent, element, field, here, judge_of, under, wrong_length}
 use Rattle.variable_values.specs.InTurn.{InTurn}
+use Rattle.variable_values.specs.Inputs.{is_input_in}
 use Rattle.variable_values.specs.Texts.{null_text}
 
 -- the names that a row has are the type's
@@ -22,6 +23,13 @@ HasName t r.Nothing = ⊤
 HasName t (r.Null at) = ⊤
 HasName t (r.Items inner size) = (borrowed_shape inner).name ≡ t.name
 HasName t (r.Named name) = name.now ≡ t.name
+
+-- the names that a row has are those of input types
+abbrev pub IsKnownRow : {S C : Type 0} → Catalog S C → Row → Type 0
+IsKnownRow schema r.Nothing = ⊤
+IsKnownRow schema (r.Null at) = ⊤
+IsKnownRow schema (r.Items inner size) = is_input_in schema (borrowed_shape inner).name ≡ true
+IsKnownRow schema (r.Named name) = is_input_in schema name.now ≡ true
 
 -- only a list is judged by its items
 abbrev pub IsListRow : {S : Type 0} → InputValue S → Row → Type 0
@@ -52,11 +60,6 @@ module _ {S C : Type 0} (schema : Catalog S C) (may : Answers (InputValue S) C) 
 
   abbrev pub OfFields : List (Argument S) → List (Entry (InputValue S)) → List Fault → Type 0
   OfFields = AtFields schema may text str_of (λ y. y) (judge_of schema may text str_of)
-
-  -- those of the fields of a value; none where it is no object
-  abbrev pub OfEntries : List (Argument S) → Option (List (Entry (InputValue S))) → List Fault → Type 0
-  OfEntries fields None fs = fs ≡ []
-  OfEntries fields (Some es) fs = OfFields fields es fs
 
   abbrev pub OfWhole : InputObjectMetaOf S C → List (Entry (InputValue S)) → InputValue S → List Fault → Type 0
   OfWhole = OfObject schema may text str_of (λ y. y) (judge_of schema may text str_of)

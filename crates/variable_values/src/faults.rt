@@ -3,7 +3,6 @@ ghost use Rattle.std.specs.Prelude.{◌≡◌, [], IfOk, List, OnOk, Some, map, 
 ghost use Rattle.schema.specs.Possible.{is_among};
 ghost use Rattle.language.specs.declared.value.InputValue.{out-InputValue};
 ghost use Rattle.language.specs.Types.{borrowed_shape};
-ghost use Rattle.language.specs.Values.{object_entries};
 ghost use Rattle.language.specs.ValuesPrinted.{printed_value};
 ghost use Rattle.meta.specs.Kept.{input_object_check, scalar_check};
 ghost use Rattle.meta.specs.Kinds.{is_input_meta};
@@ -11,13 +10,14 @@ ghost use Rattle.variable_values.specs.Faults.{Checked, Faults, absent, accepted
 ghost use Rattle.variable_values.specs.Inputs.{is_input_in};
 ghost use Rattle.variable_values.specs.Messages.{Adds, texts_of};
 ghost use Rattle.variable_values.specs.Places.{before};
-ghost use Rattle.variable_values.specs.Rows.{Answered, ByMeta, ByName, IsIn, OfEntries, OfItems, OfWhole};
+ghost use Rattle.variable_values.specs.Rows.{Answered, ByMeta, ByName, IsIn, OfFields, OfItems, OfWhole};
 ghost use Rattle.variable_values.specs.Texts.{input_text, scalar_text};
 
+use crate::entries::{last_places, place_of};
 use crate::keys::add_unknown_keys;
 use crate::messages::add;
 use crate::place::Place;
-use crate::rows::{Row, row_of};
+use crate::rows::{Row, input_type, known_row, type_of_field};
 use crate::texts::{
     enum_message, input_message, length_message, list_message, no_name_message, no_object_message,
     null_message, object_message, scalar_message,
@@ -52,7 +52,7 @@ pub fn add_faults<'p, S: CheckedScalar>(
     requires { is_input_in schema.now (borrowed_shape expected).name ≡ true }
     ensures { OnOk result (Adds (Faults schema.now S.may_answer S.text S.str_of value.now (borrowed_shape expected.entry)) (before place.now) (texts_of messages.old) (texts_of messages.new)) }
 {
-    match row_of(expected, value) {
+    match known_row(schema, expected, value) {
         Row::Nothing => Ok(()),
         Row::Null(at) => add(null_message(alloc, place, at)?, messages),
         Row::Items(inner, size) => match value {
@@ -62,10 +62,10 @@ pub fn add_faults<'p, S: CheckedScalar>(
             }
             _ => unreachable!(),
         },
-        Row::Named(name) => match schema.concrete_type_by_name(name) {
-            None => unreachable!(),
-            Some(meta) => add_faults_of_named(alloc, schema, value, meta, place, messages),
-        },
+        Row::Named(name) => {
+            let meta = input_type(schema, name);
+            add_faults_of_named(alloc, schema, value, meta, place, messages)
+        }
     }
 }
 
@@ -159,12 +159,11 @@ fn add_faults_of_object<'p, S: CheckedScalar>(
     place: &'p Place<'p>,
     messages: &mut Vec<String>,
 ) -> Result<(), OutOfMemory>
-    requires known { IsIn schema.now (MetaTypeOf.InputObject object.now) }
-    requires entries { object_entries value.now ≡ Some entries.now }
+    requires { IsIn schema.now (MetaTypeOf.InputObject object.now) }
     ensures { OnOk result (Adds (OfWhole schema.now S.may_answer S.text S.str_of object.now entries.now value.now) (before place.now) (texts_of messages.old) (texts_of messages.new)) }
 {
     let told = messages.len();
-    add_faults_of_fields(alloc, schema, value, object, place, messages)?;
+    add_faults_of_fields(alloc, schema, entries, object, place, messages)?;
     add_unknown_keys(
         alloc,
         object.input_fields.as_slice(),
@@ -184,25 +183,22 @@ fn add_faults_of_object<'p, S: CheckedScalar>(
 fn add_faults_of_fields<'p, S: CheckedScalar>(
     alloc: Global,
     schema: &'p SchemaType<S>,
-    value: &InputValue<S>,
+    entries: &[(Spanning<String>, Spanning<InputValue<S>>)],
     object: &'p InputObjectMetaOf<S, S::Check>,
     place: &'p Place<'p>,
     messages: &mut Vec<String>,
 ) -> Result<(), OutOfMemory>
     requires { IsIn schema.now (MetaTypeOf.InputObject object.now) }
-    ensures { OnOk result (Adds (OfEntries schema.now S.may_answer S.text S.str_of object.now.input_fields.items (object_entries value.now)) (before place.now) (texts_of messages.old) (texts_of messages.new)) }
+    ensures { OnOk result (Adds (OfFields schema.now S.may_answer S.text S.str_of object.now.input_fields.items entries.now) (before place.now) (texts_of messages.old) (texts_of messages.new)) }
 {
-    let values = match value.to_object_value(alloc)? {
-        None => return Ok(()),
-        Some(values) => values,
-    };
+    let places = last_places(alloc, entries)?;
     for field in object.input_fields.as_slice() {
+        let expected = type_of_field(schema, field);
         let name = field.name.as_str();
         let at = Place::Field(name, place);
-        let expected = field.arg_type.as_borrowed();
-        match values.get(name) {
+        match place_of(&places, name) {
             None => add_absence(alloc, expected, &at, messages)?,
-            Some(found) => add_faults(alloc, schema, *found, expected, &at, messages)?,
+            Some(i) => add_faults(alloc, schema, &entries[i].1.item, expected, &at, messages)?,
         }
     }
     Ok(())

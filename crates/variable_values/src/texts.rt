@@ -1,5 +1,5 @@
 //! What is told of faults.
-ghost use Rattle.std.specs.Prelude.{◌≡◌, IfOk, string_bytes};
+ghost use Rattle.std.specs.Prelude.{◌≡◌, ◌++◌, IfOk, codes, string_bytes};
 ghost use Rattle.language.specs.Types.{borrowed_shape, printed};
 ghost use Rattle.language.specs.ValuesPrinted.{printed_value};
 ghost use Rattle.variable_values.specs.Faults.{here, unknown_field, under};
@@ -100,6 +100,12 @@ pub fn no_object_message(alloc: Global, place: &Place<'_>, name: &str) -> Result
 
 pub fn unknown_message(alloc: Global, place: &Place<'_>, key: &str) -> Result<String, AllocError>
     ensures { IfOk result (λ t. string_bytes t ≡ told_after (before place.now) (unknown_field key.now)) }
+{
+    told_of_key(alloc, place, key)
+}
+
+fn told_of_key(alloc: Global, place: &Place<'_>, key: &str) -> Result<String, AllocError>
+    ensures { IfOk result (λ t. string_bytes t ≡ before place.now ++ (codes "In field \"" ++ (key.now ++ codes "\": Unknown field."))) }
 {
     format!(in alloc; "{place}In field \"{key}\": Unknown field.")
 }

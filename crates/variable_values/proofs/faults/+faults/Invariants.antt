@@ -1,9 +1,9 @@
-use Rattle.std.proofs.Common.{◌≡◌, ℕ, List, ◌++◌, Some, map, string_bytes}
+use Rattle.std.proofs.Common.{◌≡◌, ℕ, List, ◌++◌, map, string_bytes}
 use Rattle.language.specs.declared.position.Span.{Span}
 use Rattle.language.specs.declared.position.Spanning.{Spanning}
 use Rattle.language.specs.declared.value.InputValue.{InputValue}
 use Rattle.language.specs.Types.{borrowed_shape}
-use Rattle.language.specs.Values.{Entry, last_value, object_entries}
+use Rattle.language.specs.Values.{last_value}
 use Rattle.meta.specs.declared.arguments.Argument.{Argument}
 use Rattle.variable_values.specs.Faults.{Fault, element}
 use Rattle.variable_values.specs.Messages.{texts_of, told_after}
@@ -20,5 +20,4 @@ invariant-add_faults_of_items-loop-index g l =
 abbrev pub invariant-add_faults_of_fields-loop-field : goal.invariant-add_faults_of_fields-loop-field
 invariant-add_faults_of_fields-loop-field g l =
     (done : List Fault) × (texts_of l.messages ≡ texts_of l.initial.messages ++ map (told_after (before l.place)) done)
-    × ((es : List (Entry (InputValue g.row.S.Denot))) → object_entries l.value ≡ Some es
-    → Done (λ i (a : Argument g.row.S.Denot). OfField l.schema g.S.CheckedScalar.may_answer g.S.ScalarValue.text g.S.ScalarValue.str_of a (last_value (string_bytes a.name) es)) l.field-items l.field-index done)
+    × Done (λ i (a : Argument g.row.S.Denot). OfField l.schema g.S.CheckedScalar.may_answer g.S.ScalarValue.text g.S.ScalarValue.str_of a (last_value (string_bytes a.name) l.entries)) l.field-items l.field-index done

@@ -22,4 +22,3 @@ loop-key-preserved g c =
       told = told_noted (has_name c.loop-key.noted k) (before c.args.place.now) k _ _ _ (unknown_keys fields (take i keys)) (unknown_keys fields (take (i + 1) keys)) c.loop-key.invariant.told c.in_ok-note_key.ensures.told (more ∙ one.0);
       has_both = subst (HasBoth c.note_key.new.noted fields) (sym more) one.1;
     }
-

@@ -16,7 +16,7 @@ messages_of-requires g c =
     let schema = c.args.schema.now in
     let items = c.definitions_of-name-items.result.now in
     ap (λ s. is_input_in schema s.name) c.as_borrowed-expected.ensures
-    ∙ all-at (has_input_type schema) items c.loop-name-item.result (ap (list_all (has_input_type schema)) c.definitions_of-name-items.ensures ∙ c.requires) (c.loop-name.name-index, c.loop-name-test.true, sym c.loop-name-item.is)
+    ∙ all-at (has_input_type schema) items c.loop-name-item.result (ap (list_all (has_input_type schema)) c.definitions_of-name-items.ensures ∙ c.requires.known) (c.loop-name.name-index, c.loop-name-test.true, sym c.loop-name-item.is)
 
 pub loop-name-preserved : goal.loop-name-preserved
 loop-name-preserved g c =
@@ -28,7 +28,7 @@ loop-name-preserved g c =
     let items = c.definitions_of-name-items.result.now in
     let d = c.loop-name-item.result in
     let gives = λ (i : ℕ) (e : VariableEntry g.row.S.Denot). OfDefinition schema may text str_of values e in
-    let messages = c.in_ok-messages.field-0 in
+    let messages = c.in_ok-messages.messages in
     let told : OfVariable schema may text str_of d.0.item.now (shape d.1.var_type.item) (given (get_by_text values d.0.item.now)) (texts_of messages) =
     subst (λ s. OfVariable schema may text str_of d.0.item.now s (given (get_by_text values d.0.item.now)) (texts_of messages)) c.as_borrowed-expected.ensures c.in_ok-messages.ensures in
     let errors = map (error_at d.0.span.start) (texts_of messages) in
@@ -40,8 +40,7 @@ pub returns-clause-faults : goal.returns-clause-faults
 returns-clause-faults g c =
     let gives = λ (i : ℕ) (e : VariableEntry g.row.S.Denot). OfDefinition c.args.schema.now g.S.CheckedScalar.may_answer g.S.ScalarValue.text g.S.ScalarValue.str_of c.args.values.now e in
     let items = c.definitions_of-name-items.result.now in
-    let es = c.loop-name.errors.items in
-    (
+    let es = c.loop-name.errors.items in (
       es,
       subst (λ ds. InTurn gives 0 ds es) c.definitions_of-name-items.ensures (done_all gives items c.loop-name.name-index es (drop_of_length-le items c.loop-name-test.false) c.loop-name.invariant),
       c.sort.ensures.permutation,
