@@ -2,15 +2,17 @@
 ghost use Rattle.std.specs.Prelude.{◌≡◌, [], IfOk, List, OnOk, Some, map, option_copied, option_map, string_bytes, true};
 ghost use Rattle.schema.specs.Possible.{is_among};
 ghost use Rattle.language.specs.declared.value.InputValue.{out-InputValue};
-ghost use Rattle.language.specs.Types.{borrowed_shape};
+ghost use Rattle.language.specs.Types.{borrowed_shape, shape};
 ghost use Rattle.language.specs.ValuesPrinted.{printed_value};
+ghost use Rattle.language.specs.Values.{last_value};
+ghost use Rattle.variable_values.specs.Entries.{HasPlaces};
 ghost use Rattle.meta.specs.Kept.{input_object_check, scalar_check};
 ghost use Rattle.meta.specs.Kinds.{is_input_meta};
 ghost use Rattle.variable_values.specs.Faults.{Checked, Faults, absent, accepted_faults, enum_faults, name_in, wrong_length};
 ghost use Rattle.variable_values.specs.Inputs.{is_input_in};
 ghost use Rattle.variable_values.specs.Messages.{Adds, texts_of};
 ghost use Rattle.variable_values.specs.Places.{before};
-ghost use Rattle.variable_values.specs.Rows.{Answered, ByMeta, ByName, IsIn, OfFields, OfItems, OfWhole};
+ghost use Rattle.variable_values.specs.Rows.{Answered, ByMeta, ByName, IsIn, OfField, OfFields, OfItems, OfWhole};
 ghost use Rattle.variable_values.specs.Texts.{input_text, scalar_text};
 
 use crate::entries::{last_places, place_of};
@@ -27,6 +29,7 @@ use language::position::Spanning;
 use language::scalar::ScalarValue;
 use language::types::BorrowedType;
 use language::value::InputValue;
+use meta::arguments::Argument;
 use meta::check::CheckedScalar;
 use meta::enum_values::EnumValue;
 use meta::enums::EnumMetaOf;
@@ -35,6 +38,7 @@ use meta::kinds::MetaTypeOf;
 use meta::scalars::ScalarMetaOf;
 use schema::model::SchemaType;
 use std::alloc::Global;
+use std::collections::BTreeMap;
 
 /// Tells of each fault of a value against a type.
 ///
@@ -132,8 +136,8 @@ fn add_faults_of_meta<'p, S: CheckedScalar>(
                 add_faults_of_object(
                     alloc,
                     schema,
-                    value,
                     entries.as_slice(),
+                    value,
                     object,
                     place,
                     messages,
@@ -153,8 +157,8 @@ fn add_faults_of_meta<'p, S: CheckedScalar>(
 fn add_faults_of_object<'p, S: CheckedScalar>(
     alloc: Global,
     schema: &'p SchemaType<S>,
-    value: &InputValue<S>,
     entries: &[(Spanning<String>, Spanning<InputValue<S>>)],
+    value: &InputValue<S>,
     object: &'p InputObjectMetaOf<S, S::Check>,
     place: &'p Place<'p>,
     messages: &mut Vec<String>,
@@ -194,14 +198,36 @@ fn add_faults_of_fields<'p, S: CheckedScalar>(
     let places = last_places(alloc, entries)?;
     for field in object.input_fields.as_slice() {
         let expected = type_of_field(schema, field);
-        let name = field.name.as_str();
-        let at = Place::Field(name, place);
-        match place_of(&places, name) {
-            None => add_absence(alloc, expected, &at, messages)?,
-            Some(i) => add_faults(alloc, schema, &entries[i].1.item, expected, &at, messages)?,
-        }
+        add_faults_of_field(
+            alloc, schema, entries, &places, field, expected, place, messages,
+        )?;
     }
     Ok(())
+}
+
+// Tells of each fault at a field, whose value is that of its last entry.
+#[cycle(faults)]
+fn add_faults_of_field<'p, S: CheckedScalar>(
+    alloc: Global,
+    schema: &'p SchemaType<S>,
+    entries: &[(Spanning<String>, Spanning<InputValue<S>>)],
+    places: &BTreeMap<&str, usize>,
+    field: &'p Argument<S>,
+    expected: BorrowedType<'p>,
+    place: &'p Place<'p>,
+    messages: &mut Vec<String>,
+) -> Result<(), OutOfMemory>
+    requires places { HasPlaces places.now entries.now }
+    requires known { is_input_in schema.now (borrowed_shape expected).name ≡ true }
+    requires made { borrowed_shape expected ≡ shape field.now.arg_type }
+    ensures { OnOk result (Adds (OfField schema.now S.may_answer S.text S.str_of field.now (last_value (string_bytes field.now.name) entries.now)) (before place.now) (texts_of messages.old) (texts_of messages.new)) }
+{
+    let name = field.name.as_str();
+    let at = Place::Field(name, place);
+    match place_of(places, name) {
+        None => add_absence(alloc, expected, &at, messages),
+        Some(i) => add_faults(alloc, schema, &entries[i].1.item, expected, &at, messages),
+    }
 }
 
 // Tells of a field without a value, where its type is never null.

@@ -23,7 +23,6 @@ use Rattle.variable_values.proofs.PlaceLaws.{before-Element, before-Field}
 use Rattle.variable_values.proofs.RowLaws.{by_meta, null_by_name, says_list}
 use Rattle.variable_values.proofs.Told.{adds-as, adds-both, adds-none, adds-one, adds-under, as_many, fewer, none-told, told-more}
 use Rattle.variable_values.proofs.faults.+faults.Goals as goal
-use Rattle.variable_values.proofs.faults.+faults.Goals.{add_faults_of_fields-in-None+in_ok-add_absence-in-None, add_faults_of_fields-in-Some+in_ok-add_faults-in-Some}
 
 pub add_faults-returns-in-Nothing : goal.add_faults-returns-in-Nothing
 add_faults-returns-in-Nothing g t c =
@@ -88,6 +87,9 @@ add_faults_of_named-returns-else-is_null g t c =
     (adds-as (ByMeta schema may text str_of value meta) (ByName schema may text str_of value (Some meta)) (before c.args.place.now) _ _
     (λ fs h. by_meta schema may text str_of value (Some meta) meta fs (λ n. true≢false (sym (c.is_null.ensures.1 n) ∙ c.if-is_null.false)) refl h))
     c.add_faults_of_meta.ensures
+
+pub add_faults_of_fields-loop-field-init : goal.add_faults_of_fields-loop-field-init
+add_faults_of_fields-loop-field-init g t c = ([], sym (append-nil _), λ rest left. left)
 
 pub add_faults_of_fields-type_of_field-expected-requires : goal.add_faults_of_fields-type_of_field-expected-requires
 add_faults_of_fields-type_of_field-expected-requires g t c =
@@ -192,40 +194,61 @@ add_faults_of_object-returns-else-len-told g t c =
     let more = λ (e : at.0 ++ keys ≡ []). c.if-len-told.false (fewer c.args.messages.now c.add_unknown_keys.new.messages c.len-told.result c.len.result c.len-told.ensures c.len.ensures (both ∙ ap (λ hs. start ++ map (told_after place) hs) e ∙ append-nil start)) in
     (at.0 ++ keys, whole_some schema may text str_of object entries value at.0 at.1 more, both)
 
-pub add_faults_of_fields-bounds-entries-i : goal.add_faults_of_fields-bounds-entries-i
-add_faults_of_fields-bounds-entries-i g t c =
-    let entries = c.args.entries.now in
-    let key = c.as_str-name.result.now in
-    let at : place_in c.in_ok-places.places key ≡ Some c.in-Some.i = sym c.place_of.ensures ∙ c.in-Some.is in
-    (subst (IsPlaceOf entries (last_value key entries)) at (c.in_ok-places.ensures key)).0
-
 pub add_faults_of_fields-loop-field-preserved : goal.add_faults_of_fields-loop-field-preserved
 add_faults_of_fields-loop-field-preserved g t c =
+    let entries = c.args.entries.now in
+    let gives = λ (i : ℕ) (b : Argument g.row.S.Denot). OfField c.args.schema.now g.S.CheckedScalar.may_answer g.S.ScalarValue.text g.S.ScalarValue.str_of b (last_value (string_bytes b.name) entries) in
+    let inv = c.loop-field.invariant in
+    let told = c.in_ok-add_faults_of_field.ensures in
+    (inv.0 ++ told.0, told-more (before c.args.place.now) _ _ _ inv.0 told.0 inv.1 told.2, done_more gives c.as_slice-field-items.result.now c.loop-field.field-index c.field-item.result inv.0 told.0 c.loop-field-test.true c.field-item.is inv.2 told.1)
+
+pub add_faults_of_field-bounds-entries-i : goal.add_faults_of_field-bounds-entries-i
+add_faults_of_field-bounds-entries-i g t c =
+    let entries = c.args.entries.now in
+    let key = c.as_str-name.result.now in
+    let at : place_in c.args.places.now key ≡ Some c.in-Some.i = sym c.place_of.ensures ∙ c.in-Some.is in
+    (subst (IsPlaceOf entries (last_value key entries)) at (c.requires.places key)).0
+
+pub add_faults_of_field-returns-in-None : goal.add_faults_of_field-returns-in-None
+add_faults_of_field-returns-in-None g t c =
     let schema = c.args.schema.now in
     let may = g.S.CheckedScalar.may_answer in
     let text = g.S.ScalarValue.text in
     let str_of = g.S.ScalarValue.str_of in
     let entries = c.args.entries.now in
     let place = before c.args.place.now in
-    let a = c.field-item.result in
+    let a = c.args.field.now in
     let name = string_bytes a.name in
     let last = last_value name entries in
-    let expected = borrowed_shape c.type_of_field-expected.result in
-    let gives = λ (i : ℕ) (b : Argument g.row.S.Denot). OfField schema may text str_of b (last_value (string_bytes b.name) entries) in
-    let inv = c.loop-field.invariant in
-    let more = λ (fs : List Fault) (e : texts_of c.match-place_of.messages ≡ texts_of c.loop-field.messages ++ map (told_after place) fs) (h : OfField schema may text str_of a last fs).
-        (inv.0 ++ fs, told-more place (texts_of c.args.messages.now) (texts_of c.loop-field.messages) (texts_of c.match-place_of.messages) inv.0 fs inv.1 e, done_more gives c.as_slice-field-items.result.now c.loop-field.field-index a inv.0 fs c.loop-field-test.true c.field-item.is inv.2 h) in
+    let expected = borrowed_shape c.args.expected in
     let step = before-Field _ c.as_str-name.result c.args.place refl ∙ ap (λ k. place ++ printed_step (field k)) c.as_str-name.ensures.value in
-    let found : place_in c.in_ok-places.places name ≡ c.place_of.result = ap (place_in c.in_ok-places.places) (sym c.as_str-name.ensures.value) ∙ sym c.place_of.ensures in
-    elim c.match-place_of.branch [
-      | add_faults_of_fields-in-None+in_ok-add_absence-in-None w ↦
-          let none : last ≡ None = subst (IsPlaceOf entries last) (found ∙ w.in-None.is) (c.in_ok-places.ensures name) in
-          let told = adds-under (λ fs. fs ≡ absent expected) place _ (field name) _ _ step w.in_ok-add_absence-in-None.ensures in
-          more told.0 (ap texts_of w.messages-is ∙ told.2) (field_none schema may text str_of a last expected told.0 none c.type_of_field-expected.ensures.made told.1)
-      | add_faults_of_fields-in-Some+in_ok-add_faults-in-Some w ↦
-          let at = subst (IsPlaceOf entries last) (found ∙ w.in-Some.is) (c.in_ok-places.ensures name) in
-          let x = w.index-entries-i.result in
-          let some : last ≡ Some x.1.item = at.1 x ∙ ap (λ e. Some e.1.item) (sym w.index-entries-i.is) in
-          let told = adds-under (Faults schema may text str_of x.1.item expected) place _ (field name) _ _ step w.in_ok-add_faults-in-Some.ensures in
-          more told.0 (ap texts_of w.messages-is ∙ told.2) (field_some schema may text str_of a last expected x.1.item told.0 some c.type_of_field-expected.ensures.made told.1)
-    ]
+    let found : place_in c.args.places.now name ≡ None = ap (place_in c.args.places.now) (sym c.as_str-name.ensures.value) ∙ sym c.place_of.ensures ∙ c.in-None.is in
+    let none : last ≡ None = subst (IsPlaceOf entries last) found (c.requires.places name) in
+    on_ok_weaker c.add_absence.result
+    (λ e.
+    let told = adds-under (λ fs. fs ≡ absent expected) place _ (field name) _ _ step e in
+    (told.0, field_none schema may text str_of a last expected told.0 none c.requires.made told.1, told.2))
+    c.add_absence.ensures
+
+pub add_faults_of_field-returns-in-Some : goal.add_faults_of_field-returns-in-Some
+add_faults_of_field-returns-in-Some g t c =
+    let schema = c.args.schema.now in
+    let may = g.S.CheckedScalar.may_answer in
+    let text = g.S.ScalarValue.text in
+    let str_of = g.S.ScalarValue.str_of in
+    let entries = c.args.entries.now in
+    let place = before c.args.place.now in
+    let a = c.args.field.now in
+    let name = string_bytes a.name in
+    let last = last_value name entries in
+    let expected = borrowed_shape c.args.expected in
+    let step = before-Field _ c.as_str-name.result c.args.place refl ∙ ap (λ k. place ++ printed_step (field k)) c.as_str-name.ensures.value in
+    let found : place_in c.args.places.now name ≡ Some c.in-Some.i = ap (place_in c.args.places.now) (sym c.as_str-name.ensures.value) ∙ sym c.place_of.ensures ∙ c.in-Some.is in
+    let at = subst (IsPlaceOf entries last) found (c.requires.places name) in
+    let x = c.index-entries-i.result in
+    let some : last ≡ Some x.1.item = at.1 x ∙ ap (λ e. Some e.1.item) (sym c.index-entries-i.is) in
+    on_ok_weaker c.add_faults.result
+    (λ e.
+    let told = adds-under (Faults schema may text str_of x.1.item expected) place _ (field name) _ _ step e in
+    (told.0, field_some schema may text str_of a last expected x.1.item told.0 some c.requires.made told.1, told.2))
+    c.add_faults.ensures
