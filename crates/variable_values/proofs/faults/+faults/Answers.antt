@@ -245,8 +245,8 @@ add_faults_of_field-returns-in-Some g t c =
     let step = before-Field _ c.as_str-name.result c.args.place refl ∙ ap (λ k. place ++ printed_step (field k)) c.as_str-name.ensures.value in
     let found : place_in c.args.places.now name ≡ Some c.in-Some.i = ap (place_in c.args.places.now) (sym c.as_str-name.ensures.value) ∙ sym c.place_of.ensures ∙ c.in-Some.is in
     let at = subst (IsPlaceOf entries last) found (c.requires.places name) in
-    let x = c.index-entries-i.result in
-    let some : last ≡ Some x.1.item = at.1 x ∙ ap (λ e. Some e.1.item) (sym c.index-entries-i.is) in
+    let x = get_or entries c.in-Some.i c.index-entries-i.result in
+    let some : last ≡ Some x.1.item = at.1 c.index-entries-i.result in
     on_ok_weaker c.add_faults.result
     (λ e.
     let told = adds-under (Faults schema may text str_of x.1.item expected) place _ (field name) _ _ step e in
