@@ -1,6 +1,5 @@
 -- Where a value has no fault, its checks accept.
-use Rattle.std.proofs.Common.{◌≡◌, ℕ, ◌+◌, ◌<◌, List, [], ◌∷◌, ◌++◌, Option, Some, None, map, length, get_or, reverse, string_bytes, zero, suc, refl, ap, sym, ◌∙◌, inl, inr, subst, arith}
-use Rattle.std.specs.Prelude.{Contains}
+use Rattle.std.proofs.Common.{◌≡◌, ℕ, ◌+◌, ◌<◌, List, [], ◌∷◌, ◌++◌, Option, Some, None, map, length, get_or, reverse, string_bytes, zero, suc, refl, sym, ◌∙◌, inl, inr, subst, arith}
 use Rattle.std.proofs.Math.Path.{transport}
 use Rattle.std.proofs.lemmas.List.{reverse-reverse}
 use Rattle.language.specs.declared.types.TypeModifier.{TypeModifier}
@@ -19,14 +18,14 @@ use Rattle.meta.specs.declared.arguments.Argument.{Argument}
 use Rattle.meta.specs.declared.inputs.InputObjectMetaOf.{InputObjectMetaOf}
 use Rattle.meta.specs.declared.kinds.MetaTypeOf.{MetaTypeOf}
 use Rattle.meta.specs.declared.kinds.MetaTypeOf.TheVariants as k
-use Rattle.schema.specs.Catalog.{Catalog, type_in}
+use Rattle.schema.specs.Catalog.{Catalog}
 use Rattle.variable_values.specs.Asks.{Asks, AcceptedWhereAsked, of_scalar, of_object, at_field, at_item, alone, non_null}
 use Rattle.variable_values.specs.Faults.{Checked, Fault, Faults, OfMeta, OfNamed, OrChecked, Step, element, field, judge_of, under, unknown_field, within, wrong_length}
 use Rattle.variable_values.specs.InTurn.{InTurn}
 use Rattle.variable_values.specs.Keys.{field_names, keys_of, unknown_keys}
 use Rattle.variable_values.specs.Rows.{Below, OfField, OfFields, OfItems, OfWhole}
 use Rattle.variable_values.specs.Texts.{input_text}
-use Rattle.variable_values.proofs.RowLaws.{OfLevel, at_roll, is_roll, within_of}
+use Rattle.variable_values.proofs.RowLaws.{OfLevel, at_roll, is_roll}
 
 front_none : {R : Type 0} (xs ys : List R) → [] ≡ xs ++ ys → xs ≡ []
 front_none [] ys e = refl

@@ -1,5 +1,5 @@
 -- The last value of a key is that of an entry.
-use Rattle.std.proofs.Common.{◌≡◌, ℕ, ◌-◌, ◌<◌, List, [], ◌∷◌, Option, Some, None, length, get_or, reverse, string_bytes, zero, suc, refl, ap, sym, subst, ◌∙◌, arith}
+use Rattle.std.proofs.Common.{◌≡◌, ℕ, ◌-◌, ◌<◌, List, [], ◌∷◌, Option, Some, None, length, get_or, reverse, string_bytes, zero, suc, refl, sym, subst, ◌∙◌, arith}
 use Rattle.std.specs.Prelude.{Contains, find, option_map}
 use Rattle.std.specs.Str.{bytes_eq}
 use Rattle.std.proofs.lemmas.List.{get_or-reverse, length-reverse}

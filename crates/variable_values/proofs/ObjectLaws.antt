@@ -15,7 +15,7 @@ use Rattle.meta.specs.declared.inputs.InputObjectMetaOf.{InputObjectMetaOf}
 use Rattle.meta.specs.declared.kinds.MetaTypeOf.{MetaTypeOf}
 use Rattle.meta.specs.declared.kinds.MetaTypeOf.TheVariants as k
 use Rattle.schema.specs.Catalog.{Catalog}
-use Rattle.variable_values.specs.Faults.{Checked, Fault, OfInput, OfMeta, OrChecked, absent, field, here, judge_of, under, unknown_field}
+use Rattle.variable_values.specs.Faults.{Checked, Fault, OfInput, OrChecked, absent, field, here, judge_of, under, unknown_field}
 use Rattle.variable_values.specs.Keys.{field_names, keys_of, unknown_keys}
 use Rattle.variable_values.specs.Rows.{Below, ByMeta, OfField, OfFields, OfWhole}
 use Rattle.variable_values.specs.Texts.{input_text, no_object_text}

@@ -11,8 +11,8 @@ use Rattle.language.specs.declared.types.TypeModifier.{TypeModifier}
 use Rattle.language.specs.declared.types.TypeModifier.TheVariants as m
 use Rattle.language.specs.declared.value.InputValue.{InputValue, map-InputValue, roll-InputValue}
 use Rattle.language.specs.declared.value.InputValue.TheOpen as v
-use Rattle.language.specs.declared.value.InputValue.TheFolds.{rec-InputValue, rec-roll-InputValue}
-use Rattle.language.specs.Types.{TypeShape, shape}
+use Rattle.language.specs.declared.value.InputValue.TheFolds.{rec-roll-InputValue}
+use Rattle.language.specs.Types.{TypeShape}
 use Rattle.language.specs.Values.{Entry, last_value}
 use Rattle.language.specs.ValuesPrinted.{printed_value}
 use Rattle.meta.specs.Answers.{Answers}
@@ -22,7 +22,7 @@ use Rattle.meta.specs.declared.inputs.InputObjectMetaOf.{InputObjectMetaOf}
 use Rattle.meta.specs.declared.kinds.MetaTypeOf.{MetaTypeOf}
 use Rattle.meta.specs.declared.kinds.MetaTypeOf.TheVariants as k
 use Rattle.schema.specs.Catalog.{Catalog, type_in}
-use Rattle.variable_values.specs.Faults.{Judge, Fault, Step, element, field, AtField, AtFields, Checked, Inside, Of, OfInput, OfMeta, OfNamed, OfObject, OrChecked, accepted_faults, enum_faults, Faults, judge_of, judge_step, name_in, unknown_field, within, wrong_length}
+use Rattle.variable_values.specs.Faults.{Judge, Fault, element, AtField, AtFields, Checked, Inside, Of, OfInput, OfMeta, OfNamed, OfObject, OrChecked, accepted_faults, enum_faults, Faults, judge_of, judge_step, name_in, unknown_field, within, wrong_length}
 use Rattle.variable_values.specs.InTurn.{InTurn}
 use Rattle.variable_values.specs.Keys.{keys_of, field_names, unknown_keys}
 use Rattle.variable_values.specs.Texts.{scalar_text, input_text}

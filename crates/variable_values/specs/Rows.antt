@@ -1,5 +1,5 @@
 -- The rows of a value and a type, when its modifiers are taken off.
-use Rattle.std.specs.Prelude.{◌≡◌, ⊤, ℕ, List, [], ◌∷◌, ◌++◌, length, map, is_some, Option, Some, None, true, string_bytes}
+use Rattle.std.specs.Prelude.{◌≡◌, ⊤, ℕ, List, [], ◌∷◌, ◌++◌, length, map, is_some, Option, Some, None, true}
 use Rattle.language.specs.declared.position.Span.{Span}
 use Rattle.language.specs.declared.position.Spanning.{Spanning}
 use Rattle.language.specs.declared.value.InputValue.{InputValue, out-InputValue}
@@ -12,7 +12,7 @@ use Rattle.meta.specs.declared.kinds.MetaTypeOf.{MetaTypeOf}
 use Rattle.schema.specs.Catalog.{Catalog, type_in}
 use Rattle.variable_values.specs.declared.rows.Row.{Row}
 use Rattle.variable_values.specs.declared.rows.Row.TheVariants as r
-use Rattle.variable_values.specs.Faults.{Fault, Faults, Step, AtField, AtFields, OfMeta, OfNamed, OfObject, absent, element, field, here, judge_of, under, wrong_length}
+use Rattle.variable_values.specs.Faults.{Fault, Faults, Step, AtField, AtFields, OfMeta, OfNamed, OfObject, element, here, judge_of, under, wrong_length}
 use Rattle.variable_values.specs.InTurn.{InTurn}
 use Rattle.variable_values.specs.Inputs.{is_input_in}
 use Rattle.variable_values.specs.Texts.{null_text}

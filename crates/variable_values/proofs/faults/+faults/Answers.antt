@@ -1,21 +1,20 @@
-use Rattle.std.proofs.Common.{◌≡◌, [], ◌∷◌, ◌++◌, ℕ, ◌<◌, get_or, List, Some, None, Ok, ap, sym, ◌∙◌, subst, refl, map, length, drop, drop_of_length-le, append_assoc, string_bytes, option_copied, true≢false, arith}
+use Rattle.std.proofs.Common.{◌≡◌, [], ◌∷◌, ◌++◌, ℕ, ◌<◌, get_or, Some, None, ap, sym, ◌∙◌, subst, refl, map, length, drop_of_length-le, string_bytes, true≢false, arith}
 use Rattle.std.proofs.lemmas.List.{append-nil}
 use Rattle.std.proofs.lemmas.Result.{on_ok_weaker}
 use Rattle.language.specs.declared.position.Span.{Span}
 use Rattle.language.specs.declared.position.Spanning.{Spanning}
-use Rattle.language.specs.declared.value.InputValue.{InputValue, out-InputValue}
+use Rattle.language.specs.declared.value.InputValue.{InputValue}
 use Rattle.language.specs.Types.{borrowed_shape, printed}
 use Rattle.language.specs.Values.{last_value}
 use Rattle.meta.specs.declared.arguments.Argument.{Argument}
 use Rattle.variable_values.specs.InTurn.{InTurn}
 use Rattle.variable_values.proofs.FieldInputs.{field_input}
-use Rattle.schema.specs.Catalog.{type_in}
-use Rattle.variable_values.specs.Faults.{Fault, Faults, absent, element, field, here, unknown_field, wrong_length}
+use Rattle.variable_values.specs.Faults.{Faults, absent, element, field, here, unknown_field, wrong_length}
 use Rattle.variable_values.specs.Entries.{IsPlaceOf, place_in}
 use Rattle.variable_values.specs.Keys.{field_names, keys_of, unknown_keys}
-use Rattle.variable_values.specs.Messages.{Adds, printed_step, texts_of, told_after}
+use Rattle.variable_values.specs.Messages.{printed_step, texts_of, told_after}
 use Rattle.variable_values.specs.Places.{before}
-use Rattle.variable_values.specs.Rows.{Below, ByMeta, ByName, IsIn, OfField, OfItems, OfWhole}
+use Rattle.variable_values.specs.Rows.{Below, ByMeta, ByName, OfField, OfItems, OfWhole}
 use Rattle.variable_values.specs.Texts.{no_object_text, null_text}
 use Rattle.variable_values.proofs.InTurns.{done_all, done_more}
 use Rattle.variable_values.proofs.ObjectLaws.{by_no_object, by_object, field_none, field_some, whole_none, whole_some}

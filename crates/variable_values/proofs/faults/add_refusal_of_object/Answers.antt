@@ -1,4 +1,4 @@
-use Rattle.std.proofs.Common.{◌≡◌, [], ◌∷◌, ◌++◌, Some, inr, refl, ap, ◌∙◌, subst, string_bytes, option_map}
+use Rattle.std.proofs.Common.{◌≡◌, [], ◌∷◌, ◌++◌, inr, refl, ap, ◌∙◌, subst, string_bytes, option_map}
 use Rattle.std.proofs.lemmas.Result.{on_ok_weaker}
 use Rattle.language.specs.ValuesPrinted.{printed_value}
 use Rattle.meta.specs.Answers.{RefusesWith}

@@ -1,8 +1,7 @@
-use Rattle.std.proofs.Common.{◌≡◌, ◌<◌, ◌+◌, ap, sym, ◌∙◌, subst, length, get_or, take, map, string_bytes, refl, arith}
+use Rattle.std.proofs.Common.{◌≡◌, ◌<◌, ◌+◌, ap, sym, ◌∙◌, subst, length, get_or, take, string_bytes, refl, arith}
 use Rattle.std.proofs.lemmas.List.{get_or-map, length-map}
 use Rattle.walk.specs.NameSet.{has_name}
-use Rattle.variable_values.specs.Keys.{field_names, keys_of, noted, unknown_keys}
-use Rattle.variable_values.specs.Messages.{texts_of}
+use Rattle.variable_values.specs.Keys.{field_names, keys_of, unknown_keys}
 use Rattle.variable_values.specs.Places.{before}
 use Rattle.variable_values.proofs.KeyLaws.{HasBoth, noted_more, told_noted, unknown_more}
 use Rattle.variable_values.proofs.keys.add_unknown_keys.Goals as goal

@@ -1,6 +1,4 @@
-use Rattle.std.proofs.Common.{List}
 use Rattle.events.specs.Node.{VariableEntry}
-use Rattle.walk.specs.ErrorValue.{ErrorValue}
 use Rattle.variable_values.specs.Messages.{OfDefinition}
 use Rattle.variable_values.proofs.InTurns.{Done}
 use Rattle.variable_values.proofs.variables.validate_input_values.Given as goal
