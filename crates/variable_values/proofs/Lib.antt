@@ -1,0 +1,12 @@
+pub mod Accepted
+pub mod FieldInputs
+pub mod InTurns
+pub mod KeyLaws
+pub mod LastValues
+pub mod ObjectLaws
+pub mod OneList
+pub mod PlaceLaws
+pub mod PlacesOfEntries
+pub mod RowLaws
+pub mod Told
+pub mod Unfold

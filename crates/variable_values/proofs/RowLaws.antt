@@ -1,0 +1,198 @@
+-- What stands round a type, row by row.
+use Rattle.std.specs.Option.{option_map_or}
+use Rattle.meta.specs.Kinds.{is_input_meta}
+use Rattle.variable_values.specs.declared.rows.Row.{Row}
+use Rattle.variable_values.specs.declared.rows.Row.TheVariants as r
+use Rattle.variable_values.specs.Inputs.{is_input_in}
+use Rattle.std.proofs.Common.{◌≡◌, false, ℕ, ◌-◌, ◌+◌, ◌<◌, List, [], ◌∷◌, ◌++◌, Option, Some, None, true, length, take, get_or, reverse, refl, ap, sym, ◌∙◌, subst, arith}
+use Rattle.std.specs.Prelude.{Vec, slice_get}
+use Rattle.std.specs.declared.alloc.Global.{Global}
+use Rattle.language.specs.declared.position.Span.{Span}
+use Rattle.language.specs.declared.position.Spanning.{Spanning}
+use Rattle.std.proofs.Math.Path.{transport}
+use Rattle.std.proofs.Math.Seq.{take-length}
+use Rattle.std.proofs.lemmas.List.{reverse-append, reverse-reverse, length-take, take_more}
+use Rattle.std.proofs.lemmas.Option.{slice_get_within, get_or_from_slice_get, slice_get-get_or}
+use Rattle.language.specs.declared.types.TypeModifier.{TypeModifier}
+use Rattle.language.specs.declared.types.TypeModifier.TheVariants as m
+use Rattle.language.specs.declared.value.InputValue.{InputValue, roll-InputValue, out-InputValue, roll-out-InputValue, out-roll-InputValue}
+use Rattle.language.specs.declared.value.InputValue.TheVariants as variant
+use Rattle.language.specs.declared.value.InputValue.TheOpen as v
+use Rattle.language.specs.Types.{TypeShape, wrapped_by, inner_of, outermost, printed}
+use Rattle.language.specs.Values.{list_items, items_layer}
+use Rattle.meta.specs.Answers.{Answers}
+use Rattle.meta.specs.declared.kinds.MetaTypeOf.{MetaTypeOf}
+use Rattle.schema.specs.Catalog.{Catalog, type_in}
+use Rattle.variable_values.specs.Faults.{Fault, Faults, Of, OfMeta, OfNamed, here, judge_of, within, wrong_length}
+use Rattle.variable_values.specs.Rows.{ByMeta, ByName, HasName, IsKnownRow, OfItems, SaysItems}
+use Rattle.variable_values.specs.Texts.{null_text}
+use Rattle.variable_values.proofs.Unfold.{faults-roll}
+
+-- ---- types
+all_taken : {X : Type 0} (xs : List X) (i : ℕ) (x : X) → i ≡ length xs - 1 → slice_get xs i ≡ Some x → xs ≡ take i xs ++ x ∷ []
+all_taken xs i x e g =
+    let here : i < length xs = slice_get_within xs i x g in
+    let end : i + 1 ≡ length xs = omega arith in
+    sym (take-length xs) ∙ ap (λ n. take n xs) (sym end) ∙ take_more xs i x here ∙ ap (λ y. take i xs ++ y ∷ []) (get_or_from_slice_get xs i x x g)
+
+-- a type by its outermost modifier
+pub unwrapped : (t : TypeShape) (x : TypeModifier) → outermost t.modifiers ≡ Some x → t ≡ wrapped_by x (inner_of t)
+unwrapped t x e = ap (λ (ms : List TypeModifier). let r : TypeShape = record { name = t.name; modifiers = ms } in r) (all_taken t.modifiers (length t.modifiers - 1) x refl e)
+
+-- the inner type has fewer modifiers
+pub shorter : (t u : TypeShape) (x : TypeModifier) → outermost t.modifiers ≡ Some x → u ≡ inner_of t → length u.modifiers < length t.modifiers
+shorter t u x e i =
+    let here : length t.modifiers - 1 < length t.modifiers = slice_get_within t.modifiers (length t.modifiers - 1) x e in
+    let same : length u.modifiers ≡ length (take (length t.modifiers - 1) t.modifiers) = ap (λ (w : TypeShape). length w.modifiers) i in
+    let few = length-take (length t.modifiers - 1) t.modifiers in
+    omega (arith, few)
+
+pub no_modifier : (ms : List TypeModifier) → outermost ms ≡ None → ms ≡ []
+no_modifier [] e = refl
+no_modifier (x ∷ ms) e =
+    let last : slice_get (x ∷ ms) (length (x ∷ ms) - 1) ≡ Some (get_or (x ∷ ms) (length (x ∷ ms) - 1) x) = slice_get-get_or (x ∷ ms) (length (x ∷ ms) - 1) x (omega arith) in
+    cc
+
+-- a row whose names are a known type's
+pub known_names : {S C : Type 0} (schema : Catalog S C) (t : TypeShape) (x : Row) → is_input_in schema t.name ≡ true → HasName t x → IsKnownRow schema x
+known_names schema t r.Nothing k h = h
+known_names schema t (r.Null at) k h = h
+known_names schema t (r.Items inner size) k h = ap (is_input_in schema) h ∙ k
+known_names schema t (r.Named name) k h = ap (is_input_in schema) h ∙ k
+
+-- the type of a name that is an input type's
+pub known_input : {S C : Type 0} (schema : Catalog S C) (name : List ℕ) (meta : MetaTypeOf S C) → type_in name schema ≡ Some meta → is_input_in schema name ≡ true → is_input_meta meta ≡ true
+known_input schema name meta e k = sym (ap (λ o. option_map_or is_input_meta o false) e) ∙ k
+
+pub no_type : {S C : Type 0} (schema : Catalog S C) (name : List ℕ) → type_in name schema ≡ None → is_input_in schema name ≡ true → ⊥
+no_type schema name e k = let bad : false ≡ true = sym (ap (λ o. option_map_or is_input_meta o false) e) ∙ k in cc
+
+pub within_of : (t : TypeShape) → within (reverse t.modifiers) t.name ≡ t
+within_of t = ap (λ (ms : List TypeModifier). let r : TypeShape = record { name = t.name; modifiers = ms } in r) (reverse-reverse t.modifiers)
+
+pub within_wrap : (x : TypeModifier) (t : TypeShape) → wrapped_by x t ≡ within (x ∷ reverse t.modifiers) t.name
+within_wrap x t = sym (within_of (wrapped_by x t)) ∙ ap (λ ms. within ms t.name) (reverse-append t.modifiers (x ∷ []))
+
+module _ {S C : Type 0} (schema : Catalog S C) (may : Answers (InputValue S) C) (text : S → List ℕ) (str_of : S → Option (List ℕ)) where
+  abbrev pub OfLevel : v.InputValue-F S (InputValue S) → InputValue S → List TypeModifier → List ℕ → List Fault → Type 0
+  OfLevel = Of schema may text str_of (λ y. y) (judge_of schema may text str_of)
+
+  pub at_roll : (value : InputValue S) (x : v.InputValue-F S (InputValue S)) (t : TypeShape) (fs : List Fault) → value ≡ roll-InputValue S x
+      → Faults schema may text str_of value t fs ≡ OfLevel x value (reverse t.modifiers) t.name fs
+  at_roll value x t fs e =
+      ap (λ u. Faults schema may text str_of u t fs) e ∙ faults-roll schema may text str_of x t fs ∙ ap (λ u. OfLevel x u (reverse t.modifiers) t.name fs) (sym e)
+
+  pub at_wrap : (value : InputValue S) (x : v.InputValue-F S (InputValue S)) (m : TypeModifier) (t : TypeShape) (fs : List Fault) → value ≡ roll-InputValue S x
+      → Faults schema may text str_of value (wrapped_by m t) fs ≡ OfLevel x value (m ∷ reverse t.modifiers) t.name fs
+  at_wrap value x m t fs e = at_roll value x (wrapped_by m t) fs e ∙ ap (λ ms. OfLevel x value ms t.name fs) (reverse-append t.modifiers (m ∷ []))
+
+  pub is_roll : (value : InputValue S) (x : v.InputValue-F S (InputValue S)) → out-InputValue S value ≡ x → value ≡ roll-InputValue S x
+  is_roll value x o = sym (roll-out-InputValue S value) ∙ ap (roll-InputValue S) o
+
+  -- null, where the type is never null
+  pub null_row : (value : InputValue S) (t : TypeShape) (fs : List Fault) → value ≡ variant.Null
+      → fs ≡ here (null_text (printed (wrapped_by m.NonNull t))) ∷ [] → Faults schema may text str_of value (wrapped_by m.NonNull t) fs
+  null_row value t fs n e =
+      transport (sym (at_wrap value v.Null m.NonNull t fs (n ∙ sym variant.rolls-Null)))
+      (e ∙ ap (λ u. here (null_text (printed u)) ∷ []) (within_wrap m.NonNull t))
+
+  -- null, where the type is a list
+  pub free_row : (value : InputValue S) (size : Option ℕ) (t : TypeShape) (fs : List Fault) → value ≡ variant.Null
+      → fs ≡ [] → Faults schema may text str_of value (wrapped_by (m.List size) t) fs
+  free_row value size t fs n e = transport (sym (at_wrap value v.Null (m.List size) t fs (n ∙ sym variant.rolls-Null))) e
+
+  -- another value, where the type is never null
+  other_row : (value : InputValue S) (x : v.InputValue-F S (InputValue S)) (t : TypeShape) (fs : List Fault) → value ≡ roll-InputValue S x → (value ≡ variant.Null → ⊥)
+      → Faults schema may text str_of value t fs → Faults schema may text str_of value (wrapped_by m.NonNull t) fs
+  other_row value v.Null t fs e n j = absurd (n (e ∙ variant.rolls-Null))
+  other_row value (v.Scalar s) t fs e n j = transport (sym (at_wrap value (v.Scalar s) m.NonNull t fs e)) (transport (at_roll value (v.Scalar s) t fs e) j)
+  other_row value (v.Enum s) t fs e n j = transport (sym (at_wrap value (v.Enum s) m.NonNull t fs e)) (transport (at_roll value (v.Enum s) t fs e) j)
+  other_row value (v.Variable s) t fs e n j = transport (sym (at_wrap value (v.Variable s) m.NonNull t fs e)) (transport (at_roll value (v.Variable s) t fs e) j)
+  other_row value (v.List s) t fs e n j = transport (sym (at_wrap value (v.List s) m.NonNull t fs e)) (transport (at_roll value (v.List s) t fs e) j)
+  other_row value (v.Object s) t fs e n j = transport (sym (at_wrap value (v.Object s) m.NonNull t fs e)) (transport (at_roll value (v.Object s) t fs e) j)
+
+  pub non_null_row : (value : InputValue S) (t : TypeShape) (fs : List Fault) → (value ≡ variant.Null → ⊥)
+      → Faults schema may text str_of value t fs → Faults schema may text str_of value (wrapped_by m.NonNull t) fs
+  non_null_row value t fs n j = other_row value (out-InputValue S value) t fs (is_roll value (out-InputValue S value) refl) n j
+
+  -- one value, where the type is a list
+  through_row : (value : InputValue S) (x : v.InputValue-F S (InputValue S)) (size : Option ℕ) (t : TypeShape) (fs : List Fault) → value ≡ roll-InputValue S x → (value ≡ variant.Null → ⊥) → items_layer x ≡ None
+      → Faults schema may text str_of value t fs → Faults schema may text str_of value (wrapped_by (m.List size) t) fs
+  through_row value v.Null size t fs e n l j = absurd (n (e ∙ variant.rolls-Null))
+  through_row value (v.Scalar s) size t fs e n l j = transport (sym (at_wrap value (v.Scalar s) (m.List size) t fs e)) (transport (at_roll value (v.Scalar s) t fs e) j)
+  through_row value (v.Enum s) size t fs e n l j = transport (sym (at_wrap value (v.Enum s) (m.List size) t fs e)) (transport (at_roll value (v.Enum s) t fs e) j)
+  through_row value (v.Variable s) size t fs e n l j = transport (sym (at_wrap value (v.Variable s) (m.List size) t fs e)) (transport (at_roll value (v.Variable s) t fs e) j)
+  through_row value (v.Object s) size t fs e n l j = transport (sym (at_wrap value (v.Object s) (m.List size) t fs e)) (transport (at_roll value (v.Object s) t fs e) j)
+  through_row value (v.List s) size t fs e n l j = cc
+
+  pub single_row : (value : InputValue S) (size : Option ℕ) (t : TypeShape) (fs : List Fault) → (value ≡ variant.Null → ⊥) → list_items value ≡ None
+      → Faults schema may text str_of value t fs → Faults schema may text str_of value (wrapped_by (m.List size) t) fs
+  single_row value size t fs n l j = through_row value (out-InputValue S value) size t fs (is_roll value (out-InputValue S value) refl) n l j
+
+  -- a list
+  listed_row : (value : InputValue S) (x : v.InputValue-F S (InputValue S)) (size : Option ℕ) (t : TypeShape) (fs : List Fault) → value ≡ roll-InputValue S x
+      → SaysItems schema may text str_of (items_layer x) t size fs → Faults schema may text str_of value (wrapped_by (m.List size) t) fs
+  listed_row value v.Null size t fs e j = absurd j
+  listed_row value (v.Scalar s) size t fs e j = absurd j
+  listed_row value (v.Enum s) size t fs e j = absurd j
+  listed_row value (v.Variable s) size t fs e j = absurd j
+  listed_row value (v.Object s) size t fs e j = absurd j
+  listed_row value (v.List s) size t fs e j =
+      transport (sym (at_wrap value (v.List s) (m.List size) t fs e))
+      (transport (ap (λ u. (gs : List Fault) × OfItems schema may text str_of u s.items gs × (fs ≡ wrong_length size (length s.items) ++ gs)) (sym (within_of t))) j)
+
+  pub items_row : (value : InputValue S) (size : Option ℕ) (t : TypeShape) (fs : List Fault) → SaysItems schema may text str_of (list_items value) t size fs → Faults schema may text str_of value (wrapped_by (m.List size) t) fs
+  items_row value size t fs j = listed_row value (out-InputValue S value) size t fs (is_roll value (out-InputValue S value) refl) j
+
+  -- a plain name
+  pub named_row : (value : InputValue S) (t : TypeShape) (name : List ℕ) (fs : List Fault) → outermost t.modifiers ≡ None → name ≡ t.name → ByName schema may text str_of value (type_in name schema) fs → Faults schema may text str_of value t fs
+  named_row value t name fs o n j =
+      transport (sym (at_roll value (out-InputValue S value) t fs (is_roll value (out-InputValue S value) refl)))
+      (subst (λ ms. OfLevel (out-InputValue S value) value ms t.name fs) (sym (ap reverse (no_modifier t.modifiers o)))
+      (subst (λ k. ByName schema may text str_of value (type_in k schema) fs) n j))
+
+  -- the same at a type that is such a one
+  pub moved : (value : InputValue S) (u t : TypeShape) (fs : List Fault) → u ≡ t → Faults schema may text str_of value t fs → Faults schema may text str_of value u fs
+  moved value u t fs e j = transport (ap (λ z. Faults schema may text str_of value z fs) (sym e)) j
+
+  -- ---- a value by a name
+  out_null : (value : InputValue S) → value ≡ variant.Null → out-InputValue S value ≡ v.Null
+  out_null value n = ap (out-InputValue S) (n ∙ sym variant.rolls-Null) ∙ out-roll-InputValue S v.Null
+
+  pub null_by_name : (value : InputValue S) (meta : Option (MetaTypeOf S C)) (fs : List Fault) → value ≡ variant.Null → fs ≡ [] → ByName schema may text str_of value meta fs
+  null_by_name value meta fs n e = subst (λ x. OfNamed schema may text str_of (λ y. y) (judge_of schema may text str_of) x value meta fs) (sym (out_null value n)) e
+
+  named_as : (value : InputValue S) (x : v.InputValue-F S (InputValue S)) (meta : MetaTypeOf S C) (fs : List Fault) → value ≡ roll-InputValue S x → (value ≡ variant.Null → ⊥)
+      → OfMeta schema may text str_of (λ y. y) (judge_of schema may text str_of) x value meta fs → OfNamed schema may text str_of (λ y. y) (judge_of schema may text str_of) x value (Some meta) fs
+  named_as value v.Null meta fs e n j = absurd (n (e ∙ variant.rolls-Null))
+  named_as value (v.Scalar s) meta fs e n j = j
+  named_as value (v.Enum s) meta fs e n j = j
+  named_as value (v.Variable s) meta fs e n j = j
+  named_as value (v.List s) meta fs e n j = j
+  named_as value (v.Object s) meta fs e n j = j
+
+  pub by_meta : (value : InputValue S) (o : Option (MetaTypeOf S C)) (meta : MetaTypeOf S C) (fs : List Fault) → (value ≡ variant.Null → ⊥) → o ≡ Some meta → ByMeta schema may text str_of value meta fs → ByName schema may text str_of value o fs
+  by_meta value o meta fs n e j =
+      subst (λ q. ByName schema may text str_of value q fs) (sym e) (named_as value (out-InputValue S value) meta fs (is_roll value (out-InputValue S value) refl) n j)
+
+  -- a value that is no list
+  no_items : (value : InputValue S) (x : v.InputValue-F S (InputValue S)) → value ≡ roll-InputValue S x → ((xs : Vec (Spanning (InputValue S) Span) Global) → value ≡ variant.List xs → ⊥) → items_layer x ≡ None
+  no_items value v.Null e n = refl
+  no_items value (v.Scalar s) e n = refl
+  no_items value (v.Enum s) e n = refl
+  no_items value (v.Variable s) e n = refl
+  no_items value (v.Object s) e n = refl
+  no_items value (v.List s) e n = absurd (n s (e ∙ variant.rolls-List s))
+
+  pub no_list : (value : InputValue S) → ((xs : Vec (Spanning (InputValue S) Span) Global) → value ≡ variant.List xs → ⊥) → list_items value ≡ None
+  no_list value n = no_items value (out-InputValue S value) (is_roll value (out-InputValue S value) refl) n
+
+  -- the items of a list
+  listed : (value : InputValue S) (xs : Vec (Spanning (InputValue S) Span) Global) → value ≡ variant.List xs → list_items value ≡ Some xs.items
+  listed value xs e = ap list_items (e ∙ sym (variant.rolls-List xs)) ∙ ap items_layer (out-roll-InputValue S (v.List xs))
+
+  pub says_list : (value : InputValue S) (xs : Vec (Spanning (InputValue S) Span) Global) (n : ℕ) (ys : List (Spanning (InputValue S) Span)) (t : TypeShape) (size : Option ℕ) (fs gs : List Fault) → value ≡ variant.List xs → n ≡ length xs.items → ys ≡ xs.items
+      → fs ≡ wrong_length size n → OfItems schema may text str_of t ys gs → SaysItems schema may text str_of (list_items value) t size (fs ++ gs)
+  says_list value xs n ys t size fs gs e len same f h =
+      subst (λ o. SaysItems schema may text str_of o t size (fs ++ gs)) (sym (listed value xs e))
+      (gs, subst (λ zs. OfItems schema may text str_of t zs gs) same h, ap (λ z. z ++ gs) (f ∙ ap (wrong_length size) len))

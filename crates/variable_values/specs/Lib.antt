@@ -1,0 +1,11 @@
+pub mod Asks
+pub mod Entries
+pub mod Faults
+pub mod InTurn
+pub mod Inputs
+pub mod Keys
+pub mod Laws
+pub mod Messages
+pub mod Places
+pub mod Rows
+pub mod Texts

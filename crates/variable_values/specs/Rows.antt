@@ -1,0 +1,88 @@
+-- The rows of a value and a type, when its modifiers are taken off.
+use Rattle.std.specs.Prelude.{◌≡◌, ⊤, ℕ, List, [], ◌∷◌, ◌++◌, length, map, is_some, Option, Some, None, true}
+use Rattle.language.specs.declared.position.Span.{Span}
+use Rattle.language.specs.declared.position.Spanning.{Spanning}
+use Rattle.language.specs.declared.value.InputValue.{InputValue, out-InputValue}
+use Rattle.language.specs.Types.{TypeShape, borrowed_shape, printed}
+use Rattle.language.specs.Values.{Entry, list_items}
+use Rattle.meta.specs.Answers.{Answers, Accepts, RefusesWith}
+use Rattle.meta.specs.declared.arguments.Argument.{Argument}
+use Rattle.meta.specs.declared.inputs.InputObjectMetaOf.{InputObjectMetaOf}
+use Rattle.meta.specs.declared.kinds.MetaTypeOf.{MetaTypeOf}
+use Rattle.schema.specs.Catalog.{Catalog, type_in}
+use Rattle.variable_values.specs.declared.rows.Row.{Row}
+use Rattle.variable_values.specs.declared.rows.Row.TheVariants as r
+use Rattle.variable_values.specs.Faults.{Fault, Faults, Step, AtField, AtFields, OfMeta, OfNamed, OfObject, element, here, judge_of, under, wrong_length}
+use Rattle.variable_values.specs.InTurn.{InTurn}
+use Rattle.variable_values.specs.Inputs.{is_input_in}
+use Rattle.variable_values.specs.Texts.{null_text}
+
+-- the names that a row has are the type's
+abbrev pub HasName : TypeShape → Row → Type 0
+HasName t r.Nothing = ⊤
+HasName t (r.Null at) = ⊤
+HasName t (r.Items inner size) = (borrowed_shape inner).name ≡ t.name
+HasName t (r.Named name) = name.now ≡ t.name
+
+-- the names that a row has are those of input types
+abbrev pub IsKnownRow : {S C : Type 0} → Catalog S C → Row → Type 0
+IsKnownRow schema r.Nothing = ⊤
+IsKnownRow schema (r.Null at) = ⊤
+IsKnownRow schema (r.Items inner size) = is_input_in schema (borrowed_shape inner).name ≡ true
+IsKnownRow schema (r.Named name) = is_input_in schema name.now ≡ true
+
+-- only a list is judged by its items
+abbrev pub IsListRow : {S : Type 0} → InputValue S → Row → Type 0
+IsListRow value (r.Items inner size) = is_some (list_items value) ≡ true
+IsListRow value _ = ⊤
+
+-- what a check has answered: that it accepts, or why it refuses
+abbrev pub Answered : {S C : Type 0} → Answers (InputValue S) C → C → InputValue S → Option (List ℕ) → Type 0
+Answered may c value None = Accepts may c value
+Answered may c value (Some why) = RefusesWith may c value why
+
+-- the schema has the metadata under some name
+abbrev pub IsIn : {S C : Type 0} → Catalog S C → MetaTypeOf S C → Type 0
+IsIn schema meta = (name : List ℕ) × (type_in name schema ≡ Some meta)
+
+module _ {S C : Type 0} (schema : Catalog S C) (may : Answers (InputValue S) C) (text : S → List ℕ) (str_of : S → Option (List ℕ)) where
+  -- those of a value one step down
+  abbrev pub Below : Step → TypeShape → InputValue S → List Fault → Type 0
+  Below step t value fs = (gs : List Fault) × Faults schema may text str_of value t gs × (fs ≡ map (under step) gs)
+
+  -- those of the items of a list
+  abbrev pub OfItems : TypeShape → List (Spanning (InputValue S) Span) → List Fault → Type 0
+  OfItems t xs fs = InTurn (λ i x. Below (element i) t x.item) 0 xs fs
+
+  -- those at an input field, and at all of them
+  abbrev pub OfField : Argument S → Option (InputValue S) → List Fault → Type 0
+  OfField = AtField schema may text str_of (λ y. y) (judge_of schema may text str_of)
+
+  abbrev pub OfFields : List (Argument S) → List (Entry (InputValue S)) → List Fault → Type 0
+  OfFields = AtFields schema may text str_of (λ y. y) (judge_of schema may text str_of)
+
+  abbrev pub OfWhole : InputObjectMetaOf S C → List (Entry (InputValue S)) → InputValue S → List Fault → Type 0
+  OfWhole = OfObject schema may text str_of (λ y. y) (judge_of schema may text str_of)
+
+  -- those of a value, by its one level, against metadata, and against what a name may stand for
+  abbrev pub ByMeta : InputValue S → MetaTypeOf S C → List Fault → Type 0
+  ByMeta value meta fs = OfMeta schema may text str_of (λ y. y) (judge_of schema may text str_of) (out-InputValue S value) value meta fs
+
+  abbrev pub ByName : InputValue S → Option (MetaTypeOf S C) → List Fault → Type 0
+  ByName value meta fs = OfNamed schema may text str_of (λ y. y) (judge_of schema may text str_of) (out-InputValue S value) value meta fs
+
+  -- those of a list
+  abbrev pub SaysItems : Option (List (Spanning (InputValue S) Span)) → TypeShape → Option ℕ → List Fault → Type 0
+  SaysItems None inner size fs = ⊥
+  SaysItems (Some xs) inner size fs = (gs : List Fault) × OfItems inner xs gs × (fs ≡ wrong_length size (length xs) ++ gs)
+
+  -- what the row says of the value's faults
+  abbrev pub Says : InputValue S → Row → List Fault → Type 0
+  Says value r.Nothing fs = fs ≡ []
+  Says value (r.Null at) fs = fs ≡ here (null_text (printed (borrowed_shape at))) ∷ []
+  Says value (r.Items inner size) fs = SaysItems (list_items value) (borrowed_shape inner) size fs
+  Says value (r.Named name) fs = ByName value (type_in name.now schema) fs
+
+  -- faults that the row says are the value's
+  abbrev pub IsRowOf : InputValue S → TypeShape → Row → List Fault → Type 0
+  IsRowOf value t row fs = Says value row fs → Faults schema may text str_of value t fs

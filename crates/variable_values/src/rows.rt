@@ -1,0 +1,95 @@
+//! Which row of a value and a type stands.
+ghost use Rattle.std.specs.Prelude.{◌≡◌, List, Some, true};
+ghost use Rattle.language.specs.Types.{borrowed_shape, shape};
+ghost use Rattle.schema.specs.Names.{argument_type};
+ghost use Rattle.meta.specs.Kinds.{is_input_meta};
+ghost use Rattle.schema.specs.Catalog.{Catalog, type_in};
+ghost use Rattle.variable_values.specs.Faults.{Fault};
+ghost use Rattle.variable_values.specs.Rows.{HasName, IsIn, IsKnownRow, IsListRow, IsRowOf};
+ghost use Rattle.variable_values.specs.Inputs.{is_input_in};
+
+use language::types::{BorrowedType, TypeModifier};
+use language::value::InputValue;
+use meta::arguments::Argument;
+use meta::check::CheckedScalar;
+use meta::kinds::MetaTypeOf;
+use schema::model::SchemaType;
+
+/// What a type says of a value that stands under all its modifiers.
+#[derive(Clone, Copy)]
+pub enum Row<'t> {
+    /// No fault.
+    Nothing,
+    /// A null, where this type is never null.
+    Null(BorrowedType<'t>),
+    /// A list of items of this type, for which this length is expected.
+    Items(BorrowedType<'t>, Option<usize>),
+    /// A value for the type of this name.
+    Named(&'t str),
+}
+
+/// The row of the value and the type.
+pub fn row_of<'t, S: CheckedScalar>(expected: BorrowedType<'t>, value: &InputValue<S>) -> Row<'t>
+    ensures row { (schema : Catalog S S.Check) (fs : List Fault) → IsRowOf schema S.may_answer S.text S.str_of value.now (borrowed_shape expected.entry) result fs }
+    ensures name { HasName (borrowed_shape expected.entry) result }
+    ensures items { IsListRow value.now result }
+{
+    match expected.modifier() {
+        None => Row::Named(expected.innermost_name()),
+        Some(TypeModifier::NonNull) => {
+            if value.is_null() {
+                Row::Null(expected)
+            } else {
+                row_of(expected.borrow_inner(), value)
+            }
+        }
+        Some(TypeModifier::List(size)) => match value {
+            InputValue::Null => Row::Nothing,
+            InputValue::List(_) => Row::Items(expected.borrow_inner(), *size),
+            _ => row_of(expected.borrow_inner(), value),
+        },
+    }
+}
+
+/// The row of the value and a type whose name is that of an input type.
+pub fn known_row<'t, S: CheckedScalar>(
+    schema: &SchemaType<S>,
+    expected: BorrowedType<'t>,
+    value: &InputValue<S>,
+) -> Row<'t>
+    requires { is_input_in schema.now (borrowed_shape expected).name ≡ true }
+    ensures row { (fs : List Fault) → IsRowOf schema.now S.may_answer S.text S.str_of value.now (borrowed_shape expected.entry) result fs }
+    ensures known { IsKnownRow schema.now result }
+    ensures items { IsListRow value.now result }
+{
+    row_of(expected, value)
+}
+
+/// The input type of a name.
+pub fn input_type<'t, S: CheckedScalar>(
+    schema: &'t SchemaType<S>,
+    name: &str,
+) -> &'t MetaTypeOf<S, S::Check>
+    requires { is_input_in schema.now name.now ≡ true }
+    ensures named { type_in name.now schema.now ≡ Some result.now }
+    ensures known { IsIn schema.now result.now }
+    ensures input { is_input_meta result.now ≡ true }
+{
+    match schema.concrete_type_by_name(name) {
+        None => unreachable!(),
+        Some(meta) => meta,
+    }
+}
+
+/// The type of a field of an input object.
+pub fn type_of_field<'t, S: CheckedScalar>(
+    schema: &SchemaType<S>,
+    field: &'t Argument<S>,
+) -> BorrowedType<'t>
+    requires { is_input_in schema.now (argument_type field.now) ≡ true }
+    ensures made { borrowed_shape result ≡ shape field.now.arg_type }
+    ensures known { is_input_in schema.now (borrowed_shape result).name ≡ true }
+{
+    let _ = schema;
+    field.arg_type.as_borrowed()
+}

@@ -1,0 +1,111 @@
+//! What is told of faults.
+ghost use Rattle.std.specs.Prelude.{◌≡◌, ◌++◌, IfOk, codes, string_bytes};
+ghost use Rattle.language.specs.Types.{borrowed_shape, printed};
+ghost use Rattle.language.specs.ValuesPrinted.{printed_value};
+ghost use Rattle.variable_values.specs.Faults.{here, unknown_field, under};
+ghost use Rattle.variable_values.specs.Messages.{required_text, told_after};
+ghost use Rattle.variable_values.specs.Places.{before};
+ghost use Rattle.variable_values.specs.Texts.{null_text, length_text, scalar_text, list_text, object_text, enum_text, no_name_text, no_object_text, input_text};
+
+use crate::place::Place;
+use language::scalar::ScalarValue;
+use language::types::BorrowedType;
+use language::value::InputValue;
+use std::alloc::{AllocError, Global};
+
+pub fn required_message(
+    alloc: Global,
+    variable: &str,
+    required: BorrowedType<'_>,
+) -> Result<String, AllocError>
+    ensures { IfOk result (λ t. string_bytes t ≡ required_text variable.now (borrowed_shape required.entry)) }
+{
+    format!(in alloc; "Variable \"${variable}\" of required type \"{required}\" was not provided.")
+}
+
+pub fn null_message(
+    alloc: Global,
+    place: &Place<'_>,
+    expected: BorrowedType<'_>,
+) -> Result<String, AllocError>
+    ensures { IfOk result (λ t. string_bytes t ≡ told_after (before place.now) (here (null_text (printed (borrowed_shape expected.entry))))) }
+{
+    format!(in alloc; "{place}Expected \"{expected}\", found null.")
+}
+
+pub fn length_message(
+    alloc: Global,
+    place: &Place<'_>,
+    expected: usize,
+    found: usize,
+) -> Result<String, AllocError>
+    ensures { IfOk result (λ t. string_bytes t ≡ told_after (before place.now) (here (length_text expected found))) }
+{
+    format!(in alloc; "{place}Expected list of {expected} elements, found {found} elements.")
+}
+
+pub fn scalar_message<S: ScalarValue>(
+    alloc: Global,
+    place: &Place<'_>,
+    name: &str,
+    value: &InputValue<S>,
+    why: &str,
+) -> Result<String, AllocError>
+    ensures { IfOk result (λ t. string_bytes t ≡ told_after (before place.now) (here (scalar_text name.now (printed_value S.text S.str_of value.now) why.now))) }
+{
+    format!(in alloc; "{place}Expected input scalar `{name}`. Got: `{value}`. Details: {why}.")
+}
+
+pub fn input_message<S: ScalarValue>(
+    alloc: Global,
+    place: &Place<'_>,
+    name: &str,
+    value: &InputValue<S>,
+    why: &str,
+) -> Result<String, AllocError>
+    ensures { IfOk result (λ t. string_bytes t ≡ told_after (before place.now) (here (input_text name.now (printed_value S.text S.str_of value.now) why.now))) }
+{
+    format!(in alloc; "{place}Expected input of type `{name}`. Got: `{value}`. Details: {why}.")
+}
+
+pub fn list_message(alloc: Global, place: &Place<'_>, name: &str) -> Result<String, AllocError>
+    ensures { IfOk result (λ t. string_bytes t ≡ told_after (before place.now) (here (list_text name.now))) }
+{
+    format!(in alloc; "{place}Expected \"{name}\", found list.")
+}
+
+pub fn object_message(alloc: Global, place: &Place<'_>, name: &str) -> Result<String, AllocError>
+    ensures { IfOk result (λ t. string_bytes t ≡ told_after (before place.now) (here (object_text name.now))) }
+{
+    format!(in alloc; "{place}Expected \"{name}\", found object.")
+}
+
+pub fn enum_message(alloc: Global, place: &Place<'_>, name: &str) -> Result<String, AllocError>
+    ensures { IfOk result (λ t. string_bytes t ≡ told_after (before place.now) (here (enum_text name.now))) }
+{
+    format!(in alloc; "{place}Invalid value for enum \"{name}\".")
+}
+
+pub fn no_name_message(alloc: Global, place: &Place<'_>, name: &str) -> Result<String, AllocError>
+    ensures { IfOk result (λ t. string_bytes t ≡ told_after (before place.now) (here (no_name_text name.now))) }
+{
+    format!(in alloc; "{place}Expected \"{name}\", found not a string or enum.")
+}
+
+pub fn no_object_message(alloc: Global, place: &Place<'_>, name: &str) -> Result<String, AllocError>
+    ensures { IfOk result (λ t. string_bytes t ≡ told_after (before place.now) (here (no_object_text name.now))) }
+{
+    format!(in alloc; "{place}Expected \"{name}\", found not an object.")
+}
+
+pub fn unknown_message(alloc: Global, place: &Place<'_>, key: &str) -> Result<String, AllocError>
+    ensures { IfOk result (λ t. string_bytes t ≡ told_after (before place.now) (unknown_field key.now)) }
+{
+    told_of_key(alloc, place, key)
+}
+
+fn told_of_key(alloc: Global, place: &Place<'_>, key: &str) -> Result<String, AllocError>
+    ensures { IfOk result (λ t. string_bytes t ≡ before place.now ++ (codes "In field \"" ++ (key.now ++ codes "\": Unknown field."))) }
+{
+    format!(in alloc; "{place}In field \"{key}\": Unknown field.")
+}

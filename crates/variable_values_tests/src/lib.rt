@@ -1,0 +1,13 @@
+//! Values of variables: the rows of a text and its values, lists with an expected size, and requests for memory refused in turn.
+#![tactic(auto)]
+
+pub mod given;
+pub mod operations;
+#[cfg(test)]
+mod pets;
+#[cfg(test)]
+mod refused_memory;
+#[cfg(test)]
+mod rows;
+#[cfg(test)]
+mod sized_lists;

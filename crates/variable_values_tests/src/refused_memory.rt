@@ -1,0 +1,32 @@
+//! Each request for memory refused in turn.
+
+use crate::given::{Given, values};
+use crate::operations::said;
+use crate::pets::schema;
+use document_reader::{ReadError, read_document};
+use std::alloc::Global;
+
+const TEXT: &str =
+    "query ($c: ComplexInput!) { complicatedArgs { complexArgField(complexArg: $c) } }";
+
+const WANT: &str =
+    "Variable \"$c\" got invalid value. In field \"requiredField\": Expected \"Boolean!\", found null.. At 0:7\nVariable \"$c\" got invalid value. In field \"zz\": Unknown field.. At 0:7\n";
+
+// What is said of `{zz: 1}`.
+fn told(alloc: Global) -> Result<String, ReadError> {
+    let Ok(schema) = schema(alloc) else {
+        return Err(ReadError::OutOfMemory);
+    };
+    let document = read_document(alloc, TEXT.as_bytes())?;
+    let values = values(alloc, "c", Given::Unknown)?;
+    Ok(said(alloc, &schema, &values, document.as_slice())?)
+}
+
+/// Run with each request for memory refused in turn, the answer is the same or tells of the refusal.
+#[test]
+fn a_refused_request_changes_no_answer(rt: HostRuntime) {
+    match told(rt.alloc()) {
+        Ok(told) => assert_eq!(rt; told.as_str(), WANT),
+        Err(refused) => assert!(rt; matches!(refused, ReadError::OutOfMemory)),
+    }
+}
