@@ -1,6 +1,8 @@
 //! Why a file of vectors can't be judged.
+use document_reader::ReadError;
 use std::alloc::{AllocError, AllocFailed};
 use std::{fmt, io};
+use validation::parser::SourcePosition;
 use validation::{OutOfMemory, SchemaError};
 
 /// Why a file of vectors can't be judged.
@@ -8,6 +10,8 @@ use validation::{OutOfMemory, SchemaError};
 pub enum Failure {
     /// The file is out of the format, first at this line, counted from 1.
     Format(usize),
+    /// A document, a type or a value is none.
+    Unread(SourcePosition),
     /// A request for memory was refused.
     OutOfMemory,
     /// A read or a write failed.
@@ -18,7 +22,7 @@ impl Failure {
     /// The status that the program ends with.
     pub fn status(self) -> u8 {
         match self {
-            Failure::Format(_) => 2,
+            Failure::Format(_) | Failure::Unread(_) => 2,
             Failure::OutOfMemory => 3,
             Failure::InputOutput => 5,
         }
@@ -29,6 +33,7 @@ impl fmt::Display for Failure {
     fn fmt<W: fmt::Write>(&self, f: &mut fmt::Formatter<W>) -> fmt::Result {
         match self {
             Failure::Format(line) => write!(f, "line {line} is out of the format"),
+            Failure::Unread(place) => write!(f, "unread from {place}"),
             Failure::OutOfMemory => f.write_str("out of memory"),
             Failure::InputOutput => f.write_str("input or output failed"),
         }
@@ -50,6 +55,15 @@ impl<T: Drop> From<AllocFailed<T>> for Failure {
 impl From<OutOfMemory> for Failure {
     fn from(_: OutOfMemory) -> Self {
         Failure::OutOfMemory
+    }
+}
+
+impl From<ReadError> for Failure {
+    fn from(error: ReadError) -> Self {
+        match error {
+            ReadError::Fault(place) => Failure::Unread(place),
+            ReadError::OutOfMemory => Failure::OutOfMemory,
+        }
     }
 }
 

@@ -1,26 +1,30 @@
 //! What our own code reports of a vector's document.
 use crate::failure::Failure;
 use crate::roots::Roots;
+use crate::variables::errors_of_values;
 use crate::vectors::{Mode, Vector};
-use document_reader::{ReadError, read_document};
+use document_reader::read_document;
 use std::alloc::Global;
 use validation::{DefaultScalarValue, Definition, RootNode, RuleError};
 
 /// The errors of a vector's document, a line each; none where the call of its mode isn't there.
 pub fn judge(alloc: Global, roots: &Roots, vector: &Vector<'_>) -> Result<Option<String>, Failure> {
     let root = roots.root(vector.sample, vector.mode);
-    match vector.mode {
-        Mode::Plain | Mode::Closed => Ok(Some(errors_of_text(alloc, root, vector.document)?)),
-        Mode::Merge | Mode::Variables => Ok(None),
+    let came = match vector.mode {
+        Mode::Plain | Mode::Closed => errors_of_text(alloc, root, vector.document),
+        Mode::Variables => { errors_of_values(alloc, &root.schema, vector.document, vector.values) }
+        Mode::Merge => return Ok(None),
+    };
+    match came {
+        Ok(errors) => Ok(Some(errors)),
+        Err(Failure::Unread(place)) => Ok(Some(format!(in alloc; "unread from {place}\n")?)),
+        Err(failure) => Err(failure),
     }
 }
 
 fn errors_of_text(alloc: Global, root: &RootNode, text: &[u8]) -> Result<String, Failure> {
-    match read_document(alloc, text) {
-        Ok(document) => errors_of(alloc, root, document.as_slice()),
-        Err(ReadError::Fault(place)) => Ok(format!(in alloc; "no document: {place}\n")?),
-        Err(ReadError::OutOfMemory) => Err(Failure::OutOfMemory),
-    }
+    let document = read_document(alloc, text)?;
+    errors_of(alloc, root, document.as_slice())
 }
 
 fn errors_of(
@@ -32,8 +36,8 @@ fn errors_of(
     lines_of(alloc, errors.as_slice())
 }
 
-// Each error on a line.
-fn lines_of(alloc: Global, errors: &[RuleError]) -> Result<String, Failure> {
+/// Each error on a line.
+pub fn lines_of(alloc: Global, errors: &[RuleError]) -> Result<String, Failure> {
     let mut text = String::new(alloc);
     for error in errors {
         writeln!(text, "{error}")?;

@@ -18,6 +18,11 @@ impl<'a> Lines<'a> {
         self.number
     }
 
+    /// What is left.
+    pub fn left(&self) -> &'a [u8] {
+        self.text
+    }
+
     /// More than the number of lines: a bound for loops that is never met.
     pub fn bound(&self) -> usize {
         self.text.len().saturating_add(1)

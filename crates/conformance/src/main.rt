@@ -9,6 +9,7 @@ mod open;
 mod program;
 mod report;
 mod roots;
+mod variables;
 mod vectors;
 
 use std::process::ExitCode;

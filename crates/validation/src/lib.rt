@@ -26,6 +26,7 @@ pub use meta::check::CheckedScalar;
 pub use schema;
 pub use schema::error::SchemaError;
 pub use schema::model::SchemaType;
+pub use variable_values::{has_input_types, validate_input_values};
 pub use walk;
 pub use walk::{
     Event, Fresh, Machine, MultiVisitorCons, MultiVisitorNil, Rule, RuleError, ValidatorContext,

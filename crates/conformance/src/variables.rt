@@ -1,0 +1,88 @@
+//! What our own code reports of the values of variables.
+use crate::failure::Failure;
+use crate::judge::lines_of;
+use crate::lines::Lines;
+use document_reader::{read_document, read_type, read_value};
+use std::alloc::Global;
+use std::collections::BTreeMap;
+use validation::ast::{Operation, VariableDefinition};
+use validation::parser::Spanning;
+use validation::{DefaultScalarValue, Definition, InputValue, SchemaType, Variables};
+use validation::{has_input_types, validate_input_values};
+
+/// The errors of the values of the variables of a document's first operation, a line each.
+///
+/// Before the values, lines `@NAME TYPE` may say against which type the variable of this name is judged.
+pub fn errors_of_values(
+    alloc: Global,
+    schema: &SchemaType<DefaultScalarValue>,
+    text: &[u8],
+    told: &[u8],
+) -> Result<String, Failure> {
+    let mut document = read_document(alloc, text)?;
+    let mut lines = Lines::new(told);
+    for definition in document.iter_mut() {
+        if let Definition::Operation(operation) = definition {
+            retype(alloc, &mut operation.item, &mut lines)?;
+            let values = variables(alloc, lines.left())?;
+            return judge(alloc, schema, &values, operation);
+        }
+    }
+    Ok(String::from_str(alloc, "no operation\n")?)
+}
+
+fn judge(
+    alloc: Global,
+    schema: &SchemaType<DefaultScalarValue>,
+    values: &Variables,
+    operation: &Spanning<Operation<'_, DefaultScalarValue>>,
+) -> Result<String, Failure> {
+    if !has_input_types(schema, &operation.item) {
+        return Ok(String::from_str(alloc, "no input types\n")?);
+    }
+    let errors = validate_input_values(alloc, values, operation, schema)?;
+    lines_of(alloc, errors.as_slice())
+}
+
+// Gives the variables of the lines the types that stand there.
+fn retype(
+    alloc: Global,
+    operation: &mut Operation<'_, DefaultScalarValue>,
+    lines: &mut Lines<'_>,
+) -> Result<(), Failure> {
+    for _ in 0..lines.bound() {
+        let Some(told) = lines.ahead().and_then(|line| line.strip_prefix(b"@")) else {
+            break;
+        };
+        if let Some(definitions) = &mut operation.variable_definitions {
+            retype_one(alloc, definitions.item.items.as_mut_slice(), told)?;
+        }
+        lines.advance();
+    }
+    Ok(())
+}
+
+fn retype_one(
+    alloc: Global,
+    definitions: &mut [(Spanning<&str>, VariableDefinition<'_, DefaultScalarValue>)],
+    told: &[u8],
+) -> Result<(), Failure> {
+    let length = told.iter().take_while(|byte| **byte != b' ').count();
+    let (name, written) = told.split_at_checked(length).unwrap_or((told, &[]));
+    for definition in definitions {
+        if definition.0.item.as_bytes() == name {
+            definition.1.var_type = read_type(alloc, written)?;
+        }
+    }
+    Ok(())
+}
+
+fn variables(alloc: Global, text: &[u8]) -> Result<Variables, Failure> {
+    let mut variables = BTreeMap::new(alloc);
+    if let InputValue::Object(entries) = read_value(alloc, text)?.item {
+        for (name, value) in entries {
+            variables.insert(name.item, value.item)?;
+        }
+    }
+    Ok(variables)
+}
