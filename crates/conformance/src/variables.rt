@@ -7,8 +7,10 @@ use std::alloc::Global;
 use std::collections::BTreeMap;
 use validation::ast::{Operation, VariableDefinition};
 use validation::parser::Spanning;
-use validation::{DefaultScalarValue, Definition, InputValue, SchemaType, Variables};
-use validation::{has_input_types, validate_input_values};
+use validation::{
+    DefaultScalarValue, Definition, InputValue, SchemaType, Variables, has_input_types,
+    validate_input_values,
+};
 
 /// The errors of the values of the variables of a document's first operation, a line each.
 ///

@@ -34,7 +34,11 @@ const ROWS: [(&str, &str, &str); 8] = [
         "",
         "",
     ),
-    ("query ($a: Int, $a: Int) { f }", "", "a at 0:7 by -\na at 0:16 by -\n"),
+    (
+        "query ($a: Int, $a: Int) { f }",
+        "",
+        "a at 0:7 by -\na at 0:16 by -\n",
+    ),
 ];
 
 fn undefined<'a>(
@@ -44,7 +48,11 @@ fn undefined<'a>(
     let mut told = String::new(alloc);
     for found in undefined_variables(alloc, document)?.as_slice() {
         let by = found.operation.unwrap_or("-");
-        writeln!(told, "{} at {}, {} by {by}", found.name, found.place, found.operation_place)?;
+        writeln!(
+            told,
+            "{} at {}, {} by {by}",
+            found.name, found.place, found.operation_place
+        )?;
     }
     Ok(told)
 }
