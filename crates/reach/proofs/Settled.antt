@@ -1,10 +1,9 @@
 -- Where the rules on variables may report nothing they may report nothing else.
-use Rattle.std.proofs.Common.{◌≡◌, List, [], ◌∷◌, map, sym, subst, ap, ◌∙◌, refl}
-use Rattle.language.specs.declared.tree.Definition.{Definition}
+use Rattle.std.proofs.Common.{◌≡◌, List, [], ◌∷◌, map, subst, ap, ◌∙◌, refl}
 use Rattle.walk.specs.ErrorValue.{ErrorValue}
 use Rattle.walk.specs.Rule.{Settled}
-use Rattle.variable_uses.specs.Undefined.{Undefined, UndefinedVariables}
-use Rattle.variable_uses.specs.Unused.{Unused, UnusedVariables}
+use Rattle.variable_uses.specs.Undefined.{UndefinedVariables}
+use Rattle.variable_uses.specs.Unused.{UnusedVariables}
 use Rattle.variable_uses.proofs.Settling.{undefined_settled, unused_settled}
 use Rattle.reach.specs.AtDocument.{given_at_end}
 use Rattle.reach.specs.NoUndefinedVariables.{undefined_error, undefined_errors}

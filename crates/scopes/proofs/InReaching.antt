@@ -1,5 +1,5 @@
 -- The places of what is reached.
-use Rattle.std.proofs.Common.{◌≡◌, ℕ, ◌+◌, ◌<◌, List, [], ◌∷◌, ◌++◌, length, refl, sym, subst, ap, arith, inl, inr, ◌⊎◌, Bool, true, cond, Option, Some, map, slice_get, ◌∙◌}
+use Rattle.std.proofs.Common.{◌≡◌, ℕ, ◌+◌, List, [], ◌++◌, refl, sym, subst, ap, arith, inl, inr, Bool, true, cond, Option, Some, map, slice_get, ◌∙◌}
 use Rattle.std.specs.List.{Contains, flat_map}
 use Rattle.std.specs.Option.{unwrap_or}
 use Rattle.std.proofs.lemmas.Option.{slice_get_within}
@@ -9,18 +9,18 @@ use Rattle.language.specs.declared.tree.Definition.TheVariants as definition
 use Rattle.fragment_cycles.specs.declared.graph.Node.{Node}
 use Rattle.fragment_cycles.specs.declared.graph.Spread.{Spread}
 use Rattle.fragment_cycles.specs.declared.numbers.Numbers.{Numbers}
-use Rattle.fragment_cycles.specs.Numbers.{number_of, names_of, HasNumber, Defines}
+use Rattle.fragment_cycles.specs.Numbers.{number_of, names_of, Defines}
 use Rattle.fragment_cycles.specs.Spreads.{PlacedSpreads}
 use Rattle.fragment_cycles.specs.DocumentGraph.{resolved}
 use Rattle.fragment_cycles.proofs.Lists.{same_item, contains_at, contains_get}
 use Rattle.fragment_cycles.proofs.NamePaths.{flat_get, name_of, split_get}
 use Rattle.reachability.specs.Reach.{ScopeName, operation, fragment, definition_spreads, operation_named, scope_spreads, Reach, start, onward}
-use Rattle.reachability.specs.Search.{IsMarked, MarksReached, Reached, WellMarked}
+use Rattle.reachability.specs.Search.{MarksReached, Reached, WellMarked}
 use Rattle.reachability.proofs.Reaching.{begin_at, further_at, named_reached, marked_at, contains_flat}
 use Rattle.scopes.specs.declared.index.ScopeIndex.{ScopeIndex}
 use Rattle.scopes.specs.Index.{IsIndexOf}
 use Rattle.scopes.specs.Places.{places_at, places_of}
-use Rattle.scopes.specs.Scopes.{InReach, IsOnce, operation_name, same_scope, scope_of}
+use Rattle.scopes.specs.Scopes.{InReach, IsOnce, same_scope, scope_of}
 use Rattle.scopes.specs.Searches.{fragment_places, spreads_at}
 use Rattle.scopes.proofs.Once.{once_append, once_flat}
 use Rattle.scopes.proofs.PlaceLists.{flat_places, places_get, places_has, places_once}

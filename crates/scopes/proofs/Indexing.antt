@@ -1,5 +1,5 @@
 -- How the scopes of a document are listed, and which operation of a name is the last.
-use Rattle.std.proofs.Common.{◌≡◌, ℕ, ◌+◌, ◌-◌, ◌<◌, ◌≤◌, take, List, [], ◌∷◌, ◌++◌, length, refl, sym, subst, ap, arith, inl, inr, ◌⊎◌, Bool, true, false, cond, Option, Some, None, slice_get, ◌∙◌, append-nil}
+use Rattle.std.proofs.Common.{◌≡◌, ℕ, ◌+◌, ◌-◌, ◌<◌, take, List, [], ◌∷◌, ◌++◌, length, refl, sym, subst, ap, arith, inl, inr, ◌⊎◌, Bool, true, cond, Option, Some, None, slice_get, ◌∙◌, append-nil}
 use Rattle.std.specs.List.{Contains}
 use Rattle.std.proofs.lemmas.List.{length-take-le}
 use Rattle.std.proofs.lemmas.List.Elements.{Contains-append_left, Contains-push, Contains-push_cases}
@@ -10,7 +10,7 @@ use Rattle.language.specs.declared.tree.Definition.TheVariants as definition
 use Rattle.language.specs.declared.tree.Operation.{Operation}
 use Rattle.std.proofs.lemmas.Option.{slice_get_within}
 use Rattle.fragment_cycles.proofs.Lists.{none_some, same_item, get_some, contains_at, contains_get}
-use Rattle.reachability.specs.Reach.{ScopeName, operation, fragment, same_name}
+use Rattle.reachability.specs.Reach.{ScopeName, operation}
 use Rattle.scopes.specs.declared.places.ScopePlaces.{ScopePlaces}
 use Rattle.scopes.specs.Index.{HasPlaces, new_name}
 use Rattle.scopes.specs.Places.{places_at, places_from, places_of}

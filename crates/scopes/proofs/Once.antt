@@ -1,7 +1,7 @@
 -- Lists without repeats.
 use Rattle.std.proofs.Common.{◌≡◌, ℕ, ◌+◌, List, [], ◌∷◌, ◌++◌, length, refl, sym, ap, arith, inl, inr, ◌⊎◌, zero, suc, Some, slice_get, ◌∙◌}
 use Rattle.std.specs.List.{Contains, flat_map}
-use Rattle.fragment_cycles.proofs.Lists.{none_some, same_some, get_snoc, contains_at, contains_get}
+use Rattle.fragment_cycles.proofs.Lists.{none_some, get_snoc, contains_at, contains_get}
 use Rattle.fragment_cycles.proofs.NamePaths.{flat_get}
 use Rattle.scopes.specs.Scopes.{IsOnce}
 

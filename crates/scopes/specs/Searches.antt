@@ -1,6 +1,5 @@
 -- What a search for the definitions in reach passes on.
-use Rattle.std.specs.Prelude.{ℕ, ◌≡◌, List, [], Bool, false, length, slice_get}
-use Rattle.std.specs.List.{All}
+use Rattle.std.specs.Prelude.{ℕ, List, [], length, slice_get}
 use Rattle.std.specs.Option.{option_map_or, unwrap_or}
 use Rattle.language.specs.declared.tree.Definition.{Definition}
 use Rattle.fragment_cycles.specs.Numbers.{names_of}

@@ -1,7 +1,6 @@
 -- Where no variable may be told of, none is.
-use Rattle.std.proofs.Common.{◌≡◌, ℕ, ◌≤◌, List, [], ◌∷◌, ◌++◌, map, refl, sym, subst, ap, ◌∙◌, arith, zero, suc, Bool, true, false, ◌||◌, Option, Some, slice_get}
-use Rattle.std.specs.List.{Contains, flat_map, list_any}
-use Rattle.std.specs.Option.{option_map_or}
+use Rattle.std.proofs.Common.{◌≡◌, ℕ, List, [], ◌∷◌, ◌++◌, map, refl, sym, subst, ap, ◌∙◌, arith, zero, suc, Bool, true, false, ◌||◌, Option, Some, slice_get}
+use Rattle.std.specs.List.{Contains, flat_map}
 use Rattle.std.proofs.lemmas.Slice.Eq.{bytes_eq-Decides}
 use Rattle.std.specs.Str.{bytes_eq}
 use Rattle.language.specs.declared.position.Span.{Span}
@@ -12,10 +11,10 @@ use Rattle.language.specs.declared.tree.Operation.{Operation}
 use Rattle.fragment_cycles.proofs.Lists.{none_some, same_some, same_item, get_some, contains_at, contains_get}
 use Rattle.fragment_cycles.proofs.NamePaths.{flat_get, get_map, map_get}
 use Rattle.reachability.proofs.Reaching.{contains_flat}
-use Rattle.scopes.specs.Scopes.{InReach, IsLastOf, OperationNames}
+use Rattle.scopes.specs.Scopes.{IsLastOf, OperationNames}
 use Rattle.scopes.specs.Searches.{inside}
 use Rattle.variable_uses.specs.InReachUses.{InTurn, UsedIn}
-use Rattle.variable_uses.specs.Names.{NameAndSpan, defined_names, defined_variables, is_among}
+use Rattle.variable_uses.specs.Names.{defined_names, defined_variables, is_among}
 use Rattle.variable_uses.specs.Undefined.{Undefined, UndefinedIn, UndefinedVariables, told_undefined}
 use Rattle.variable_uses.specs.Unused.{Unused, UnusedIn, UnusedVariables, unused_by}
 use Rattle.variable_uses.specs.Uses.{Use, Uses, definition_uses}

@@ -1,6 +1,6 @@
 -- The equations of `selection_uses`, and how uses grow.
-use Rattle.std.proofs.Common.{◌≡◌, ℕ, ◌+◌, ◌<◌, List, [], ◌∷◌, ◌++◌, length, get_or, take, map, sym, ap, ◌∙◌, refl, append-nil, append_assoc}
-use Rattle.std.specs.Prelude.{Some, None, Vec, Option}
+use Rattle.std.proofs.Common.{◌≡◌, ℕ, ◌+◌, ◌<◌, List, [], ◌++◌, length, get_or, take, sym, ap, ◌∙◌, refl, append-nil, append_assoc}
+use Rattle.std.specs.Prelude.{Some, None, Vec}
 use Rattle.std.specs.List.{flat_map}
 use Rattle.std.specs.declared.alloc.Global.{Global}
 use Rattle.std.specs.Option.{option_map_or}

@@ -1,5 +1,5 @@
 -- Sets of names that grow, and variables that aren't used.
-use Rattle.std.proofs.Common.{◌≡◌, ◌↔◌, ◌⊎◌, inl, inr, ℕ, ◌+◌, ◌<◌, List, [], ◌∷◌, ◌++◌, length, get_or, take, map, refl, sym, subst, ap, ◌∙◌, arith, Bool, true, false, cond, ◌||◌}
+use Rattle.std.proofs.Common.{◌≡◌, ◌⊎◌, inl, inr, ℕ, List, [], ◌∷◌, ◌++◌, map, refl, sym, subst, ap, ◌∙◌, arith, Bool, true, false, cond, ◌||◌}
 use denote.Ref.{Bor}
 use Rattle.std.specs.BTreeSet.{BTreeSet}
 use Rattle.std.specs.List.{Contains}

@@ -11,7 +11,7 @@ use Rattle.variable_uses.specs.declared.unused.UnusedVariable.{UnusedVariable}
 use Rattle.variable_uses.specs.declared.unused.Variable.{Variable}
 use Rattle.variable_uses.specs.InReachUses.{InTurn, UsedIn}
 use Rattle.variable_uses.specs.Names.{NameAndSpan, defined_variables, is_among}
-use Rattle.variable_uses.specs.Uses.{Use, Uses}
+use Rattle.variable_uses.specs.Uses.{Uses}
 
 -- A variable, where it stands in its definition, and the name of the operation that defines it.
 pub record Unused : Type 0 where

@@ -1,5 +1,5 @@
 -- The variables that definitions use.
-use Rattle.std.specs.Prelude.{ℕ, List, [], ◌∷◌, ◌++◌, Option, Vec, map}
+use Rattle.std.specs.Prelude.{ℕ, List, [], ◌++◌, Option, Vec, map}
 use Rattle.std.specs.List.{flat_map}
 use Rattle.std.specs.Option.{option_map_or}
 use Rattle.std.specs.declared.alloc.Global.{Global}

@@ -1,12 +1,11 @@
-use Rattle.std.proofs.Common.{◌≡◌, ◌↔◌, List, ℕ, Some, None, refl, ap, subst, sym}
+use Rattle.std.proofs.Common.{◌≡◌, ◌↔◌, List, ℕ, Some, None, refl, ap, subst}
 use Rattle.std.specs.Cmp.Lexicographic.{slice_cmp}
-use Rattle.std.specs.declared.cmp.Ordering.{Ordering}
 use Rattle.std.specs.declared.cmp.Ordering.TheVariants.{Less, Equal, Greater}
 use Rattle.std.specs.Ordering.{nat_cmp, is_lt, is_gt}
 use Rattle.std.proofs.lemmas.Bool.{true≢false}
 use Rattle.std.proofs.lemmas.Cmp.{nat_list_cmp_total, tied_itself}
 use Rattle.std.proofs.lemmas.Map.Lookups.{exact_bytes}
-use Rattle.reachability.specs.Reach.{ScopeName, operation, fragment}
+use Rattle.reachability.specs.Reach.{operation, fragment}
 use Rattle.scopes.specs.contracts.scope.ScopeOrd.TheImpl.{ghosts}
 use Rattle.scopes.specs.contracts.scope.ScopeOrd.TheImpl.Laws.{total-law}
 use Rattle.scopes.specs.declared.scope.Scope.{Scope}

@@ -1,4 +1,4 @@
-use Rattle.std.proofs.Common.{subst, sym, ap, arith, ◌∙◌, take}
+use Rattle.std.proofs.Common.{subst, sym, take}
 use Rattle.fragment_cycles.specs.DocumentGraph.{IsGraphOf}
 use Rattle.fragment_cycles.proofs.Joining.{next_take}
 use Rattle.scopes.specs.Index.{HasPlaces, operation_names}

@@ -1,5 +1,4 @@
 use Rattle.std.proofs.Common.{◌≡◌, ◌-◌, length, option_map, slice_get, Some, None, subst, sym}
-use Rattle.reachability.specs.Reach.{operation}
 use Rattle.scopes.proofs.Indexing.{last_of, last_place, no_place}
 use Rattle.scopes.proofs.Joined.{some_weaker, none_weaker}
 use Rattle.scopes.proofs.index.last_operation.Goals as goal

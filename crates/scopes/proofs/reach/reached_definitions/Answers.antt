@@ -1,7 +1,5 @@
-use Rattle.std.proofs.Common.{◌++◌, List, map, option_map, subst, sym, ap, ◌∙◌}
+use Rattle.std.proofs.Common.{◌++◌, map, option_map, subst, ap, ◌∙◌}
 use Rattle.std.specs.List.{flat_map}
-use Rattle.fragment_cycles.specs.declared.graph.Node.{Node}
-use Rattle.fragment_cycles.specs.declared.graph.Spread.{Spread}
 use Rattle.fragment_cycles.specs.DocumentGraph.{resolved}
 use Rattle.reachability.specs.Reach.{operation}
 use Rattle.reachability.specs.Search.{MarksReached}

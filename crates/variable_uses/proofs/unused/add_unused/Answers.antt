@@ -1,4 +1,4 @@
-use Rattle.std.proofs.Common.{◌++◌, map, option_map, ap, subst, ◌∙◌, refl}
+use Rattle.std.proofs.Common.{◌++◌, map, option_map, ap, ◌∙◌, refl}
 use Rattle.std.proofs.lemmas.Result.{on_ok_weaker}
 use Rattle.variable_uses.specs.Unused.{name_and_span, unused_by, unused_of}
 use Rattle.variable_uses.specs.Uses.{use_of}
