@@ -3,10 +3,16 @@ use crate::failure::Failure;
 use crate::phases::{time_reading, time_walking};
 use crate::schemas::schema_of;
 use document_reader::read_document;
+use samples::build::Checks;
+use samples::checks::{
+    check_boolean, check_complex_input, check_dog_command, check_id, check_int, check_pair_input,
+    check_string, refuse_token,
+};
 use std::alloc::Global;
 use std::env::{self, Env};
 use std::io::{self, Read};
 use std::rt::CpuClock;
+use validation::meta::default_check::DefaultCheck;
 use validation::{DefaultScalarValue, Definition, SchemaType, ValidatorContext, visit_all_rules};
 
 /// Measures what the words ask for, and answers 0, or 1 where nothing is measured.
@@ -42,7 +48,16 @@ fn measure_against<R: CpuClock + AllocGlobal + Print>(
 ) -> Result<(), Failure> {
     println!(rt; "bytes {}", text.len())?;
     tell(rt, "read", time_reading(rt, rt.alloc(), text, reads)?)?;
-    let schema = schema_of(rt.alloc(), word)?;
+    let checks = Checks {
+        int: DefaultCheck::with_token(check_int, refuse_token),
+        string: DefaultCheck::with_token(check_string, refuse_token),
+        boolean: DefaultCheck::with_token(check_boolean, refuse_token),
+        id: DefaultCheck::with_token(check_id, refuse_token),
+        dog_command: DefaultCheck::new(check_dog_command),
+        complex_input: DefaultCheck::new(check_complex_input),
+        pair_input: DefaultCheck::new(check_pair_input),
+    };
+    let schema = schema_of(rt.alloc(), word, checks)?;
     measure_walks(rt, &schema, text, walks)
 }
 

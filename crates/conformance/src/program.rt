@@ -6,11 +6,17 @@ use crate::open::numbers_of;
 use crate::report::Report;
 use crate::roots::Roots;
 use crate::vectors::next_vector;
+use samples::build::Checks;
+use samples::checks::{
+    check_boolean, check_complex_input, check_dog_command, check_id, check_int, check_pair_input,
+    check_string, refuse_token,
+};
 use std::alloc::Global;
 use std::collections::BTreeSet;
 use std::env::{self, Env};
 use std::rt::Files;
 use std::{fs, io};
+use validation::meta::default_check::DefaultCheck;
 
 /// The files that are judged where no word names any.
 const FILES: [&str; 6] = [
@@ -58,9 +64,37 @@ fn tell_failure<R: Eprint>(rt: &R, report: &Report, failure: Failure) -> u8 {
     }
 }
 
+// Each schema owns the checks of its types.
 fn judge_files<R: Files + Env + AllocGlobal>(rt: &R, report: &mut Report) -> Result<(), Failure> {
+    let pets = Checks {
+        int: DefaultCheck::with_token(check_int, refuse_token),
+        string: DefaultCheck::with_token(check_string, refuse_token),
+        boolean: DefaultCheck::with_token(check_boolean, refuse_token),
+        id: DefaultCheck::with_token(check_id, refuse_token),
+        dog_command: DefaultCheck::new(check_dog_command),
+        complex_input: DefaultCheck::new(check_complex_input),
+        pair_input: DefaultCheck::new(check_pair_input),
+    };
+    let closed_pets = Checks {
+        int: DefaultCheck::with_token(check_int, refuse_token),
+        string: DefaultCheck::with_token(check_string, refuse_token),
+        boolean: DefaultCheck::with_token(check_boolean, refuse_token),
+        id: DefaultCheck::with_token(check_id, refuse_token),
+        dog_command: DefaultCheck::new(check_dog_command),
+        complex_input: DefaultCheck::new(check_complex_input),
+        pair_input: DefaultCheck::new(check_pair_input),
+    };
+    let boxes = Checks {
+        int: DefaultCheck::with_token(check_int, refuse_token),
+        string: DefaultCheck::with_token(check_string, refuse_token),
+        boolean: DefaultCheck::with_token(check_boolean, refuse_token),
+        id: DefaultCheck::with_token(check_id, refuse_token),
+        dog_command: DefaultCheck::new(check_dog_command),
+        complex_input: DefaultCheck::new(check_complex_input),
+        pair_input: DefaultCheck::new(check_pair_input),
+    };
+    let roots = Roots::new(rt.alloc(), pets, closed_pets, boxes)?;
     let words = words(rt)?;
-    let roots = Roots::new(rt.alloc())?;
     judge_named(rt, &roots, words.as_slice(), report)
 }
 

@@ -2,14 +2,9 @@
 use crate::failure::Failure;
 use crate::vectors::{Mode, Sample};
 use samples::build::Checks;
-use samples::checks::{
-    check_boolean, check_complex_input, check_dog_command, check_id, check_int, check_pair_input,
-    check_string, refuse_token,
-};
 use samples::{boxes, pets};
 use std::alloc::Global;
 use validation::meta::MetaType;
-use validation::meta::default_check::DefaultCheck;
 use validation::{RootNode, SchemaType};
 
 /// The sample schemas, each with introspection and without.
@@ -21,14 +16,19 @@ pub struct Roots {
 }
 
 impl Roots {
-    /// All of them.
-    pub fn new(alloc: Global) -> Result<Roots, Failure> {
-        let pets = root(alloc, pets::types(alloc, checks())?)?;
-        let closed_pets = root(alloc, pets::types(alloc, checks())?)?.disable_introspection();
-        let boxes = root(alloc, boxes::types(alloc, checks())?)?;
+    /// All of them, with the checks of each.
+    pub fn new(
+        alloc: Global,
+        of_pets: Checks,
+        of_closed_pets: Checks,
+        of_boxes: Checks,
+    ) -> Result<Roots, Failure> {
+        let pets = root(alloc, pets::types(alloc, of_pets)?)?;
+        let closed_pets = root(alloc, pets::types(alloc, of_closed_pets)?)?;
+        let boxes = root(alloc, boxes::types(alloc, of_boxes)?)?;
         Ok(Roots {
             pets,
-            closed_pets,
+            closed_pets: closed_pets.disable_introspection(),
             boxes,
         })
     }
@@ -52,16 +52,4 @@ fn root(alloc: Global, types: Vec<MetaType>) -> Result<RootNode, Failure> {
         "_EmptySubscription",
     )?;
     Ok(RootNode::new(schema))
-}
-
-fn checks() -> Checks {
-    Checks {
-        int: DefaultCheck::with_token(check_int, refuse_token),
-        string: DefaultCheck::with_token(check_string, refuse_token),
-        boolean: DefaultCheck::with_token(check_boolean, refuse_token),
-        id: DefaultCheck::with_token(check_id, refuse_token),
-        dog_command: DefaultCheck::new(check_dog_command),
-        complex_input: DefaultCheck::new(check_complex_input),
-        pair_input: DefaultCheck::new(check_pair_input),
-    }
 }

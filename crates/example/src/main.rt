@@ -19,7 +19,11 @@ fn main(rt: HostRuntime) -> io::Result<()> {
     let Ok(document) = read_document(rt.alloc(), text) else {
         return rt.eprintln("that is no document");
     };
-    let Ok(root) = root(rt.alloc()) else {
+    let (string, boolean) = (
+        DefaultCheck::new(check_string),
+        DefaultCheck::new(check_boolean),
+    );
+    let Ok(root) = root(rt.alloc(), string, boolean) else {
         return rt.eprintln("that is no schema");
     };
     let Ok(errors) = root.validate(rt.alloc(), document.as_slice()) else {
@@ -31,25 +35,34 @@ fn main(rt: HostRuntime) -> io::Result<()> {
     Ok(())
 }
 
-/// A schema, made once for all documents.
-fn root(alloc: Global) -> Result<RootNode, SchemaError> {
+/// A schema, made once for all documents, with the checks of its two scalars.
+fn root(
+    alloc: Global,
+    string: DefaultCheck,
+    boolean: DefaultCheck,
+) -> Result<RootNode, SchemaError> {
+    let types = types(alloc, string, boolean)?;
     // These last names stand for no mutations and no subscriptions.
     let (mutations, subscriptions) = ("_EmptyMutation", "_EmptySubscription");
-    let schema = SchemaType::new(alloc, types(alloc)?, "Query", mutations, subscriptions)?;
+    let schema = SchemaType::new(alloc, types, "Query", mutations, subscriptions)?;
     Ok(RootNode::new(schema))
 }
 
 /// `type Query { greeting(name: String!): String }`, with its scalars. `@skip` and `@include` need `Boolean`, and introspection
 /// its two types, which have no field here.
-fn types(alloc: Global) -> Result<Vec<MetaType>, OutOfMemory> {
+fn types(
+    alloc: Global,
+    string: DefaultCheck,
+    boolean: DefaultCheck,
+) -> Result<Vec<MetaType>, OutOfMemory> {
     let name = Argument::new(alloc, "name", Type::non_null(alloc, "String")?)?;
     let greeting = Field::new(alloc, "greeting", Type::nullable(alloc, "String")?)?;
     let mut fields = Vec::new(alloc);
     fields.push(greeting.argument(name)?)?;
     let mut types = Vec::new(alloc);
     types.push(ObjectMeta::new(alloc, "Query", fields)?.into_meta())?;
-    types.push(scalar(alloc, "String", DefaultCheck::new(check_string))?)?;
-    types.push(scalar(alloc, "Boolean", DefaultCheck::new(check_boolean))?)?;
+    types.push(scalar(alloc, "String", string)?)?;
+    types.push(scalar(alloc, "Boolean", boolean)?)?;
     types.push(ObjectMeta::new(alloc, "__Schema", Vec::new(alloc))?.into_meta())?;
     types.push(ObjectMeta::new(alloc, "__Type", Vec::new(alloc))?.into_meta())?;
     Ok(types)
