@@ -142,6 +142,74 @@ const ANSWERS: [Row; 7] = [
     },
 ];
 
+/// What the rules on variables say, and a cycle of two fragments.
+const VARIABLES: [Row; 8] = [
+    Row {
+        name: "a variable of an unknown type that is not used",
+        words: "pets",
+        input: b"query ($a: Foo = 1) { dog { name } }",
+        output: "Variable \"$a\" is not used. At 0:7\nUnknown type \"Foo\". At 0:11\ncompared 0\n",
+        faults: "",
+        status: 1,
+    },
+    Row {
+        name: "the last operation of a name defines its variables",
+        words: "pets",
+        input: b"query Q($a: Int) { complicatedArgs { intArgField(intArg: $a) } } query Q { complicatedArgs { intArgField(intArg: $a) } }",
+        output: "There can only be one operation named Q. At 0:0, 0:65\nVariable \"$a\" is not defined by operation \"Q\". At 0:57, 0:65\nVariable \"$a\" is not defined by operation \"Q\". At 0:113, 0:65\ncompared 0\n",
+        faults: "",
+        status: 1,
+    },
+    Row {
+        name: "a variable that a fragment uses",
+        words: "pets",
+        input: b"query ($a: Int, $b: Int) { complicatedArgs { ...F } } fragment F on ComplicatedArgs { intArgField(intArg: $a) }",
+        output: "Variable \"$b\" is not used. At 0:16\ncompared 0\n",
+        faults: "",
+        status: 1,
+    },
+    Row {
+        name: "a variable where null is refused",
+        words: "pets",
+        input: b"query ($a: Int) { complicatedArgs { nonNullIntArgField(nonNullIntArg: $a) } }",
+        output: "Variable \"a\" of type \"Int\" used in position expecting type \"Int!\". At 0:7, 0:70\ncompared 0\n",
+        faults: "",
+        status: 1,
+    },
+    Row {
+        name: "a default is taken for null",
+        words: "pets",
+        input: b"query ($n: Int = null) { complicatedArgs { nonNullIntArgField(nonNullIntArg: $n) } }",
+        output: "compared 0\n",
+        faults: "",
+        status: 0,
+    },
+    Row {
+        name: "the first definition of a variable counts",
+        words: "pets",
+        input: b"query ($a: Int, $a: Boolean) { dog { name(surname: $a) } }",
+        output: "There can only be one variable named a. At 0:7, 0:16\nVariable \"a\" of type \"Int\" used in position expecting type \"Boolean\". At 0:7, 0:51\ncompared 0\n",
+        faults: "",
+        status: 1,
+    },
+    Row {
+        name: "a value is written for an unknown type",
+        words: "pets",
+        input: b"query ($a: [Foo!] = {x: 1}) { dog { name } }",
+        output: "Variable \"$a\" is not used. At 0:7\nUnknown type \"Foo\". At 0:11\ncompared 0\n",
+        faults: "",
+        status: 1,
+    },
+    Row {
+        name: "fragments that lead back to each other",
+        words: "pets",
+        input: b"{ dog { ...A } } fragment A on Dog { ...B } fragment B on Dog { ...A }",
+        output: "Cannot spread fragment \"A\". At 0:37\ncompared 0\n",
+        faults: "",
+        status: 1,
+    },
+];
+
 /// What the rules say.
 const RULES: [Row; 13] = [
     Row {
@@ -825,6 +893,10 @@ fn wrong_of_rules(alloc: Global) -> Result<Option<&'static str>, Fail> {
     first_wrong(alloc, &RULES)
 }
 
+fn wrong_of_variables(alloc: Global) -> Result<Option<&'static str>, Fail> {
+    first_wrong(alloc, &VARIABLES)
+}
+
 fn wrong_of_values(alloc: Global) -> Result<Option<&'static str>, Fail> {
     first_wrong(alloc, &VALUES)
 }
@@ -851,6 +923,7 @@ fn runs_as_each_row_says(rt: HostRuntime) -> Result<(), Fail> {
     assert_eq!(rt; wrong_of_words(alloc)?, None);
     assert_eq!(rt; wrong_of_answers(alloc)?, None);
     assert_eq!(rt; wrong_of_rules(alloc)?, None);
+    assert_eq!(rt; wrong_of_variables(alloc)?, None);
     assert_eq!(rt; wrong_of_values(alloc)?, None);
     assert_eq!(rt; wrong_of_texts(alloc)?, None);
     assert_eq!(rt; wrong_of_parts(alloc)?, None);
