@@ -1,8 +1,8 @@
 -- What is true of a document where nothing is found.
 use Rattle.std.proofs.Common.{◌≡◌, ℕ, List, [], ◌∷◌, Option, None, Some, Bool, true, false, cond, map, refl, ap, sym, subst, ◌∙◌, zero, suc, slice_get}
-use Rattle.std.specs.List.{Contains, flat_map}
-use Rattle.std.specs.Option.{is_some}
-use Rattle.std.proofs.lemmas.Bool.{true≢false}
+use Rattle.std.specs.List.{Contains, flat_map, list_all}
+use Rattle.std.specs.Option.{is_some, option_map_or}
+use Rattle.std.proofs.lemmas.Bool.{and_from, true≢false}
 use Rattle.std.proofs.lemmas.Simd.{map-map}
 use Rattle.language.specs.Types.{shape}
 use Rattle.language.specs.ValuesEqual.{are_distinct}
@@ -30,8 +30,9 @@ use Rattle.argument_rules.specs.UniqueInputFieldNames.{repeated_in_object}
 use Rattle.fragment_rules.specs.KnownFragmentNames.{unknown_spread}
 use Rattle.fragment_rules.specs.KnownTypeNames.{unknown_condition, unknown_type_at}
 use Rattle.fragment_rules.specs.UniqueFragmentNames.{fragment_name, repeated_fragment_message}
-use Rattle.fragment_cycles.proofs.Lists.{none_some, same_some, contains_get}
-use Rattle.validation.specs.CleanStage.{CleanDocument, IsInputType, IsKnownType, Occurs, arguments_of, condition_of, listed_arguments, listed_variables, names_in}
+use Rattle.fragment_cycles.proofs.Lists.{none_some, same_some, contains_at, contains_get}
+use Rattle.validation.specs.CleanStage.{CleanDocument, IsKnownType, Occurs, arguments_of, condition_of, listed_arguments, names_in}
+use Rattle.variable_values.specs.Inputs.{definitions_in, definitions_of, has_input_type}
 use Rattle.validation.specs.NothingFound.{NothingFound}
 use Rattle.validation.proofs.Distinct.{distinct_names, distinct_within, left_none, right_none}
 use Rattle.validation.proofs.Values.{distinct_keys, unique_arguments, whole-document}
@@ -52,8 +53,13 @@ some_of : {X : Type 0} (o : Option X) → is_some o ≡ true → (x : X) × (o �
 some_of None e = absurd (true≢false (sym e))
 some_of (Some x) e = (x, refl)
 
+-- what each passes all pass
+all_pass : {X : Type 0} (p : X → Bool) (xs : List X) → ((k : ℕ) (x : X) → slice_get xs k ≡ Some x → p x ≡ true) → list_all p xs ≡ true
+all_pass p [] h = refl
+all_pass p (x ∷ xs) h = and_from (p x) (list_all p xs) (h zero x refl) (all_pass p xs (λ k y e. h (suc k) y e))
+
 module _ {S : Type 0} where
-  distinct_variables : (written : Option (Placed (VariableDefinitions S))) → repeated_among written ≡ [] → are_distinct (names_in (listed_variables written)) ≡ true
+  distinct_variables : (written : Option (Placed (VariableDefinitions S))) → repeated_among written ≡ [] → are_distinct (names_in (definitions_in written)) ≡ true
   distinct_variables None e = refl
   distinct_variables (Some list) e =
       ap are_distinct (sym (map-map (λ n. n.0) text_name list.item.items.items)) ∙ distinct_names repeated_variable_message (map text_name list.item.items.items) e
@@ -83,11 +89,11 @@ module _ {S C : Type 0} (schema : Catalog S C) where
   known_at _ name e h = absurd (none_some name e)
 
   -- a type that is known, and reported where it is no input type
-  input_type : (v : VariableEntry S) → unknown_type_at schema (node.variable_definition v) ≡ [] → non_input_at schema (node.variable_definition v) ≡ [] → IsInputType schema (shape v.1.var_type.item).name
+  input_type : (v : VariableEntry S) → unknown_type_at schema (node.variable_definition v) ≡ [] → non_input_at schema (node.variable_definition v) ≡ [] → has_input_type schema v ≡ true
   input_type v known input =
       let name = (shape v.1.var_type.item).name in
       let (m, e) = known_type name (kept_back (is_some (type_in name schema)) _ known) in
-      (m, e, kept_back (is_input_meta m) _ (ap (λ o. not_input o v) (sym e) ∙ input))
+      ap (λ o. option_map_or is_input_meta o false) e ∙ kept_back (is_input_meta m) _ (ap (λ o. not_input o v) (sym e) ∙ input)
 
   module _ (t : Typing S C) (doc : List (Definition S)) where
     -- what is found at no occurrence is not found at a node that occurs
@@ -108,7 +114,7 @@ module _ {S C : Type 0} (schema : Catalog S C) where
           let (o, c, e) = k in unique_arguments schema (outline_of_document schema t doc) (whole-document schema t doc) h.unique_input_field_names o c a (subst (λ m. Contains (arguments_of m) a) (sym e) d);
       spreads = λ s c. defined s.item.name.item.now doc (kept_back (is_among (fragment_names doc) s.item.name.item.now) _ (at_node (unknown_spread (fragment_names doc)) h.known_fragment_names (fragment_spread s) c));
       conditions = λ n c name e. known_at n name e (at_node (unknown_type_at schema) h.known_type_names n c);
-      variable_types = λ o c v d.
-          let at = variable_occurs schema t doc o c v d in
-          input_type v (at_node (unknown_type_at schema) h.known_type_names (node.variable_definition v) at) (at_node (non_input_at schema) h.variables_are_input_types (node.variable_definition v) at);
+      variable_types = λ o c. all_pass (has_input_type schema) (definitions_of o.item) (λ k v e.
+          let at = variable_occurs schema t doc o c v (contains_at (definitions_of o.item) k v e) in
+          input_type v (at_node (unknown_type_at schema) h.known_type_names (node.variable_definition v) at) (at_node (non_input_at schema) h.variables_are_input_types (node.variable_definition v) at));
     }

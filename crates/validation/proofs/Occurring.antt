@@ -26,7 +26,8 @@ use Rattle.rule_parts.specs.Names.{Named}
 use Rattle.rule_parts.specs.Noting.{to_list}
 use Rattle.fragment_cycles.specs.Numbers.{Defines}
 use Rattle.fragment_cycles.proofs.Lists.{none_some, same_some, contains_get}
-use Rattle.validation.specs.CleanStage.{Occurs, listed_variables, name_of_operation, operation_names, variables_of}
+use Rattle.variable_values.specs.Inputs.{definitions_in, definitions_of}
+use Rattle.validation.specs.CleanStage.{Occurs, name_of_operation, operation_names}
 use Rattle.validation.proofs.Distinct.{Within, empty, keep, within_append, within_none}
 
 -- what stands in what one of the list gives stands in what all give
@@ -50,7 +51,7 @@ module _ {S C : Type 0} (schema : Catalog S C) (t : Typing S C) (doc : List (Def
       let at : Occurrence S C = record { node = operation_definition o; types = at_operation schema t o.item } in
       (at, in_document (definition.Operation o) c at (0, omega arith, refl), refl)
 
-  listed : (u : Typing S C) (written : Option (Placed (VariableDefinitions S))) (v : VariableEntry S) → Contains (listed_variables written) v
+  listed : (u : Typing S C) (written : Option (Placed (VariableDefinitions S))) (v : VariableEntry S) → Contains (definitions_in written) v
       → (o : Occurrence S C) × Contains (occurrences_of (outline_of_variable_definitions schema u written)) o × (o.node ≡ variable_definition v)
   listed u None v c = absurd (omega (arith, c.1))
   listed u (Some list) v c =
@@ -62,7 +63,7 @@ module _ {S C : Type 0} (schema : Catalog S C) (t : Typing S C) (doc : List (Def
         refl,
       )
 
-  pub variable_occurs : (o : Placed (Operation S)) → Contains doc (definition.Operation o) → (v : VariableEntry S) → Contains (variables_of o.item) v → Occurs schema t doc (variable_definition v)
+  pub variable_occurs : (o : Placed (Operation S)) → Contains doc (definition.Operation o) → (v : VariableEntry S) → Contains (definitions_of o.item) v → Occurs schema t doc (variable_definition v)
   variable_occurs o c v h =
       let u = at_operation schema t o.item in
       let root : Occurrence S C = record { node = operation_definition o; types = u } in

@@ -2,20 +2,17 @@
 use Rattle.std.specs.Prelude.{◌≡◌, ℕ, List, [], Option, Some, None, true, map, string_bytes}
 use Rattle.std.specs.List.{Contains, flat_map}
 use Rattle.std.specs.Option.{option_map}
-use Rattle.language.specs.Types.{shape}
 use Rattle.language.specs.ValuesEqual.{are_distinct, has_unique_keys}
 use Rattle.language.specs.declared.tree.Arguments.{Arguments}
 use Rattle.language.specs.declared.tree.Definition.{Definition}
 use Rattle.language.specs.declared.tree.Definition.TheVariants as definition
 use Rattle.language.specs.declared.tree.FragmentSpread.{FragmentSpread}
 use Rattle.language.specs.declared.tree.Operation.{Operation}
-use Rattle.language.specs.declared.tree.VariableDefinitions.{VariableDefinitions}
 use Rattle.language.specs.declared.value.InputValue.{InputValue}
 use Rattle.meta.specs.Answers.{Answers}
-use Rattle.meta.specs.Kinds.{is_input_meta}
 use Rattle.meta.specs.declared.kinds.MetaTypeOf.{MetaTypeOf}
 use Rattle.schema.specs.Catalog.{Catalog, type_in}
-use Rattle.events.specs.Node.{Node, Name, Placed, ArgumentEntry, ObjectEntry, VariableEntry, directive, field, fragment_definition, fragment_spread, inline_fragment, object_value}
+use Rattle.events.specs.Node.{Node, Name, Placed, ArgumentEntry, ObjectEntry, directive, field, fragment_definition, fragment_spread, inline_fragment, object_value}
 use Rattle.events.specs.Occurrence.{Occurrence, occurrences}
 use Rattle.events.specs.Typing.{Typing}
 use Rattle.walk.specs.ContextState.{scope_of}
@@ -23,6 +20,7 @@ use Rattle.walk.specs.Names.{fragment_names}
 use Rattle.rule_parts.specs.Noting.{to_list}
 use Rattle.fragment_cycles.specs.DocumentCycles.{HasNoCycle}
 use Rattle.fragment_cycles.specs.Numbers.{Defines}
+use Rattle.variable_values.specs.Inputs.{HasInputTypes, definitions_of}
 use Rattle.validation.specs.NothingFound.{NothingFound}
 
 -- the names of entries that have them first
@@ -38,14 +36,6 @@ module _ {S : Type 0} where
   -- the names of a document's operations, in their order, with repeats
   abbrev pub operation_names : List (Definition S) → List (List ℕ)
   operation_names doc = flat_map name_of_operation doc
-
-  -- the variables of an operation, each with its definition
-  abbrev pub listed_variables : Option (Placed (VariableDefinitions S)) → List (VariableEntry S)
-  listed_variables None = []
-  listed_variables (Some list) = list.item.items.items
-
-  abbrev pub variables_of : Operation S → List (VariableEntry S)
-  variables_of o = listed_variables o.variable_definitions
 
   abbrev pub listed_arguments : Option (Placed (Arguments S)) → List (ArgumentEntry S)
   listed_arguments None = []
@@ -71,9 +61,6 @@ module _ {S C : Type 0} (schema : Catalog S C) where
   abbrev pub IsKnownType : List ℕ → Type 0
   IsKnownType name = (m : MetaTypeOf S C) × (type_in name schema ≡ Some m)
 
-  abbrev pub IsInputType : List ℕ → Type 0
-  IsInputType name = (m : MetaTypeOf S C) × (type_in name schema ≡ Some m) × (is_input_meta m ≡ true)
-
   module _ (t : Typing S C) (doc : List (Definition S)) where
     -- the node stands in the document
     abbrev pub Occurs : Node S → Type 0
@@ -86,7 +73,7 @@ module _ {S C : Type 0} (schema : Catalog S C) where
       pub operations : are_distinct (operation_names doc) ≡ true
       pub fragments : are_distinct (fragment_names doc) ≡ true
       -- and the variables of an operation, the arguments of a node, the keys of an object
-      pub variables : (o : Placed (Operation S)) → Contains doc (definition.Operation o) → are_distinct (names_in (variables_of o.item)) ≡ true
+      pub variables : (o : Placed (Operation S)) → Contains doc (definition.Operation o) → are_distinct (names_in (definitions_of o.item)) ≡ true
       pub arguments : (node : Node S) → Occurs node → are_distinct (names_in (arguments_of node)) ≡ true
       pub keys : (v : Placed (List (ObjectEntry S))) → Occurs (object_value v) → are_distinct (keys_of v.item) ≡ true
       -- so the value of no argument repeats a key, at any depth
@@ -94,8 +81,8 @@ module _ {S C : Type 0} (schema : Catalog S C) where
       -- each spread names a fragment of the document, and each condition a type of the schema
       pub spreads : (s : Placed (FragmentSpread S)) → Occurs (fragment_spread s) → Defines doc s.item.name.item.now
       pub conditions : (node : Node S) → Occurs node → (name : Name) → condition_of node ≡ Some name → IsKnownType name.item.now
-      -- the type of each variable is built of an input type
-      pub variable_types : (o : Placed (Operation S)) → Contains doc (definition.Operation o) → (v : VariableEntry S) → Contains (variables_of o.item) v → IsInputType (shape v.1.var_type.item).name
+      -- the type of each variable is built of an input type, which is what judging its value asks
+      pub variable_types : (o : Placed (Operation S)) → Contains doc (definition.Operation o) → HasInputTypes schema o.item
 
 module _ {S C : Type 0} (may : Answers (InputValue S) C) (shown : InputValue S → List ℕ) where
   -- a document where the rules find nothing is such a document

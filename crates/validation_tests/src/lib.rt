@@ -5,6 +5,8 @@
 #[cfg(test)]
 mod alone;
 pub mod linter;
+#[cfg(test)]
+mod looked;
 pub mod made_types;
 #[cfg(test)]
 mod rows;
@@ -12,3 +14,6 @@ mod rows;
 mod sample_schemas;
 #[cfg(test)]
 mod sized_types;
+pub mod values_after;
+#[cfg(test)]
+mod values_rows;
