@@ -1,0 +1,2 @@
+pub mod JudgeLaws
+pub mod SetLaws
