@@ -1,2 +1,7 @@
 pub mod JudgeLaws
 pub mod SetLaws
+pub mod Lasts
+pub mod Renumbering
+pub mod Growing
+pub mod Ranks
+pub mod Naming

@@ -2,5 +2,8 @@
 //! needs them.
 #![tactic(auto)]
 
+mod building;
+mod definitions;
+pub mod document;
 pub mod judge;
 pub mod table_graph;
