@@ -1,5 +1,5 @@
 -- What was built stays right where a definition's set is added.
-use Rattle.std.proofs.Common.{◌≡◌, ◌<◌, ◌≤◌, ℕ, List, [], ◌∷◌, ◌++◌, length, get_or, Option, Some, None, true, slice_get, slice_set, length-set, refl, sym, ap, subst, ◌∙◌, inl, inr, ◌⊎◌, arith}
+use Rattle.std.proofs.Common.{◌≡◌, ◌<◌, ◌≤◌, ◌==◌, ℕ, List, [], ◌∷◌, ◌++◌, length, get_or, Option, Some, None, true, slice_get, slice_set, length-set, refl, sym, ap, subst, ◌∙◌, inl, inr, ◌⊎◌, arith}
 use Rattle.std.specs.declared.vec.Vec.{Vec}
 use Rattle.std.specs.declared.alloc.Global.{Global}
 use Rattle.std.proofs.lemmas.Option.{slice_get_within}
@@ -19,7 +19,7 @@ use Rattle.merge_documents.specs.Definitions.{type_round, selections_of}
 use Rattle.merge_documents.specs.Building.{IsSetOfDefinition, IsFragment, AddsDefinition, Built}
 use Rattle.merge_documents.proofs.Renumbering.{AgreeOn, set_renumbered, set_more}
 
-among_append : (xs ys : List ℕ) (k : ℕ) → (is_among xs k ≡ true) ⊎ (is_among ys k ≡ true) → is_among (xs ++ ys) k ≡ true
+pub among_append : (xs ys : List ℕ) (k : ℕ) → (is_among xs k ≡ true) ⊎ (is_among ys k ≡ true) → is_among (xs ++ ys) k ≡ true
 among_append xs ys k (inl h) = list_any-append (λ y. y == k) xs ys ∙ or_left (is_among xs k) (is_among ys k) h
 among_append xs ys k (inr h) = list_any-append (λ y. y == k) xs ys ∙ or_right (is_among xs k) (is_among ys k) h
 

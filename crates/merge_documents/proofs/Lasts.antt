@@ -12,6 +12,12 @@ use Rattle.fragment_cycles.proofs.Joining.{next_take}
 use Rattle.numbered_sets.specs.Names.{Names, number_in}
 use Rattle.merge_documents.specs.Definitions.{IsLast, AreLast, NotesPlace}
 
+unnamed : (f name : List ℕ) → bytes_eq f name ≡ false → f ≡ name → ⊥
+unnamed f name e same = clash (bytes_eq f name) e ((bytes_eq-Decides f name).1 same)
+  where
+    clash : (b : Bool) → b ≡ false → b ≡ true → ⊥
+    clash b p q = cc
+
 module _ {S : Type 0} where
   pub lasts_none : (places : Names) → ((name : List ℕ) → number_in places name ≡ None) → AreLast {S = S} [] places
   lasts_none places h = record {
@@ -57,12 +63,6 @@ module _ {S : Type 0} where
     kept_none : (old new : Names) → AreLast xs old → (name : List ℕ) → number_in new name ≡ number_in old name → (IsNamed name d → ⊥) → number_in new name ≡ None → Defines (xs ++ d ∷ []) name → ⊥
     kept_none old new a name same other h e = a.none_other name (sym same ∙ h) (defines_old name other e)
 
-  unnamed : (f name : List ℕ) → bytes_eq f name ≡ false → f ≡ name → ⊥
-  unnamed f name e same = clash (bytes_eq f name) e ((bytes_eq-Decides f name).1 same)
-    where
-      clash : (b : Bool) → b ≡ false → b ≡ true → ⊥
-      clash b p q = cc
-
   pub lasts_more : (xs : List (Definition S)) (d : Definition S) (old new : Names) → AreLast xs old → NotesPlace d (length xs) old new → AreLast (xs ++ d ∷ []) new
   lasts_more xs (definition.Operation o) old new a same = record {
     each = λ name place h. kept_each xs (definition.Operation o) old new a name (ap (λ z. number_in z name) same) (λ n. n) place h;
@@ -91,3 +91,6 @@ module _ {S : Type 0} where
 
   pub lasts_all : (xs : List (Definition S)) (k : ℕ) (places : Names) → length xs ≤ k → AreLast (take k xs) places → AreLast xs places
   lasts_all xs k places l a = subst (λ zs. AreLast zs places) (take_all k xs l) a
+
+  pub last_inside : (xs : List (Definition S)) (name : List ℕ) (place : ℕ) → IsLast xs name place → place < length xs
+  last_inside xs name place l = slice_get_within xs place l.is l.stands

@@ -5,3 +5,4 @@ pub mod Renumbering
 pub mod Growing
 pub mod Ranks
 pub mod Naming
+pub mod Assembling

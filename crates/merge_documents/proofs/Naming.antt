@@ -34,9 +34,9 @@ falling_more sets fragments x f s = (
   (f s).0,
   All-weaker (IsWithin fragments s) (IsWithin (fragments ++ x ∷ []) s)
       (λ g h.
-          let l = h.0 in
-          let long = length-append fragments (x ∷ []) in
-          (omega (arith, l, long), subst (λ (k : ℕ). k < s) (sym (get_or_append_left fragments (x ∷ []) 0 g h.0)) h.1))
+      let l = h.0 in
+      let long = length-append fragments (x ∷ []) in
+      (omega (arith, l, long), subst (λ (k : ℕ). k < s) (sym (get_or_append_left fragments (x ∷ []) 0 g h.0)) h.1))
       (spreads_at sets s) (f s).1,
 )
 

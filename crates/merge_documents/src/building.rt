@@ -38,10 +38,7 @@ fn empty_orders(alloc: Global, count: usize) -> Result<Vec<Vec<usize>>, AllocErr
 }
 
 /// Nothing, with so many places.
-pub fn no_building<'a, S, C>(
-    alloc: Global,
-    count: usize,
-) -> Result<Building<'a, S, C>, AllocError>
+pub fn no_building<'a, S, C>(alloc: Global, count: usize) -> Result<Building<'a, S, C>, AllocError>
     ensures { IfOk result (IsNothing count) }
 {
     let orders = empty_orders(alloc, count)?;

@@ -10,10 +10,7 @@ use std::alloc::{AllocError, Global};
 use std::collections::BTreeMap;
 
 // The root of the operations of a kind.
-fn root_of_kind<S, C>(
-    schema: &SchemaTypeOf<S, C>,
-    kind: OperationType,
-) -> Option<&MetaTypeOf<S, C>>
+fn root_of_kind<S, C>(schema: &SchemaTypeOf<S, C>, kind: OperationType) -> Option<&MetaTypeOf<S, C>>
     ensures { option_copied result ≡ root_type schema.now kind }
 {
     match kind {

@@ -50,14 +50,7 @@ fn add_next<'a, S, C>(
 {
     let fragment = name(&cycles.graph.numbers, node);
     match place_of(last, fragment) {
-        Some(place) => add_fragment(
-            alloc,
-            schema,
-            &document[place],
-            fragment,
-            place,
-            building,
-        ),
+        Some(place) => add_fragment(alloc, schema, &document[place], fragment, place, building),
         None => unreachable!(),
     }
 }
@@ -155,16 +148,10 @@ fn graph_of_building<'a, S: ScalarValue, C>(
 ) -> Result<Graph<FieldJudge<'a, S, C>>, AllocError>
     requires falling { Falling building.table.sets.items building.fragments.items }
     requires whole { AreInPlaces building }
-    ensures { IfOk result (IsGraphOfTable schema.now (numbered building.table) building.fragments.items) }
+    ensures { IfOk result (IsGraphOfTable schema.now (numbered building.entry.table) building.entry.fragments.items) }
 {
     let order = joined_orders(alloc, building.orders.as_slice())?;
-    graph_of_table(
-        alloc,
-        schema,
-        building.table,
-        building.fragments,
-        order,
-    )
+    graph_of_table(alloc, schema, building.table, building.fragments, order)
 }
 
 // The graph of a document whose fragments were searched.

@@ -26,14 +26,7 @@ impl<'a, S: ScalarValue, C> Judge for FieldJudge<'a, S, C> {
     }
 
     fn are_in_conflict(&self, exclusive: bool, left: usize, right: usize) -> bool {
-        direct_reason_at(
-            self.schema,
-            self.fields.as_slice(),
-            exclusive,
-            left,
-            right,
-        )
-        .is_some()
+        direct_reason_at(self.schema, self.fields.as_slice(), exclusive, left, right).is_some()
     }
 }
 
@@ -43,8 +36,8 @@ pub fn judge_fields<'a, S: ScalarValue, C>(
     fields: Vec<Entry<'a, S, C>>,
 ) -> FieldJudge<'a, S, C>
     ensures schema { result.schema.now ≡ schema.now }
-    ensures fields { result.fields ≡ fields }
-    ensures lawful { AreTidy (map plain fields.items) → Lawful (judgement_of S.eq result) }
+    ensures fields { result.fields ≡ fields.entry }
+    ensures lawful { AreTidy (map plain fields.entry.items) → Lawful (judgement_of S.eq result) }
 {
     FieldJudge { schema, fields }
 }
