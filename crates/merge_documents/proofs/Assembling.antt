@@ -1,7 +1,6 @@
 -- How a document's sets are put together.
-use Rattle.std.proofs.Common.{◌≡◌, ◌<◌, ◌≤◌, ◌+◌, ℕ, List, [], ◌∷◌, ◌++◌, length, get_or, Option, Some, None, Bool, true, cond, slice_get, zero, suc, refl, sym, ap, subst, ◌∙◌, inl, inr, arith}
+use Rattle.std.proofs.Common.{◌≡◌, ◌<◌, ◌≤◌, ◌+◌, ℕ, List, [], ◌∷◌, length, get_or, Option, Some, None, true, cond, slice_get, zero, suc, refl, sym, ap, subst, ◌∙◌, inl, inr, arith}
 use Rattle.std.specs.List.{Contains, flat_map}
-use Rattle.std.specs.Str.{bytes_eq}
 use Rattle.std.specs.declared.vec.Vec.{Vec}
 use Rattle.std.specs.declared.alloc.Global.{Global}
 use Rattle.std.proofs.lemmas.Bool.{cases_order}
@@ -14,7 +13,7 @@ use Rattle.schema.specs.Catalog.{Catalog}
 use Rattle.fragment_cycles.specs.declared.cycles.DocumentCycles.{DocumentCycles}
 use Rattle.fragment_cycles.specs.DocumentCycles.{NameSpreads}
 use Rattle.fragment_cycles.specs.Numbers.{IsNamed}
-use Rattle.fragment_cycles.specs.Spreads.{PlacedSpread, PlacedSpreads, placed_spreads_of_all, spreads_named, spreads_of_name}
+use Rattle.fragment_cycles.specs.Spreads.{PlacedSpread, PlacedSpreads, placed_spreads_of_all, spreads_named}
 use Rattle.fragment_cycles.proofs.Lists.{same_some, none_some, contains_get}
 use Rattle.merging.specs.declared.graph.Graph.{Graph}
 use Rattle.numbered_sets.specs.Names.{number_in}

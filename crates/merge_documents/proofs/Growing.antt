@@ -1,5 +1,5 @@
 -- What was built stays right where a definition's set is added.
-use Rattle.std.proofs.Common.{◌≡◌, ◌<◌, ◌≤◌, ◌==◌, ℕ, List, [], ◌∷◌, ◌++◌, length, get_or, Option, Some, None, true, slice_get, slice_set, length-set, refl, sym, ap, subst, ◌∙◌, inl, inr, ◌⊎◌, arith}
+use Rattle.std.proofs.Common.{◌≡◌, ◌<◌, ◌≤◌, ◌==◌, ℕ, List, [], ◌++◌, length, get_or, Option, Some, true, slice_get, length-set, sym, ap, subst, ◌∙◌, inl, inr, ◌⊎◌, arith}
 use Rattle.std.specs.declared.vec.Vec.{Vec}
 use Rattle.std.specs.declared.alloc.Global.{Global}
 use Rattle.std.proofs.lemmas.Option.{slice_get_within}
@@ -11,7 +11,6 @@ use Rattle.fragment_cycles.specs.Spreads.{placed_spreads_of_all}
 use Rattle.fragment_cycles.proofs.Lists.{same_some, set_same, set_other}
 use Rattle.numbered_sets.specs.Names.{Names, number_in, AreApart}
 use Rattle.numbered_sets.specs.Once.{is_among}
-use Rattle.numbered_sets.specs.declared.table.NumberedSet.{NumberedSet}
 use Rattle.numbered_sets.specs.Table.{Numbered, numbered, Extends, Falling}
 use Rattle.numbered_sets.specs.Adding.{AreWithin}
 use Rattle.merge_documents.specs.declared.building.Building.{Building}

@@ -1,9 +1,6 @@
 -- What was built stays right where a fragment gets its number.
-use Rattle.std.proofs.Common.{◌≡◌, ◌<◌, ◌≤◌, ◌+◌, ℕ, List, [], ◌∷◌, ◌++◌, length, length-append, get_or, Option, Some, None, Bool, true, false, cond, slice_get, refl, sym, ap, subst, ◌∙◌, inl, inr, ◌⊎◌, arith}
-use Rattle.std.specs.List.{All}
+use Rattle.std.proofs.Common.{◌≡◌, ◌<◌, ◌+◌, ℕ, List, [], ◌∷◌, ◌++◌, length, length-append, get_or, Option, Some, Bool, true, false, cond, refl, sym, ap, subst, ◌∙◌, inl, inr, ◌⊎◌, arith}
 use Rattle.std.specs.Str.{bytes_eq}
-use Rattle.std.specs.declared.vec.Vec.{Vec}
-use Rattle.std.specs.declared.alloc.Global.{Global}
 use Rattle.std.proofs.Math.Seq.{get_or-append_seam}
 use Rattle.std.proofs.lemmas.List.{get_or_append_left}
 use Rattle.std.proofs.lemmas.List.Elements.{All-weaker}
@@ -14,11 +11,11 @@ use Rattle.schema.specs.Catalog.{Catalog}
 use Rattle.fragment_cycles.specs.Spreads.{placed_spreads_of_all}
 use Rattle.fragment_cycles.proofs.Lists.{same_some, get_more, get_end}
 use Rattle.numbered_sets.specs.declared.table.NumberedSet.{NumberedSet}
-use Rattle.numbered_sets.specs.Names.{Names, number_in}
-use Rattle.numbered_sets.specs.Table.{numbered, own_at, spreads_at, IsWithin, Falling}
+use Rattle.numbered_sets.specs.Names.{number_in}
+use Rattle.numbered_sets.specs.Table.{numbered, spreads_at, IsWithin, Falling}
 use Rattle.merge_documents.specs.declared.building.Building.{Building}
 use Rattle.merge_documents.specs.Definitions.{selections_of, IsLast}
-use Rattle.merge_documents.specs.Building.{IsSetOfDefinition, IsFragment, AddsFragment, Built}
+use Rattle.merge_documents.specs.Building.{IsFragment, AddsFragment, Built}
 use Rattle.merge_documents.proofs.Renumbering.{AgreeOn}
 use Rattle.merge_documents.proofs.Growing.{built_definition, is_set, is_low}
 

@@ -1,11 +1,10 @@
 -- A search's sets fall, and stand in an order, as the table's do.
-use Rattle.std.proofs.Common.{◌≡◌, ◌==◌, ◌||◌, ◌<◌, ◌≤◌, ℕ, List, [], ◌∷◌, length, map, Option, Some, None, option_map, slice_get, get_or, Bool, true, refl, sym, ap, subst, ◌∙◌, arith}
+use Rattle.std.proofs.Common.{◌≡◌, ◌==◌, ◌||◌, ◌<◌, ◌≤◌, ℕ, List, [], ◌∷◌, length, map, Option, Some, None, option_map, slice_get, refl, sym, ap, subst, ◌∙◌, arith}
 use Rattle.std.specs.List.{All, list_any}
 use Rattle.std.specs.Option.{option_map_or}
 use Rattle.std.proofs.lemmas.List.{length-map}
 use Rattle.std.proofs.lemmas.List.Elements.{All-map}
 use Rattle.std.proofs.lemmas.Option.{slice_get-map}
-use Rattle.merging.specs.declared.node.Entry.{Entry}
 use Rattle.merging.specs.declared.node.SetNode.{SetNode}
 use Rattle.merging.specs.Graph as searched
 use Rattle.numbered_sets.specs.declared.table.NumberedSet.{NumberedSet}

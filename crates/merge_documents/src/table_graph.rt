@@ -59,7 +59,7 @@ pub fn graph_of_table<'a, S: ScalarValue, C>(
 ) -> Result<Graph<FieldJudge<'a, S, C>>, AllocError>
     requires falling { Falling table.sets.items fragments.items }
     requires whole { IsWhole table.sets.items order.items }
-    ensures { IfOk result (IsGraphOfTable schema.now (numbered table.entry) fragments.entry.items) }
+    ensures { IfOk result (IsGraphOfTable schema.now (numbered table.entry) fragments.items) }
 {
     let sets = searched_sets(alloc, table.sets.as_slice())?;
     Ok(Graph {

@@ -13,5 +13,5 @@ returns-clause-all g c = λ name q h.
     let l = rank_low c.args.document.now c.args.cycles.now c.requires.ranked.searched name q h in
     let far = c.loop-node-test.false in
     let at = c.loop-node.invariant.1 in
-    let same = ap length c.as_slice.ensures.value in
+    let same = ap length c.as_slice-node-items.ensures.value in
     omega (arith, l, far, at, same)

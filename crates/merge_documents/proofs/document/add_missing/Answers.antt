@@ -1,6 +1,5 @@
-use Rattle.std.proofs.Common.{◌≡◌, [], length, Some, slice_get, false, sym, ap, ◌∙◌, arith}
+use Rattle.std.proofs.Common.{◌≡◌, length, Some, false, sym, ap, ◌∙◌, arith}
 use Rattle.std.proofs.lemmas.Option.{slice_get-get_or}
-use Rattle.std.proofs.lemmas.Grind.{common_steps}
 use Rattle.merge_documents.proofs.Assembling.{missing_added, missing_there}
 use Rattle.merge_documents.proofs.document.add_missing.Goals as goal
 
@@ -18,9 +17,9 @@ returns-else-is_empty-clause-adds g c = λ numbers all built.
     missing_there c.args.schema.now c.args.document.now numbers c.args.place o c.args.building.now
     (slice_get-get_or c.args.building.now.orders.items c.args.place o (omega (arith, inside, sized)) ∙ ap (λ x. Some x) (sym c.index.ensures))
     (λ e.
-        let none : length o.items ≡ 0 = ap length e in
-        let long = o.ok.0 in
-        let is = c.is_empty.ensures in
-        let no : c.is_empty.result ≡ false = c.if-is_empty.false in
-        grind (arith, none, long, is, no))
+    let none : length o.items ≡ 0 = ap length e in
+    let long = o.ok.0 in
+    let is = c.is_empty.ensures in
+    let no : c.is_empty.result ≡ false = c.if-is_empty.false in
+    grind (arith, none, long, is, no))
     built

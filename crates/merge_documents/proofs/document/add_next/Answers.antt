@@ -25,7 +25,7 @@ pub unreachable-requires : goal.unreachable-requires
 unreachable-requires g c =
     let next = length c.args.building.now.fragments.items in
     let rank : rank_in c.args.cycles.now c.name-fragment.result.now ≡ Some next =
-        subst (λ (z : List ℕ). rank_in c.args.cycles.now z ≡ Some next) (sym c.name-fragment.ensures) (rank_at c.args.document.now c.args.cycles.now c.requires.ranked.searched next c.args.node c.requires.next) in
+    subst (λ (z : List ℕ). rank_in c.args.cycles.now z ≡ Some next) (sym c.name-fragment.ensures) (rank_at c.args.document.now c.args.cycles.now c.requires.ranked.searched next c.args.node c.requires.next) in
     c.requires.last.none_other c.name-fragment.result.now (sym c.in-None.ensures) (rank_defined c.args.document.now c.args.cycles.now c.requires.ranked.searched c.name-fragment.result.now next rank)
 
 pub returns-clause-built : goal.returns-clause-built
