@@ -11,7 +11,7 @@ use Rattle.schema.specs.Catalog.{Catalog}
 use Rattle.fragment_cycles.specs.Spreads.{placed_spreads_of_all}
 use Rattle.fragment_cycles.proofs.Lists.{same_some, get_more, get_end}
 use Rattle.numbered_sets.specs.declared.table.NumberedSet.{NumberedSet}
-use Rattle.numbered_sets.specs.Names.{number_in}
+use Rattle.numbered_sets.specs.Names.{Names, number_in}
 use Rattle.numbered_sets.specs.Table.{numbered, spreads_at, IsWithin, Falling}
 use Rattle.merge_documents.specs.declared.building.Building.{Building}
 use Rattle.merge_documents.specs.Definitions.{selections_of, IsLast}
@@ -36,6 +36,12 @@ falling_more sets fragments x f s = (
       (omega (arith, l, long), subst (λ (k : ℕ). k < s) (sym (get_or_append_left fragments (x ∷ []) 0 g h.0)) h.1))
       (spreads_at sets s) (f s).1,
 )
+
+-- the number of each name, by equal numbers and names
+pub number_inserted : (name q : List ℕ) (new middle old : Names) (k m : ℕ) → number_in new q ≡ cond (bytes_eq name q) (Some k) (number_in middle q) → k ≡ m → middle ≡ old
+    → number_in new q ≡ cond (bytes_eq name q) (Some m) (number_in old q)
+number_inserted name q new middle old k m h e f =
+    h ∙ ap (λ (j : ℕ). cond (bytes_eq name q) (Some j) (number_in middle q)) e ∙ ap (λ (ns : Names). cond (bytes_eq name q) (Some m) (number_in ns q)) f
 
 module _ {S C : Type 0} (schema : Catalog S C) (document : List (Definition S)) (numbers : List ℕ → Option ℕ)
     (single : (q other : List ℕ) (g : ℕ) → numbers q ≡ Some g → numbers other ≡ Some g → q ≡ other)

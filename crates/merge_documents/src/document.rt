@@ -1,12 +1,16 @@
 //! The graph of a document.
-ghost use Rattle.std.specs.Prelude.{◌≡◌, ◌<◌, ◌+◌, ◌↔◌, ℕ, List, [], Some, Option, OnOk, IfOk, IfSome, IsSome, length, slice_get};
+ghost use Rattle.std.specs.Prelude.{◌≡◌, ◌<◌, ◌+◌, ◌↔◌, ℕ, List, [], Some, Option, OnOk, IfOk, IfSome, IsSome, length, map, slice_get};
 ghost use Rattle.std.specs.List.{flat_map};
 ghost use Rattle.fragment_cycles.specs.DocumentCycles.{HasNoCycle};
+ghost use Rattle.field_pairs.specs.Entries.{plain};
+ghost use Rattle.field_pairs.specs.Numbered.{AreTidy};
+ghost use Rattle.merging.specs.Judgement.{Lawful};
 ghost use Rattle.numbered_sets.specs.Names.{number_in};
 ghost use Rattle.numbered_sets.specs.Table.{Falling, numbered};
 ghost use Rattle.merge_documents.specs.Definitions.{AreLast};
 ghost use Rattle.merge_documents.specs.Building.{rank_in, Built};
 ghost use Rattle.merge_documents.specs.TableGraph.{IsGraphOfTable};
+ghost use Rattle.merge_documents.specs.Judging.{judgement_of};
 ghost use Rattle.merge_documents.specs.DocumentGraph.{IsGraphOf};
 ghost use Rattle.merge_documents.specs.Assembly.{AreRanked, AreInPlaces, KnowsAll, AddsMissing, AddsOthers, IsComplete};
 
@@ -171,7 +175,8 @@ fn graph_of_searched<'a, S: ScalarValue, C>(
 
 /// The graph of a document, and none exactly where some fragment leads back to itself.
 ///
-/// Each definition's set is in the graph. The set of a fragment is that of its last definition.
+/// Each definition's set is in the graph. The set of a fragment is that of its last definition. Where no field repeats an
+/// argument, nor a key in one, the judgement of the fields is lawful.
 pub fn graph_of_document<'a, S: ScalarValue, C>(
     alloc: Global,
     schema: &'a SchemaTypeOf<S, C>,
@@ -179,6 +184,7 @@ pub fn graph_of_document<'a, S: ScalarValue, C>(
 ) -> Result<Option<Graph<FieldJudge<'a, S, C>>>, OutOfMemory>
     ensures none { IfOk result (λ g. IsSome g ↔ HasNoCycle document.now) }
     ensures graph { IfOk result (λ g. IfSome g (IsGraphOf schema.now document.now)) }
+    ensures lawful { IfOk result (λ g. IfSome g (λ x. AreTidy (map plain x.judge.fields.items) → Lawful (judgement_of S.eq x.judge))) }
 {
     let cycles = search_document(alloc, document)?;
     if !cycles.outcome.reports.is_empty() {
