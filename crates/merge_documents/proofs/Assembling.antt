@@ -1,0 +1,166 @@
+-- How a document's sets are put together.
+use Rattle.std.proofs.Common.{◌≡◌, ◌<◌, ◌≤◌, ◌+◌, ℕ, List, [], ◌∷◌, length, get_or, Option, Some, None, true, cond, slice_get, zero, suc, refl, sym, ap, subst, ◌∙◌, inl, inr, arith}
+use Rattle.std.specs.List.{Contains, flat_map}
+use Rattle.std.specs.declared.vec.Vec.{Vec}
+use Rattle.std.specs.declared.alloc.Global.{Global}
+use Rattle.std.proofs.lemmas.Bool.{cases_order}
+use Rattle.std.proofs.lemmas.List.Elements.{All-nil, Contains-append_left, Contains-append_right}
+use Rattle.std.proofs.lemmas.Slice.Eq.{bytes_eq-Decides}
+use Rattle.std.proofs.lemmas.Option.{slice_get_within, slice_get-get_or}
+use Rattle.language.specs.declared.tree.Definition.{Definition}
+use Rattle.language.specs.declared.tree.Definition.TheVariants as definition
+use Rattle.schema.specs.Catalog.{Catalog}
+use Rattle.fragment_cycles.specs.declared.cycles.DocumentCycles.{DocumentCycles}
+use Rattle.fragment_cycles.specs.DocumentCycles.{NameSpreads}
+use Rattle.fragment_cycles.specs.Numbers.{IsNamed}
+use Rattle.fragment_cycles.specs.Spreads.{PlacedSpread, PlacedSpreads, placed_spreads_of_all, spreads_named}
+use Rattle.fragment_cycles.proofs.Lists.{same_some, none_some, contains_get}
+use Rattle.merging.specs.declared.graph.Graph.{Graph}
+use Rattle.numbered_sets.specs.Names.{number_in}
+use Rattle.numbered_sets.specs.Once.{is_among}
+use Rattle.numbered_sets.specs.Table.{numbered, height, IsWithin, Falling}
+use Rattle.numbered_sets.proofs.Representing.{extends_self}
+use Rattle.merge_documents.specs.declared.building.Building.{Building}
+use Rattle.merge_documents.specs.declared.judge.FieldJudge.{FieldJudge}
+use Rattle.merge_documents.specs.Definitions.{type_round, selections_of, IsLast}
+use Rattle.merge_documents.specs.Building.{rank_in, IsSetOfDefinition, AddsDefinition, AddsFragment, IsNothing, Built}
+use Rattle.merge_documents.specs.TableGraph.{IsWhole, IsGraphOfTable}
+use Rattle.merge_documents.specs.DocumentGraph.{IsGraphOf}
+use Rattle.merge_documents.specs.Assembly.{AreRanked, KnowsAll, AreInPlaces, HasSetAt, AddsMissing, AddsOthers, IsComplete}
+use Rattle.merge_documents.proofs.Renumbering.{AgreeOn, set_more}
+use Rattle.merge_documents.proofs.Growing.{among_append, built_definition, is_set, extends}
+use Rattle.merge_documents.proofs.Lasts.{last_inside}
+use Rattle.merge_documents.proofs.Naming.{built_fragment}
+use Rattle.merge_documents.proofs.Ranks.{rank_defined, defined_rank, rank_single, rank_falls}
+
+-- two options that are there together, with the same
+agree_by : (o p : Option ℕ) → ((g : ℕ) → o ≡ Some g → p ≡ Some g) → ((g : ℕ) → p ≡ Some g → o ≡ Some g) → o ≡ p
+agree_by None None to back = refl
+agree_by None (Some g) to back = absurd (none_some g (back g refl))
+agree_by (Some g) p to back = sym (to g refl)
+
+in_flat : {X Y : Type 0} (f : X → List Y) (xs : List X) (k : ℕ) (x : X) (y : Y) → slice_get xs k ≡ Some x → Contains (f x) y → Contains (flat_map f xs) y
+in_flat f [] k x y h c = absurd (none_some x h)
+in_flat f (z ∷ xs) zero x y h c = Contains-append_left (f z) (flat_map f xs) y (subst (λ w. Contains (f w) y) (sym (same_some z x h)) c)
+in_flat f (z ∷ xs) (suc k) x y h c = Contains-append_right (f z) (flat_map f xs) y (in_flat f xs k x y h c)
+
+pub among_all : (os : List (Vec ℕ Global)) (p : ℕ) (o : Vec ℕ Global) (k : ℕ) → slice_get os p ≡ Some o → is_among o.items k ≡ true → is_among (flat_map (λ o. o.items) os) k ≡ true
+among_all [] p o k h i = absurd (none_some o h)
+among_all (z ∷ os) zero o k h i = among_append z.items (flat_map (λ o. o.items) os) k (inl (subst (λ (w : Vec ℕ Global). is_among w.items k ≡ true) (sym (same_some z o h)) i))
+among_all (z ∷ os) (suc p) o k h i = among_append z.items (flat_map (λ o. o.items) os) k (inr (among_all os p o k h i))
+
+module _ {S : Type 0} where
+  -- a definition of the name has the name's spreads
+  named_all : (name : List ℕ) (d : Definition S) → IsNamed name d → spreads_named name d ≡ placed_spreads_of_all (selections_of d)
+  named_all name (definition.Operation o) h = absurd h
+  named_all name (definition.Fragment f) h = ap (λ t. cond t (placed_spreads_of_all f.item.selection_set.items) []) ((bytes_eq-Decides f.item.name.item.now name).1 h)
+
+  last_spreads : (document : List (Definition S)) (name : List ℕ) (place : ℕ) (last : IsLast document name place) (x : PlacedSpread) → Contains (placed_spreads_of_all (selections_of last.is)) x → NameSpreads document name x.name
+  last_spreads document name place last x c = (
+    x,
+    in_flat (spreads_named name) document place last.is x last.stands (subst (λ (zs : PlacedSpreads). Contains zs x) (sym (named_all name last.is last.named)) c),
+    refl,
+  )
+
+module _ {S C : Type 0} where
+  pub joined_whole : (b : Building S C) (order : List ℕ) → order ≡ flat_map (λ o. o.items) b.orders.items → AreInPlaces b → IsWhole b.table.sets.items order
+  joined_whole b order is places k l =
+      let at = places k l in subst (λ xs. is_among xs k ≡ true) (sym is) (among_all b.orders.items at.0 at.1 k at.2 at.3)
+
+  pub built_none : (schema : Catalog S C) (document : List (Definition S)) (numbers : List ℕ → Option ℕ) (b : Building S C) → IsNothing (length document) b → Built schema document numbers b
+  built_none schema document numbers b h =
+      let no_fragment : (g : ℕ) → g < length b.fragments.items → ⊥ = λ g l. let none = ap length h.fragments in omega (arith, l, none) in
+      record {
+        apart = h.apart;
+        order = h.order;
+        falling = subst (λ ss. Falling ss b.fragments.items) (sym h.sets) (λ s. (All-nil (λ a. height a ≤ s), All-nil (IsWithin b.fragments.items s)));
+        low = λ g l. absurd (no_fragment g l);
+        known = λ name g k. absurd (none_some g (sym (h.names name) ∙ k));
+        knows = λ name g k l. absurd (no_fragment g l);
+        sized = h.sized;
+        whole = λ k l. let none = ap length h.sets in absurd (omega (arith, l, none));
+        added = λ p o d at some there. absurd (some (h.orders p o at));
+        fragments = λ name g k l. absurd (no_fragment g l);
+      }
+
+  pub agree_next : (schema : Catalog S C) (document : List (Definition S)) (c : DocumentCycles) (b : Building S C) (name : List ℕ) (place : ℕ) (last : IsLast document name place)
+      → AreRanked document c → Built schema document (rank_in c) b → rank_in c name ≡ Some (length b.fragments.items)
+      → AgreeOn (number_in b.names) (rank_in c) (placed_spreads_of_all (selections_of last.is))
+  agree_next schema document c b name place last ranked built rank x within =
+      agree_by (number_in b.names x.name) (rank_in c x.name)
+      (λ g h. (built.known x.name g h).0)
+      (λ g h. built.knows x.name g h (rank_falls document c ranked.searched ranked.clean name x.name (length b.fragments.items) g rank h (last_spreads document name place last x within)))
+
+  pub fragment_added : (schema : Catalog S C) (document : List (Definition S)) (c : DocumentCycles) (b b' : Building S C) (name : List ℕ) (place : ℕ) (d : Definition S)
+      → AreRanked document c → IsLast document name place → Built schema document (rank_in c) b → rank_in c name ≡ Some (length b.fragments.items)
+      → d ≡ get_or document place d → AddsFragment schema d name place b b' → Built schema document (rank_in c) b'
+  fragment_added schema document c b b' name place d ranked last built rank is added =
+      let at : slice_get document place ≡ Some d = slice_get-get_or document place d (last_inside document name place last) ∙ ap (λ x. Some x) (sym is) in
+      built_fragment schema document (rank_in c) (rank_single document c ranked.searched) name place last b b' built
+      (subst (λ (x : Definition S). AddsFragment schema x name place b b') (same_some d last.is (sym at ∙ last.stands)) added)
+      (agree_next schema document c b name place last ranked built rank) rank
+
+  module _ (schema : Catalog S C) (document : List (Definition S)) (numbers : List ℕ → Option ℕ) where
+    agree_everywhere : (b : Building S C) → KnowsAll numbers b.fragments.items → Built schema document numbers b → (spreads : PlacedSpreads) → AgreeOn (number_in b.names) numbers spreads
+    agree_everywhere b all built spreads x c =
+        agree_by (number_in b.names x.name) (numbers x.name) (λ g h. (built.known x.name g h).0) (λ g h. built.knows x.name g h (all x.name g h))
+
+    pub missing_added : (d : Definition S) (place n : ℕ) (b b' : Building S C) → slice_get document place ≡ Some d → AddsDefinition schema d place n b b' → KnowsAll numbers b.fragments.items → Built schema document numbers b → AddsMissing schema document numbers place b b'
+    missing_added d place n b b' at a all built =
+        let agree = agree_everywhere b all built (placed_spreads_of_all (selections_of d)) in
+        record {
+          built = built_definition schema document numbers d place n b b' built a at agree;
+          extends = extends schema document numbers d place n b b' built a;
+          fragments = ap (λ v. v.items) a.notes.fragments;
+          has = λ x there. subst (λ (y : Definition S). (s : ℕ) × IsSetOfDefinition schema numbers (numbered b'.table) s y) (same_some d x (sym at ∙ there)) (n, is_set schema document numbers d place n b b' built a agree);
+        }
+
+    pub missing_there : (place : ℕ) (o : Vec ℕ Global) (b : Building S C) → slice_get b.orders.items place ≡ Some o → (o.items ≡ [] → ⊥) → Built schema document numbers b → AddsMissing schema document numbers place b b
+    missing_there place o b at some built = record {
+      built = built;
+      extends = extends_self (numbered b.table);
+      fragments = refl;
+      has = λ d there. built.added place o d at some there;
+    }
+
+    pub others_none : (b : Building S C) → Built schema document numbers b → AddsOthers schema document numbers 0 b b
+    others_none b built = record { built = built; fragments = refl; has = λ p l. absurd (omega (arith, l)) }
+
+    pub others_next : (place : ℕ) (b b' b'' : Building S C) → AddsOthers schema document numbers place b b' → (KnowsAll numbers b'.fragments.items → Built schema document numbers b' → AddsMissing schema document numbers place b' b'') → KnowsAll numbers b.fragments.items → AddsOthers schema document numbers (place + 1) b b''
+    others_next place b b' b'' had next all =
+        let new = next (subst (KnowsAll numbers) (sym had.fragments) all) had.built in
+        record {
+          built = new.built;
+          fragments = new.fragments ∙ had.fragments;
+          has = λ p l. elim (cases_order p place) [
+            | inl eq ↦ subst (λ (q : ℕ). HasSetAt schema document numbers q b'') (sym eq) new.has
+            | inr o ↦ elim o [
+              | inl lt ↦ (λ d there. let s = had.has p lt d there in (s.0, set_more schema numbers (numbered b'.table) (numbered b''.table) s.0 (type_round schema d) (selections_of d) new.extends s.1))
+              | inr gt ↦ absurd (omega (arith, l, gt))
+            ]
+          ];
+        }
+
+    pub others_all : (place : ℕ) (b b' : Building S C) → length document ≤ place → AddsOthers schema document numbers place b b' → AddsOthers schema document numbers (length document) b b'
+    others_all place b b' far added = record { built = added.built; fragments = added.fragments; has = λ p l. added.has p (omega (arith, l, far)) }
+
+    pub complete : (b b' : Building S C) → KnowsAll numbers b.fragments.items → AddsOthers schema document numbers (length document) b b' → IsComplete schema document numbers b'
+    complete b b' all added = record {
+      built = added.built;
+      all = subst (KnowsAll numbers) (sym added.fragments) all;
+      has = λ d c. let k = contains_get document d c in added.has k.0 (slice_get_within document k.0 d k.1) d k.1;
+    }
+
+  pub graph_is : (schema : Catalog S C) (document : List (Definition S)) (c : DocumentCycles) (b : Building S C) (g : Graph (FieldJudge S C))
+      → AreRanked document c → IsComplete schema document (rank_in c) b → IsGraphOfTable schema (numbered b.table) b.fragments.items g → IsGraphOf schema document g
+  graph_is schema document c b g ranked done is = record {
+    table = numbered b.table;
+    numbers = rank_in c;
+    fragment_sets = b.fragments.items;
+    is = is;
+    apart = done.built.apart;
+    defined = λ name. ((λ f. rank_defined document c ranked.searched name f.0 f.1), defined_rank document c ranked.searched name);
+    single = rank_single document c ranked.searched;
+    fragments = λ name f h. done.built.fragments name f h (done.all name f h);
+    definitions = done.has;
+  }

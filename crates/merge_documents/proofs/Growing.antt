@@ -1,0 +1,133 @@
+-- What was built stays right where a definition's set is added.
+use Rattle.std.proofs.Common.{◌≡◌, ◌<◌, ◌≤◌, ◌==◌, ℕ, List, [], ◌++◌, length, get_or, Option, Some, true, slice_get, length-set, sym, ap, subst, ◌∙◌, inl, inr, ◌⊎◌, arith}
+use Rattle.std.specs.declared.vec.Vec.{Vec}
+use Rattle.std.specs.declared.alloc.Global.{Global}
+use Rattle.std.proofs.lemmas.Option.{slice_get_within}
+use Rattle.std.proofs.lemmas.Bool.{cases_order, cases_eq, or_left, or_right}
+use Rattle.std.proofs.lemmas.List.Folds.{list_any-append}
+use Rattle.language.specs.declared.tree.Definition.{Definition}
+use Rattle.schema.specs.Catalog.{Catalog}
+use Rattle.fragment_cycles.specs.Spreads.{placed_spreads_of_all}
+use Rattle.fragment_cycles.proofs.Lists.{same_some, set_same, set_other}
+use Rattle.numbered_sets.specs.Names.{Names, number_in, AreApart}
+use Rattle.numbered_sets.specs.Once.{is_among}
+use Rattle.numbered_sets.specs.Table.{Numbered, numbered, Extends, Falling}
+use Rattle.numbered_sets.specs.Adding.{AreWithin}
+use Rattle.merge_documents.specs.declared.building.Building.{Building}
+use Rattle.merge_documents.specs.Definitions.{type_round, selections_of}
+use Rattle.merge_documents.specs.Building.{IsSetOfDefinition, IsFragment, AddsDefinition, Built}
+use Rattle.merge_documents.proofs.Renumbering.{AgreeOn, set_renumbered, set_more}
+
+pub among_append : (xs ys : List ℕ) (k : ℕ) → (is_among xs k ≡ true) ⊎ (is_among ys k ≡ true) → is_among (xs ++ ys) k ≡ true
+among_append xs ys k (inl h) = list_any-append (λ y. y == k) xs ys ∙ or_left (is_among xs k) (is_among ys k) h
+among_append xs ys k (inr h) = list_any-append (λ y. y == k) xs ys ∙ or_right (is_among xs k) (is_among ys k) h
+
+module _ {S C : Type 0} (schema : Catalog S C) (document : List (Definition S)) (numbers : List ℕ → Option ℕ) where
+  pub fragment_more : (m m' : Numbered S C) (fragments : List ℕ) (name : List ℕ) (g : ℕ) → Extends m m' → IsFragment schema document numbers m fragments name g → IsFragment schema document numbers m' fragments name g
+  fragment_more m m' fragments name g e f = record {
+    set = f.set;
+    stored = f.stored;
+    place = f.place;
+    last = f.last;
+    is = set_more schema numbers m m' f.set (type_round schema f.last.is) (selections_of f.last.is) e f.is;
+  }
+
+  module _ (d : Definition S) (place n : ℕ) (b b' : Building S C) (built : Built schema document numbers b) (a : AddsDefinition schema d place n b b') where
+    sets_are : b'.table.sets.items ≡ a.grown.sets.items
+    sets_are = ap (λ (m : Numbered S C). m.sets) a.notes.same
+
+    fragments_are : b'.fragments.items ≡ b.fragments.items
+    fragments_are = ap (λ v. v.items) a.notes.fragments
+
+    pub extends : Extends (numbered b.table) (numbered b'.table)
+    extends = subst (λ m. Extends (numbered b.table) m) (sym a.notes.same) a.adds.keeps.extends
+
+    pub longer : length b.table.sets.items ≤ length b'.table.sets.items
+    longer = extends.longer
+
+    pub is_set : AgreeOn (number_in b.names) numbers (placed_spreads_of_all (selections_of d)) → IsSetOfDefinition schema numbers (numbered b'.table) n d
+    is_set agree =
+        subst (λ m. IsSetOfDefinition schema numbers m n d) (sym a.notes.same)
+        (set_renumbered schema (number_in b.names) numbers (numbered a.grown) n (type_round schema d) (selections_of d) a.adds.is agree)
+
+    pub is_low : n < length b'.table.sets.items
+    is_low = subst (λ ss. n < length ss) (sym sets_are) (slice_get_within a.grown.sets.items n a.adds.is.row a.adds.is.stored)
+
+    within : AreWithin (number_in b.names) b.fragments.items (length b.table.sets.items)
+    within name g h = let l = (built.known name g h).1 in (l, built.low g l)
+
+    falling : Falling b'.table.sets.items b'.fragments.items
+    falling =
+        subst (λ fs. Falling b'.table.sets.items fs) (sym fragments_are)
+        (subst (λ ss. Falling ss b.fragments.items) (sym sets_are) (a.adds.keeps.falls b.fragments.items within built.falling))
+
+    -- the sets at a place
+    changed : slice_get b'.orders.items place ≡ Some a.notes.after
+    changed = ap (λ os. slice_get os place) a.notes.orders ∙ set_same b.orders.items place a.notes.before a.notes.after a.notes.stood
+
+    others : (p : ℕ) → (p ≡ place → ⊥) → slice_get b'.orders.items p ≡ slice_get b.orders.items p
+    others p ne = ap (λ os. slice_get os p) a.notes.orders ∙ set_other b.orders.items place p a.notes.after ne
+
+    order_is : a.grown.order.items ≡ a.adds.keeps.order.more
+    order_is = a.adds.keeps.order.order ∙ ap (λ xs. xs ++ a.adds.keeps.order.more) built.order
+
+    abbrev Stands : ℕ → Type 0
+    Stands k = (p : ℕ) × (o : Vec ℕ Global) × (slice_get b'.orders.items p ≡ Some o) × (is_among o.items k ≡ true)
+
+    at_place : (k : ℕ) → (is_among a.notes.before.items k ≡ true) ⊎ (is_among a.grown.order.items k ≡ true) → Stands k
+    at_place k h = (place, a.notes.after, changed, subst (λ xs. is_among xs k ≡ true) (sym a.notes.extended) (among_append a.notes.before.items a.grown.order.items k h))
+
+    old_stands : (k : ℕ) → k < length b.table.sets.items → Stands k
+    old_stands k l =
+        let w = built.whole k l in
+        elim (cases_eq w.0 place) [
+          | inl same ↦
+              let is : w.1 ≡ a.notes.before = same_some w.1 a.notes.before (sym w.2 ∙ ap (λ (p : ℕ). slice_get b.orders.items p) same ∙ a.notes.stood) in
+              at_place k (inl (subst (λ (o : Vec ℕ Global). is_among o.items k ≡ true) is w.3))
+          | inr ne ↦ (w.0, w.1, others w.0 ne ∙ w.2, w.3)
+        ]
+
+    new_stands : (k : ℕ) → length b.table.sets.items ≤ k → k < length b'.table.sets.items → Stands k
+    new_stands k low l =
+        at_place k (inr (subst (λ xs. is_among xs k ≡ true) (sym order_is) (a.adds.keeps.order.whole k low (subst (λ ss. k < length ss) sets_are l))))
+
+    whole : (k : ℕ) → k < length b'.table.sets.items → Stands k
+    whole k l = elim (cases_order k (length b.table.sets.items)) [
+      | inl eq ↦ new_stands k (omega (arith, eq)) l
+      | inr o ↦ elim o [ inl lt ↦ old_stands k lt | inr gt ↦ new_stands k (omega (arith, gt)) l ]
+    ]
+
+    module _ (at : slice_get document place ≡ Some d) (agree : AgreeOn (number_in b.names) numbers (placed_spreads_of_all (selections_of d))) where
+      abbrev HasSet : Definition S → Type 0
+      HasSet x = (s : ℕ) × IsSetOfDefinition schema numbers (numbered b'.table) s x
+
+      added : (p : ℕ) (o : Vec ℕ Global) (x : Definition S) → slice_get b'.orders.items p ≡ Some o → (o.items ≡ [] → ⊥) → slice_get document p ≡ Some x → HasSet x
+      added p o x h some there = elim (cases_eq p place) [
+        | inl same ↦ subst HasSet (same_some d x (sym at ∙ ap (λ (q : ℕ). slice_get document q) (sym same) ∙ there)) (n, is_set agree)
+        | inr ne ↦
+            let s = built.added p o x (sym (others p ne) ∙ h) some there in
+            (s.0, set_more schema numbers (numbered b.table) (numbered b'.table) s.0 (type_round schema x) (selections_of x) extends s.1)
+      ]
+
+      pub built_definition : Built schema document numbers b'
+      built_definition = record {
+        apart = subst AreApart (sym (ap (λ (m : Numbered S C). m.responses) a.notes.same)) (a.adds.keeps.apart built.apart);
+        order = a.notes.empty;
+        falling = falling;
+        low = λ g l.
+            let long : length b'.fragments.items ≡ length b.fragments.items = ap length fragments_are in
+            let old = built.low g (omega (arith, l, long)) in
+            let more = longer in
+            subst (λ (fs : List ℕ). get_or fs g 0 < length b'.table.sets.items) (sym fragments_are) (omega (arith, old, more));
+        known = λ name g h.
+            let k = built.known name g (ap (λ (ns : Names). number_in ns name) (sym a.notes.names) ∙ h) in
+            (k.0, subst (λ (fs : List ℕ). g < length fs) (sym fragments_are) k.1);
+        knows = λ name g h l.
+            ap (λ (ns : Names). number_in ns name) a.notes.names ∙ built.knows name g h (subst (λ (fs : List ℕ). g < length fs) fragments_are l);
+        sized = ap length a.notes.orders ∙ length-set b.orders.items place a.notes.after ∙ built.sized;
+        whole = whole;
+        added = added;
+        fragments = λ name g h l.
+            subst (λ (fs : List ℕ). IsFragment schema document numbers (numbered b'.table) fs name g) (sym fragments_are)
+            (fragment_more (numbered b.table) (numbered b'.table) b.fragments.items name g extends (built.fragments name g h (subst (λ (fs : List ℕ). g < length fs) fragments_are l)));
+      }

@@ -1,0 +1,88 @@
+-- How the sets of a document are added, definition by definition.
+use Rattle.std.specs.Prelude.{◌≡◌, ◌<◌, ℕ, List, [], ◌∷◌, ◌++◌, Option, Some, None, length, get_or, slice_get, slice_set, true, if◌then◌else◌, option_and_then}
+use Rattle.std.specs.Str.{bytes_eq}
+use Rattle.std.specs.declared.vec.Vec.{Vec}
+use Rattle.std.specs.declared.alloc.Global.{Global}
+use Rattle.language.specs.declared.tree.Definition.{Definition}
+use Rattle.schema.specs.Catalog.{Catalog}
+use Rattle.fragment_cycles.specs.declared.cycles.DocumentCycles.{DocumentCycles}
+use Rattle.fragment_cycles.specs.Numbers.{number_of}
+use Rattle.numbered_sets.specs.declared.table.Table.{Table}
+use Rattle.numbered_sets.specs.Names.{Names, number_in, AreApart}
+use Rattle.numbered_sets.specs.Once.{is_among}
+use Rattle.numbered_sets.specs.Table.{Numbered, numbered, Falling}
+use Rattle.numbered_sets.specs.Represents.{IsSetOf}
+use Rattle.numbered_sets.specs.Adding.{AddsSet}
+use Rattle.merge_documents.specs.declared.building.Building.{Building}
+use Rattle.merge_documents.specs.Definitions.{type_round, selections_of, IsLast}
+
+-- The number of a fragment: its place in the order in which the search for cycles finished the fragments.
+abbrev pub rank_in : DocumentCycles → List ℕ → Option ℕ
+rank_in c name = option_and_then (λ v. slice_get c.outcome.ranks.items v) (number_of c.graph.numbers name)
+
+module _ {S C : Type 0} where
+  -- The set of the number is that of the definition.
+  abbrev pub IsSetOfDefinition : Catalog S C → (List ℕ → Option ℕ) → Numbered S C → ℕ → Definition S → Type 0
+  IsSetOfDefinition schema numbers m s d = IsSetOf schema numbers m s (type_round schema d) (selections_of d)
+
+  -- The fragment of the number has the set of its last definition.
+  pub record IsFragment (schema : Catalog S C) (document : List (Definition S)) (numbers : List ℕ → Option ℕ) (m : Numbered S C) (fragments : List ℕ) (name : List ℕ) (g : ℕ) : Type 0 where
+    pub set : ℕ
+    pub stored : slice_get fragments g ≡ Some set
+    pub place : ℕ
+    pub last : IsLast document name place
+    pub is : IsSetOfDefinition schema numbers m set last.is
+
+  -- The order of the sets that were added went to those of a place.
+  pub record NotesOrder (place : ℕ) (b b' : Building S C) : Type 0 where
+    pub before : Vec ℕ Global
+    pub stood : slice_get b.orders.items place ≡ Some before
+    pub after : Vec ℕ Global
+    pub extended : after.items ≡ before.items ++ b.table.order.items
+    pub orders : b'.orders.items ≡ slice_set b.orders.items place after
+    pub same : numbered b'.table ≡ numbered b.table
+    pub empty : b'.table.order.items ≡ []
+    pub names : b'.names ≡ b.names
+    pub fragments : b'.fragments ≡ b.fragments
+
+  -- The set of a definition was added, with all sets in it.
+  pub record AddsDefinition (schema : Catalog S C) (d : Definition S) (place n : ℕ) (b b' : Building S C) : Type 0 where
+    pub grown : Table S C
+    pub adds : AddsSet schema (number_in b.names) (type_round schema d) (selections_of d) n b.table grown
+    pub notes : NotesOrder place (record b { table = grown }) b'
+
+  -- The definition's set was added as that of the fragment of the name, which got the next number.
+  pub record AddsFragment (schema : Catalog S C) (d : Definition S) (name : List ℕ) (place : ℕ) (b b' : Building S C) : Type 0 where
+    pub middle : Building S C
+    pub set : ℕ
+    pub adds : AddsDefinition schema d place set b middle
+    pub names : Names
+    pub fragments : Vec ℕ Global
+    pub is : b' ≡ record middle { names = names; fragments = fragments }
+    pub pushed : fragments.items ≡ b.fragments.items ++ set ∷ []
+    pub inserted : (q : List ℕ) → number_in names q ≡ (if bytes_eq name q then Some (length b.fragments.items) else number_in b.names q)
+
+  -- Nothing was added, and each of so many places has an order.
+  pub record IsNothing (count : ℕ) (b : Building S C) : Type 0 where
+    pub apart : AreApart b.table.responses
+    pub order : b.table.order.items ≡ []
+    pub sets : b.table.sets.items ≡ []
+    pub fragments : b.fragments.items ≡ []
+    pub names : (q : List ℕ) → number_in b.names q ≡ None
+    pub sized : length b.orders.items ≡ count
+    pub orders : (p : ℕ) (o : Vec ℕ Global) → slice_get b.orders.items p ≡ Some o → o.items ≡ []
+
+  -- What was added is right: each set stands at some place, each place with sets has its definition's, and the fragments
+  -- that are there have their numbers and their sets.
+  pub record Built (schema : Catalog S C) (document : List (Definition S)) (numbers : List ℕ → Option ℕ) (b : Building S C) : Type 0 where
+    pub apart : AreApart b.table.responses
+    pub order : b.table.order.items ≡ []
+    pub falling : Falling b.table.sets.items b.fragments.items
+    pub low : (g : ℕ) → g < length b.fragments.items → get_or b.fragments.items g 0 < length b.table.sets.items
+    pub known : (name : List ℕ) (g : ℕ) → number_in b.names name ≡ Some g → (numbers name ≡ Some g) × (g < length b.fragments.items)
+    pub knows : (name : List ℕ) (g : ℕ) → numbers name ≡ Some g → g < length b.fragments.items → number_in b.names name ≡ Some g
+    pub sized : length b.orders.items ≡ length document
+    pub whole : (k : ℕ) → k < length b.table.sets.items → (p : ℕ) × (o : Vec ℕ Global) × (slice_get b.orders.items p ≡ Some o) × (is_among o.items k ≡ true)
+    pub added : (p : ℕ) (o : Vec ℕ Global) (d : Definition S) → slice_get b.orders.items p ≡ Some o → (o.items ≡ [] → ⊥) → slice_get document p ≡ Some d
+        → (s : ℕ) × IsSetOfDefinition schema numbers (numbered b.table) s d
+    pub fragments : (name : List ℕ) (g : ℕ) → numbers name ≡ Some g → g < length b.fragments.items → IsFragment schema document numbers (numbered b.table) b.fragments.items name g

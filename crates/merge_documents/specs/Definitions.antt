@@ -1,0 +1,46 @@
+-- The definitions of a document: the set of each, the type round it, and the last of a name.
+use Rattle.std.specs.Prelude.{◌≡◌, ◌≤◌, ℕ, List, Option, Some, None, slice_get, if◌then◌else◌}
+use Rattle.std.specs.Str.{bytes_eq}
+use Rattle.language.specs.declared.tree.Selection.{Selection}
+use Rattle.language.specs.declared.tree.OperationType.{OperationType}
+use Rattle.language.specs.declared.tree.OperationType.TheVariants as kind
+use Rattle.language.specs.declared.tree.Definition.{Definition}
+use Rattle.language.specs.declared.tree.Definition.TheVariants as definition
+use Rattle.meta.specs.declared.kinds.MetaTypeOf.{MetaTypeOf}
+use Rattle.schema.specs.Catalog.{Catalog, type_in, root_in}
+use Rattle.fragment_cycles.specs.Numbers.{IsNamed, Defines}
+use Rattle.numbered_sets.specs.Names.{Names, number_in}
+
+module _ {S C : Type 0} where
+  -- the root of the operations of a kind, where the schema has one
+  abbrev pub root_type : Catalog S C → OperationType → Option (MetaTypeOf S C)
+  root_type schema kind.Query = root_in (Some schema.roots.query) schema
+  root_type schema kind.Mutation = root_in schema.roots.mutation schema
+  root_type schema kind.Subscription = root_in schema.roots.subscription schema
+
+  -- the type round a definition's set: the root of its kind, or the type of its condition, where they are known
+  abbrev pub type_round : Catalog S C → Definition S → Option (MetaTypeOf S C)
+  type_round schema (definition.Operation o) = root_type schema o.item.operation_type
+  type_round schema (definition.Fragment f) = type_in f.item.type_condition.item.now schema
+
+module _ {S : Type 0} where
+  abbrev pub selections_of : Definition S → List (Selection S)
+  selections_of (definition.Operation o) = o.item.selection_set.items
+  selections_of (definition.Fragment f) = f.item.selection_set.items
+
+  -- The last definition of a fragment stands at the place.
+  pub record IsLast (document : List (Definition S)) (name : List ℕ) (place : ℕ) : Type 0 where
+    pub is : Definition S
+    pub stands : slice_get document place ≡ Some is
+    pub named : IsNamed name is
+    pub last : (k : ℕ) (d : Definition S) → slice_get document k ≡ Some d → IsNamed name d → k ≤ place
+
+  -- Each fragment has the place of its last definition, and there are no others.
+  pub record AreLast (document : List (Definition S)) (places : Names) : Type 0 where
+    pub each : (name : List ℕ) (place : ℕ) → number_in places name ≡ Some place → IsLast document name place
+    pub none_other : (name : List ℕ) → number_in places name ≡ None → Defines document name → ⊥
+
+  -- A fragment's name has the place now.
+  abbrev pub NotesPlace : Definition S → ℕ → Names → Names → Type 0
+  NotesPlace (definition.Operation o) place old new = new ≡ old
+  NotesPlace (definition.Fragment f) place old new = (name : List ℕ) → number_in new name ≡ (if bytes_eq f.item.name.item.now name then Some place else number_in old name)

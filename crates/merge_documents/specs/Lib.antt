@@ -1,0 +1,7 @@
+pub mod Judging
+pub mod Sets
+pub mod TableGraph
+pub mod Definitions
+pub mod Building
+pub mod DocumentGraph
+pub mod Assembly

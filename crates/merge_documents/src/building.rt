@@ -1,0 +1,105 @@
+//! How the sets of a document are added.
+ghost use Rattle.std.specs.Prelude.{◌≡◌, ◌<◌, ℕ, [], Some, OnOk, IfOk, length, slice_get};
+ghost use Rattle.std.specs.declared.vec.Vec.{Vec};
+ghost use Rattle.std.specs.declared.alloc.Global.{Global};
+ghost use Rattle.merge_documents.specs.Building.{NotesOrder, AddsDefinition, AddsFragment, IsNothing};
+
+use crate::definitions::{no_names, selections, type_of_definition};
+use language::error::OutOfMemory;
+use language::tree::Definition;
+use numbered_sets::adding::add_set;
+use numbered_sets::table::{Table, no_table};
+use schema::model::SchemaTypeOf;
+use std::alloc::{AllocError, Global};
+use std::collections::BTreeMap;
+
+/// What was made of a document so far.
+#[derive(Drop)]
+pub struct Building<'a, S, C> {
+    pub table: Table<'a, S, C>,
+    /// The fragments whose sets are there.
+    pub names: BTreeMap<&'a str, usize>,
+    /// The set of each of them.
+    pub fragments: Vec<usize>,
+    /// The sets of the definition at each place, in the order of a walk.
+    pub orders: Vec<Vec<usize>>,
+}
+
+// So many lists.
+fn empty_orders(alloc: Global, count: usize) -> Result<Vec<Vec<usize>>, AllocError>
+    ensures len { IfOk result (λ v. length v.items ≡ count) }
+    ensures empty { IfOk result (λ v. (p : ℕ) (o : Vec ℕ Global) → slice_get v.items p ≡ Some o → o.items ≡ []) }
+{
+    let mut orders = Vec::new(alloc);
+    for _place in 0..count {
+        orders.push(Vec::new(alloc))?;
+    }
+    Ok(orders)
+}
+
+/// Nothing, with so many places.
+pub fn no_building<'a, S, C>(alloc: Global, count: usize) -> Result<Building<'a, S, C>, AllocError>
+    ensures { IfOk result (IsNothing count) }
+{
+    let orders = empty_orders(alloc, count)?;
+    Ok(Building {
+        table: no_table(alloc),
+        names: no_names(alloc),
+        fragments: Vec::new(alloc),
+        orders,
+    })
+}
+
+// Puts the order of the sets that were added to those of a place.
+fn note_order<S, C>(place: usize, building: &mut Building<'_, S, C>) -> Result<(), AllocError>
+    requires { place < length building.old.orders.items }
+    ensures { OnOk result (NotesOrder place building.old building.new) }
+{
+    building.orders[place].extend_from_slice(building.table.order.as_slice())?;
+    building.table.order.clear();
+    Ok(())
+}
+
+/// Adds the set of a definition.
+pub fn add_definition<'a, S, C>(
+    alloc: Global,
+    schema: &'a SchemaTypeOf<S, C>,
+    definition: &'a Definition<'a, S>,
+    place: usize,
+    building: &mut Building<'a, S, C>,
+) -> Result<usize, OutOfMemory>
+    requires { place < length building.old.orders.items }
+    ensures { IfOk result (λ n. AddsDefinition schema.now definition.now place n building.old building.new) }
+{
+    let parent = type_of_definition(schema, definition);
+    let set = selections(definition);
+    let number = add_set(
+        alloc,
+        schema,
+        &building.names,
+        parent,
+        set,
+        &mut building.table,
+    )?;
+    note_order(place, building)?;
+    Ok(number)
+}
+
+/// Adds the set of a fragment, by a definition of it, and gives its name the next number.
+pub fn add_fragment<'a, S, C>(
+    alloc: Global,
+    schema: &'a SchemaTypeOf<S, C>,
+    definition: &'a Definition<'a, S>,
+    name: &'a str,
+    place: usize,
+    building: &mut Building<'a, S, C>,
+) -> Result<(), OutOfMemory>
+    requires { place < length building.old.orders.items }
+    ensures { OnOk result (AddsFragment schema.now definition.now name.now place building.old building.new) }
+{
+    let set = add_definition(alloc, schema, definition, place, building)?;
+    let number = building.fragments.len();
+    building.fragments.push(set)?;
+    building.names.insert(name, number)?;
+    Ok(())
+}

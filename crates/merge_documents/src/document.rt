@@ -1,0 +1,195 @@
+//! The graph of a document.
+ghost use Rattle.std.specs.Prelude.{◌≡◌, ◌<◌, ◌+◌, ◌↔◌, ℕ, List, [], Some, Option, OnOk, IfOk, IfSome, IsSome, length, map, slice_get};
+ghost use Rattle.std.specs.List.{flat_map};
+ghost use Rattle.fragment_cycles.specs.DocumentCycles.{HasNoCycle};
+ghost use Rattle.field_pairs.specs.Entries.{plain};
+ghost use Rattle.field_pairs.specs.Numbered.{AreTidy};
+ghost use Rattle.merging.specs.Judgement.{Lawful};
+ghost use Rattle.numbered_sets.specs.Names.{number_in};
+ghost use Rattle.numbered_sets.specs.Table.{Falling, numbered};
+ghost use Rattle.merge_documents.specs.Definitions.{AreLast};
+ghost use Rattle.merge_documents.specs.Building.{rank_in, Built};
+ghost use Rattle.merge_documents.specs.TableGraph.{IsGraphOfTable};
+ghost use Rattle.merge_documents.specs.Judging.{judgement_of};
+ghost use Rattle.merge_documents.specs.DocumentGraph.{IsGraphOf};
+ghost use Rattle.merge_documents.specs.Assembly.{AreRanked, AreInPlaces, KnowsAll, AddsMissing, AddsOthers, IsComplete};
+
+use crate::building::{Building, add_definition, add_fragment, no_building};
+use crate::definitions::last_places;
+use crate::judge::FieldJudge;
+use crate::table_graph::graph_of_table;
+use fragment_cycles::cycles::{DocumentCycles, search_document};
+use fragment_cycles::numbers::name;
+use language::error::OutOfMemory;
+use language::scalar::ScalarValue;
+use language::tree::Document;
+use merging::graph::Graph;
+use schema::model::SchemaTypeOf;
+use std::alloc::{AllocError, Global};
+use std::collections::BTreeMap;
+
+// The place of a name.
+fn place_of(places: &BTreeMap<&str, usize>, name: &str) -> Option<usize>
+    ensures { result ≡ number_in places.now name.now }
+{
+    places.get(name).copied()
+}
+
+// Adds the set of the fragment that the search for cycles finished next, by its last definition.
+fn add_next<'a, S, C>(
+    alloc: Global,
+    schema: &'a SchemaTypeOf<S, C>,
+    document: Document<'a, S>,
+    cycles: &DocumentCycles<'a>,
+    last: &BTreeMap<&'a str, usize>,
+    node: usize,
+    building: &mut Building<'a, S, C>,
+) -> Result<(), OutOfMemory>
+    requires ranked { AreRanked document.now cycles.now }
+    requires last { AreLast document.now last.now }
+    requires next { slice_get cycles.now.outcome.order.items (length building.old.fragments.items) ≡ Some node }
+    requires built { Built schema.now document.now (rank_in cycles.now) building.old }
+    ensures built { OnOk result (Built schema.now document.now (rank_in cycles.now) building.new) }
+    ensures longer { OnOk result (length building.new.fragments.items ≡ length building.old.fragments.items + 1) }
+{
+    let fragment = name(&cycles.graph.numbers, node);
+    match place_of(last, fragment) {
+        Some(place) => add_fragment(alloc, schema, &document[place], fragment, place, building),
+        None => unreachable!(),
+    }
+}
+
+// Adds the sets of all fragments, each behind those that it spreads.
+fn add_fragments<'a, S, C>(
+    alloc: Global,
+    schema: &'a SchemaTypeOf<S, C>,
+    document: Document<'a, S>,
+    cycles: &DocumentCycles<'a>,
+    last: &BTreeMap<&'a str, usize>,
+    building: &mut Building<'a, S, C>,
+) -> Result<(), OutOfMemory>
+    requires ranked { AreRanked document.now cycles.now }
+    requires last { AreLast document.now last.now }
+    requires none { building.old.fragments.items ≡ [] }
+    requires built { Built schema.now document.now (rank_in cycles.now) building.old }
+    ensures built { OnOk result (Built schema.now document.now (rank_in cycles.now) building.new) }
+    ensures all { OnOk result (KnowsAll (rank_in cycles.now) building.new.fragments.items) }
+{
+    for node in cycles.outcome.order.as_slice() {
+        add_next(alloc, schema, document, cycles, last, *node, building)?;
+    }
+    Ok(())
+}
+
+// Adds the set of the definition at a place, unless it is there.
+fn add_missing<'a, S, C>(
+    alloc: Global,
+    schema: &'a SchemaTypeOf<S, C>,
+    document: Document<'a, S>,
+    place: usize,
+    building: &mut Building<'a, S, C>,
+) -> Result<(), OutOfMemory>
+    requires inside { place < length document.now }
+    requires sized { length building.old.orders.items ≡ length document.now }
+    ensures sized { OnOk result (length building.new.orders.items ≡ length document.now) }
+    ensures adds { OnOk result ((numbers : List ℕ → Option ℕ) → KnowsAll numbers building.old.fragments.items → Built schema.now document.now numbers building.old → AddsMissing schema.now document.now numbers place building.old building.new) }
+{
+    if building.orders[place].is_empty() {
+        add_definition(alloc, schema, &document[place], place, building)?;
+    }
+    Ok(())
+}
+
+// Adds the sets of all definitions that aren't there.
+fn add_others<'a, S, C>(
+    alloc: Global,
+    schema: &'a SchemaTypeOf<S, C>,
+    document: Document<'a, S>,
+    building: &mut Building<'a, S, C>,
+) -> Result<(), OutOfMemory>
+    requires { length building.old.orders.items ≡ length document.now }
+    ensures { OnOk result ((numbers : List ℕ → Option ℕ) → KnowsAll numbers building.old.fragments.items → Built schema.now document.now numbers building.old → AddsOthers schema.now document.now numbers (length document.now) building.old building.new) }
+{
+    for place in 0..document.len() {
+        add_missing(alloc, schema, document, place, building)?;
+    }
+    Ok(())
+}
+
+// The sets of a document.
+fn build<'a, S, C>(
+    alloc: Global,
+    schema: &'a SchemaTypeOf<S, C>,
+    document: Document<'a, S>,
+    cycles: &DocumentCycles<'a>,
+) -> Result<Building<'a, S, C>, OutOfMemory>
+    requires { AreRanked document.now cycles.now }
+    ensures { IfOk result (IsComplete schema.now document.now (rank_in cycles.now)) }
+{
+    let last = last_places(alloc, document)?;
+    let mut building = no_building(alloc, document.len())?;
+    add_fragments(alloc, schema, document, cycles, &last, &mut building)?;
+    add_others(alloc, schema, document, &mut building)?;
+    Ok(building)
+}
+
+// All sets in the order of a walk.
+fn joined_orders(alloc: Global, orders: &[Vec<usize>]) -> Result<Vec<usize>, AllocError>
+    ensures { IfOk result (λ v. v.items ≡ flat_map (λ o. o.items) orders.now) }
+{
+    let mut joined = Vec::new(alloc);
+    for order in orders {
+        joined.extend_from_slice(order.as_slice())?;
+    }
+    Ok(joined)
+}
+
+// The graph of the sets.
+fn graph_of_building<'a, S: ScalarValue, C>(
+    alloc: Global,
+    schema: &'a SchemaTypeOf<S, C>,
+    building: Building<'a, S, C>,
+) -> Result<Graph<FieldJudge<'a, S, C>>, AllocError>
+    requires falling { Falling building.table.sets.items building.fragments.items }
+    requires whole { AreInPlaces building }
+    ensures { IfOk result (IsGraphOfTable schema.now (numbered building.entry.table) building.entry.fragments.items) }
+{
+    let order = joined_orders(alloc, building.orders.as_slice())?;
+    graph_of_table(alloc, schema, building.table, building.fragments, order)
+}
+
+// The graph of a document whose fragments were searched.
+fn graph_of_searched<'a, S: ScalarValue, C>(
+    alloc: Global,
+    schema: &'a SchemaTypeOf<S, C>,
+    document: Document<'a, S>,
+    cycles: &DocumentCycles<'a>,
+) -> Result<Graph<FieldJudge<'a, S, C>>, OutOfMemory>
+    requires { AreRanked document.now cycles.now }
+    ensures { IfOk result (IsGraphOf schema.now document.now) }
+{
+    let building = build(alloc, schema, document, cycles)?;
+    let graph = graph_of_building(alloc, schema, building)?;
+    Ok(graph)
+}
+
+/// The graph of a document, and none exactly where some fragment leads back to itself.
+///
+/// Each definition's set is in the graph. The set of a fragment is that of its last definition. Where no field repeats an
+/// argument, nor a key in one, the judgement of the fields is lawful.
+pub fn graph_of_document<'a, S: ScalarValue, C>(
+    alloc: Global,
+    schema: &'a SchemaTypeOf<S, C>,
+    document: Document<'a, S>,
+) -> Result<Option<Graph<FieldJudge<'a, S, C>>>, OutOfMemory>
+    ensures none { IfOk result (λ g. IsSome g ↔ HasNoCycle document.now) }
+    ensures graph { IfOk result (λ g. IfSome g (IsGraphOf schema.now document.now)) }
+    ensures lawful { IfOk result (λ g. IfSome g (λ x. AreTidy (map plain x.judge.fields.items) → Lawful (judgement_of S.eq x.judge))) }
+{
+    let cycles = search_document(alloc, document)?;
+    if !cycles.outcome.reports.is_empty() {
+        return Ok(None);
+    }
+    let graph = graph_of_searched(alloc, schema, document, &cycles)?;
+    Ok(Some(graph))
+}

@@ -1,0 +1,9 @@
+//! The graph of a document: its selection sets by number, with the judgement of its fields, as the search of `merging`
+//! needs them.
+#![tactic(auto)]
+
+mod building;
+mod definitions;
+pub mod document;
+pub mod judge;
+pub mod table_graph;

@@ -1,0 +1,71 @@
+//! The graph of a table of sets.
+ghost use Rattle.std.specs.Prelude.{◌≡◌, IfOk, map};
+ghost use Rattle.numbered_sets.specs.Table.{Falling, numbered};
+ghost use Rattle.merge_documents.specs.Sets.{entry_of, plain_row, plain_node};
+ghost use Rattle.merge_documents.specs.TableGraph.{IsWhole, IsGraphOfTable};
+
+use crate::judge::{FieldJudge, judge_fields};
+use language::scalar::ScalarValue;
+use merging::graph::Graph;
+use merging::groups::make_set;
+use merging::node::{Entry, SetNode};
+use numbered_sets::table::{NumberedSet, OwnField, Table};
+use schema::model::SchemaTypeOf;
+use std::alloc::{AllocError, Global};
+
+// The field for the search.
+fn searched_field(field: &OwnField) -> Entry
+    ensures { result ≡ entry_of field.now }
+{
+    Entry {
+        response: field.response,
+        field: field.field,
+        below: field.below,
+    }
+}
+
+fn searched_fields(alloc: Global, own: &[OwnField]) -> Result<Vec<Entry>, AllocError>
+    ensures { IfOk result (λ v. v.items ≡ map entry_of own.now) }
+{
+    own.iter().map(|field| searched_field(field)).collect(alloc)
+}
+
+// The set for the search.
+fn searched_set(alloc: Global, set: &NumberedSet) -> Result<SetNode, AllocError>
+    ensures { IfOk result (λ node. plain_node node ≡ plain_row set.now) }
+{
+    let own = searched_fields(alloc, set.own.as_slice())?;
+    let spreads = Vec::from_slice(alloc, set.spreads.as_slice())?;
+    make_set(alloc, own, spreads)
+}
+
+fn searched_sets(alloc: Global, sets: &[NumberedSet]) -> Result<Vec<SetNode>, AllocError>
+    ensures { IfOk result (λ v. map plain_node v.items ≡ map plain_row sets.now) }
+{
+    let mut nodes = Vec::new(alloc);
+    for set in sets {
+        nodes.push(searched_set(alloc, set)?)?;
+    }
+    Ok(nodes)
+}
+
+/// The graph of a table, with the sets of its fragments and an order of its sets.
+pub fn graph_of_table<'a, S: ScalarValue, C>(
+    alloc: Global,
+    schema: &'a SchemaTypeOf<S, C>,
+    table: Table<'a, S, C>,
+    fragments: Vec<usize>,
+    order: Vec<usize>,
+) -> Result<Graph<FieldJudge<'a, S, C>>, AllocError>
+    requires falling { Falling table.sets.items fragments.items }
+    requires whole { IsWhole table.sets.items order.items }
+    ensures { IfOk result (IsGraphOfTable schema.now (numbered table.entry) fragments.items) }
+{
+    let sets = searched_sets(alloc, table.sets.as_slice())?;
+    Ok(Graph {
+        judge: judge_fields(schema, table.fields),
+        sets,
+        fragments,
+        order,
+    })
+}

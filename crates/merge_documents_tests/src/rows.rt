@@ -1,0 +1,88 @@
+//! Texts, and what is found in their graphs: pairs of fields by their columns, nested ones behind those below them.
+
+use crate::found::found;
+use crate::schemas::{of_boxes, of_pets};
+use document_reader::{ReadError, read_document};
+use language::shorten::shorten;
+use language::value::DefaultScalarValue;
+use schema::model::SchemaType;
+use std::alloc::Global;
+use std::test::Fail;
+
+const PETS: [(&str, &str); 9] = [
+    (
+        "{ dog { ...A } } fragment A on Dog { ...B } fragment B on Dog { ...A }",
+        "cycle",
+    ),
+    (
+        "{ dog { ...A ...B } } fragment A on Dog { ...C } fragment B on Dog { ...C } fragment C on Dog { name }",
+        "compared 3\n",
+    ),
+    (
+        "{ dog { ...A x: name } } fragment A on Dog { x: nickname }",
+        "compared 0\n13 and 45\n",
+    ),
+    (
+        "{ dog { x: name } dog { x: barks } }",
+        "compared 0\n8 and 24\n2 and 18 for 1\n",
+    ),
+    (
+        "{ pet { ... on Dog { name } ... on Cat { name: nickname } } }",
+        "compared 0\n",
+    ),
+    (
+        "{ dog { x: name x: barks y: name y: nickname } }",
+        "compared 0\n8 and 16\n25 and 33\n",
+    ),
+    (
+        "{ dog { x: name y: name } dog { x: barks y: nickname } }",
+        "compared 0\n8 and 32\n16 and 41\n2 and 26 for 2\n",
+    ),
+    // Of several definitions of a fragment the last is spread, and all are looked at.
+    (
+        "{ dog { x: name ...A } } fragment A on Dog { x: barks } fragment A on Dog { x: name }",
+        "compared 0\n",
+    ),
+    (
+        "{ dog { ...A } } fragment A on Dog { x: name x: barks } fragment A on Dog { x: name }",
+        "compared 0\n37 and 45\n",
+    ),
+];
+
+const BOXES: [(&str, &str); 2] = [
+    (
+        "{ a: someBox { ... on IntBox { deepBox { ...X } } } a: someBox { ... on StringBox { deepBox { ...Y } } } b: someBox { ...X } b: someBox { ...Y } } fragment X on SomeBox { otherField } fragment Y on SomeBox { otherField: unrelatedField }",
+        "compared 2\n171 and 208\n105 and 125 for 1\n",
+    ),
+    (
+        "{ someBox { ... on NonNullStringBox1 { scalar } ... on StringBox { scalar } } }",
+        "compared 0\n39 and 67\n",
+    ),
+];
+
+fn told(
+    alloc: Global,
+    schema: &SchemaType<DefaultScalarValue>,
+    text: &str,
+) -> Result<String, ReadError> {
+    let document = read_document(alloc, text.as_bytes())?;
+    Ok(found(alloc, schema, shorten(document.as_slice()))?)
+}
+
+#[test]
+fn what_is_found_among_pets(rt: HostRuntime) -> Result<(), Fail> {
+    let schema = of_pets(rt.alloc())?;
+    for (text, want) in PETS {
+        assert_eq!(rt; told(rt.alloc(), &schema, text)?.as_str(), want);
+    }
+    Ok(())
+}
+
+#[test]
+fn what_is_found_among_boxes(rt: HostRuntime) -> Result<(), Fail> {
+    let schema = of_boxes(rt.alloc())?;
+    for (text, want) in BOXES {
+        assert_eq!(rt; told(rt.alloc(), &schema, text)?.as_str(), want);
+    }
+    Ok(())
+}
