@@ -1,13 +1,14 @@
 //! The program's work.
 use crate::failure::Failure;
 use crate::phases::{time_reading, time_walking};
-use crate::schemas::schema_of;
+use crate::schemas::{root_fields, wide_input};
 use document_reader::read_document;
-use samples::build::Checks;
+use samples::build::{Checks, common, object, scalar};
 use samples::checks::{
     check_boolean, check_complex_input, check_dog_command, check_id, check_int, check_pair_input,
     check_string, refuse_token,
 };
+use samples::pets;
 use std::alloc::Global;
 use std::env::{self, Env};
 use std::io::{self, Read};
@@ -57,7 +58,24 @@ fn measure_against<R: CpuClock + AllocGlobal + Print>(
         complex_input: DefaultCheck::new(check_complex_input),
         pair_input: DefaultCheck::new(check_pair_input),
     };
-    let schema = schema_of(rt.alloc(), word, checks)?;
+    let alloc = rt.alloc();
+    let types = if word == "pets" {
+        pets::types(alloc, checks)?
+    } else {
+        let count = word.parse::<usize>().map_err(|_| Failure::Usage)?;
+        let mut types = common(alloc, checks.string, checks.boolean)?;
+        types.push(scalar(alloc, "Int", checks.int)?)?;
+        types.push(wide_input(alloc, count, checks.complex_input)?)?;
+        types.push(object(alloc, "QueryRoot", &[], root_fields(alloc)?)?)?;
+        types
+    };
+    let schema = SchemaType::<DefaultScalarValue>::new(
+        alloc,
+        types,
+        "QueryRoot",
+        "_EmptyMutation",
+        "_EmptySubscription",
+    )?;
     measure_walks(rt, &schema, text, walks)
 }
 

@@ -4,13 +4,14 @@ use crate::judge::judge;
 use crate::lines::Lines;
 use crate::open::numbers_of;
 use crate::report::Report;
-use crate::roots::Roots;
+use crate::roots::{Roots, root_of};
 use crate::vectors::next_vector;
 use samples::build::Checks;
 use samples::checks::{
     check_boolean, check_complex_input, check_dog_command, check_id, check_int, check_pair_input,
     check_string, refuse_token,
 };
+use samples::{boxes, pets};
 use std::alloc::Global;
 use std::collections::BTreeSet;
 use std::env::{self, Env};
@@ -93,7 +94,13 @@ fn judge_files<R: Files + Env + AllocGlobal>(rt: &R, report: &mut Report) -> Res
         complex_input: DefaultCheck::new(check_complex_input),
         pair_input: DefaultCheck::new(check_pair_input),
     };
-    let roots = Roots::new(rt.alloc(), pets, closed_pets, boxes)?;
+    let alloc = rt.alloc();
+    let closed_pets = root_of(alloc, pets::types(alloc, closed_pets)?)?;
+    let roots = Roots {
+        pets: root_of(alloc, pets::types(alloc, pets)?)?,
+        closed_pets: closed_pets.disable_introspection(),
+        boxes: root_of(alloc, boxes::types(alloc, boxes)?)?,
+    };
     let words = words(rt)?;
     judge_named(rt, &roots, words.as_slice(), report)
 }
