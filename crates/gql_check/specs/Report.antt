@@ -1,5 +1,5 @@
 -- What the program writes of a document.
-use Rattle.std.specs.Prelude.{◌≡◌, ◌==◌, ℕ, List, [], ◌∷◌, ◌++◌, Option, if◌then◌else◌, codes, length, IsSorted}
+use Rattle.std.specs.Prelude.{◌≡◌, ◌==◌, ℕ, List, [], ◌∷◌, ◌++◌, Option, Some, None, if◌then◌else◌, codes, length, IsSorted}
 use Rattle.std.specs.Fmt.{decimal}
 use Rattle.std.specs.Io.KnownBytes.{Appends}
 use Rattle.std.specs.List.{flat_map}
@@ -13,14 +13,19 @@ line text = text ++ 10 ∷ []
 abbrev pub error_lines : List ErrorValue → List ℕ
 error_lines errors = flat_map (λ e. line (printed_error e)) errors
 
--- the errors, and then the number of pairs that were compared
-abbrev pub report_text : List ErrorValue → ℕ → List ℕ
-report_text errors pairs = error_lines errors ++ line (codes "compared " ++ decimal pairs)
+-- the number of pairs that were compared, where it is told
+abbrev pub pairs_line : Option ℕ → List ℕ
+pairs_line None = []
+pairs_line (Some pairs) = line (codes "compared " ++ decimal pairs)
+
+-- the errors, and then that number
+abbrev pub report_text : List ErrorValue → Option ℕ → List ℕ
+report_text errors pairs = error_lines errors ++ pairs_line pairs
 
 -- errors in ascending order were written in one report, and the status says whether there are any
 pub record TellsReport (old new : Option (List ℕ)) (status : ℕ) : Type 0 where
   pub errors : List ErrorValue
-  pub pairs : ℕ
+  pub pairs : Option ℕ
   pub sorted : IsSorted error_cmp errors
   pub written : Appends old new (report_text errors pairs)
   pub status_is : status ≡ (if length errors == 0 then 0 else 1)

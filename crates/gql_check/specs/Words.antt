@@ -5,6 +5,8 @@ use Rattle.gql_check.specs.declared.failure.Failure.{Failure}
 use Rattle.gql_check.specs.declared.failure.Failure.TheVariants as f
 use Rattle.gql_check.specs.declared.program.Sample.{Sample}
 use Rattle.gql_check.specs.declared.program.Sample.TheVariants as s
+use Rattle.gql_check.specs.declared.program.Mode.{Mode}
+use Rattle.gql_check.specs.declared.program.Mode.TheVariants as m
 use Rattle.gql_check.specs.declared.program.Task.{Task}
 
 -- the sample schema of the name
@@ -15,22 +17,28 @@ sample_named word =
     else if bytes_eq word (codes "boxes") then Some s.Boxes
     else None
 
--- a document is judged against the sample schema
-abbrev pub open_task : Option Sample → Option Task
-open_task None = None
-open_task (Some sample) = Some (record { sample = sample; closed = false })
+-- what is tried by the word
+abbrev pub mode_named : List ℕ → Option Mode
+mode_named word =
+    if bytes_eq word (codes "merge") then Some m.Merge
+    else if bytes_eq word (codes "closed") then Some m.Closed
+    else None
 
--- and introspection is an error; the demo is not asked for it
-abbrev pub closed_task : Option Sample → Option Task
-closed_task None = None
-closed_task (Some s.Demo) = None
-closed_task (Some s.Pets) = Some (record { sample = s.Pets; closed = true })
-closed_task (Some s.Boxes) = Some (record { sample = s.Boxes; closed = true })
+-- a document is judged by every rule against the sample schema
+abbrev pub plain_task : Option Sample → Option Task
+plain_task None = None
+plain_task (Some sample) = Some (record { sample = sample; mode = m.Plain })
 
--- one word asks for the sample schema of its name, two for that without introspection, and nothing else asks for any
+-- or by what a second word says; the demo is asked for every rule alone
+abbrev pub other_task : Option Sample → Option Mode → Option Task
+other_task (Some s.Pets) (Some mode) = Some (record { sample = s.Pets; mode = mode })
+other_task (Some s.Boxes) (Some mode) = Some (record { sample = s.Boxes; mode = mode })
+other_task _ _ = None
+
+-- one word asks for the sample schema of its name, two for that and something else than every rule, and nothing else asks for any
 abbrev pub task_asked : List (List ℕ) → Option Task
-task_asked (word ∷ []) = open_task (sample_named word)
-task_asked (word ∷ mode ∷ []) = if bytes_eq mode (codes "closed") then closed_task (sample_named word) else None
+task_asked (word ∷ []) = plain_task (sample_named word)
+task_asked (word ∷ mode ∷ []) = other_task (sample_named word) (mode_named mode)
 task_asked _ = None
 
 -- whether the input is read: the demo has its document, and other words ask for none

@@ -4,18 +4,18 @@ use std::alloc::Global;
 use std::test::Fail;
 
 /// A run of the program.
-struct Row {
-    name: &'static str,
+pub struct Row {
+    pub name: &'static str,
     /// The words, with a blank between each two.
-    words: &'static str,
-    input: &'static [u8],
-    output: &'static str,
-    faults: &'static str,
-    status: u8,
+    pub words: &'static str,
+    pub input: &'static [u8],
+    pub output: &'static str,
+    pub faults: &'static str,
+    pub status: u8,
 }
 
 /// What the words ask for.
-const WORDS: [Row; 8] = [
+const WORDS: [Row; 7] = [
     Row {
         name: "the demo",
         words: "demo",
@@ -44,14 +44,6 @@ const WORDS: [Row; 8] = [
         name: "a word too many",
         words: "demo demo",
         input: b"",
-        output: "",
-        faults: "check: usage: check demo or check <pets, boxes> [merge, closed]\n",
-        status: 4,
-    },
-    Row {
-        name: "merge is not there yet",
-        words: "pets merge",
-        input: b"{ dog { name } }",
         output: "",
         faults: "check: usage: check demo or check <pets, boxes> [merge, closed]\n",
         status: 4,
@@ -843,7 +835,7 @@ const NAMES: [Row; 16] = [
 ];
 
 /// The words as the program is given them.
-fn owned_words(alloc: Global, words: &str) -> Result<Vec<String>, Fail> {
+pub fn owned_words(alloc: Global, words: &str) -> Result<Vec<String>, Fail> {
     let mut owned = Vec::new(alloc);
     for word in words.split(' ') {
         if !word.is_empty() {
@@ -872,7 +864,7 @@ fn is_as_said(alloc: Global, row: &Row) -> Result<bool, Fail> {
 }
 
 /// The name of the first row of a table that isn't as it says.
-fn first_wrong(alloc: Global, rows: &[Row]) -> Result<Option<&'static str>, Fail> {
+pub fn first_wrong(alloc: Global, rows: &[Row]) -> Result<Option<&'static str>, Fail> {
     for row in rows {
         if !is_as_said(alloc, row)? {
             return Ok(Some(row.name));

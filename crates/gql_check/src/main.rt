@@ -6,6 +6,8 @@ mod bench;
 #[cfg(test)]
 mod broken;
 mod failure;
+#[cfg(test)]
+mod merge_bench;
 mod program;
 mod report;
 

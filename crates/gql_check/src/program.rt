@@ -5,7 +5,7 @@ ghost use Rattle.gql_check.specs.Failures.{TellsFailure};
 ghost use Rattle.gql_check.specs.Report.{TellsReport};
 ghost use Rattle.gql_check.specs.Statuses.{status_of};
 ghost use Rattle.gql_check.specs.Told.{IsReport};
-ghost use Rattle.gql_check.specs.Words.{closed_task, is_read, is_usage, open_task, reads_input, sample_named, task_asked};
+ghost use Rattle.gql_check.specs.Words.{is_read, is_usage, mode_named, other_task, plain_task, reads_input, sample_named, task_asked};
 
 use crate::failure::Failure;
 use crate::report::Report;
@@ -30,18 +30,26 @@ enum Sample {
     Boxes,
 }
 
-/// What the words ask for: a document is judged against a sample schema, and introspection is an error if it is closed.
+/// What is tried: every rule, that on fields that can be merged alone, or every rule where introspection is an error.
+#[derive(Clone, Copy, Debug, PartialEq, Eq)]
+enum Mode {
+    Plain,
+    Merge,
+    Closed,
+}
+
+/// What the words ask for: a document is judged against a sample schema.
 #[derive(Clone, Copy, Debug, PartialEq, Eq)]
 struct Task {
     sample: Sample,
-    closed: bool,
+    mode: Mode,
 }
 
 /// Does what the words ask for, and answers the status to end with. The words are those after the program's own name.
 ///
-/// `demo` reads nothing; `pets` and `boxes` read the input to its end, as a document, and with `closed` behind them introspection
-/// is an error. What is told of a document goes to
-/// `output`, in one piece; why there is nothing to tell goes to `faults`, as one line.
+/// `demo` reads nothing; `pets` and `boxes` read the input to its end, as a document. With `merge` behind them only the rule on fields
+/// that can be merged is tried, and with `closed` introspection is an error. What is told of a document goes to `output`, in one
+/// piece; why there is nothing to tell goes to `faults`, as one line.
 ///
 /// - 0: the document has no error;
 /// - 1: it has errors;
@@ -137,41 +145,49 @@ fn task_of(words: &[String]) -> Option<Task>
     ensures { result ≡ task_asked (map string_bytes words.now) }
 {
     match words {
-        [word] => open_task(sample_named(word.as_str())),
-        [word, mode] => if mode.as_str() == "closed" {
-            closed_task(sample_named(word.as_str()))
-        } else {
-            None
-        },
+        [word] => plain_task(sample_named(word.as_str())),
+        [word, mode] => other_task(sample_named(word.as_str()), mode_named(mode.as_str())),
         _ => None,
     }
 }
 
-fn open_task(sample: Option<Sample>) -> Option<Task>
-    ensures { result ≡ open_task sample }
+fn plain_task(sample: Option<Sample>) -> Option<Task>
+    ensures { result ≡ plain_task sample }
 {
     match sample {
         Some(sample) => Some(Task {
             sample,
-            closed: false,
+            mode: Mode::Plain,
         }),
         None => None,
     }
 }
 
-fn closed_task(sample: Option<Sample>) -> Option<Task>
-    ensures { result ≡ closed_task sample }
+fn other_task(sample: Option<Sample>, mode: Option<Mode>) -> Option<Task>
+    ensures { result ≡ other_task sample mode }
 {
-    match sample {
-        Some(Sample::Pets) => Some(Task {
+    match (sample, mode) {
+        (Some(Sample::Pets), Some(mode)) => Some(Task {
             sample: Sample::Pets,
-            closed: true,
+            mode,
         }),
-        Some(Sample::Boxes) => Some(Task {
+        (Some(Sample::Boxes), Some(mode)) => Some(Task {
             sample: Sample::Boxes,
-            closed: true,
+            mode,
         }),
-        Some(Sample::Demo) | None => None,
+        _ => None,
+    }
+}
+
+fn mode_named(word: &str) -> Option<Mode>
+    ensures { result ≡ mode_named word.now }
+{
+    if word == "merge" {
+        Some(Mode::Merge)
+    } else if word == "closed" {
+        Some(Mode::Closed)
+    } else {
+        None
     }
 }
 
@@ -216,7 +232,7 @@ fn check(alloc: Global, task: Task, text: Vec<u8>) -> Result<Report, Failure>
         "_EmptySubscription",
     )?;
     match document_for(alloc, task.sample, text.as_slice()) {
-        Ok(document) => report_of(alloc, &schema, document.as_slice(), task.closed),
+        Ok(document) => report_of(alloc, &schema, document.as_slice(), task.mode),
         Err(failure) => Err(failure),
     }
 }
@@ -225,12 +241,17 @@ fn report_of<'a>(
     alloc: Global,
     schema: &'a SchemaType<DefaultScalarValue>,
     document: &'a [Definition<'_, DefaultScalarValue>],
-    closed: bool,
+    mode: Mode,
 ) -> Result<Report, Failure>
     ensures report { IfOk result IsReport }
     ensures other { IfErr result (λ e. is_usage e ≡ false) }
 {
-    Ok(Report::on(alloc, schema, document, closed)?)
+    let report = match mode {
+        Mode::Plain => Report::on(alloc, schema, document, false)?,
+        Mode::Merge => Report::on_merging(alloc, schema, document)?,
+        Mode::Closed => Report::on(alloc, schema, document, true)?,
+    };
+    Ok(report)
 }
 
 fn document_for(

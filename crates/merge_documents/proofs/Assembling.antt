@@ -1,5 +1,5 @@
 -- How a document's sets are put together.
-use Rattle.std.proofs.Common.{◌≡◌, ◌<◌, ◌≤◌, ◌+◌, ℕ, List, [], ◌∷◌, length, get_or, Option, Some, None, true, cond, slice_get, zero, suc, refl, sym, ap, subst, ◌∙◌, inl, inr, arith}
+use Rattle.std.proofs.Common.{◌≡◌, ◌<◌, ◌≤◌, ◌+◌, ℕ, List, [], ◌∷◌, length, map, get_or, Option, Some, None, true, cond, slice_get, zero, suc, refl, sym, ap, subst, ◌∙◌, inl, inr, arith}
 use Rattle.std.specs.List.{Contains, flat_map}
 use Rattle.std.specs.declared.vec.Vec.{Vec}
 use Rattle.std.specs.declared.alloc.Global.{Global}
@@ -10,6 +10,7 @@ use Rattle.std.proofs.lemmas.Option.{slice_get_within, slice_get-get_or}
 use Rattle.language.specs.declared.tree.Definition.{Definition}
 use Rattle.language.specs.declared.tree.Definition.TheVariants as definition
 use Rattle.schema.specs.Catalog.{Catalog}
+use Rattle.field_pairs.specs.Entries.{plain}
 use Rattle.fragment_cycles.specs.declared.cycles.DocumentCycles.{DocumentCycles}
 use Rattle.fragment_cycles.specs.DocumentCycles.{NameSpreads}
 use Rattle.fragment_cycles.specs.Numbers.{IsNamed}
@@ -27,8 +28,9 @@ use Rattle.merge_documents.specs.Building.{rank_in, IsSetOfDefinition, AddsDefin
 use Rattle.merge_documents.specs.TableGraph.{IsWhole, IsGraphOfTable}
 use Rattle.merge_documents.specs.DocumentGraph.{IsGraphOf}
 use Rattle.merge_documents.specs.Assembly.{AreRanked, KnowsAll, AreInPlaces, HasSetAt, AddsMissing, AddsOthers, IsComplete}
-use Rattle.merge_documents.proofs.Renumbering.{AgreeOn, set_more}
+use Rattle.merge_documents.proofs.Renumbering.{AgreeOn, in_flat, set_more}
 use Rattle.merge_documents.proofs.Growing.{among_append, built_definition, is_set, extends}
+use Rattle.merge_documents.proofs.Few.{few_numbers}
 use Rattle.merge_documents.proofs.Lasts.{last_inside}
 use Rattle.merge_documents.proofs.Naming.{built_fragment}
 use Rattle.merge_documents.proofs.Ranks.{rank_defined, defined_rank, rank_single, rank_falls}
@@ -38,11 +40,6 @@ agree_by : (o p : Option ℕ) → ((g : ℕ) → o ≡ Some g → p ≡ Some g) 
 agree_by None None to back = refl
 agree_by None (Some g) to back = absurd (none_some g (back g refl))
 agree_by (Some g) p to back = sym (to g refl)
-
-in_flat : {X Y : Type 0} (f : X → List Y) (xs : List X) (k : ℕ) (x : X) (y : Y) → slice_get xs k ≡ Some x → Contains (f x) y → Contains (flat_map f xs) y
-in_flat f [] k x y h c = absurd (none_some x h)
-in_flat f (z ∷ xs) zero x y h c = Contains-append_left (f z) (flat_map f xs) y (subst (λ w. Contains (f w) y) (sym (same_some z x h)) c)
-in_flat f (z ∷ xs) (suc k) x y h c = Contains-append_right (f z) (flat_map f xs) y (in_flat f xs k x y h c)
 
 pub among_all : (os : List (Vec ℕ Global)) (p : ℕ) (o : Vec ℕ Global) (k : ℕ) → slice_get os p ≡ Some o → is_among o.items k ≡ true → is_among (flat_map (λ o. o.items) os) k ≡ true
 among_all [] p o k h i = absurd (none_some o h)
@@ -81,6 +78,9 @@ module _ {S C : Type 0} where
         whole = λ k l. let none = ap length h.sets in absurd (omega (arith, l, none));
         added = λ p o d at some there. absurd (some (h.orders p o at));
         fragments = λ name g k l. absurd (no_fragment g l);
+        named = λ g l. absurd (no_fragment g l);
+        sets_from = λ k l. let none = ap length h.sets in absurd (omega (arith, l, none));
+        fields_from = λ k a at. absurd (none_some a (subst (λ fs. slice_get (map plain fs) k ≡ Some a) h.fields at));
       }
 
   pub agree_next : (schema : Catalog S C) (document : List (Definition S)) (c : DocumentCycles) (b : Building S C) (name : List ℕ) (place : ℕ) (last : IsLast document name place)
@@ -163,4 +163,5 @@ module _ {S C : Type 0} where
     single = rank_single document c ranked.searched;
     fragments = λ name f h. done.built.fragments name f h (done.all name f h);
     definitions = done.has;
+    origins = record { sets = done.built.sets_from; fields = done.built.fields_from; few = few_numbers document c ranked.searched b.fragments.items done.built.named };
   }

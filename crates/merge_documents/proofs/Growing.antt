@@ -1,5 +1,6 @@
 -- What was built stays right where a definition's set is added.
-use Rattle.std.proofs.Common.{◌≡◌, ◌<◌, ◌≤◌, ◌==◌, ℕ, List, [], ◌++◌, length, get_or, Option, Some, true, slice_get, length-set, sym, ap, subst, ◌∙◌, inl, inr, ◌⊎◌, arith}
+use Rattle.std.proofs.Common.{◌≡◌, ◌<◌, ◌≤◌, ◌==◌, ℕ, List, [], ◌++◌, length, map, get_or, Option, Some, true, slice_get, length-set, sym, ap, subst, ◌∙◌, inl, inr, ◌⊎◌, arith}
+use Rattle.std.specs.List.{Contains}
 use Rattle.std.specs.declared.vec.Vec.{Vec}
 use Rattle.std.specs.declared.alloc.Global.{Global}
 use Rattle.std.proofs.lemmas.Option.{slice_get_within}
@@ -7,20 +8,30 @@ use Rattle.std.proofs.lemmas.Bool.{cases_order, cases_eq, or_left, or_right}
 use Rattle.std.proofs.lemmas.List.Folds.{list_any-append}
 use Rattle.language.specs.declared.tree.Definition.{Definition}
 use Rattle.schema.specs.Catalog.{Catalog}
+use Rattle.field_pairs.specs.Entries.{PlainEntry, plain}
 use Rattle.fragment_cycles.specs.Spreads.{placed_spreads_of_all}
-use Rattle.fragment_cycles.proofs.Lists.{same_some, set_same, set_other}
+use Rattle.fragment_cycles.proofs.Lists.{same_some, set_same, set_other, contains_at}
 use Rattle.numbered_sets.specs.Names.{Names, number_in, AreApart}
 use Rattle.numbered_sets.specs.Once.{is_among}
 use Rattle.numbered_sets.specs.Table.{Numbered, numbered, Extends, Falling}
+use Rattle.numbered_sets.specs.Represents.{IsSetOf}
 use Rattle.numbered_sets.specs.Adding.{AreWithin}
+use Rattle.numbered_sets.proofs.Origins.{kept_field}
 use Rattle.merge_documents.specs.declared.building.Building.{Building}
 use Rattle.merge_documents.specs.Definitions.{type_round, selections_of}
-use Rattle.merge_documents.specs.Building.{IsSetOfDefinition, IsFragment, AddsDefinition, Built}
-use Rattle.merge_documents.proofs.Renumbering.{AgreeOn, set_renumbered, set_more}
+use Rattle.merge_documents.specs.SetsIn.{IsFieldIn}
+use Rattle.merge_documents.specs.Building.{IsSetOfDefinition, IsFragment, HasOrigin, AddsDefinition, Built}
+use Rattle.merge_documents.proofs.Renumbering.{AgreeOn, set_renumbered, set_more, spreads_inside}
 
 pub among_append : (xs ys : List ℕ) (k : ℕ) → (is_among xs k ≡ true) ⊎ (is_among ys k ≡ true) → is_among (xs ++ ys) k ≡ true
 among_append xs ys k (inl h) = list_any-append (λ y. y == k) xs ys ∙ or_left (is_among xs k) (is_among ys k) h
 among_append xs ys k (inr h) = list_any-append (λ y. y == k) xs ys ∙ or_right (is_among xs k) (is_among ys k) h
+
+less_or : (m n : ℕ) → (m < n) ⊎ (n ≤ m)
+less_or m n = elim (cases_order m n) [
+  | inl eq ↦ inr (omega (arith, eq))
+  | inr o ↦ elim o [ inl lt ↦ inl lt | inr gt ↦ inr (omega (arith, gt)) ]
+]
 
 module _ {S C : Type 0} (schema : Catalog S C) (document : List (Definition S)) (numbers : List ℕ → Option ℕ) where
   pub fragment_more : (m m' : Numbered S C) (fragments : List ℕ) (name : List ℕ) (g : ℕ) → Extends m m' → IsFragment schema document numbers m fragments name g → IsFragment schema document numbers m' fragments name g
@@ -109,6 +120,26 @@ module _ {S C : Type 0} (schema : Catalog S C) (document : List (Definition S)) 
             (s.0, set_more schema numbers (numbered b.table) (numbered b'.table) s.0 (type_round schema x) (selections_of x) extends s.1)
       ]
 
+      stands : Contains document d
+      stands = contains_at document place d at
+
+      sets_from : (k : ℕ) → k < length b'.table.sets.items → HasOrigin schema document numbers (numbered b'.table) k
+      sets_from k l = elim (less_or k (length b.table.sets.items)) [
+        | inl lt ↦ (let (q, inner, i, is) = built.sets_from k lt in (q, inner, i, set_more schema numbers (numbered b.table) (numbered b'.table) k q inner extends is))
+        | inr low ↦
+            (let (q, inner, i, is) = a.adds.from.sets k low (subst (λ ss. k < length ss) sets_are l) in
+            (q, inner, (d, stands, i), subst (λ m. IsSetOf schema numbers m k q inner) (sym a.notes.same)
+            (set_renumbered schema (number_in b.names) numbers (numbered a.grown) k q inner is (λ x c. agree x (spreads_inside schema i x c)))))
+      ]
+
+      fields_from : (k : ℕ) (x : PlainEntry S C) → slice_get (map plain b'.table.fields.items) k ≡ Some x → IsFieldIn schema document x
+      fields_from k x h =
+          let now : slice_get (map plain a.grown.fields.items) k ≡ Some x = subst (λ (m : Numbered S C). slice_get m.fields k ≡ Some x) a.notes.same h in
+          elim (less_or k (length b.table.fields.items)) [
+            | inl lt ↦ built.fields_from k x (kept_field b.table a.grown a.adds.keeps.extends k x lt now)
+            | inr low ↦ (let f = a.adds.from.fields k x low now in (f.type, f.inner, (d, stands, f.inside), f.stands, f.is))
+          ]
+
       pub built_definition : Built schema document numbers b'
       built_definition = record {
         apart = subst AreApart (sym (ap (λ (m : Numbered S C). m.responses) a.notes.same)) (a.adds.keeps.apart built.apart);
@@ -130,4 +161,7 @@ module _ {S C : Type 0} (schema : Catalog S C) (document : List (Definition S)) 
         fragments = λ name g h l.
             subst (λ (fs : List ℕ). IsFragment schema document numbers (numbered b'.table) fs name g) (sym fragments_are)
             (fragment_more (numbered b.table) (numbered b'.table) b.fragments.items name g extends (built.fragments name g h (subst (λ (fs : List ℕ). g < length fs) fragments_are l)));
+        named = λ g l. built.named g (subst (λ (fs : List ℕ). g < length fs) fragments_are l);
+        sets_from = sets_from;
+        fields_from = fields_from;
       }

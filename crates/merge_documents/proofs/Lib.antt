@@ -4,5 +4,6 @@ pub mod Lasts
 pub mod Renumbering
 pub mod Growing
 pub mod Ranks
+pub mod Few
 pub mod Naming
 pub mod Assembling

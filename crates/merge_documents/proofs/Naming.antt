@@ -116,6 +116,12 @@ module _ {S C : Type 0} (schema : Catalog S C) (document : List (Definition S)) 
         (middle_built.fragments q g h (subst (λ (fs : List ℕ). g < length fs) (sym same_fragments) lt)))
   ]
 
+  named_then : (g : ℕ) → g < length (b.fragments.items ++ a.set ∷ []) → (q : List ℕ) × (numbers q ≡ Some g)
+  named_then g l = elim (last_or_below b.fragments.items a.set g l) [
+    | inl eq ↦ (name, rank ∙ ap (λ (k : ℕ). Some k) (sym eq))
+    | inr lt ↦ built.named g lt
+  ]
+
   pub fragment_pushed : b'.fragments.items ≡ b.fragments.items ++ a.set ∷ []
   fragment_pushed = ap (λ (z : Building S C). z.fragments.items) a.is ∙ a.pushed
 
@@ -136,6 +142,9 @@ module _ {S C : Type 0} (schema : Catalog S C) (document : List (Definition S)) 
     whole = middle_built.whole;
     added = middle_built.added;
     fragments = subst (λ (fs : List ℕ). (q : List ℕ) (g : ℕ) → numbers q ≡ Some g → g < length fs → IsFragment schema document numbers (numbered a.middle.table) fs q g) (sym a.pushed) fragments_then;
+    named = subst (λ (fs : List ℕ). (g : ℕ) → g < length fs → (q : List ℕ) × (numbers q ≡ Some g)) (sym a.pushed) named_then;
+    sets_from = middle_built.sets_from;
+    fields_from = middle_built.fields_from;
   }
 
   pub built_fragment : Built schema document numbers b'

@@ -17,7 +17,7 @@ then_some f (Some x) y h = (x, refl, h)
 
 module _ {S : Type 0} (document : List (Definition S)) (c : DocumentCycles) (s : SearchedDocument document c) where
   -- the fragment's number in the search
-  rank_split : (name : List ℕ) (g : ℕ) → rank_in c name ≡ Some g → (v : ℕ) × (number_of c.graph.numbers name ≡ Some v) × (slice_get c.outcome.ranks.items v ≡ Some g)
+  pub rank_split : (name : List ℕ) (g : ℕ) → rank_in c name ≡ Some g → (v : ℕ) × (number_of c.graph.numbers name ≡ Some v) × (slice_get c.outcome.ranks.items v ≡ Some g)
   rank_split name g h = then_some (λ v. slice_get c.outcome.ranks.items v) (number_of c.graph.numbers name) g h
 
   rank_joined : (name : List ℕ) (v g : ℕ) → number_of c.graph.numbers name ≡ Some v → slice_get c.outcome.ranks.items v ≡ Some g → rank_in c name ≡ Some g

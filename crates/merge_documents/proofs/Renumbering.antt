@@ -1,6 +1,6 @@
 -- A set is the same under other numbers, where they agree on the names that it spreads.
-use Rattle.std.proofs.Common.{◌≡◌, ℕ, List, [], ◌∷◌, ◌++◌, Option, sym, subst, ◌∙◌, append-nil, refl}
-use Rattle.std.specs.List.{Contains}
+use Rattle.std.proofs.Common.{◌≡◌, ℕ, zero, suc, List, [], ◌∷◌, ◌++◌, Option, Some, slice_get, sym, subst, ◌∙◌, append-nil, refl}
+use Rattle.std.specs.List.{Contains, flat_map}
 use Rattle.std.proofs.lemmas.List.Elements.{Contains-append_left, Contains-append_right}
 use Rattle.std.proofs.lemmas.Grind.{flat_map-append}
 use Rattle.language.specs.declared.tree.Selection.{Selection}
@@ -9,13 +9,19 @@ use Rattle.language.specs.declared.tree.FragmentSpread.{FragmentSpread}
 use Rattle.meta.specs.declared.kinds.MetaTypeOf.{MetaTypeOf}
 use Rattle.schema.specs.Catalog.{Catalog}
 use Rattle.fragment_cycles.specs.Spreads.{PlacedSpread, PlacedSpreads, placed_spreads_of, placed_spreads_of_all}
-use Rattle.fragment_cycles.proofs.Lists.{one_contains}
+use Rattle.fragment_cycles.proofs.Lists.{one_contains, none_some, same_some, contains_get}
 use Rattle.fragment_cycles.proofs.Placed.{placed-Field, placed-Spread, placed-Inline}
 use Rattle.field_pairs.specs.OwnFields.{Placed}
 use Rattle.numbered_sets.specs.declared.table.OwnField.{OwnField}
 use Rattle.numbered_sets.specs.Table.{Numbered, Extends}
 use Rattle.numbered_sets.specs.Represents.{Represents, nothing, join, leaf, field, spread, unknown, inline, IsSetOf}
+use Rattle.numbered_sets.specs.Inside.{IsInside, itself, below_field, of_inline}
 use Rattle.numbered_sets.proofs.Representing.{represents_more}
+
+pub in_flat : {X Y : Type 0} (f : X → List Y) (xs : List X) (k : ℕ) (x : X) (y : Y) → slice_get xs k ≡ Some x → Contains (f x) y → Contains (flat_map f xs) y
+in_flat f [] k x y h c = absurd (none_some x h)
+in_flat f (z ∷ xs) zero x y h c = Contains-append_left (f z) (flat_map f xs) y (subst (λ w. Contains (f w) y) (sym (same_some z x h)) c)
+in_flat f (z ∷ xs) (suc k) x y h c = Contains-append_right (f z) (flat_map f xs) y (in_flat f xs k x y h c)
 
 -- They give each name that is spread the same number.
 abbrev pub AgreeOn : (List ℕ → Option ℕ) → (List ℕ → Option ℕ) → PlacedSpreads → Type 0
@@ -56,3 +62,14 @@ module _ {S C : Type 0} (schema : Catalog S C) (old new : List ℕ → Option �
 module _ {S C : Type 0} (schema : Catalog S C) (numbers : List ℕ → Option ℕ) where
   pub set_more : (m m' : Numbered S C) (n : ℕ) (p : Option (MetaTypeOf S C)) (set : List (Selection S)) → Extends m m' → IsSetOf schema numbers m n p set → IsSetOf schema numbers m' n p set
   set_more m m' n p set e is = record { row = is.row; to = is.to; stored = e.sets n is.row is.stored; once = is.once; represents = represents_more schema numbers e is.represents }
+
+-- what a set inside spreads is spread at some depth
+pub spreads_inside : {S C : Type 0} (schema : Catalog S C) {p : Option (MetaTypeOf S C)} {set : List (Selection S)} {q : Option (MetaTypeOf S C)} {inner : List (Selection S)}
+    → IsInside schema p set q inner → (x : PlacedSpread) → Contains (placed_spreads_of_all inner) x → Contains (placed_spreads_of_all set) x
+spreads_inside schema itself x c = c
+spreads_inside schema (below_field {inner = inner} f w i at some) x c =
+    let k = contains_get inner (selection.Field f) at in
+    spreads_inside schema i x (in_flat placed_spreads_of inner k.0 (selection.Field f) x k.1 (subst (λ zs. Contains zs x) (sym (placed-Field (selection.Field f) f w refl some)) c))
+spreads_inside schema (of_inline {inner = inner} f i at) x c =
+    let k = contains_get inner (selection.InlineFragment f) at in
+    spreads_inside schema i x (in_flat placed_spreads_of inner k.0 (selection.InlineFragment f) x k.1 (subst (λ zs. Contains zs x) (sym (placed-Inline (selection.InlineFragment f) f refl)) c))

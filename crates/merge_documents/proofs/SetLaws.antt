@@ -40,10 +40,10 @@ module _ (nodes : List SetNode) (rows : List NumberedSet) (same : map plain_node
   same_at : (s : ℕ) → option_map plain_node (slice_get nodes s) ≡ option_map plain_row (slice_get rows s)
   same_at s = sym (slice_get-map plain_node nodes s) ∙ ap (λ xs. slice_get xs s) same ∙ slice_get-map plain_row rows s
 
-  own_same : (s : ℕ) → searched.own_at nodes s ≡ map entry_of (own_at rows s)
+  pub own_same : (s : ℕ) → searched.own_at nodes s ≡ map entry_of (own_at rows s)
   own_same s = node_own (slice_get nodes s) ∙ ap (λ o. option_map_or (λ (x : PlainSet). x.own) o []) (same_at s) ∙ row_own (slice_get rows s)
 
-  spreads_same : (s : ℕ) → searched.spreads_at nodes s ≡ spreads_at rows s
+  pub spreads_same : (s : ℕ) → searched.spreads_at nodes s ≡ spreads_at rows s
   spreads_same s = node_spreads (slice_get nodes s) ∙ ap (λ o. option_map_or (λ (x : PlainSet). x.spreads) o []) (same_at s) ∙ row_spreads (slice_get rows s)
 
   as_many : length nodes ≡ length rows

@@ -1,10 +1,13 @@
 -- How the sets of a document are added, definition by definition.
-use Rattle.std.specs.Prelude.{◌≡◌, ◌<◌, ℕ, List, [], ◌∷◌, ◌++◌, Option, Some, None, length, get_or, slice_get, slice_set, true, if◌then◌else◌, option_and_then}
+use Rattle.std.specs.Prelude.{◌≡◌, ◌<◌, ℕ, List, [], ◌∷◌, ◌++◌, map, Option, Some, None, length, get_or, slice_get, slice_set, true, if◌then◌else◌, option_and_then}
 use Rattle.std.specs.Str.{bytes_eq}
 use Rattle.std.specs.declared.vec.Vec.{Vec}
 use Rattle.std.specs.declared.alloc.Global.{Global}
 use Rattle.language.specs.declared.tree.Definition.{Definition}
+use Rattle.language.specs.declared.tree.Selection.{Selection}
+use Rattle.meta.specs.declared.kinds.MetaTypeOf.{MetaTypeOf}
 use Rattle.schema.specs.Catalog.{Catalog}
+use Rattle.field_pairs.specs.Entries.{PlainEntry, plain}
 use Rattle.fragment_cycles.specs.declared.cycles.DocumentCycles.{DocumentCycles}
 use Rattle.fragment_cycles.specs.Numbers.{number_of}
 use Rattle.numbered_sets.specs.declared.table.Table.{Table}
@@ -14,6 +17,7 @@ use Rattle.numbered_sets.specs.Table.{Numbered, numbered, Falling}
 use Rattle.numbered_sets.specs.Represents.{IsSetOf}
 use Rattle.numbered_sets.specs.Adding.{AddsSet}
 use Rattle.merge_documents.specs.declared.building.Building.{Building}
+use Rattle.merge_documents.specs.SetsIn.{IsSetIn, IsFieldIn}
 use Rattle.merge_documents.specs.Definitions.{type_round, selections_of, IsLast}
 
 -- The number of a fragment: its place in the order in which the search for cycles finished the fragments.
@@ -66,11 +70,16 @@ module _ {S C : Type 0} where
   pub record IsNothing (count : ℕ) (b : Building S C) : Type 0 where
     pub apart : AreApart b.table.responses
     pub order : b.table.order.items ≡ []
+    pub fields : b.table.fields.items ≡ []
     pub sets : b.table.sets.items ≡ []
     pub fragments : b.fragments.items ≡ []
     pub names : (q : List ℕ) → number_in b.names q ≡ None
     pub sized : length b.orders.items ≡ count
     pub orders : (p : ℕ) (o : Vec ℕ Global) → slice_get b.orders.items p ≡ Some o → o.items ≡ []
+
+  -- The set of the number is that of one of the document, under the type round it.
+  abbrev pub HasOrigin : Catalog S C → List (Definition S) → (List ℕ → Option ℕ) → Numbered S C → ℕ → Type 0
+  HasOrigin schema document numbers m k = (p : Option (MetaTypeOf S C)) × (set : List (Selection S)) × IsSetIn schema document p set × IsSetOf schema numbers m k p set
 
   -- What was added is right: each set stands at some place, each place with sets has its definition's, and the fragments
   -- that are there have their numbers and their sets.
@@ -86,3 +95,8 @@ module _ {S C : Type 0} where
     pub added : (p : ℕ) (o : Vec ℕ Global) (d : Definition S) → slice_get b.orders.items p ≡ Some o → (o.items ≡ [] → ⊥) → slice_get document p ≡ Some d
         → (s : ℕ) × IsSetOfDefinition schema numbers (numbered b.table) s d
     pub fragments : (name : List ℕ) (g : ℕ) → numbers name ≡ Some g → g < length b.fragments.items → IsFragment schema document numbers (numbered b.table) b.fragments.items name g
+    -- each number of a fragment is that of a name
+    pub named : (g : ℕ) → g < length b.fragments.items → (name : List ℕ) × (numbers name ≡ Some g)
+    -- where the sets and fields come from
+    pub sets_from : (k : ℕ) → k < length b.table.sets.items → HasOrigin schema document numbers (numbered b.table) k
+    pub fields_from : (k : ℕ) (a : PlainEntry S C) → slice_get (map plain b.table.fields.items) k ≡ Some a → IsFieldIn schema document a

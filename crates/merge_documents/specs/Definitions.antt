@@ -1,5 +1,6 @@
 -- The definitions of a document: the set of each, the type round it, and the last of a name.
-use Rattle.std.specs.Prelude.{◌≡◌, ◌≤◌, ℕ, List, Option, Some, None, slice_get, if◌then◌else◌}
+use Rattle.std.specs.Prelude.{◌≡◌, ◌≤◌, ℕ, List, length, Bool, true, false, Option, Some, None, slice_get, if◌then◌else◌}
+use Rattle.std.specs.List.{filter}
 use Rattle.std.specs.Str.{bytes_eq}
 use Rattle.language.specs.declared.tree.Selection.{Selection}
 use Rattle.language.specs.declared.tree.OperationType.{OperationType}
@@ -27,6 +28,14 @@ module _ {S : Type 0} where
   abbrev pub selections_of : Definition S → List (Selection S)
   selections_of (definition.Operation o) = o.item.selection_set.items
   selections_of (definition.Fragment f) = f.item.selection_set.items
+
+  abbrev pub is_fragment : Definition S → Bool
+  is_fragment (definition.Operation o) = false
+  is_fragment (definition.Fragment f) = true
+
+  -- how many definitions of fragments there are
+  abbrev pub fragment_count : List (Definition S) → ℕ
+  fragment_count document = length (filter is_fragment document)
 
   -- The last definition of a fragment stands at the place.
   pub record IsLast (document : List (Definition S)) (name : List ℕ) (place : ℕ) : Type 0 where

@@ -1,11 +1,11 @@
 -- What each step adds, put together.
-use Rattle.std.proofs.Common.{◌≡◌, ℕ, suc, ◌+◌, ◌<◌, ◌≤◌, List, [], ◌∷◌, ◌++◌, length, take, get_or, Option, Some, None, slice_get, sym, ap, subst, ◌∙◌, arith, inl, inr, ◌==◌, append_assoc, append-nil, length-append}
-use Rattle.std.specs.List.{All}
+use Rattle.std.proofs.Common.{◌≡◌, ℕ, suc, ◌+◌, ◌<◌, ◌≤◌, List, [], ◌∷◌, ◌++◌, length, take, get_or, Option, Some, None, slice_get, refl, sym, ap, subst, ◌∙◌, arith, inl, inr, ◌==◌, append_assoc, append-nil, length-append}
+use Rattle.std.specs.List.{All, Contains}
 use Rattle.std.specs.Option.{option_map_or}
 use Rattle.std.specs.declared.vec.Vec.{Vec}
 use Rattle.std.specs.declared.alloc.Global.{Global}
 use Rattle.std.proofs.lemmas.List.{take_all}
-use Rattle.std.proofs.lemmas.List.Elements.{All-append, All-weaker, All-nil, All-cons}
+use Rattle.std.proofs.lemmas.List.Elements.{All-append, All-weaker, All-nil, All-cons, Contains-append_left, Contains-append_right, Contains-push}
 use Rattle.std.proofs.lemmas.List.Folds.{list_any-append}
 use Rattle.std.proofs.lemmas.Option.{slice_get_past, slice_get_within}
 use Rattle.std.proofs.lemmas.Bool.{cases_order, or_left, or_right}
@@ -27,7 +27,9 @@ use Rattle.numbered_sets.specs.Represents.{Represents, nothing, join, leaf, fiel
 use Rattle.numbered_sets.specs.Adding.{AreWithin, AddsSpread, TakesOver, PushesField, AddsOrder, Keeps, Adds, AddsSet}
 use Rattle.numbered_sets.proofs.Lists.{get_front, get_last, same_some}
 use Rattle.numbered_sets.proofs.OnceLaws.{next_take}
+use Rattle.numbered_sets.specs.Inside.{IsInside, below_field, of_inline}
 use Rattle.numbered_sets.proofs.Representing.{extends_self, extends_then, represents_more}
+use Rattle.numbered_sets.proofs.Origins.{comes_none, comes_then, comes_pushed, comes_inside}
 
 abbrev pub Low : ℕ → OwnField → Type 0
 Low n a = height a ≤ n
@@ -101,6 +103,7 @@ module _ {S C : Type 0} (schema : Catalog S C) (numbers : List ℕ → Option �
     represents = nothing;
     below = All-nil (Low (length t.sets.items));
     within = λ fragments bound w. All-nil (IsWithin fragments bound);
+    from = λ p0 set0 whole i sub. comes_none schema numbers p0 set0 t t refl refl;
     keeps = keeps_self t;
   }
 
@@ -113,6 +116,8 @@ module _ {S C : Type 0} (schema : Catalog S C) (numbers : List ℕ → Option �
     represents = join (represents_more schema numbers e.keeps.extends d.represents) e.represents;
     below = All-append (Low (length u.sets.items)) d.own_more e.own_more (low_more _ _ d.own_more e.keeps.extends.longer d.below) e.below;
     within = λ fragments bound w. All-append (IsWithin fragments bound) d.to_more e.to_more (d.within fragments bound w) (e.within fragments bound w);
+    from = λ p0 set0 whole i sub. comes_then schema numbers p0 set0 s t u e.keeps.extends
+        (d.from p0 set0 whole i (λ x c. sub x (Contains-append_left xs ys x c))) (e.from p0 set0 whole i (λ x c. sub x (Contains-append_right xs ys x c)));
     keeps = keeps_then s t u d.keeps e.keeps;
   }
 
@@ -134,6 +139,7 @@ module _ {S C : Type 0} (schema : Catalog S C) (numbers : List ℕ → Option �
     represents = leaf f pushed.own_field (subst (λ z. IsOwnField (numbered t) z pushed.own_field) is pushed.is) none pushed.below_is;
     below = All-cons (Low (length t.sets.items)) pushed.own_field [] (subst (λ z. option_map_or (λ n. suc n) z 0 ≤ length t.sets.items) (sym pushed.below_is) (omega arith)) (All-nil (Low (length t.sets.items)));
     within = λ fragments bound w. All-nil (IsWithin fragments bound);
+    from = λ p0 set0 whole i sub. comes_pushed schema numbers p0 set0 p whole f o None a b s t i (sub (selection.Field f) (Contains-push [] (selection.Field f))) is pushed;
     keeps = keeps_pushed o None a b s t pushed;
   }
 
@@ -156,6 +162,13 @@ module _ {S C : Type 0} (schema : Catalog S C) (numbers : List ℕ → Option �
             (pushed.extends.sets n added.is.row added.is.stored) added.is.once inside;
         below = All-cons (Low (length u.sets.items)) pushed.own_field [] (subst (λ z. option_map_or (λ k. suc k) z 0 ≤ length u.sets.items) (sym pushed.below_is) (omega (arith, small, as_long))) (All-nil (Low (length u.sets.items)));
         within = λ fragments bound w. All-nil (IsWithin fragments bound);
+        from = λ p0 set0 whole i sub.
+            let stands : Contains whole (selection.Field f) = sub (selection.Field f) (Contains-push [] (selection.Field f)) in
+            let below : IsInside schema p0 set0 q set' =
+            subst (λ z. IsInside schema p0 set0 z set') (sym (type ∙ ap (type_below schema) is))
+            (subst (λ z. IsInside schema p0 set0 (type_below schema (entry_under p f)) z) (sym all) (below_field f w i stands some)) in
+            comes_then schema numbers p0 set0 s t u pushed.extends (comes_inside schema numbers s t below added.from)
+            (comes_pushed schema numbers p0 set0 p whole f o (Some n) a b t u i stands is pushed);
         keeps = keeps_then s t u added.keeps (keeps_pushed o (Some n) a b t u pushed);
       }
 
@@ -168,6 +181,7 @@ module _ {S C : Type 0} (schema : Catalog S C) (numbers : List ℕ → Option �
     represents = unknown f (sym is);
     below = All-nil (Low (length t.sets.items));
     within = λ fragments bound w. All-nil (IsWithin fragments bound);
+    from = λ p0 set0 whole i sub. comes_none schema numbers p0 set0 t t refl refl;
     keeps = keeps_self t;
   }
   adds_spread p f (Some g) a b t is added = record {
@@ -178,6 +192,7 @@ module _ {S C : Type 0} (schema : Catalog S C) (numbers : List ℕ → Option �
     represents = spread f g (sym is);
     below = All-nil (Low (length t.sets.items));
     within = λ fragments bound w. All-cons (IsWithin fragments bound) g [] (w f.item.name.item.now g (sym is)) (All-nil (IsWithin fragments bound));
+    from = λ p0 set0 whole i sub. comes_none schema numbers p0 set0 t t refl refl;
     keeps = keeps_self t;
   }
 
@@ -196,6 +211,12 @@ module _ {S C : Type 0} (schema : Catalog S C) (numbers : List ℕ → Option �
             (subst (λ z. Represents schema numbers (numbered t) q z added.is.row.own.items added.is.to) all added.is.represents));
         below = added.own;
         within = added.within;
+        from = λ p0 set0 whole j sub.
+            let stands : Contains whole (selection.InlineFragment i) = sub (selection.InlineFragment i) (Contains-push [] (selection.InlineFragment i)) in
+            let inside : IsInside schema p0 set0 q set' =
+            subst (λ z. IsInside schema p0 set0 z set') (sym type)
+            (subst (λ z. IsInside schema p0 set0 (type_inside schema p i.item.type_condition) z) (sym all) (of_inline i j stands)) in
+            comes_inside schema numbers s t inside added.from;
         keeps = added.keeps;
       }
 

@@ -3,6 +3,7 @@ use Rattle.std.proofs.Common.{◌≡◌, ℕ, ◌+◌, ◌<◌, ◌≤◌, List,
 use Rattle.std.specs.List.{All}
 use Rattle.std.proofs.Math.Seq.{set-append_seam}
 use Rattle.std.proofs.Math.ListN.{set}
+use Rattle.std.proofs.lemmas.List.{length-map}
 use Rattle.std.proofs.lemmas.Bool.{cases_order, or_left, or_right, eq-eqb}
 use Rattle.language.specs.declared.tree.Selection.{Selection}
 use Rattle.meta.specs.declared.kinds.MetaTypeOf.{MetaTypeOf}
@@ -13,10 +14,11 @@ use Rattle.numbered_sets.specs.declared.table.Table.{Table}
 use Rattle.numbered_sets.specs.Names.{KeepsNames, AreApart}
 use Rattle.numbered_sets.specs.Once.{is_among}
 use Rattle.numbered_sets.specs.Table.{numbered, Numbered, Extends, IsWithin, Falling}
-use Rattle.numbered_sets.specs.Represents.{Represents}
-use Rattle.numbered_sets.specs.Adding.{AreWithin, IsEmptySet, OpensSet, ClosesSet, AddsOrder, Adds, AddsSet}
+use Rattle.numbered_sets.specs.Represents.{Represents, IsSetOf}
+use Rattle.numbered_sets.specs.Inside.{itself}
+use Rattle.numbered_sets.specs.Adding.{AreWithin, IsEmptySet, OpensSet, ClosesSet, AddsOrder, ComesFrom, Adds, AddsSet}
 use Rattle.numbered_sets.proofs.Lists.{get_more, get_last, All-among}
-use Rattle.numbered_sets.proofs.Representing.{extends_self, extends_then, represents_more}
+use Rattle.numbered_sets.proofs.Representing.{extends_self, extends_then, represents_more, set_more}
 use Rattle.numbered_sets.proofs.Building.{Low, low_more, within_more, falling_push}
 
 module _ {S C : Type 0} where
@@ -100,11 +102,31 @@ module _ {S C : Type 0} where
       ]
     ]
 
+    abbrev is_set : IsSetOf schema numbers (numbered t3) n p selections
+    is_set = record { row = closed.row; to = part.spreads.items; stored = stored; once = closed.once; represents = represented }
+
+    -- from the set itself, and from what was added in it
+    inner : ComesFrom schema numbers p selections t1 t2
+    inner = added.from p selections selections itself (λ x c. c)
+
+    from : ComesFrom schema numbers p selections t t3
+    from = record {
+      sets = λ k l h. elim (cases_order k (length t2.sets.items)) [
+        | inl eq ↦ (p, selections, itself, subst (λ (j : ℕ). IsSetOf schema numbers (numbered t3) j p selections) (closed.number ∙ sym eq) is_set)
+        | inr o ↦ elim o [
+          | inl lt ↦ (let (q, set', i, is) = inner.sets k (omega (arith, l, as_long)) lt in (q, set', i, set_more schema numbers extends_last is))
+          | inr gt ↦ absurd (omega (arith, gt, h, one_longer))
+        ]
+      ];
+      fields = λ k a l h. inner.fields k a (omega (arith, l, length-map t.fields.items plain, length-map t1.fields.items plain, ap (λ (m : Numbered S C). length m.fields) opened.same)) (subst (λ fs. slice_get (map plain fs) k ≡ Some a) closed.fields h);
+    }
+
     pub adds_set : AddsSet schema numbers p selections n t t3
     adds_set = record {
-      is = record { row = closed.row; to = part.spreads.items; stored = stored; once = closed.once; represents = represented };
+      is = is_set;
       own = low_more _ _ closed.row.own.items extends_last.longer row_low;
       within = row_within;
+      from = from;
       keeps = record {
         extends = extends_then extends_first (extends_then added.keeps.extends extends_last);
         apart = λ a. subst AreApart (sym closed.responses) (added.keeps.apart (subst AreApart (sym (ap (λ (m : Numbered S C). m.responses) opened.same)) a));

@@ -3,6 +3,7 @@ pub mod OnceLaws
 pub mod Naming
 pub mod Pushing
 pub mod Representing
+pub mod Origins
 pub mod Building
 pub mod Closing
 pub mod OwnParts

@@ -23,6 +23,7 @@ module _ {S C : Type 0} where
       let fields_are : map plain t.fields.items ≡ map plain s.fields.items ++ plain e ∷ [] = ap (map plain) fields ∙ map-append plain s.fields.items (e ∷ []) in
       record {
         own_field = field_with response number below;
+        fields = fields_are;
         is = record {
           field = ap (λ xs. slice_get xs number) fields_are
               ∙ ap (λ (k : ℕ). slice_get (map plain s.fields.items ++ plain e ∷ []) k) (at ∙ sym (length-map s.fields.items plain))

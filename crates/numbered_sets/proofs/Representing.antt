@@ -6,7 +6,7 @@ use Rattle.schema.specs.Catalog.{Catalog}
 use Rattle.field_pairs.specs.Entries.{PlainEntry}
 use Rattle.numbered_sets.specs.declared.table.OwnField.{OwnField}
 use Rattle.numbered_sets.specs.Table.{Numbered, Extends, IsOwnField}
-use Rattle.numbered_sets.specs.Represents.{Represents, nothing, join, leaf, field, spread, unknown, inline}
+use Rattle.numbered_sets.specs.Represents.{Represents, nothing, join, leaf, field, spread, unknown, inline, IsSetOf}
 
 module _ {S C : Type 0} where
   pub extends_self : (m : Numbered S C) → Extends m m
@@ -33,3 +33,6 @@ module _ {S C : Type 0} where
     represents_more e (spread s g h) = spread s g h
     represents_more e (unknown s h) = unknown s h
     represents_more e (inline i n row to stored once r) = inline i n row to (e.sets n row stored) once (represents_more e r)
+
+    pub set_more : {m m' : Numbered S C} {n : ℕ} {p : Option (MetaTypeOf S C)} {set : List (Selection S)} → Extends m m' → IsSetOf schema numbers m n p set → IsSetOf schema numbers m' n p set
+    set_more e is = record { row = is.row; to = is.to; stored = e.sets _ is.row is.stored; once = is.once; represents = represents_more e is.represents }

@@ -1,10 +1,10 @@
 -- What each step adds to a table.
-use Rattle.std.specs.Prelude.{◌≡◌, ◌<◌, ◌≤◌, ℕ, List, [], ◌∷◌, ◌++◌, Option, Some, length, slice_get, slice_set, true, option_to_list}
-use Rattle.std.specs.List.{All}
+use Rattle.std.specs.Prelude.{◌≡◌, ◌<◌, ◌≤◌, ℕ, List, [], ◌∷◌, ◌++◌, map, Option, Some, length, slice_get, slice_set, true, option_to_list}
+use Rattle.std.specs.List.{All, Contains}
 use Rattle.language.specs.declared.tree.Selection.{Selection}
 use Rattle.meta.specs.declared.kinds.MetaTypeOf.{MetaTypeOf}
 use Rattle.schema.specs.Catalog.{Catalog}
-use Rattle.field_pairs.specs.Entries.{PlainEntry}
+use Rattle.field_pairs.specs.Entries.{PlainEntry, plain}
 use Rattle.numbered_sets.specs.declared.table.OwnField.{OwnField}
 use Rattle.numbered_sets.specs.declared.table.NumberedSet.{NumberedSet}
 use Rattle.numbered_sets.specs.declared.table.Table.{Table}
@@ -12,6 +12,7 @@ use Rattle.numbered_sets.specs.Names.{AreApart}
 use Rattle.numbered_sets.specs.Once.{IsEachOnce, is_among}
 use Rattle.numbered_sets.specs.Table.{numbered, Extends, IsOwnField, IsWithin, Falling, height}
 use Rattle.numbered_sets.specs.Represents.{Represents, IsSetOf}
+use Rattle.numbered_sets.specs.Inside.{IsInside, IsFieldInside}
 
 -- Every fragment that has a number is there, and its set has a number below the bound.
 abbrev pub AreWithin : (List ℕ → Option ℕ) → List ℕ → ℕ → Type 0
@@ -43,6 +44,7 @@ module _ {S C : Type 0} where
   -- The field got a number, and was added to its set.
   pub record PushesField (o : PlainEntry S C) (below : Option ℕ) (part part' : NumberedSet) (t t' : Table S C) : Type 0 where
     pub own_field : OwnField
+    pub fields : map plain t'.fields.items ≡ map plain t.fields.items ++ o ∷ []
     pub is : IsOwnField (numbered t') o own_field
     pub below_is : own_field.below ≡ below
     pub own : part'.own.items ≡ part.own.items ++ own_field ∷ []
@@ -82,6 +84,12 @@ module _ {S C : Type 0} where
     pub falls : (fragments : List ℕ) → AreWithin numbers fragments (length t.sets.items) → Falling t.sets.items fragments → Falling t'.sets.items fragments
     pub order : AddsOrder t t'
 
+  -- What was added is from the set under the type: each set is one inside it, and each field stands in one.
+  pub record ComesFrom (schema : Catalog S C) (numbers : List ℕ → Option ℕ) (p : Option (MetaTypeOf S C)) (set : List (Selection S)) (t t' : Table S C) : Type 0 where
+    pub sets : (k : ℕ) → length t.sets.items ≤ k → k < length t'.sets.items
+        → (q : Option (MetaTypeOf S C)) × (inner : List (Selection S)) × IsInside schema p set q inner × IsSetOf schema numbers (numbered t') k q inner
+    pub fields : (k : ℕ) (a : PlainEntry S C) → length t.fields.items ≤ k → slice_get (map plain t'.fields.items) k ≡ Some a → IsFieldInside schema p set a
+
   -- Own fields and spreads of the selections were added to a set.
   pub record Adds (schema : Catalog S C) (numbers : List ℕ → Option ℕ) (p : Option (MetaTypeOf S C)) (xs : List (Selection S)) (part part' : NumberedSet) (t t' : Table S C) : Type 0 where
     pub own_more : List OwnField
@@ -91,6 +99,7 @@ module _ {S C : Type 0} where
     pub represents : Represents schema numbers (numbered t') p xs own_more to_more
     pub below : All (λ a. height a ≤ length t'.sets.items) own_more
     pub within : (fragments : List ℕ) (bound : ℕ) → AreWithin numbers fragments bound → All (IsWithin fragments bound) to_more
+    pub from : (p0 : Option (MetaTypeOf S C)) (set0 whole : List (Selection S)) → IsInside schema p0 set0 p whole → ((x : Selection S) → Contains xs x → Contains whole x) → ComesFrom schema numbers p0 set0 t t'
     pub keeps : Keeps numbers t t'
 
   -- The set and all sets in it were added.
@@ -98,4 +107,5 @@ module _ {S C : Type 0} where
     pub is : IsSetOf schema numbers (numbered t') n p set
     pub own : All (λ a. height a ≤ length t'.sets.items) is.row.own.items
     pub within : (fragments : List ℕ) (bound : ℕ) → AreWithin numbers fragments bound → All (IsWithin fragments bound) is.row.spreads.items
+    pub from : ComesFrom schema numbers p set t t'
     pub keeps : Keeps numbers t t'

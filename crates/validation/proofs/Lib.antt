@@ -1,9 +1,3 @@
-pub mod Clean
-pub mod Distinct
-pub mod Found
-pub mod Groups
-pub mod Occurring
+pub mod Stages
 pub mod Reports
 pub mod Root
-pub mod Silent
-pub mod Values

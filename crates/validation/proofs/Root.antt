@@ -1,39 +1,37 @@
--- No error is reported of what is sent to a root node just if nothing is found.
-use Rattle.std.proofs.Common.{◌≡◌, ◌↔◌, ℕ, List, [], Bool, true, false, refl, sym, subst}
+-- Nothing is reported of what is sent to a root node just if it is valid there.
+use Rattle.std.proofs.Common.{◌≡◌, ◌∙◌, ◌↔◌, ◌++◌, ℕ, List, [], Bool, true, false, IsPermutation, ap, refl, subst, sym}
 use Rattle.std.proofs.lemmas.Bool.{true≢false}
+use Rattle.std.proofs.lemmas.List.Sorted.{IsPermutation-sym}
 use Rattle.language.specs.declared.tree.Definition.{Definition}
 use Rattle.language.specs.declared.value.InputValue.{InputValue}
 use Rattle.literals.specs.Laws.{OneAnswer}
 use Rattle.meta.specs.Answers.{Answers}
 use Rattle.schema.specs.Catalog.{Catalog}
-use Rattle.events.specs.Typing.{untyped}
-use Rattle.walk.specs.ContextState.{scope_of}
+use Rattle.events.specs.Typing.{Typing, untyped}
+use Rattle.walk.specs.ContextState.{DocumentScope, scope_of}
+use Rattle.walk.specs.Entering.{found}
 use Rattle.walk.specs.ErrorValue.{ErrorValue}
-use Rattle.walk.specs.Rule.{AllowNothing, AllSettled, sum_of}
-use Rattle.walk.proofs.Sums.{exactly_settled, sum_none, sum_settled}
-use Rattle.validation.specs.RootRules.{RootNothingFound, root_reported, root_rules}
-use Rattle.validation.proofs.Found.{none_of, of_none, nothing_just_if}
-use Rattle.validation.proofs.Silent.{stage_one_settled}
+use Rattle.field_rules.specs.DisableIntrospection.{introspection_fields}
+use Rattle.stage_one.proofs.Distinct.{left_none, right_none}
+use Rattle.validation.specs.RootRules.{IsRootReport, IsRootValid, introspection}
+use Rattle.validation.proofs.Stages.{none_just_if, permuted_none}
 
-module _ {S C : Type 0} (may : Answers (InputValue S) C) (shown : InputValue S → List ℕ) (schema : Catalog S C) (document : List (Definition S)) where
-  root_nothing : (disabled : Bool) → AllowNothing (root_rules may shown disabled) (scope_of schema document) untyped document ↔ RootNothingFound may shown disabled schema document
-  root_nothing true =
-      let found = nothing_just_if may shown (scope_of schema document) untyped document in
-      (λ h. (found.0 h.1, λ e. none_of _ h.0), λ h. (of_none _ (h.1 refl), found.1 h.0))
-  root_nothing false =
-      let found = nothing_just_if may shown (scope_of schema document) untyped document in
-      (λ h. (found.0 h, λ e. absurd (true≢false (sym e))), λ h. found.1 h.0)
+-- no field is asked for that is disabled
+asked_none : {S C : Type 0} (disabled : Bool) (scope : DocumentScope S C) (t : Typing S C) (doc : List (Definition S)) (es : List ErrorValue) → introspection disabled scope t doc es
+    → (es ≡ []) ↔ (disabled ≡ true → found introspection_fields scope t doc ≡ [])
+asked_none true scope t doc es p = (λ e h. permuted_none _ (IsPermutation-sym _ _ (subst (λ z. IsPermutation (found introspection_fields scope t doc) z) e p)), λ h. permuted_none _ (subst (λ z. IsPermutation z es) (h refl) p))
+asked_none false scope t doc es p = (λ e h. absurd (true≢false (sym h)), λ h. p)
 
-  module _ (one : OneAnswer may) where
-    root_settled : (disabled : Bool) → AllSettled (root_rules may shown disabled)
-    root_settled true = (exactly_settled _, stage_one_settled may shown one)
-    root_settled false = stage_one_settled may shown one
-
-    pub root_silent : (disabled : Bool) (errors : List ErrorValue) → root_reported may shown disabled schema document errors → (errors ≡ []) ↔ RootNothingFound may shown disabled schema document
-    root_silent disabled errors p =
-        let rules = root_rules may shown disabled in
-        let scope = scope_of schema document in
-        let nothing = root_nothing disabled in (
-          λ e. nothing.0 (sum_none scope untyped document rules (subst (sum_of rules scope untyped document) e p)),
-          λ h. sum_settled scope untyped document rules (root_settled disabled) errors (nothing.1 h) p,
-        )
+module _ {S C : Type 0} (may : Answers (InputValue S) C) (shown : InputValue S → List ℕ) (E : S → S → Bool) (one : OneAnswer may) (schema : Catalog S C) (document : List (Definition S)) where
+  pub root_valid : (disabled : Bool) (errors : List ErrorValue) (pairs : ℕ) → IsRootReport may shown E disabled schema document errors pairs → (errors ≡ []) ↔ IsRootValid may shown E disabled schema document
+  root_valid disabled errors pairs r =
+      let rules = none_just_if may shown E one schema untyped document [] r.reported.of_rules pairs refl r.reported.reported in
+      let asked = asked_none disabled (scope_of schema document) untyped document r.reported.asked r.reported.introspected in
+      let told : r.found ≡ r.reported.of_rules ++ r.reported.asked = r.reported.all in (
+        λ e.
+        let none_found : r.reported.of_rules ++ r.reported.asked ≡ [] = sym told ∙ permuted_none _ (IsPermutation-sym _ _ (subst (λ z. IsPermutation r.found z) e r.ordered)) in
+        (rules.0 (left_none _ _ none_found), asked.0 (right_none _ _ none_found)),
+        λ (v, h).
+        let none_told : r.found ≡ [] = told ∙ ap (λ zs. zs ++ r.reported.asked) (rules.1 v) ∙ asked.1 h in
+        permuted_none _ (subst (λ z. IsPermutation z errors) none_told r.ordered),
+      )

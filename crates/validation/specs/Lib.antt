@@ -1,4 +1,2 @@
-pub mod CleanStage
-pub mod NothingFound
+pub mod Stages
 pub mod RootRules
-pub mod StageOne

@@ -1,29 +1,39 @@
 -- What is reported of the documents that are sent to a root node.
-use Rattle.std.specs.Prelude.{◌≡◌, Bool, true, false, ℕ, List, [], ◌∷◌}
+use Rattle.std.specs.Prelude.{◌≡◌, Bool, true, false, ℕ, List, [], ◌++◌, IsPermutation}
 use Rattle.language.specs.declared.value.InputValue.{InputValue}
 use Rattle.meta.specs.Answers.{Answers}
 use Rattle.language.specs.declared.tree.Definition.{Definition}
 use Rattle.schema.specs.Catalog.{Catalog}
-use Rattle.events.specs.Typing.{untyped}
-use Rattle.walk.specs.ContextState.{scope_of}
+use Rattle.events.specs.Typing.{Typing, untyped}
+use Rattle.walk.specs.ContextState.{DocumentScope, scope_of}
 use Rattle.walk.specs.Entering.{found}
 use Rattle.walk.specs.ErrorValue.{ErrorValue}
-use Rattle.walk.specs.Rule.{Allowance, exactly, sum_of}
+use Rattle.walk.specs.Rule.{Allowance, exactly, nothing}
 use Rattle.field_rules.specs.DisableIntrospection.{introspection_fields}
-use Rattle.validation.specs.NothingFound.{NothingFound}
-use Rattle.validation.specs.StageOne.{stage_one}
+use Rattle.validation.specs.Stages.{Reported, IsValid}
 
-module _ {S C : Type 0} (may : Answers (InputValue S) C) (shown : InputValue S → List ℕ) where
-  -- the rules, and the one on introspection where that is disabled
-  abbrev pub root_rules : Bool → List (Allowance S C)
-  root_rules true = exactly (found introspection_fields) ∷ stage_one may shown
-  root_rules false = stage_one may shown
+module _ {S C : Type 0} where
+  -- the fields that ask for the schema itself, where introspection is disabled
+  abbrev pub introspection : Bool → Allowance S C
+  introspection true = exactly (found introspection_fields)
+  introspection false = nothing
 
-  -- these errors they may report of a document
-  abbrev pub root_reported : Bool → Catalog S C → List (Definition S) → List ErrorValue → Type 0
-  root_reported disabled schema document errors = sum_of (root_rules disabled) (scope_of schema document) untyped document errors
+module _ {S C : Type 0} (may : Answers (InputValue S) C) (shown : InputValue S → List ℕ) (E : S → S → Bool) where
+  -- the errors of every rule, and then those of that on introspection; with the count of pairs that were compared
+  pub record RootReported (disabled : Bool) (before : List ErrorValue) (scope : DocumentScope S C) (t : Typing S C) (doc : List (Definition S)) (es : List ErrorValue) (pairs : ℕ) : Type 0 where
+    pub of_rules : List ErrorValue
+    pub reported : Reported may shown E before scope t doc of_rules pairs
+    pub asked : List ErrorValue
+    pub introspected : introspection disabled scope t doc asked
+    pub all : es ≡ of_rules ++ asked
 
-  -- the rules find nothing in a document, and where introspection is disabled no field asks for it
-  abbrev pub RootNothingFound : Bool → Catalog S C → List (Definition S) → Type 0
-  RootNothingFound disabled schema document =
-      NothingFound may shown (scope_of schema document) untyped document × (disabled ≡ true → found introspection_fields (scope_of schema document) untyped document ≡ [])
+  -- these errors are reported of a document, in whatever order
+  pub record IsRootReport (disabled : Bool) (schema : Catalog S C) (document : List (Definition S)) (errors : List ErrorValue) (pairs : ℕ) : Type 0 where
+    pub found : List ErrorValue
+    pub reported : RootReported disabled [] (scope_of schema document) untyped document found pairs
+    pub ordered : IsPermutation found errors
+
+  -- the document is valid, and where introspection is disabled no field asks for it
+  abbrev pub IsRootValid : Bool → Catalog S C → List (Definition S) → Type 0
+  IsRootValid disabled schema document =
+      IsValid may shown E (scope_of schema document) untyped document × (disabled ≡ true → found introspection_fields (scope_of schema document) untyped document ≡ [])

@@ -5,7 +5,6 @@
 #![tactic(auto)]
 
 pub mod ast;
-pub mod laws;
 pub mod parser;
 mod root_node;
 pub mod rules;
@@ -26,6 +25,7 @@ pub use meta::check::CheckedScalar;
 pub use schema;
 pub use schema::error::SchemaError;
 pub use schema::model::SchemaType;
+pub use stage_one::laws;
 pub use variable_values::{has_input_types, validate_input_values};
 pub use walk;
 pub use walk::{

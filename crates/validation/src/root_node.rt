@@ -1,15 +1,13 @@
 //! A schema, with what the documents that are sent to it may ask.
 
-ghost use Rattle.std.specs.Prelude.{◌≡◌, ◌↔◌, [], IfOk, OnOk, OnErr, IsErr, IsSorted, true, false};
+ghost use Rattle.std.specs.Prelude.{◌≡◌, ◌↔◌, ℕ, List, [], IfOk, OnOk, OnErr, IsErr, IsSorted, true, false};
 ghost use Rattle.language.specs.ValuesPrinted.{printed_value};
-ghost use Rattle.walk.specs.ContextState.{typing, scope_of};
-ghost use Rattle.walk.specs.Entering.{found};
-ghost use Rattle.walk.specs.ErrorValue.{error_cmp};
+ghost use Rattle.walk.specs.ContextState.{typing, scope_of, with_errors};
+ghost use Rattle.walk.specs.ErrorValue.{ErrorValue, error_cmp};
 ghost use Rattle.walk.specs.Names.{fragment_names};
-ghost use Rattle.walk.specs.Rule.{Appended, any_value, exactly, sum_of};
+ghost use Rattle.walk.specs.Rule.{Appended, any_value};
 ghost use Rattle.walk.specs.Step.{KeepsPlace};
-ghost use Rattle.field_rules.specs.DisableIntrospection.{introspection_fields};
-ghost use Rattle.validation.specs.RootRules.{RootNothingFound, root_reported, root_rules};
+ghost use Rattle.validation.specs.RootRules.{IsRootReport, IsRootValid, RootReported, introspection};
 
 use crate::rules::{disable_introspection, visit_all_rules};
 use language::error::OutOfMemory;
@@ -64,7 +62,7 @@ impl<S, C> RootNodeOf<S, C> {
 
 impl<S: CheckedScalar> RootNodeOf<S, S::Check> {
     /// Judges a document by every rule, and by that on introspection where it is disabled; the errors are in ascending order, and there
-    /// is none just if nothing is found.
+    /// is none exactly where the document is valid.
     ///
     /// Want of memory is the only error.
     pub fn validate<'a>(
@@ -72,8 +70,8 @@ impl<S: CheckedScalar> RootNodeOf<S, S::Check> {
         alloc: Global,
         document: &'a [Definition<'_, S>],
     ) -> Result<Vec<RuleError>, OutOfMemory>
-        ensures all { IfOk result (λ errors. root_reported S.may_answer (printed_value S.text S.str_of) self.now.introspection_disabled self.now.schema document.now errors.items) }
-        ensures silent { IfOk result (λ errors. (errors.items ≡ []) ↔ RootNothingFound S.may_answer (printed_value S.text S.str_of) self.now.introspection_disabled self.now.schema document.now) }
+        ensures all { IfOk result (λ errors. (pairs : ℕ) × IsRootReport S.may_answer (printed_value S.text S.str_of) S.eq self.now.introspection_disabled self.now.schema document.now errors.items pairs) }
+        ensures valid { IfOk result (λ errors. (errors.items ≡ []) ↔ IsRootValid S.may_answer (printed_value S.text S.str_of) S.eq self.now.introspection_disabled self.now.schema document.now) }
         ensures sorted { IfOk result (λ errors. IsSorted error_cmp errors.items) }
     {
         let mut ctx = ValidatorContext::new(alloc, &self.schema, document)?;
@@ -90,33 +88,45 @@ pub fn visit_root_rules<'a, S: CheckedScalar>(
     document: &'a [Definition<'_, S>],
     introspection_disabled: bool,
 ) -> Result<u128, OutOfMemory>
-    ensures appended { OnOk result (ctx.old.known ≡ fragment_names document.now → Appended (sum_of (root_rules S.may_answer (printed_value S.text S.str_of) introspection_disabled) (scope_of ctx.old.schema document.now) (typing ctx.old) document.now) ctx.old ctx.new) }
+    ensures appended { IfOk result (λ pairs. ctx.old.known ≡ fragment_names document.now → (es : List ErrorValue) × RootReported S.may_answer (printed_value S.text S.str_of) S.eq introspection_disabled ctx.old.errors (scope_of ctx.old.schema document.now) (typing ctx.old) document.now es pairs × (ctx.new ≡ with_errors ctx.old es)) }
     ensures only { OnOk result (Appended any_value ctx.old ctx.new) }
-    ensures compared { IfOk result (λ pairs. pairs ≡ 0) }
     ensures err { OnErr result (KeepsPlace ctx.old ctx.new) }
     ensures failed { OnErr result (ctx.new.failed ≡ true) }
     ensures stays { ctx.old.failed ≡ true → IsErr result }
 {
     let compared = visit_all_rules(ctx, document)?;
-    if introspection_disabled {
-        return report_introspection(ctx, document, compared);
-    }
+    report_introspection(ctx, document, introspection_disabled)?;
     Ok(compared)
 }
 
-// Reports introspection, and hands on a count.
+// Reports fields that ask for the schema, where that is disabled.
 fn report_introspection<'a, S: CheckedScalar>(
     ctx: &mut ValidatorContext<'a, S>,
     document: &'a [Definition<'_, S>],
-    compared: u128,
-) -> Result<u128, OutOfMemory>
-    ensures appended { OnOk result (ctx.old.known ≡ fragment_names document.now → Appended (exactly (found introspection_fields) (scope_of ctx.old.schema document.now) (typing ctx.old) document.now) ctx.old ctx.new) }
+    disabled: bool,
+) -> Result<(), OutOfMemory>
+    ensures appended { OnOk result (ctx.old.known ≡ fragment_names document.now → Appended (introspection disabled (scope_of ctx.old.schema document.now) (typing ctx.old) document.now) ctx.old ctx.new) }
     ensures only { OnOk result (Appended any_value ctx.old ctx.new) }
-    ensures compared { IfOk result (λ pairs. pairs ≡ compared) }
+    ensures err { OnErr result (KeepsPlace ctx.old ctx.new) }
+    ensures failed { OnErr result (ctx.new.failed ≡ true) }
+{
+    if disabled {
+        return visit_introspection(ctx, document);
+    }
+    Ok(())
+}
+
+// Reports fields that ask for the schema.
+fn visit_introspection<'a, S: CheckedScalar>(
+    ctx: &mut ValidatorContext<'a, S>,
+    document: &'a [Definition<'_, S>],
+) -> Result<(), OutOfMemory>
+    ensures appended { OnOk result (ctx.old.known ≡ fragment_names document.now → Appended (introspection true (scope_of ctx.old.schema document.now) (typing ctx.old) document.now) ctx.old ctx.new) }
+    ensures only { OnOk result (Appended any_value ctx.old ctx.new) }
     ensures err { OnErr result (KeepsPlace ctx.old ctx.new) }
     ensures failed { OnErr result (ctx.new.failed ≡ true) }
 {
     let mut rule = MultiVisitorNil.with_rule(disable_introspection::factory(ctx.allocator()));
     visit_rules(&mut rule, ctx, document)?;
-    Ok(compared)
+    Ok(())
 }

@@ -1,210 +1,81 @@
 //! The rules, each in its module, and the call that tries them all.
 
-ghost use Rattle.std.specs.Prelude.{◌≡◌, ◌↔◌, IfOk, OnOk, OnErr, IsErr, true};
+ghost use Rattle.std.specs.Prelude.{◌≡◌, ◌≤◌, ◌*◌, ◌-◌, ◌↔◌, ℕ, List, [], IfOk, OnOk, OnErr, IsErr, true};
 ghost use Rattle.language.specs.ValuesPrinted.{printed_value};
-ghost use Rattle.walk.specs.ContextState.{typing, scope_of};
+ghost use Rattle.walk.specs.ContextState.{typing, scope_of, with_errors};
+ghost use Rattle.walk.specs.ErrorValue.{ErrorValue};
 ghost use Rattle.walk.specs.Names.{fragment_names};
-ghost use Rattle.walk.specs.Rule.{Appended, any_value, sum_of};
+ghost use Rattle.walk.specs.Rule.{Appended, any_value};
 ghost use Rattle.walk.specs.Step.{KeepsPlace};
-ghost use Rattle.validation.specs.NothingFound.{NothingFound};
-ghost use Rattle.validation.specs.StageOne.{stage_one};
+ghost use Rattle.merge_documents.specs.Definitions.{fragment_count};
+ghost use Rattle.merge.specs.declared.overlapping_fields_can_be_merged.OverlappingFieldsCanBeMerged.{OverlappingFieldsCanBeMerged as MergeRule};
+ghost use Rattle.merge.specs.OverlappingFieldsCanBeMerged.{MergeErrors};
+ghost use Rattle.validation.specs.Stages.{Reported, IsValid};
 
-use argument_rules::known_argument_names::KnownArgumentNames;
-use argument_rules::known_directives::KnownDirectives;
-use argument_rules::provided_non_null_arguments::ProvidedNonNullArguments;
-use argument_rules::unique_argument_names::UniqueArgumentNames;
-use argument_rules::unique_input_field_names::UniqueInputFieldNames;
 pub use argument_rules::{
     known_argument_names, known_directives, provided_non_null_arguments, unique_argument_names,
     unique_input_field_names,
 };
-use field_rules::fields_on_correct_type::FieldsOnCorrectType;
-use field_rules::scalar_leafs::ScalarLeafs;
 pub use field_rules::{disable_introspection, fields_on_correct_type, scalar_leafs};
-use fragment_rules::fragments_on_composite_types::FragmentsOnCompositeTypes;
-use fragment_rules::known_fragment_names::KnownFragmentNames;
-use fragment_rules::known_type_names::KnownTypeNames;
-use fragment_rules::unique_fragment_names::UniqueFragmentNames;
 pub use fragment_rules::{
     fragments_on_composite_types, known_fragment_names, known_type_names,
     possible_fragment_spreads, unique_fragment_names,
 };
 use language::error::OutOfMemory;
 use language::tree::Definition;
-use literal_rules::arguments_of_correct_type::ArgumentsOfCorrectType;
-use literal_rules::default_values_of_correct_type::DefaultValuesOfCorrectType;
 pub use literal_rules::{arguments_of_correct_type, default_values_of_correct_type};
+pub use merge::overlapping_fields_can_be_merged;
 use meta::check::CheckedScalar;
-use operation_rules::lone_anonymous_operation::LoneAnonymousOperation;
-use operation_rules::unique_operation_names::UniqueOperationNames;
-use operation_rules::unique_variable_names::UniqueVariableNames;
 pub use operation_rules::{
     lone_anonymous_operation, unique_operation_names, unique_variable_names,
     variables_are_input_types,
 };
-use reach::no_fragment_cycles::NoFragmentCycles;
-use reach::no_undefined_variables::NoUndefinedVariables;
-use reach::no_unused_fragments::NoUnusedFragments;
-use reach::no_unused_variables::NoUnusedVariables;
 pub use reach::{
     no_fragment_cycles, no_undefined_variables, no_unused_fragments, no_unused_variables,
 };
-use std::alloc::Global;
+use stage_one::visit_stage_one;
 pub use variable_positions::variables_in_allowed_position;
-use variable_positions::variables_in_allowed_position::VariableInAllowedPosition;
-use walk::{Fresh, MultiVisitorCons, MultiVisitorNil, ValidatorContext, visit_rules};
+use walk::{MultiVisitorNil, ValidatorContext, visit_rules};
 
-// A list of rules, the newest first. One long list of all rules is dear to prove, so they come in groups.
-type OfOperations<'a> = MultiVisitorCons<
-    variables_are_input_types::UniqueVariableNames,
-    MultiVisitorCons<
-        UniqueVariableNames<'a>,
-        MultiVisitorCons<
-            UniqueOperationNames<'a>,
-            MultiVisitorCons<LoneAnonymousOperation, MultiVisitorNil>,
-        >,
-    >,
->;
-
-type OfFields = MultiVisitorCons<
-    ScalarLeafs,
-    MultiVisitorCons<FieldsOnCorrectType, MultiVisitorNil>,
->;
-
-type OfArguments = MultiVisitorCons<
-    UniqueInputFieldNames,
-    MultiVisitorCons<
-        UniqueArgumentNames,
-        MultiVisitorCons<
-            ProvidedNonNullArguments,
-            MultiVisitorCons<
-                KnownDirectives,
-                MultiVisitorCons<KnownArgumentNames, MultiVisitorNil>,
-            >,
-        >,
-    >,
->;
-
-type OfFragments<'a> = MultiVisitorCons<
-    UniqueFragmentNames<'a>,
-    MultiVisitorCons<
-        KnownTypeNames,
-        MultiVisitorCons<
-            KnownFragmentNames,
-            MultiVisitorCons<FragmentsOnCompositeTypes, MultiVisitorNil>,
-        >,
-    >,
->;
-
-type OfValues = MultiVisitorCons<
-    DefaultValuesOfCorrectType,
-    MultiVisitorCons<ArgumentsOfCorrectType, MultiVisitorNil>,
->;
-
-type OfReach<'a> = MultiVisitorCons<
-    VariableInAllowedPosition<'a>,
-    MultiVisitorCons<
-        NoUnusedVariables<'a>,
-        MultiVisitorCons<
-            NoUnusedFragments,
-            MultiVisitorCons<
-                NoUndefinedVariables<'a>,
-                MultiVisitorCons<NoFragmentCycles, MultiVisitorNil>,
-            >,
-        >,
-    >,
->;
-
-// The rules on operations and their variables.
-fn of_operations<'a>(alloc: Global) -> OfOperations<'a>
-    ensures { ⟦<OfOperations<'a> as Fresh>⟧.fresh result }
-{
-    MultiVisitorNil
-        .with_rule(lone_anonymous_operation::factory(alloc))
-        .with_rule(unique_operation_names::factory(alloc))
-        .with_rule(unique_variable_names::factory(alloc))
-        .with_rule(variables_are_input_types::factory(alloc))
-}
-
-// The rules on fields.
-fn of_fields(alloc: Global) -> OfFields
-    ensures { ⟦<OfFields as Fresh>⟧.fresh result }
-{
-    MultiVisitorNil
-        .with_rule(fields_on_correct_type::factory(alloc))
-        .with_rule(scalar_leafs::factory(alloc))
-}
-
-// The rules on arguments, keys of objects and directives.
-fn of_arguments(alloc: Global) -> OfArguments
-    ensures { ⟦<OfArguments as Fresh>⟧.fresh result }
-{
-    MultiVisitorNil
-        .with_rule(known_argument_names::factory(alloc))
-        .with_rule(known_directives::factory(alloc))
-        .with_rule(provided_non_null_arguments::factory(alloc))
-        .with_rule(unique_argument_names::factory(alloc))
-        .with_rule(unique_input_field_names::factory(alloc))
-}
-
-// The rules on fragments and on the names of types.
-fn of_fragments<'a>(alloc: Global) -> OfFragments<'a>
-    ensures { ⟦<OfFragments<'a> as Fresh>⟧.fresh result }
-{
-    MultiVisitorNil
-        .with_rule(fragments_on_composite_types::factory(alloc))
-        .with_rule(known_fragment_names::factory(alloc))
-        .with_rule(known_type_names::factory(alloc))
-        .with_rule(unique_fragment_names::factory(alloc))
-}
-
-// The rules on values.
-fn of_values(alloc: Global) -> OfValues
-    ensures { ⟦<OfValues as Fresh>⟧.fresh result }
-{
-    MultiVisitorNil
-        .with_rule(arguments_of_correct_type::factory(alloc))
-        .with_rule(default_values_of_correct_type::factory(alloc))
-}
-
-// The rules on what leads across the document.
-fn of_reach<'a>(alloc: Global) -> OfReach<'a>
-    ensures { ⟦<OfReach<'a> as Fresh>⟧.fresh result }
-{
-    MultiVisitorNil
-        .with_rule(no_fragment_cycles::factory(alloc))
-        .with_rule(no_undefined_variables::factory(alloc))
-        .with_rule(no_unused_fragments::factory(alloc))
-        .with_rule(no_unused_variables::factory(alloc))
-        .with_rule(variables_in_allowed_position::factory(alloc))
-}
-
-/// Tries every rule on a document, and appends the errors of the rules, in a context that was made for it: none just if every collection of a
-/// rule is empty, no value has a fault, no fragment leads back to itself and none is unused, and each variable is defined, used, and where its type may stand. In any other context it appends errors alone.
+/// Tries every rule on a document, in two stages, and appends the errors.
 ///
-/// It walks over the document once. The answer is the number of pairs of fragments that were compared; no rule that compares
-/// any is there yet, so it is 0.
+/// The first stage is one walk with every rule but that on fields that can be merged. Where the context holds no error after it,
+/// nor held one before, the second stage tries that rule. The answer is the number of pairs of fragments that it compared, and 0
+/// where it didn't run: of `n` definitions of fragments at most `n (n - 1)` pairs.
+///
+/// In a fresh context for this document nothing is reported exactly where the document is valid. In a context that was made for another
+/// document errors alone are appended.
 pub fn visit_all_rules<'a, 't, S: CheckedScalar>(
     ctx: &mut ValidatorContext<'a, S>,
     document: &'a [Definition<'t, S>],
 ) -> Result<u128, OutOfMemory>
-    ensures appended { OnOk result (ctx.old.known ≡ fragment_names document.now → Appended (sum_of (stage_one S.may_answer (printed_value S.text S.str_of)) (scope_of ctx.old.schema document.now) (typing ctx.old) document.now) ctx.old ctx.new) }
-    ensures silent { OnOk result (ctx.old.known ≡ fragment_names document.now → (ctx.new.errors ≡ ctx.old.errors) ↔ NothingFound S.may_answer (printed_value S.text S.str_of) (scope_of ctx.old.schema document.now) (typing ctx.old) document.now) }
+    ensures appended { IfOk result (λ pairs. ctx.old.known ≡ fragment_names document.now → (es : List ErrorValue) × Reported S.may_answer (printed_value S.text S.str_of) S.eq ctx.old.errors (scope_of ctx.old.schema document.now) (typing ctx.old) document.now es pairs × (ctx.new ≡ with_errors ctx.old es)) }
+    ensures valid { IfOk result (λ pairs. ctx.old.known ≡ fragment_names document.now → ctx.old.errors ≡ [] → (ctx.new.errors ≡ []) ↔ IsValid S.may_answer (printed_value S.text S.str_of) S.eq (scope_of ctx.old.schema document.now) (typing ctx.old) document.now) }
+    ensures few { IfOk result (λ pairs. ctx.old.known ≡ fragment_names document.now → pairs ≤ fragment_count document.now * (fragment_count document.now - 1)) }
     ensures only { OnOk result (Appended any_value ctx.old ctx.new) }
-    ensures compared { IfOk result (λ pairs. pairs ≡ 0) }
     ensures err { OnErr result (KeepsPlace ctx.old ctx.new) }
     ensures failed { OnErr result (ctx.new.failed ≡ true) }
     ensures stays { ctx.old.failed ≡ true → IsErr result }
 {
+    visit_stage_one(ctx, document)?;
+    if ctx.has_errors() {
+        return Ok(0);
+    }
+    visit_stage_two(ctx, document)
+}
+
+// Tries the rule on fields that can be merged.
+fn visit_stage_two<'a, 't, S: CheckedScalar>(
+    ctx: &mut ValidatorContext<'a, S>,
+    document: &'a [Definition<'t, S>],
+) -> Result<u128, OutOfMemory>
+    ensures appended { IfOk result (λ pairs. ctx.old.known ≡ fragment_names document.now → (es : List ErrorValue) × (end : MergeRule) × MergeErrors S.eq ctx.old.schema document.now end es × (end.compared ≡ pairs) × (ctx.new ≡ with_errors ctx.old es)) }
+    ensures only { OnOk result (Appended any_value ctx.old ctx.new) }
+    ensures err { OnErr result (KeepsPlace ctx.old ctx.new) }
+    ensures failed { OnErr result (ctx.new.failed ≡ true) }
+{
     let alloc = ctx.allocator();
-    let mut rules = MultiVisitorNil
-        .with_rule(of_operations(alloc))
-        .with_rule(of_fields(alloc))
-        .with_rule(of_arguments(alloc))
-        .with_rule(of_fragments(alloc))
-        .with_rule(of_values(alloc))
-        .with_rule(of_reach(alloc))
-        .with_rule(possible_fragment_spreads::factory(alloc));
-    visit_rules(&mut rules, ctx, document)?;
-    Ok(0)
+    let mut rule = MultiVisitorNil.with_rule(overlapping_fields_can_be_merged::factory(alloc));
+    visit_rules(&mut rule, ctx, document)?;
+    Ok(rule.newest().compared())
 }

@@ -1,39 +1,43 @@
-use Rattle.std.proofs.Common.{[], ◌∷◌}
+use Rattle.std.proofs.Common.{sym, ap, ◌∙◌}
+use Rattle.std.proofs.lemmas.Result.{IfOk-weaker, on_ok_weaker}
 use Rattle.language.specs.ValuesPrinted.{printed_value}
-use Rattle.walk.specs.ContextState.{typing, scope_of}
-use Rattle.walk.specs.Rule.{always}
-use Rattle.walk.proofs.Sums.{silent_just_if}
-use Rattle.reach.specs.AtDocument.{given_at_end}
-use Rattle.reach.specs.NoFragmentCycles.{cycle_errors}
-use Rattle.reach.specs.NoUndefinedVariables.{undefined_errors}
-use Rattle.reach.specs.NoUnusedFragments.{unused_errors}
-use Rattle.reach.specs.NoUnusedVariables.{unused_variable_errors}
-use Rattle.variable_positions.specs.VariableInAllowedPosition.{misplaced_variables}
-use Rattle.validation.specs.StageOne.{groups, of_reach, of_spreads, stage_one}
-use Rattle.validation.proofs.Found.{nothing_just_if}
-use Rattle.validation.proofs.Groups.{appended_all}
-use Rattle.validation.proofs.Silent.{stage_one_settled}
+use Rattle.walk.specs.ContextState.{scope_of, typing}
+use Rattle.validation.proofs.Reports.{only_more}
+use Rattle.validation.proofs.Stages.{after_one, after_two, few_pairs, valid_just_if}
 use Rattle.validation.proofs.rules.visit_all_rules.Goals as goal
+
+pub returns-then-has_errors-clause-appended : goal.returns-then-has_errors-clause-appended
+returns-then-has_errors-clause-appended g c =
+    λ known.
+    after_one g.S.CheckedScalar.may_answer (printed_value g.S.ScalarValue.text g.S.ScalarValue.str_of) g.S.PartialEq.eq c.args.ctx.now c.visit_stage_one.new.ctx c.args.document.now
+    (c.in_ok-visit_stage_one.ensures.appended known) (sym c.has_errors.ensures ∙ c.if-has_errors.true)
 
 pub returns-clause-appended : goal.returns-clause-appended
 returns-clause-appended g c =
-    λ known.
-    -- the rules across the document, in the states that they end in
-    let across = c.visit_rules.new.rules.1.0 in
-    appended_all (scope_of c.args.ctx.now.schema c.args.document.now) (typing c.args.ctx.now) c.args.document.now of_spreads
-    (always misplaced_variables across.0 ∷ given_at_end unused_variable_errors across.1.0 ∷ given_at_end unused_errors across.1.1.0
-    ∷ given_at_end undefined_errors across.1.1.1.0 ∷ given_at_end cycle_errors across.1.1.1.1.0 ∷ []) of_reach
-    (groups g.S.CheckedScalar.may_answer (printed_value g.S.ScalarValue.text g.S.ScalarValue.str_of)) c.args.ctx.now c.visit_rules.new.ctx
-    (λ es h. h, (λ es h. h, (λ es h. h, (λ es h. h, (λ es h. (h.reports, h.found, h.told), tt))))) (c.in_ok-visit_rules.ensures.appended known)
+    IfOk-weaker c.visit_stage_two.result _ _
+    (λ pairs two known.
+    after_two g.S.CheckedScalar.may_answer (printed_value g.S.ScalarValue.text g.S.ScalarValue.str_of) g.S.PartialEq.eq c.args.ctx.now c.visit_stage_one.new.ctx c.visit_stage_two.new.ctx c.args.document.now
+    (c.in_ok-visit_stage_one.ensures.appended known) (c.in_ok-visit_stage_one.ensures.silent known) (sym c.has_errors.ensures ∙ c.if-has_errors.false) pairs
+    (two (ap (λ w. w.known) c.in_ok-visit_stage_one.ensures.only.2 ∙ known)))
+    c.visit_stage_two.ensures.appended
 
-pub returns-clause-silent : goal.returns-clause-silent
-returns-clause-silent g c =
-    λ known.
+pub returns-clause-valid : goal.returns-clause-valid
+returns-clause-valid g c =
+    IfOk-weaker c.visit_stage_two.result _ _
+    (λ pairs told known.
+    valid_just_if g.S.CheckedScalar.may_answer (printed_value g.S.ScalarValue.text g.S.ScalarValue.str_of) g.S.PartialEq.eq g.met.S.CheckedScalar.one_answer c.args.ctx.now c.visit_stage_two.new.ctx c.args.document.now
+    pairs (told known))
+    (returns-clause-appended g c)
+
+pub returns-clause-few : goal.returns-clause-few
+returns-clause-few g c =
+    IfOk-weaker c.visit_stage_two.result _ _
+    (λ pairs told known.
     let old = c.args.ctx.now in
-    let new = c.visit_rules.new.ctx in
     let document = c.args.document.now in
-    let may = g.S.CheckedScalar.may_answer in
-    let shown = printed_value g.S.ScalarValue.text g.S.ScalarValue.str_of in
-    let allowed = silent_just_if (scope_of old.schema document) (typing old) document (stage_one may shown) (stage_one_settled may shown g.met.S.CheckedScalar.one_answer) old new (returns-clause-appended g c known) in
-    let found = nothing_just_if may shown (scope_of old.schema document) (typing old) document in
-    (λ same. found.0 (allowed.0 same), λ none. allowed.1 (found.1 none))
+    few_pairs g.S.CheckedScalar.may_answer (printed_value g.S.ScalarValue.text g.S.ScalarValue.str_of) g.S.PartialEq.eq old.errors (scope_of old.schema document) (typing old) document (told known).0 pairs (told known).1)
+    (returns-clause-appended g c)
+
+pub returns-clause-only : goal.returns-clause-only
+returns-clause-only g c =
+    on_ok_weaker c.visit_stage_two.result (λ two. only_more c.args.ctx.now c.visit_stage_one.new.ctx c.visit_stage_two.new.ctx c.in_ok-visit_stage_one.ensures.only two) c.visit_stage_two.ensures.only

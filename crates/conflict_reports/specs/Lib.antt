@@ -1,0 +1,4 @@
+pub mod Parts
+pub mod Reports
+pub mod Telling
+pub mod Texts

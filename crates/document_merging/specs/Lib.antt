@@ -1,0 +1,4 @@
+pub mod WrittenOut
+pub mod Merging
+pub mod Conflicts
+pub mod Found

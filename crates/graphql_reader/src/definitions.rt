@@ -1,0 +1,189 @@
+//! Executable documents (GraphQL, October 2021, sections 2.2, 2.3, 2.8 and 2.10).
+ghost use Rattle.std.specs.Prelude.{◌<◌, IfOk, length};
+
+use crate::selections::read_selection_set;
+use crate::types::read_type;
+use crate::values::{Variables, read_directives, read_value};
+use graphql_lexer::error::ReadError;
+use graphql_lexer::lexer::{Punctuator, Token};
+use graphql_lexer::tokens::Tokens;
+use language::position::{SourcePosition, Spanning};
+use language::tree::{
+    Definition, Fragment, Operation, OperationType, VariableDefinition, VariableDefinitions,
+};
+use language::value::InputValue;
+use source_scalars::scalar::SourceScalar;
+use std::alloc::Global;
+
+/// Reads an executable document, whose names are slices of the text: operations and fragments, one at least. Where the text is
+/// none, the error tells what was expected, what was found, and where. It takes time in proportion to the text.
+pub fn read_document<'a>(
+    alloc: Global,
+    text: &'a str,
+) -> Result<Vec<Definition<'a, SourceScalar>>, ReadError<'a>>
+    ensures { IfOk result (λ definitions. 0 < length definitions.items) }
+{
+    let mut tokens = Tokens::new(alloc, text.as_bytes());
+    let mut definitions = Vec::new(alloc);
+    for _ in 0..tokens.bound() {
+        definitions.push(read_definition(&mut tokens)?)?;
+        if tokens.is_at_end() {
+            return Ok(definitions);
+        }
+    }
+    Err(tokens.fault("the end of the text"))
+}
+
+fn read_definition<'a>(
+    tokens: &mut Tokens<'a>,
+) -> Result<Definition<'a, SourceScalar>, ReadError<'a>> {
+    if tokens.is(Punctuator::BraceOpen) {
+        return read_bare_query(tokens);
+    }
+    if let Some(operation_type) = operation_type_ahead(tokens) {
+        return read_operation(tokens, operation_type);
+    }
+    if tokens.is_word("fragment") {
+        return read_fragment(tokens);
+    }
+    Err(tokens.fault("an operation or a fragment"))
+}
+
+/// The kind of operation whose word is ahead.
+pub fn operation_type_ahead(tokens: &Tokens<'_>) -> Option<OperationType> {
+    match tokens.ahead() {
+        Token::Name("query") => Some(OperationType::Query),
+        Token::Name("mutation") => Some(OperationType::Mutation),
+        Token::Name("subscription") => Some(OperationType::Subscription),
+        _ => None,
+    }
+}
+
+// A query of which only the selection set is written.
+fn read_bare_query<'a>(
+    tokens: &mut Tokens<'a>,
+) -> Result<Definition<'a, SourceScalar>, ReadError<'a>> {
+    let start = tokens.start();
+    let selection_set = read_selection_set(tokens)?;
+    Ok(Definition::Operation(Spanning {
+        item: Operation {
+            operation_type: OperationType::Query,
+            name: None,
+            variable_definitions: None,
+            directives: None,
+            selection_set,
+        },
+        span: tokens.span_from(start),
+    }))
+}
+
+fn read_operation<'a>(
+    tokens: &mut Tokens<'a>,
+    operation_type: OperationType,
+) -> Result<Definition<'a, SourceScalar>, ReadError<'a>> {
+    let start = tokens.start();
+    tokens.advance();
+    let name = match tokens.ahead() {
+        Token::Name(_) => Some(tokens.name("a name")?),
+        _ => None,
+    };
+    let variable_definitions = read_variable_definitions(tokens)?;
+    let directives = read_directives(tokens, Variables::Allowed)?;
+    let selection_set = read_selection_set(tokens)?;
+    Ok(Definition::Operation(Spanning {
+        item: Operation {
+            operation_type,
+            name,
+            variable_definitions,
+            directives,
+            selection_set,
+        },
+        span: tokens.span_from(start),
+    }))
+}
+
+fn read_fragment<'a>(
+    tokens: &mut Tokens<'a>,
+) -> Result<Definition<'a, SourceScalar>, ReadError<'a>> {
+    let start = tokens.start();
+    tokens.advance();
+    let (name, type_condition) = read_fragment_head(tokens)?;
+    let directives = read_directives(tokens, Variables::Allowed)?;
+    let selection_set = read_selection_set(tokens)?;
+    Ok(Definition::Fragment(Spanning {
+        item: Fragment {
+            name,
+            type_condition,
+            directives,
+            selection_set,
+        },
+        span: tokens.span_from(start),
+    }))
+}
+
+// A fragment's name, which is not `on`, and its type condition.
+fn read_fragment_head<'a>(
+    tokens: &mut Tokens<'a>,
+) -> Result<(Spanning<&'a str>, Spanning<&'a str>), ReadError<'a>> {
+    if tokens.is_word("on") {
+        return Err(tokens.fault("a fragment's name"));
+    }
+    let name = tokens.name("a fragment's name")?;
+    if !tokens.take_word("on") {
+        return Err(tokens.fault("`on`"));
+    }
+    Ok((name, tokens.name("a type's name")?))
+}
+
+fn read_variable_definitions<'a>(
+    tokens: &mut Tokens<'a>,
+) -> Result<Option<Spanning<VariableDefinitions<'a, SourceScalar>>>, ReadError<'a>> {
+    let start = tokens.start();
+    if !tokens.take(Punctuator::ParenOpen) {
+        return Ok(None);
+    }
+    read_variables_from(tokens, start)
+}
+
+// One variable after the other, after the parenthesis.
+fn read_variables_from<'a>(
+    tokens: &mut Tokens<'a>,
+    start: SourcePosition,
+) -> Result<Option<Spanning<VariableDefinitions<'a, SourceScalar>>>, ReadError<'a>> {
+    let mut items = Vec::new(tokens.alloc());
+    for _ in 0..tokens.bound() {
+        let name = tokens.variable()?;
+        tokens.expect(Punctuator::Colon, ":")?;
+        items.push((name, read_variable_definition(tokens)?))?;
+        if tokens.take(Punctuator::ParenClose) {
+            return Ok(Some(Spanning {
+                item: VariableDefinitions { items },
+                span: tokens.span_from(start),
+            }));
+        }
+    }
+    Err(tokens.fault(")"))
+}
+
+fn read_variable_definition<'a>(
+    tokens: &mut Tokens<'a>,
+) -> Result<VariableDefinition<'a, SourceScalar>, ReadError<'a>> {
+    let var_type = read_type(tokens)?;
+    let default_value = read_default_value(tokens)?;
+    let directives = read_directives(tokens, Variables::Refused)?;
+    Ok(VariableDefinition {
+        var_type,
+        default_value,
+        directives,
+    })
+}
+
+/// Reads a default value, if there is one.
+pub fn read_default_value<'a>(
+    tokens: &mut Tokens<'a>,
+) -> Result<Option<Spanning<InputValue<SourceScalar>>>, ReadError<'a>> {
+    if !tokens.take(Punctuator::Equals) {
+        return Ok(None);
+    }
+    Ok(Some(read_value(tokens, Variables::Refused)?))
+}

@@ -1,0 +1,18 @@
+//! Reads GraphQL (October 2021, sections 2 and 3): executable documents and type system documents, from text to trees.
+//!
+//! Places are those of `graphql_lexer`. Selection sets, and lists and objects of a value, may nest
+//! [`NESTING_LIMIT`] levels deep. Of the readers safety is claimed: each answers, whatever the text.
+#![tactic(auto)]
+
+mod definitions;
+mod selections;
+pub mod type_system;
+mod type_system_reader;
+mod types;
+mod values;
+
+pub use definitions::read_document;
+pub use graphql_lexer::error::{Found, ReadError, SyntaxError};
+pub use source_scalars::scalar::SourceScalar;
+pub use type_system_reader::read_type_system;
+pub use values::NESTING_LIMIT;

@@ -1,0 +1,42 @@
+//! Types as they are written (GraphQL, October 2021, section 2.11).
+use graphql_lexer::error::ReadError;
+use graphql_lexer::lexer::Punctuator;
+use graphql_lexer::tokens::Tokens;
+use language::error::OutOfMemory;
+use language::position::Spanning;
+use language::types::Type;
+
+/// Reads a type. It is made from its name outwards, so its levels need no recursion.
+pub fn read_type<'a>(tokens: &mut Tokens<'a>) -> Result<Spanning<Type>, ReadError<'a>> {
+    let start = tokens.start();
+    let levels = take_opening_brackets(tokens);
+    let name = tokens.name("a type")?.item;
+    let mut item = read_non_null(tokens, Type::nullable(tokens.alloc(), name)?)?;
+    for _ in 0..levels {
+        tokens.expect(Punctuator::BracketClose, "]")?;
+        item = read_non_null(tokens, item.wrap_list(None)?)?;
+    }
+    Ok(Spanning {
+        item,
+        span: tokens.span_from(start),
+    })
+}
+
+fn take_opening_brackets(tokens: &mut Tokens<'_>) -> usize {
+    let bound = tokens.bound();
+    for taken in 0..bound {
+        if !tokens.take(Punctuator::BracketOpen) {
+            return taken;
+        }
+    }
+    bound
+}
+
+// The type, or the type made non-null where an exclamation mark follows.
+fn read_non_null(tokens: &mut Tokens<'_>, plain: Type) -> Result<Type, OutOfMemory> {
+    if tokens.take(Punctuator::Bang) {
+        plain.wrap_non_null()
+    } else {
+        Ok(plain)
+    }
+}

@@ -1,0 +1,3 @@
+pub mod SourceScalar
+pub mod Checks
+pub mod OneAnswer

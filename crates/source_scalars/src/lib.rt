@@ -1,0 +1,8 @@
+//! The scalars of a GraphQL text as they are written, and the checks of the types that a schema's text defines.
+#![tactic(auto)]
+
+pub mod check;
+pub mod scalar;
+
+pub use check::SourceCheck;
+pub use scalar::SourceScalar;

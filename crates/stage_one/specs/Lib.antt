@@ -1,0 +1,3 @@
+pub mod CleanStage
+pub mod NothingFound
+pub mod StageOne

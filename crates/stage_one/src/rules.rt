@@ -1,0 +1,206 @@
+//! The rules of the first stage, and the call that tries them all.
+
+ghost use Rattle.std.specs.Prelude.{◌≡◌, ◌↔◌, OnOk, OnErr, IsErr, true};
+ghost use Rattle.language.specs.ValuesPrinted.{printed_value};
+ghost use Rattle.walk.specs.ContextState.{typing, scope_of};
+ghost use Rattle.walk.specs.Names.{fragment_names};
+ghost use Rattle.walk.specs.Rule.{Appended, any_value, sum_of};
+ghost use Rattle.walk.specs.Step.{KeepsPlace};
+ghost use Rattle.stage_one.specs.NothingFound.{NothingFound};
+ghost use Rattle.stage_one.specs.StageOne.{stage_one};
+
+use argument_rules::known_argument_names::KnownArgumentNames;
+use argument_rules::known_directives::KnownDirectives;
+use argument_rules::provided_non_null_arguments::ProvidedNonNullArguments;
+use argument_rules::unique_argument_names::UniqueArgumentNames;
+use argument_rules::unique_input_field_names::UniqueInputFieldNames;
+use argument_rules::{
+    known_argument_names, known_directives, provided_non_null_arguments, unique_argument_names,
+    unique_input_field_names,
+};
+use field_rules::fields_on_correct_type::FieldsOnCorrectType;
+use field_rules::scalar_leafs::ScalarLeafs;
+use field_rules::{fields_on_correct_type, scalar_leafs};
+use fragment_rules::fragments_on_composite_types::FragmentsOnCompositeTypes;
+use fragment_rules::known_fragment_names::KnownFragmentNames;
+use fragment_rules::known_type_names::KnownTypeNames;
+use fragment_rules::unique_fragment_names::UniqueFragmentNames;
+use fragment_rules::{
+    fragments_on_composite_types, known_fragment_names, known_type_names,
+    possible_fragment_spreads, unique_fragment_names,
+};
+use language::error::OutOfMemory;
+use language::tree::Definition;
+use literal_rules::arguments_of_correct_type::ArgumentsOfCorrectType;
+use literal_rules::default_values_of_correct_type::DefaultValuesOfCorrectType;
+use literal_rules::{arguments_of_correct_type, default_values_of_correct_type};
+use meta::check::CheckedScalar;
+use operation_rules::lone_anonymous_operation::LoneAnonymousOperation;
+use operation_rules::unique_operation_names::UniqueOperationNames;
+use operation_rules::unique_variable_names::UniqueVariableNames;
+use operation_rules::{
+    lone_anonymous_operation, unique_operation_names, unique_variable_names,
+    variables_are_input_types,
+};
+use reach::no_fragment_cycles::NoFragmentCycles;
+use reach::no_undefined_variables::NoUndefinedVariables;
+use reach::no_unused_fragments::NoUnusedFragments;
+use reach::no_unused_variables::NoUnusedVariables;
+use reach::{no_fragment_cycles, no_undefined_variables, no_unused_fragments, no_unused_variables};
+use std::alloc::Global;
+use variable_positions::variables_in_allowed_position;
+use variable_positions::variables_in_allowed_position::VariableInAllowedPosition;
+use walk::{Fresh, MultiVisitorCons, MultiVisitorNil, ValidatorContext, visit_rules};
+
+// A list of rules, the newest first. One long list of all rules is dear to prove, so they come in groups.
+type OfOperations<'a> = MultiVisitorCons<
+    variables_are_input_types::UniqueVariableNames,
+    MultiVisitorCons<
+        UniqueVariableNames<'a>,
+        MultiVisitorCons<
+            UniqueOperationNames<'a>,
+            MultiVisitorCons<LoneAnonymousOperation, MultiVisitorNil>,
+        >,
+    >,
+>;
+
+type OfFields = MultiVisitorCons<
+    ScalarLeafs,
+    MultiVisitorCons<FieldsOnCorrectType, MultiVisitorNil>,
+>;
+
+type OfArguments = MultiVisitorCons<
+    UniqueInputFieldNames,
+    MultiVisitorCons<
+        UniqueArgumentNames,
+        MultiVisitorCons<
+            ProvidedNonNullArguments,
+            MultiVisitorCons<
+                KnownDirectives,
+                MultiVisitorCons<KnownArgumentNames, MultiVisitorNil>,
+            >,
+        >,
+    >,
+>;
+
+type OfFragments<'a> = MultiVisitorCons<
+    UniqueFragmentNames<'a>,
+    MultiVisitorCons<
+        KnownTypeNames,
+        MultiVisitorCons<
+            KnownFragmentNames,
+            MultiVisitorCons<FragmentsOnCompositeTypes, MultiVisitorNil>,
+        >,
+    >,
+>;
+
+type OfValues = MultiVisitorCons<
+    DefaultValuesOfCorrectType,
+    MultiVisitorCons<ArgumentsOfCorrectType, MultiVisitorNil>,
+>;
+
+type OfReach<'a> = MultiVisitorCons<
+    VariableInAllowedPosition<'a>,
+    MultiVisitorCons<
+        NoUnusedVariables<'a>,
+        MultiVisitorCons<
+            NoUnusedFragments,
+            MultiVisitorCons<
+                NoUndefinedVariables<'a>,
+                MultiVisitorCons<NoFragmentCycles, MultiVisitorNil>,
+            >,
+        >,
+    >,
+>;
+
+// The rules on operations and their variables.
+fn of_operations<'a>(alloc: Global) -> OfOperations<'a>
+    ensures { ⟦<OfOperations<'a> as Fresh>⟧.fresh result }
+{
+    MultiVisitorNil
+        .with_rule(lone_anonymous_operation::factory(alloc))
+        .with_rule(unique_operation_names::factory(alloc))
+        .with_rule(unique_variable_names::factory(alloc))
+        .with_rule(variables_are_input_types::factory(alloc))
+}
+
+// The rules on fields.
+fn of_fields(alloc: Global) -> OfFields
+    ensures { ⟦<OfFields as Fresh>⟧.fresh result }
+{
+    MultiVisitorNil
+        .with_rule(fields_on_correct_type::factory(alloc))
+        .with_rule(scalar_leafs::factory(alloc))
+}
+
+// The rules on arguments, keys of objects and directives.
+fn of_arguments(alloc: Global) -> OfArguments
+    ensures { ⟦<OfArguments as Fresh>⟧.fresh result }
+{
+    MultiVisitorNil
+        .with_rule(known_argument_names::factory(alloc))
+        .with_rule(known_directives::factory(alloc))
+        .with_rule(provided_non_null_arguments::factory(alloc))
+        .with_rule(unique_argument_names::factory(alloc))
+        .with_rule(unique_input_field_names::factory(alloc))
+}
+
+// The rules on fragments and on the names of types.
+fn of_fragments<'a>(alloc: Global) -> OfFragments<'a>
+    ensures { ⟦<OfFragments<'a> as Fresh>⟧.fresh result }
+{
+    MultiVisitorNil
+        .with_rule(fragments_on_composite_types::factory(alloc))
+        .with_rule(known_fragment_names::factory(alloc))
+        .with_rule(known_type_names::factory(alloc))
+        .with_rule(unique_fragment_names::factory(alloc))
+}
+
+// The rules on values.
+fn of_values(alloc: Global) -> OfValues
+    ensures { ⟦<OfValues as Fresh>⟧.fresh result }
+{
+    MultiVisitorNil
+        .with_rule(arguments_of_correct_type::factory(alloc))
+        .with_rule(default_values_of_correct_type::factory(alloc))
+}
+
+// The rules on what leads across the document.
+fn of_reach<'a>(alloc: Global) -> OfReach<'a>
+    ensures { ⟦<OfReach<'a> as Fresh>⟧.fresh result }
+{
+    MultiVisitorNil
+        .with_rule(no_fragment_cycles::factory(alloc))
+        .with_rule(no_undefined_variables::factory(alloc))
+        .with_rule(no_unused_fragments::factory(alloc))
+        .with_rule(no_unused_variables::factory(alloc))
+        .with_rule(variables_in_allowed_position::factory(alloc))
+}
+
+/// Tries every rule of the first stage on a document, and appends the errors of the rules, in a context that was made for it: none just if every collection of a
+/// rule is empty, no value has a fault, no fragment leads back to itself and none is unused, and each variable is defined, used, and where its type may stand. In any other context it appends errors alone.
+///
+/// It walks over the document once.
+pub fn visit_stage_one<'a, 't, S: CheckedScalar>(
+    ctx: &mut ValidatorContext<'a, S>,
+    document: &'a [Definition<'t, S>],
+) -> Result<(), OutOfMemory>
+    ensures appended { OnOk result (ctx.old.known ≡ fragment_names document.now → Appended (sum_of (stage_one S.may_answer (printed_value S.text S.str_of)) (scope_of ctx.old.schema document.now) (typing ctx.old) document.now) ctx.old ctx.new) }
+    ensures silent { OnOk result (ctx.old.known ≡ fragment_names document.now → (ctx.new.errors ≡ ctx.old.errors) ↔ NothingFound S.may_answer (printed_value S.text S.str_of) (scope_of ctx.old.schema document.now) (typing ctx.old) document.now) }
+    ensures only { OnOk result (Appended any_value ctx.old ctx.new) }
+    ensures err { OnErr result (KeepsPlace ctx.old ctx.new) }
+    ensures failed { OnErr result (ctx.new.failed ≡ true) }
+    ensures stays { ctx.old.failed ≡ true → IsErr result }
+{
+    let alloc = ctx.allocator();
+    let mut rules = MultiVisitorNil
+        .with_rule(of_operations(alloc))
+        .with_rule(of_fields(alloc))
+        .with_rule(of_arguments(alloc))
+        .with_rule(of_fragments(alloc))
+        .with_rule(of_values(alloc))
+        .with_rule(of_reach(alloc))
+        .with_rule(possible_fragment_spreads::factory(alloc));
+    visit_rules(&mut rules, ctx, document)?;
+    Ok(())
+}

@@ -1,0 +1,138 @@
+-- Two stages as one.
+use Rattle.std.proofs.Common.{◌≡◌, ◌∙◌, ◌↔◌, ◌++◌, ◌≤◌, ◌*◌, ◌-◌, ℕ, List, [], ◌∷◌, Bool, true, false, ap, map, refl, sym, subst, IsPermutation, arith}
+use Rattle.std.proofs.lemmas.Bool.{true≢false}
+use Rattle.std.proofs.lemmas.List.{append-nil, nil_from_length}
+use Rattle.std.proofs.lemmas.List.Sorted.{IsPermutation-sym, IsPermutation-trans, length_permutation}
+use Rattle.language.specs.declared.tree.Definition.{Definition}
+use Rattle.language.specs.declared.value.InputValue.{InputValue}
+use Rattle.literals.specs.Laws.{OneAnswer}
+use Rattle.meta.specs.Answers.{Answers}
+use Rattle.schema.specs.Catalog.{Catalog}
+use Rattle.fragment_cycles.specs.DocumentCycles.{HasNoCycle}
+use Rattle.events.specs.Typing.{Typing}
+use Rattle.field_pairs.specs.Entries.{PlainEntry}
+use Rattle.merge_documents.specs.Definitions.{fragment_count}
+use Rattle.conflict_reports.specs.Reports.{Reports, none, direct, nested}
+use Rattle.conflict_reports.specs.Texts.{errors_of}
+use Rattle.document_merging.specs.Merging.{DocumentMerges}
+use Rattle.document_merging.specs.Conflicts.{IsTidyDocument}
+use Rattle.merge.specs.declared.overlapping_fields_can_be_merged.OverlappingFieldsCanBeMerged.{OverlappingFieldsCanBeMerged}
+use Rattle.merge.specs.OverlappingFieldsCanBeMerged.{MergeErrors, error_value}
+use Rattle.walk.specs.ContextState.{ContextState, DocumentScope, has_some, scope_of, typing, with_errors}
+use Rattle.walk.specs.ErrorValue.{ErrorValue}
+use Rattle.walk.specs.Rule.{Appended, sum_of}
+use Rattle.stage_one.specs.NothingFound.{NothingFound}
+use Rattle.stage_one.specs.StageOne.{stage_one}
+use Rattle.walk.proofs.Sums.{sum_settled}
+use Rattle.events.specs.Node.{field}
+use Rattle.merge_laws.proofs.Agreeing.{fields_are_tidy, tidy_arguments}
+use Rattle.stage_one.proofs.Clean.{clean}
+use Rattle.stage_one.proofs.Distinct.{left_none}
+use Rattle.stage_one.proofs.Found.{nothing_just_if}
+use Rattle.stage_one.proofs.Silent.{stage_one_settled}
+use Rattle.validation.specs.Stages.{Reported, of_stage_one, of_stage_two, IsValid}
+
+pub permuted_none : {X : Type 0} (xs : List X) → IsPermutation [] xs → xs ≡ []
+permuted_none xs p = nil_from_length xs (length_permutation [] xs p)
+
+-- what has some is not empty
+pub not_none : {X : Type 0} (xs : List X) → has_some xs ≡ true → xs ≡ [] → ⊥
+not_none xs some empty = true≢false (sym some ∙ ap has_some empty)
+
+pub is_none : {X : Type 0} (xs : List X) → has_some xs ≡ false → xs ≡ []
+is_none [] e = refl
+is_none (x ∷ xs) e = absurd (true≢false e)
+
+-- a document where the first stage finds nothing repeats no argument, nor a key in one
+pub tidy_where_clean : {S C : Type 0} (may : Answers (InputValue S) C) (shown : InputValue S → List ℕ) (schema : Catalog S C) (t : Typing S C) (document : List (Definition S))
+    → NothingFound may shown (scope_of schema document) t document → IsTidyDocument schema document
+tidy_where_clean may shown schema t document found =
+    let c = clean schema t document may shown found in
+    fields_are_tidy schema t document (λ f is. (tidy_arguments f.item.arguments).1 (c.arguments (field f) is, c.values (field f) is))
+
+module _ {S C : Type 0} (E : S → S → Bool) (schema : Catalog S C) where
+  -- conflicts have errors
+  no_conflict : (reports : Reports (PlainEntry S C)) → map error_value (errors_of E schema reports) ≡ [] → reports ≡ none
+  no_conflict none e = refl
+  no_conflict (direct a b f rest) e = absurd (not_none _ refl e)
+  no_conflict (nested a b below rest) e = absurd (not_none _ refl e)
+
+  -- where nothing repeats and no fragment leads back to itself there are no errors just if the document merges
+  pub merges_just_if : (document : List (Definition S)) (end : OverlappingFieldsCanBeMerged) (es : List ErrorValue) → HasNoCycle document → IsTidyDocument schema document
+      → MergeErrors E schema document end es → (es ≡ []) ↔ DocumentMerges E schema document
+  merges_just_if document end es acyclic tidy m =
+      let exact = (m.all acyclic tidy).exact in
+      let errors : Reports (PlainEntry S C) → List ErrorValue = λ rs. map error_value (errors_of E schema rs) in (
+        λ e. exact.0 (no_conflict m.reports (permuted_none _ (IsPermutation-sym _ _ (subst (IsPermutation (errors m.reports)) e m.told)))),
+        λ merges. permuted_none es (subst (λ rs. IsPermutation (errors rs) es) (exact.1 merges) m.told),
+      )
+
+module _ {S C : Type 0} (may : Answers (InputValue S) C) (shown : InputValue S → List ℕ) (E : S → S → Bool) where
+  -- the first stage reported, or there were errors before
+  pub after_one : (old new : ContextState S C) (document : List (Definition S)) → Appended (sum_of (stage_one may shown) (scope_of old.schema document) (typing old) document) old new → has_some new.errors ≡ true
+      → (es : List ErrorValue) × Reported may shown E old.errors (scope_of old.schema document) (typing old) document es 0 × (new ≡ with_errors old es)
+  after_one old new document (es, allowed, e) some = (es, of_stage_one allowed (λ nothing. not_none new.errors some (ap (λ w. w.errors) e ∙ nothing)), e)
+
+  module _ (old mid new : ContextState S C) (document : List (Definition S)) where
+    abbrev One : Type 0
+    One = Appended (sum_of (stage_one may shown) (scope_of old.schema document) (typing old) document) old mid
+
+    abbrev Silent : Type 0
+    Silent = (mid.errors ≡ old.errors) ↔ NothingFound may shown (scope_of old.schema document) (typing old) document
+
+    abbrev Two : ℕ → Type 0
+    Two pairs = (es : List ErrorValue) × (end : OverlappingFieldsCanBeMerged) × MergeErrors E mid.schema document end es × (end.compared ≡ pairs) × (new ≡ with_errors mid es)
+
+    -- neither reported anything before the second stage
+    pub after_two : One → Silent → has_some mid.errors ≡ false → (pairs : ℕ) → Two pairs
+        → (es : List ErrorValue) × Reported may shown E old.errors (scope_of old.schema document) (typing old) document es pairs × (new ≡ with_errors old es)
+    after_two (fs, allowed, e) silent quiet pairs (es, end, told, counted, e') =
+        let none_now : mid.errors ≡ [] = is_none mid.errors quiet in
+        let none_before : old.errors ≡ [] = left_none old.errors fs (sym (ap (λ w. w.errors) e) ∙ none_now) in
+        let here : MergeErrors E old.schema document end es = subst (λ z. MergeErrors E z document end es) (ap (λ w. w.schema) e) told in
+        let reported = of_stage_two none_before (silent.0 (none_now ∙ sym none_before)) here in
+        (es, subst (λ n. Reported may shown E old.errors (scope_of old.schema document) (typing old) document es n) counted reported,
+        e' ∙ ap (λ w. with_errors w es) e ∙ ap (λ zs. record old { errors = zs ++ es }) (sym (ap (λ w. w.errors) e) ∙ none_now ∙ sym none_before))
+
+  -- nothing is reported just if the document is valid
+  module _ (one : OneAnswer may) (schema : Catalog S C) (t : Typing S C) (document : List (Definition S)) where
+    pub none_just_if : (before es : List ErrorValue) (pairs : ℕ) → before ≡ [] → Reported may shown E before (scope_of schema document) t document es pairs → (es ≡ []) ↔ IsValid may shown E (scope_of schema document) t document
+    none_just_if before es pairs empty (of_stage_one allowed some) =
+        let nothing : es ≡ [] → ⊥ = λ e. some (ap (λ zs. before ++ zs) e ∙ append-nil before ∙ empty) in
+        let scope = scope_of schema document in
+        let found = nothing_just_if may shown scope t document in
+        (λ e. absurd (nothing e), λ v. absurd (nothing (sum_settled scope t document (stage_one may shown) (stage_one_settled may shown one) es (found.1 v.stage_one) allowed)))
+    none_just_if before es pairs empty (of_stage_two {end = end} none_before found told) =
+        let judged = merges_just_if E schema document end es found.no_fragment_cycles (tidy_where_clean may shown schema t document found) told in
+        (λ e. record { stage_one = found; merges = judged.0 e }, λ v. judged.1 v.merges)
+
+-- conflicts in another order
+pub merge_permuted : {S C : Type 0} (E : S → S → Bool) (schema : Catalog S C) (document : List (Definition S)) (end : OverlappingFieldsCanBeMerged) (fs gs es : List ErrorValue)
+    → MergeErrors E schema document end fs → gs ≡ [] → IsPermutation (fs ++ gs) es → MergeErrors E schema document end es
+merge_permuted E schema document end fs gs es m none_else p =
+    let all : fs ++ gs ≡ fs = ap (λ z. fs ++ z) none_else ∙ append-nil fs in
+    record {
+      reports = m.reports;
+      told = IsPermutation-trans _ _ _ m.told (subst (λ z. IsPermutation z es) all p);
+      real = m.real;
+      cyclic = m.cyclic;
+      all = m.all;
+      few = m.few;
+      enough = m.enough;
+      opened = m.opened;
+    }
+
+-- no more pairs than two for each two definitions of fragments
+pub few_pairs : {S C : Type 0} (may : Answers (InputValue S) C) (shown : InputValue S → List ℕ) (E : S → S → Bool) (before : List ErrorValue) (scope : DocumentScope S C) (t : Typing S C) (document : List (Definition S)) (es : List ErrorValue) (pairs : ℕ)
+    → Reported may shown E before scope t document es pairs → pairs ≤ fragment_count document * (fragment_count document - 1)
+few_pairs may shown E before scope t document es pairs (of_stage_one allowed some) = omega arith
+few_pairs may shown E before scope t document es pairs (of_stage_two none_before clean told) = told.few
+
+module _ {S C : Type 0} (may : Answers (InputValue S) C) (shown : InputValue S → List ℕ) (E : S → S → Bool) (one : OneAnswer may) (old new : ContextState S C) (document : List (Definition S)) where
+  -- a context that held no error holds none just if the document is valid
+  pub valid_just_if : (pairs : ℕ) → (es : List ErrorValue) × Reported may shown E old.errors (scope_of old.schema document) (typing old) document es pairs × (new ≡ with_errors old es) → old.errors ≡ []
+      → (new.errors ≡ []) ↔ IsValid may shown E (scope_of old.schema document) (typing old) document
+  valid_just_if pairs (es, reported, e) empty =
+      let judged = none_just_if may shown E one old.schema (typing old) document old.errors es pairs empty reported in
+      let now : new.errors ≡ es = ap (λ w. w.errors) e ∙ ap (λ zs. zs ++ es) empty in
+      (λ nothing. judged.0 (sym now ∙ nothing), λ v. now ∙ judged.1 v)
