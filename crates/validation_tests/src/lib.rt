@@ -1,5 +1,4 @@
-//! The rows of the rules, over trees that are built in code and the list `demo`; rules that are tried alone, root nodes, values
-//! against types with sizes, and a linter.
+//! What `validation` says of texts: the rows, rules that are tried alone, root nodes, values against types with sizes, and a linter.
 #![tactic(auto)]
 
 #[cfg(test)]
@@ -9,11 +8,14 @@ pub mod linter;
 mod looked;
 pub mod made_types;
 #[cfg(test)]
+mod pets;
+#[cfg(test)]
+mod roots;
+#[cfg(test)]
 mod rows;
 #[cfg(test)]
-mod sample_schemas;
-#[cfg(test)]
 mod sized_types;
+pub mod told;
 pub mod values_after;
 #[cfg(test)]
 mod values_rows;

@@ -1,20 +1,18 @@
 //! Values for the variables of documents that a validation passes, and of one that it does not.
 
-use crate::sample_schemas::pets_schema;
+use crate::pets::schema;
+use crate::told::lines;
 use crate::values_after::values_after;
 use document_reader::read_document;
-use language::value::{DefaultScalarValue, Variables};
-use samples::checks::{check_int, refuse_token};
-use schema::model::SchemaType;
+use language::value::Variables;
 use std::alloc::Global;
-use std::test::Fail;
-use validation::{Definition, OutOfMemory};
+use validation::{CheckedScalar, Definition, OutOfMemory, SchemaType};
 
 /// A document, and what is said of its first operation where no value is given for its variable.
 const ROWS: [(&str, &str); 3] = [
     (
         "query ($a: Int!) { complicatedArgs { nonNullIntArgField(nonNullIntArg: $a) } }",
-        "Variable \"$a\" of required type \"Int!\" was not provided.. At 0:7",
+        "Variable \"$a\" of required type \"Int!\" was not provided.. At 0:7\n",
     ),
     (
         "query ($a: Int) { complicatedArgs { intArgField(intArg: $a) } }",
@@ -26,34 +24,24 @@ const ROWS: [(&str, &str); 3] = [
     ),
 ];
 
-fn said_of(
+fn said<S: CheckedScalar>(
     alloc: Global,
-    schema: &SchemaType,
-    document: &[Definition<'_, DefaultScalarValue>],
+    schema: &SchemaType<S>,
+    document: &[Definition<'_, S>],
 ) -> Result<String, OutOfMemory> {
-    let Some(errors) = values_after(alloc, schema, document, &Variables::new(alloc))? else {
-        return Ok(String::from_str(alloc, "it has errors")?);
-    };
-    let mut said = String::new(alloc);
-    for error in errors {
-        said.push_str(error.to_string(alloc)?.as_str())?;
-    }
-    Ok(said)
-}
-
-fn said(alloc: Global, schema: &SchemaType, text: &str) -> Result<String, OutOfMemory> {
-    match read_document(alloc, text.as_bytes()) {
-        Ok(document) => said_of(alloc, schema, document.as_slice()),
-        Err(_) => Ok(String::from_str(alloc, "no document")?),
+    match values_after(alloc, schema, document, &Variables::new(alloc))? {
+        Some(errors) => lines(alloc, errors),
+        None => Ok(String::from_str(alloc, "it has errors")?),
     }
 }
 
 #[test]
-fn values_after_a_validation(rt: HostRuntime) -> Result<(), Fail> {
+fn values_after_a_validation(rt: HostRuntime) {
     let alloc = rt.alloc();
-    let schema = pets_schema(alloc, check_int, refuse_token)?;
+    let schema = schema(alloc).expect(&rt, "the list is accepted");
     for (text, want) in ROWS {
-        assert_eq!(rt; said(alloc, &schema, text)?.as_str(), want);
+        let document = read_document(alloc, text.as_bytes()).expect(&rt, "it is a document");
+        let said = said(alloc, &schema, document.as_slice()).expect(&rt, "memory");
+        assert_eq!(rt; said.as_str(), want);
     }
-    Ok(())
 }

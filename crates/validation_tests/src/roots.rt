@@ -1,0 +1,51 @@
+//! A root node allows introspection or forbids it.
+
+use crate::pets::schema;
+use crate::told::lines;
+use document_reader::read_document;
+use std::alloc::Global;
+use std::process::Abort;
+use validation::ast::Definition;
+use validation::{DefaultScalarValue, OutOfMemory, RootNode};
+
+const TEXT: &str = "{ __schema { queryType { name } } dog { ...A } }";
+
+const OPEN: &str = "Unknown fragment: \"A\". At 0:43\n";
+
+const CLOSED: &str =
+    "GraphQL introspection is not allowed, but the operation contained `__schema`. At 0:2\nUnknown fragment: \"A\". At 0:43\n";
+
+type Document<'a> = &'a [Definition<'a, DefaultScalarValue>];
+
+// What a root node says of a document.
+fn validated(
+    alloc: Global,
+    root: &RootNode<DefaultScalarValue>,
+    document: Document<'_>,
+) -> Result<String, OutOfMemory> {
+    lines(alloc, root.validate(alloc, document)?)
+}
+
+// A root node says so of a document.
+fn says(
+    rt: &impl Abort,
+    alloc: Global,
+    root: &RootNode<DefaultScalarValue>,
+    document: Document<'_>,
+    want: &str,
+) {
+    let told = validated(alloc, root, document).expect(rt, "memory");
+    assert_eq!(rt; told.as_str(), want);
+}
+
+#[test]
+fn a_root_node_allows_introspection_or_forbids_it(rt: HostRuntime) {
+    let alloc = rt.alloc();
+    let document = read_document(alloc, TEXT.as_bytes()).expect(&rt, "it is a document");
+    let root = RootNode::new(schema(alloc).expect(&rt, "the list is accepted"));
+    says(&rt, alloc, &root, document.as_slice(), OPEN);
+    let root = root.disable_introspection();
+    says(&rt, alloc, &root, document.as_slice(), CLOSED);
+    let root = root.enable_introspection();
+    says(&rt, alloc, &root, document.as_slice(), OPEN);
+}

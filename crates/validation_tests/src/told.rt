@@ -1,0 +1,44 @@
+//! What is told of documents, as texts.
+
+use language::error::OutOfMemory;
+use language::tree::Definition;
+use meta::check::CheckedScalar;
+use schema::model::SchemaType;
+use std::alloc::Global;
+use validation::rules::visit_all_rules;
+use validation::{MultiVisitorNil, RuleError, ValidatorContext, Visitor, visit};
+
+/// The errors, a line each.
+pub fn lines(alloc: Global, errors: Vec<RuleError>) -> Result<String, OutOfMemory> {
+    let mut told = String::new(alloc);
+    for error in errors {
+        writeln!(told, "{error}")?;
+    }
+    Ok(told)
+}
+
+/// The errors of a validation, a line each, and then the number of pairs that were compared.
+pub fn told_by_all<'a, S: CheckedScalar>(
+    alloc: Global,
+    schema: &'a SchemaType<S>,
+    document: &'a [Definition<'_, S>],
+) -> Result<String, OutOfMemory> {
+    let mut ctx = ValidatorContext::new(alloc, schema, document)?;
+    let compared = visit_all_rules(&mut ctx, document)?;
+    let mut told = lines(alloc, ctx.into_errors()?)?;
+    write!(told, "{compared}")?;
+    Ok(told)
+}
+
+/// The errors of a rule alone, a line each.
+pub fn told_by_one<'a, S: CheckedScalar, V: Visitor<'a, S>>(
+    alloc: Global,
+    schema: &'a SchemaType<S>,
+    rule: V,
+    document: &'a [Definition<'_, S>],
+) -> Result<String, OutOfMemory> {
+    let mut ctx = ValidatorContext::new(alloc, schema, document)?;
+    let mut rules = MultiVisitorNil.with(rule);
+    visit(&mut rules, &mut ctx, document)?;
+    lines(alloc, ctx.into_errors()?)
+}
