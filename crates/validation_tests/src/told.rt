@@ -31,7 +31,7 @@ pub fn told_by_all<'a, S: CheckedScalar>(
 }
 
 /// The errors of a rule alone, a line each.
-pub fn told_by_one<'a, S: CheckedScalar, V: Visitor<'a, S>>(
+pub fn told_by_one<'a, S: CheckedScalar, V: Visitor<'a, S> + Drop>(
     alloc: Global,
     schema: &'a SchemaType<S>,
     rule: V,
