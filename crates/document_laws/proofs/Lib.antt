@@ -1,0 +1,3 @@
+mod NoCycle
+mod Inside
+mod Merging

@@ -1,0 +1,4 @@
+//! Laws of the fields of a document that can be merged.
+#![tactic(auto)]
+
+pub mod laws;
