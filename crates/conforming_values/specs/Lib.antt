@@ -1,0 +1,2 @@
+pub mod Conforms
+pub mod Laws
