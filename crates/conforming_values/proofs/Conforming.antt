@@ -1,8 +1,7 @@
 -- Values without fault conform.
-use Rattle.std.proofs.Common.{◌≡◌, ℕ, List, [], ◌∷◌, ◌++◌, Contains, Bool, true, false, Option, Some, None, String, map, length, reverse, string_bytes, refl, ap, sym, ◌∙◌, inl, inr, subst, if◌then◌else◌, true≢false}
-use Rattle.std.specs.declared.alloc.Global.{Global}
+use Rattle.std.proofs.Common.{◌≡◌, ℕ, List, [], ◌∷◌, ◌++◌, Bool, true, false, Option, Some, None, map, length, reverse, string_bytes, refl, ap, sym, ◌∙◌, inl, inr, subst, if◌then◌else◌, true≢false}
 use Rattle.std.proofs.lemmas.Bool.{eqb-true}
-use Rattle.std.proofs.lemmas.List.{reverse-append, reverse-reverse}
+use Rattle.std.proofs.lemmas.List.{reverse-reverse}
 use Rattle.std.proofs.Math.Path.{transport}
 use Rattle.language.specs.declared.position.Span.{Span}
 use Rattle.language.specs.declared.position.Spanning.{Spanning}
@@ -23,9 +22,7 @@ use Rattle.meta.specs.declared.enums.EnumMetaOf.{EnumMetaOf}
 use Rattle.meta.specs.declared.inputs.InputObjectMetaOf.{InputObjectMetaOf}
 use Rattle.meta.specs.declared.kinds.MetaTypeOf.{MetaTypeOf}
 use Rattle.meta.specs.declared.kinds.MetaTypeOf.TheVariants as k
-use Rattle.meta.specs.declared.scalars.ScalarMetaOf.{ScalarMetaOf}
 use Rattle.schema.specs.Catalog.{Catalog, type_in}
-use Rattle.schema.specs.Possible.{is_among}
 use Rattle.schema.proofs.WrappedLemmas.{outermost-push}
 use Rattle.variable_values.specs.Faults.{Checked, Fault, Faults, OfMeta, OfNamed, OrChecked, Step, absent, accepted_faults, element, enum_faults, field, judge_of, under, unknown_field, within, wrong_length}
 use Rattle.variable_values.specs.InTurn.{InTurn}
@@ -34,7 +31,7 @@ use Rattle.variable_values.specs.Rows.{Below, OfField, OfFields, OfWhole}
 use Rattle.variable_values.specs.Texts.{input_text}
 use Rattle.variable_values.proofs.LastValues.{each-at, last_entry}
 use Rattle.variable_values.proofs.RowLaws.{OfLevel, at_roll, within_of, within_wrap}
-use Rattle.conforming_values.specs.Conforms.{Conforms, HasLength, enum_string, enum_value, input_object, list, non_null, nothing, null, scalar, single, value_names}
+use Rattle.conforming_values.specs.Conforms.{Conforms, enum_string, enum_value, input_object, list, non_null, nothing, null, scalar, single, value_names}
 use Rattle.conforming_values.proofs.Keys.{contains_among, known_keys}
 use Rattle.conforming_values.proofs.Parts.{back_none, front_none, mapped_none, none_in_turn}
 
@@ -122,8 +119,8 @@ module _ {S C : Type 0} (schema : Catalog S C) (may : Answers (InputValue S) C) 
       let keys = sym (mapped_none unknown_field (unknown_keys (field_names o.input_fields.items) (keys_of es)) (back_none gs unknown told_of.0)) in
       input_object value name o es known is (known_keys (field_names o.input_fields.items) (keys_of es) keys)
       (λ a c.
-          let one = none_in_turn (λ (i : ℕ) (b : Argument S). OfField schema may text str_of b (last_value (string_bytes b.name) es)) 0 o.input_fields.items a c fields in
-          conform_field a es h (last_value (string_bytes a.name) es) refl one.1)
+      let one = none_in_turn (λ (i : ℕ) (b : Argument S). OfField schema may text str_of b (last_value (string_bytes b.name) es)) 0 o.input_fields.items a c fields in
+      conform_field a es h (last_value (string_bytes a.name) es) refl one.1)
       told_of.1
 
   -- ---- names
@@ -179,8 +176,8 @@ module _ {S C : Type 0} (schema : Catalog S C) (may : Answers (InputValue S) C) 
       let none_of : InTurn gives 0 xs [] = subst (InTurn gives 0 xs) (sym (back_none (wrong_length size (length xs)) gs e)) turns in
       list value size t xs is (λ n. has_length size (length xs) n (front_none (wrong_length size (length xs)) gs e))
       (λ x c.
-          let one = none_in_turn gives 0 xs x c none_of in
-          each-at (λ (y : Spanning (InputValue S) Span). ConformsAt y.item) xs c.0 x c.1 c.2 h t (below_none (element one.0) t x.item one.1))
+      let one = none_in_turn gives 0 xs x c none_of in
+      each-at (λ (y : Spanning (InputValue S) Span). ConformsAt y.item) xs c.0 x c.1 c.2 h t (below_none (element one.0) t x.item one.1))
 
   rewrap : (value : InputValue S) (x : TypeModifier) (ms : List TypeModifier) (name : List ℕ) → Conforms schema may str_of (Some value) (wrapped_by x (within ms name)) → Conforms schema may str_of (Some value) (within (x ∷ ms) name)
   rewrap value x ms name h = subst (Conforms schema may str_of (Some value)) (within_more x ms name) h

@@ -11,7 +11,6 @@ use Rattle.language.specs.declared.value.InputValue.TheOpen as v
 use Rattle.language.specs.declared.value.InputValue.TheVariants as variant
 use Rattle.language.specs.Types.{IsNonNull, TypeShape, by_outermost, inner_of, nullable_named, outermost, shape, wrapped_by}
 use Rattle.language.specs.Values.{Entry, last_value, entries_layer, items_layer}
-use Rattle.language.specs.ValuesPrinted.{printed_value}
 use Rattle.meta.specs.Answers.{Answers, Accepts}
 use Rattle.meta.specs.Kept.{scalar_check, input_object_check}
 use Rattle.meta.specs.declared.arguments.Argument.{Argument}
@@ -21,8 +20,8 @@ use Rattle.meta.specs.declared.kinds.MetaTypeOf.{MetaTypeOf}
 use Rattle.meta.specs.declared.kinds.MetaTypeOf.TheVariants as k
 use Rattle.meta.specs.declared.scalars.ScalarMetaOf.{ScalarMetaOf}
 use Rattle.schema.specs.Catalog.{Catalog, type_in}
-use Rattle.variable_values.specs.Faults.{Fault, Faults, OfNamed, absent, element, enum_faults, field, here, judge_of, name_in, under, unknown_field, wrong_length}
-use Rattle.variable_values.specs.Keys.{field_names, keys_of, unknown_keys}
+use Rattle.variable_values.specs.Faults.{Faults, OfNamed, absent, element, enum_faults, field, here, judge_of, under, unknown_field, wrong_length}
+use Rattle.variable_values.specs.Keys.{field_names, keys_of}
 use Rattle.variable_values.specs.Rows.{Below, ByName, OfField, OfFields, OfItems, OfWhole, SaysItems}
 use Rattle.variable_values.specs.Texts.{enum_text, length_text}
 use Rattle.variable_values.proofs.RowLaws.{free_row, items_row, moved, named_row, non_null_row, null_by_name, single_row, unwrapped}

@@ -1,5 +1,5 @@
 -- The errors of an operation, and its variables.
-use Rattle.std.proofs.Common.{◌≡◌, ℕ, List, [], ◌∷◌, Contains, Option, Some, None, IsPermutation, map, length, reverse, refl, ap, sym, ◌∙◌, subst, arith}
+use Rattle.std.proofs.Common.{◌≡◌, ℕ, List, [], ◌∷◌, Option, Some, None, IsPermutation, map, length, refl, ap, sym, ◌∙◌, subst, arith}
 use Rattle.std.specs.BTreeMap.{get_by_text}
 use Rattle.std.proofs.lemmas.List.Sorted.{length_permutation}
 use Rattle.language.specs.declared.tree.Operation.{Operation}
@@ -8,12 +8,10 @@ use Rattle.language.specs.declared.value.InputValue.{InputValue, out-InputValue,
 use Rattle.language.specs.declared.value.InputValue.TheOpen as v
 use Rattle.language.specs.declared.value.InputValue.TheVariants as variant
 use Rattle.language.specs.Types.{IsNonNull, TypeShape, inner_of, outermost, printed, shape, wrapped_by}
-use Rattle.meta.specs.Answers.{Answers, Accepts}
+use Rattle.meta.specs.Answers.{Answers}
 use Rattle.schema.specs.Catalog.{Catalog}
 use Rattle.events.specs.Node.{VariableEntry}
-use Rattle.walk.specs.ErrorValue.{ErrorValue}
 use Rattle.variable_values.specs.Faults.{Fault, Faults, here}
-use Rattle.variable_values.specs.InTurn.{InTurn}
 use Rattle.variable_values.specs.Inputs.{definitions_of}
 use Rattle.variable_values.specs.Laws.{OneAnswer}
 use Rattle.variable_values.specs.Messages.{OfDefinition, OfOperation, OfVariable, Values, error_at, given, invalid_text, messages_without, required_text, told_after, unless_null}

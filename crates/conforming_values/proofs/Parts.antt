@@ -1,5 +1,5 @@
 -- What the elements of a list give, where it is nothing.
-use Rattle.std.proofs.Common.{◌≡◌, ℕ, ◌+◌, ◌<◌, List, [], ◌∷◌, ◌++◌, Contains, map, length, get_or, zero, suc, refl, sym, subst, arith}
+use Rattle.std.proofs.Common.{◌≡◌, ℕ, ◌+◌, List, [], ◌∷◌, ◌++◌, Contains, map, zero, suc, refl, sym, subst, arith}
 use Rattle.variable_values.specs.InTurn.{InTurn}
 
 pub front_none : {R : Type 0} (xs ys : List R) → [] ≡ xs ++ ys → [] ≡ xs

@@ -14,18 +14,18 @@ use Rattle.language.specs.declared.tree.Definition.TheVariants as definition
 use Rattle.meta.specs.declared.kinds.MetaTypeOf.{MetaTypeOf}
 use Rattle.schema.specs.Catalog.{Catalog}
 use Rattle.fragment_cycles.specs.Numbers.{IsNamed}
-use Rattle.fragment_cycles.specs.Spreads.{PlacedSpread, PlacedSpreads, placed_spreads_of_all, spreads_named}
+use Rattle.fragment_cycles.specs.Spreads.{PlacedSpreads, placed_spreads_of_all, spreads_named}
 use Rattle.fragment_cycles.specs.DocumentCycles.{NameSpreads, HasNoCycle}
-use Rattle.fragment_cycles.proofs.Lists.{same_some, same_item, contains_at, contains_get}
+use Rattle.fragment_cycles.proofs.Lists.{same_item, contains_at, contains_get}
 use Rattle.field_pairs.specs.Entries.{PlainEntry, exclusive_of}
 use Rattle.field_pairs.specs.OwnFields.{Placed, entry_under, type_below, own_fields, own_spreads}
 use Rattle.field_pairs.proofs.DirectLaws.{Le, up_to_true, from_false, direct_up, direct_flip, direct_self, exclusive_up, exclusive_flip}
-use Rattle.numbered_sets.specs.Inside.{IsInside, itself, below_field, IsFieldInside}
+use Rattle.numbered_sets.specs.Inside.{IsInside, itself, below_field}
 use Rattle.merge_documents.specs.Definitions.{type_round, selections_of, IsLast}
 use Rattle.merge_documents.specs.SetsIn.{IsSetIn, IsFieldIn}
 use Rattle.merge_documents.proofs.Renumbering.{in_flat, spreads_inside}
 use Rattle.document_merging.specs.WrittenOut.{IsFragment, Stands, own, spread, StandsIn, Apart, own_own, own_spread, spread_own, two_spreads, one_spread}
-use Rattle.document_merging.specs.Merging.{Same, Below, below, Merges, merges, SetMerges, DocumentMerges}
+use Rattle.document_merging.specs.Merging.{Below, below, Merges, merges, SetMerges, DocumentMerges}
 use Rattle.document_merging.specs.Conflicts.{IsTidyDocument}
 use Rattle.document_laws.specs.Laws.{IsBelow, next, deeper}
 use Rattle.document_laws.proofs.NoCycle.{spread_induction}
