@@ -7,7 +7,6 @@ use language::tree::{
 };
 use language::value::{DefaultScalarValue, InputValue};
 use std::alloc::AllocError;
-use std::test::Fail;
 
 type Value = InputValue<DefaultScalarValue>;
 
@@ -318,22 +317,27 @@ fn print_fragment(
     writeln!(out, "end")
 }
 
-#[test]
-fn reads_everything_in_its_place(rt: HostRuntime) -> Result<(), Fail> {
-    let Ok(definitions) = read_document(rt.alloc(), DOCUMENT) else {
-        return Err(Fail::from("the document is refused"));
-    };
-    let mut out = String::new(rt.alloc());
-    for definition in &definitions {
+fn print_definitions(
+    out: &mut String,
+    definitions: &[Definition<'_, DefaultScalarValue>],
+) -> Result<(), AllocError> {
+    for definition in definitions {
         match definition {
             Definition::Operation(operation) => {
-                print_operation(&mut out, &operation.item, &operation.span)?;
+                print_operation(out, &operation.item, &operation.span)?;
             }
             Definition::Fragment(fragment) => {
-                print_fragment(&mut out, &fragment.item, &fragment.span)?;
+                print_fragment(out, &fragment.item, &fragment.span)?;
             }
         }
     }
-    assert_eq!(rt; out.as_str(), OUTLINE);
     Ok(())
+}
+
+#[test]
+fn reads_everything_in_its_place(rt: HostRuntime) {
+    let definitions = read_document(rt.alloc(), DOCUMENT).expect(&rt, "a document");
+    let mut out = String::new(rt.alloc());
+    print_definitions(&mut out, definitions.as_slice()).expect(&rt, "memory");
+    assert_eq!(rt; out.as_str(), OUTLINE);
 }

@@ -1,7 +1,7 @@
 //! Executable documents that are read, and faults in others with their places.
 use graphql_reader::{ReadError, read_document};
 use std::alloc::{AllocError, Global};
-use std::test::Fail;
+use std::process::Abort;
 
 // What the reader says of a text: how many definitions it has, or the place and the words of the fault.
 fn told(alloc: Global, text: &str) -> Result<String, AllocError> {
@@ -120,22 +120,22 @@ const REFUSED: &[(&str, &str)] = &[
     ("{\r\n a\r b\n ? }", "3:1 expected a token, found '?'"),
 ];
 
-#[test]
-fn reads(rt: HostRuntime) -> Result<(), Fail> {
-    for (text, wanted) in READ {
-        let found = told(rt.alloc(), text)?;
+/// Each text is told so.
+fn tells(rt: &impl Abort, alloc: Global, rows: &[(&str, &str)]) {
+    for (text, wanted) in rows {
+        let found = told(alloc, text).expect(rt, "memory");
         assert_eq!(rt; found.as_str(), *wanted);
     }
-    Ok(())
 }
 
 #[test]
-fn refuses(rt: HostRuntime) -> Result<(), Fail> {
-    for (text, wanted) in REFUSED {
-        let found = told(rt.alloc(), text)?;
-        assert_eq!(rt; found.as_str(), *wanted);
-    }
-    Ok(())
+fn reads(rt: HostRuntime) {
+    tells(&rt, rt.alloc(), READ);
+}
+
+#[test]
+fn refuses(rt: HostRuntime) {
+    tells(&rt, rt.alloc(), REFUSED);
 }
 
 // Pieces of text one after the other, each so many times.
@@ -191,11 +191,10 @@ const NESTED: &[(&[(&str, usize)], &str)] = &[
 ];
 
 #[test]
-fn nests(rt: HostRuntime) -> Result<(), Fail> {
+fn nests(rt: HostRuntime) {
+    let alloc = rt.alloc();
     for (pieces, wanted) in NESTED {
-        let text = repeated(rt.alloc(), pieces)?;
-        let found = told(rt.alloc(), text.as_str())?;
-        assert_eq!(rt; found.as_str(), *wanted);
+        let text = repeated(alloc, pieces).expect(&rt, "memory");
+        tells(&rt, alloc, &[(text.as_str(), *wanted)]);
     }
-    Ok(())
 }

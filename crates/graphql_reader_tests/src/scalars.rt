@@ -3,7 +3,7 @@ use graphql_reader::{ReadError, SourceScalar, read_document};
 use language::tree::{Definition, Selection};
 use language::value::InputValue;
 use std::alloc::{AllocError, Global};
-use std::test::Fail;
+use std::process::Abort;
 
 // The scalar that is the first argument of the first field.
 fn first_scalar<'d>(document: &'d [Definition<'_, SourceScalar>]) -> Option<&'d SourceScalar> {
@@ -95,20 +95,20 @@ const OTHERS: &[(&str, &str)] = &[
     ("TRUE", "no scalar"),
 ];
 
-#[test]
-fn others(rt: HostRuntime) -> Result<(), Fail> {
-    for (literal, wanted) in OTHERS {
-        let found = value_of(rt.alloc(), literal)?;
+/// Each text is told so.
+fn tells(rt: &impl Abort, alloc: Global, rows: &[(&str, &str)]) {
+    for (text, wanted) in rows {
+        let found = value_of(alloc, text).expect(rt, "memory");
         assert_eq!(rt; found.as_str(), *wanted);
     }
-    Ok(())
 }
 
 #[test]
-fn strings(rt: HostRuntime) -> Result<(), Fail> {
-    for (literal, wanted) in STRINGS {
-        let found = value_of(rt.alloc(), literal)?;
-        assert_eq!(rt; found.as_str(), *wanted);
-    }
-    Ok(())
+fn others(rt: HostRuntime) {
+    tells(&rt, rt.alloc(), OTHERS);
+}
+
+#[test]
+fn strings(rt: HostRuntime) {
+    tells(&rt, rt.alloc(), STRINGS);
 }

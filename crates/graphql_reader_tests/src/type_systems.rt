@@ -1,7 +1,7 @@
 //! Type system documents that are read, and faults in others with their places.
 use graphql_reader::{ReadError, read_type_system};
 use std::alloc::{AllocError, Global};
-use std::test::Fail;
+use std::process::Abort;
 
 // What the reader says of a text: how many definitions it has, or the place and the words of the fault.
 fn told(alloc: Global, text: &str) -> Result<String, AllocError> {
@@ -123,20 +123,20 @@ const REFUSED: &[(&str, &str)] = &[
     ),
 ];
 
-#[test]
-fn reads(rt: HostRuntime) -> Result<(), Fail> {
-    for (text, wanted) in READ {
-        let found = told(rt.alloc(), text)?;
+/// Each text is told so.
+fn tells(rt: &impl Abort, alloc: Global, rows: &[(&str, &str)]) {
+    for (text, wanted) in rows {
+        let found = told(alloc, text).expect(rt, "memory");
         assert_eq!(rt; found.as_str(), *wanted);
     }
-    Ok(())
 }
 
 #[test]
-fn refuses(rt: HostRuntime) -> Result<(), Fail> {
-    for (text, wanted) in REFUSED {
-        let found = told(rt.alloc(), text)?;
-        assert_eq!(rt; found.as_str(), *wanted);
-    }
-    Ok(())
+fn reads(rt: HostRuntime) {
+    tells(&rt, rt.alloc(), READ);
+}
+
+#[test]
+fn refuses(rt: HostRuntime) {
+    tells(&rt, rt.alloc(), REFUSED);
 }

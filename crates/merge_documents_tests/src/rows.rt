@@ -7,7 +7,7 @@ use language::shorten::shorten;
 use language::value::DefaultScalarValue;
 use schema::model::SchemaType;
 use std::alloc::Global;
-use std::test::Fail;
+use std::process::Abort;
 
 const PETS: [(&str, &str); 9] = [
     (
@@ -69,20 +69,27 @@ fn told(
     Ok(found(alloc, schema, shorten(document.as_slice()))?)
 }
 
-#[test]
-fn what_is_found_among_pets(rt: HostRuntime) -> Result<(), Fail> {
-    let schema = of_pets(rt.alloc())?;
-    for (text, want) in PETS {
-        assert_eq!(rt; told(rt.alloc(), &schema, text)?.as_str(), want);
+/// What is found in the graph of each text.
+fn finds(
+    rt: &impl Abort,
+    alloc: Global,
+    schema: &SchemaType<DefaultScalarValue>,
+    rows: &[(&str, &str)],
+) {
+    for (text, want) in rows {
+        let told = told(alloc, schema, text).expect(rt, "memory");
+        assert_eq!(rt; told.as_str(), *want);
     }
-    Ok(())
 }
 
 #[test]
-fn what_is_found_among_boxes(rt: HostRuntime) -> Result<(), Fail> {
-    let schema = of_boxes(rt.alloc())?;
-    for (text, want) in BOXES {
-        assert_eq!(rt; told(rt.alloc(), &schema, text)?.as_str(), want);
-    }
-    Ok(())
+fn what_is_found_among_pets(rt: HostRuntime) {
+    let schema = of_pets(rt.alloc()).expect(&rt, "a schema");
+    finds(&rt, rt.alloc(), &schema, &PETS);
+}
+
+#[test]
+fn what_is_found_among_boxes(rt: HostRuntime) {
+    let schema = of_boxes(rt.alloc()).expect(&rt, "a schema");
+    finds(&rt, rt.alloc(), &schema, &BOXES);
 }

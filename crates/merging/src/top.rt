@@ -97,6 +97,23 @@ fn write_out<J: Judge>(
     write_all(graph, s, g, opening.as_slice(), search)
 }
 
+// The same, where the set has fields of its own: without them there is nothing to hold against the fragment.
+fn write_own<J: Judge>(
+    graph: &Graph<J>,
+    s: usize,
+    g: usize,
+    search: &mut Search,
+) -> Result<(), AllocError>
+    requires { g < length graph.now.fragments.items }
+    ensures done { OnOk result (Did (world J.judgement graph.now) (λ M. OwnWritten (world J.judgement graph.now) M s g) search.old search.new) }
+    ensures real { OnOk result (AddsAll (world J.judgement graph.now) false (AtWritten (world J.judgement graph.now) s g) (AtWritten (world J.judgement graph.now) s g) search.old.found.items search.new.found.items) }
+{
+    if names(graph, s).is_empty() {
+        return Ok(());
+    }
+    write_out(graph, s, g, search)
+}
+
 // A fragment, and each of a list.
 fn pair_all<J: Judge>(
     graph: &Graph<J>,
@@ -126,7 +143,7 @@ fn compare_spreads<J: Judge>(
 {
     let list = spreads(graph, s);
     for k in 0..list.len() {
-        write_out(graph, s, list[k], search)?;
+        write_own(graph, s, list[k], search)?;
         pair_all(graph, list[k], &list[k + 1..], search)?;
     }
     Ok(())

@@ -1,4 +1,5 @@
 //! What the sample lists are built of.
+use crate::rows::{ObjectRow, add_objects};
 use language::error::OutOfMemory;
 use language::types::Type;
 use language::value::DefaultScalarValue;
@@ -17,6 +18,12 @@ pub struct Checks {
     pub complex_input: DefaultCheck,
     pub pair_input: DefaultCheck,
 }
+
+/// The two types of introspection.
+const INTROSPECTED: [ObjectRow; 2] = [
+    ("__Schema", &[], &[("queryType", "__Type!", &[])]),
+    ("__Type", &[], &[("name", "String", &[])]),
+];
 
 pub type FieldMeta = Field<DefaultScalarValue>;
 
@@ -96,11 +103,6 @@ pub fn field(alloc: Global, name: &str, type_name: &str) -> Result<FieldMeta, Ou
     Field::new(alloc, name, Type::nullable(alloc, type_name)?)
 }
 
-/// A list that may be null, of items that may be null.
-pub fn list_of(alloc: Global, type_name: &str) -> Result<Type, OutOfMemory> {
-    Type::nullable(alloc, type_name)?.wrap_list(None)
-}
-
 /// An argument or input field of a type that may be null.
 pub fn argument(alloc: Global, name: &str, type_name: &str) -> Result<ArgumentMeta, OutOfMemory> {
     Argument::new(alloc, name, Type::nullable(alloc, type_name)?)
@@ -120,15 +122,18 @@ pub fn common(
     let mut types = Vec::new(alloc);
     types.push(scalar(alloc, "String", string)?)?;
     types.push(scalar(alloc, "Boolean", boolean)?)?;
-    types.push(introspected(alloc)?)?;
-    let fields = plain_fields(alloc, &[("name", "String")])?;
-    types.push(object(alloc, "__Type", &[], fields)?)?;
+    add_objects(alloc, &mut types, &INTROSPECTED)?;
     Ok(types)
 }
 
-// The type `__Schema`.
-fn introspected(alloc: Global) -> Result<MetaType, OutOfMemory> {
-    let mut fields = own_fields(alloc)?;
-    fields.push(Field::new(alloc, "queryType", Type::non_null(alloc, "__Type")?)?)?;
-    object(alloc, "__Schema", &[], fields)
+/// The same with `Int`.
+pub fn with_int(
+    alloc: Global,
+    string: DefaultCheck,
+    boolean: DefaultCheck,
+    int: DefaultCheck,
+) -> Result<Vec<MetaType>, OutOfMemory> {
+    let mut types = common(alloc, string, boolean)?;
+    types.push(scalar(alloc, "Int", int)?)?;
+    Ok(types)
 }

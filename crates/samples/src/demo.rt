@@ -1,26 +1,21 @@
 //! The smallest list, and a document with one error.
-use crate::build::{Checks, common, object, plain_fields};
+use crate::build::{Checks, common};
 use crate::documents::{Query, alone, dog, query, spread};
+use crate::rows::{ObjectRow, add_objects};
 use language::error::OutOfMemory;
 use meta::MetaType;
 use std::alloc::Global;
 
+const DOG_AND_ROOT: [ObjectRow; 2] = [
+    ("Dog", &[], &[("name", "String", &[])]),
+    ("QueryRoot", &[], &[("dog", "Dog", &[])]),
+];
+
 /// A dog with a name.
 pub fn types(alloc: Global, checks: Checks) -> Result<Vec<MetaType>, OutOfMemory> {
-    let mut list = common(alloc, checks.string, checks.boolean)?;
-    list.push(object(
-        alloc,
-        "Dog",
-        &[],
-        plain_fields(alloc, &[("name", "String")])?,
-    )?)?;
-    list.push(object(
-        alloc,
-        "QueryRoot",
-        &[],
-        plain_fields(alloc, &[("dog", "Dog")])?,
-    )?)?;
-    Ok(list)
+    let mut types = common(alloc, checks.string, checks.boolean)?;
+    add_objects(alloc, &mut types, &DOG_AND_ROOT)?;
+    Ok(types)
 }
 
 /// `{ dog { ...A } }`

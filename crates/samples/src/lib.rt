@@ -8,3 +8,4 @@ pub mod checks;
 pub mod demo;
 pub mod documents;
 pub mod pets;
+pub mod rows;

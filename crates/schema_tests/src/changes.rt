@@ -1,16 +1,18 @@
 //! Changes of the schema `pets`.
 use crate::relations::directive_names;
-use crate::said::{says, shown};
+use crate::said::{says, shown, words};
 use crate::schemas::pets_schema;
 use language::value::DefaultScalarValue;
 use samples::build::argument;
 use samples::checks::{check_string, refuse_token};
 use samples::documents::alone;
-use schema::error::SchemaError;
 use schema::model::{DirectiveType, SchemaType};
 use std::alloc::Global;
+use std::process::Abort;
 
 type Pets = SchemaType<DefaultScalarValue>;
+
+type Directive = DirectiveType<DefaultScalarValue>;
 
 /// What is done with the schema, or asked of it.
 #[derive(Clone, Copy)]
@@ -49,42 +51,41 @@ const STEPS: [(Step, &str); 15] = [
 ];
 
 /// The directive `flag` with an argument of this type.
-fn flag(alloc: Global, type_name: &str) -> Result<DirectiveType<DefaultScalarValue>, SchemaError> {
-    let arguments = alone(alloc, argument(alloc, "x", type_name)?)?;
-    Ok(DirectiveType::new(alloc, "flag", Vec::new(alloc), arguments, false)?)
+fn flag(rt: &impl Abort, alloc: Global, type_name: &str) -> Directive {
+    let x = argument(alloc, "x", type_name).expect(rt, "memory");
+    let arguments = alone(alloc, x).expect(rt, "memory");
+    DirectiveType::new(alloc, "flag", Vec::new(alloc), arguments, false).expect(rt, "memory")
 }
 
 /// The directive `skip` without arguments.
-fn bare_skip(alloc: Global) -> Result<DirectiveType<DefaultScalarValue>, SchemaError> {
-    Ok(DirectiveType::new(alloc, "skip", Vec::new(alloc), Vec::new(alloc), false)?)
+fn bare_skip(rt: &impl Abort, alloc: Global) -> Directive {
+    DirectiveType::new(alloc, "skip", Vec::new(alloc), Vec::new(alloc), false).expect(rt, "memory")
 }
 
-fn arguments_of_skip(alloc: Global, schema: &Pets) -> Result<String, SchemaError> {
+fn added(rt: &impl Abort, alloc: Global, schema: &mut Pets, directive: Directive) -> String {
+    shown(rt, alloc, schema.add_directive(directive).err(), "done")
+}
+
+fn described(rt: &impl Abort, alloc: Global, schema: &mut Pets, text: &str) -> String {
+    schema.set_description(text).expect(rt, "memory");
+    words(rt, alloc, "done")
+}
+
+fn arguments_of_skip(rt: &impl Abort, alloc: Global, schema: &Pets) -> String {
     match schema.directive_by_name("skip") {
-        Some(skip) => Ok(skip.arguments.len().to_string(alloc)?),
-        None => Ok(String::from_str(alloc, "no skip")?),
+        Some(skip) => skip.arguments.len().to_string(alloc).expect(rt, "memory"),
+        None => words(rt, alloc, "no skip"),
     }
 }
 
-fn take(alloc: Global, schema: &mut Pets, step: Step) -> Result<String, SchemaError> {
+fn take(rt: &impl Abort, alloc: Global, schema: &mut Pets, step: Step) -> String {
     match step {
-        Step::AddFlag(type_name) => {
-            let directive = flag(alloc, type_name)?;
-            shown(alloc, schema.add_directive(directive).err(), "done")
-        }
-        Step::AddSkip => {
-            let directive = bare_skip(alloc)?;
-            shown(alloc, schema.add_directive(directive).err(), "done")
-        }
-        Step::SkipArguments => arguments_of_skip(alloc, schema),
-        Step::DirectiveList => directive_names(alloc, schema),
-        Step::SetDescription(text) => {
-            schema.set_description(text)?;
-            shown(alloc, None, "done")
-        }
-        Step::Description => {
-            Ok(String::from_str(alloc, schema.description().unwrap_or("none"))?)
-        }
+        Step::AddFlag(type_name) => added(rt, alloc, schema, flag(rt, alloc, type_name)),
+        Step::AddSkip => added(rt, alloc, schema, bare_skip(rt, alloc)),
+        Step::SkipArguments => arguments_of_skip(rt, alloc, schema),
+        Step::DirectiveList => directive_names(rt, alloc, schema),
+        Step::SetDescription(text) => described(rt, alloc, schema, text),
+        Step::Description => words(rt, alloc, schema.description().unwrap_or("none")),
     }
 }
 
@@ -93,6 +94,6 @@ fn changes_are_kept_or_refused(rt: HostRuntime) {
     let alloc = rt.alloc();
     let mut schema = pets_schema(alloc, check_string, refuse_token).expect(&rt, "a schema");
     for (step, wanted) in STEPS {
-        says(&rt, take(alloc, &mut schema, step), wanted);
+        says(&rt, take(&rt, alloc, &mut schema, step), wanted);
     }
 }

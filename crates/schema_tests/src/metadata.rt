@@ -1,5 +1,5 @@
 //! Metadata: each call that takes memory, by what it shows.
-use crate::said::says;
+use crate::said::{says, words};
 use language::types::Type;
 use language::value::{DefaultScalarValue, InputValue};
 use meta::check::CheckedScalar;
@@ -11,26 +11,107 @@ use meta::{
 use samples::build::{argument, field};
 use samples::checks::{check_string, refuse_token};
 use samples::documents::alone;
-use schema::error::SchemaError;
 use schema::model::{DirectiveLocation, DirectiveType};
 use std::alloc::Global;
-
-type FieldMeta = Field<DefaultScalarValue>;
-
-type ArgumentMeta = Argument<DefaultScalarValue>;
-
-/// The field with an argument of the type more.
-fn with_argument(alloc: Global, field: FieldMeta, of: &str) -> Result<FieldMeta, SchemaError> {
-    Ok(field.argument(argument(alloc, "x", of)?)?)
-}
+use std::process::Abort;
 
 /// A field of which everything was set, the description and the argument twice.
-fn full_field(alloc: Global) -> Result<FieldMeta, SchemaError> {
-    let described = field(alloc, "name", "String")?
-        .description("first")?
-        .description("second")?;
-    let given = with_argument(alloc, described, "String")?;
-    Ok(with_argument(alloc, given, "Int")?.deprecated(Some("old"))?)
+fn full_field(rt: &impl Abort, alloc: Global) -> Field<DefaultScalarValue> {
+    let plain = field(alloc, "name", "String").expect(rt, "memory");
+    let once = plain.description("first").expect(rt, "memory");
+    let twice = once.description("second").expect(rt, "memory");
+    let one = argument(alloc, "x", "String").expect(rt, "memory");
+    let given = twice.argument(one).expect(rt, "memory");
+    let other = argument(alloc, "x", "Int").expect(rt, "memory");
+    let full = given.argument(other).expect(rt, "memory");
+    full.deprecated(Some("old")).expect(rt, "memory")
+}
+
+/// An argument of which everything was set.
+fn full_argument(rt: &impl Abort, alloc: Global) -> Argument<DefaultScalarValue> {
+    let plain = argument(alloc, "x", "Int").expect(rt, "memory");
+    let one = InputValue::Scalar(DefaultScalarValue::Int(1));
+    plain
+        .description("a number")
+        .expect(rt, "memory")
+        .default_value(one)
+}
+
+/// An enum value of which everything was set.
+fn full_value(rt: &impl Abort, alloc: Global) -> EnumValue {
+    let plain = EnumValue::new(alloc, "SIT").expect(rt, "memory");
+    plain
+        .description("down")
+        .expect(rt, "memory")
+        .deprecated(None)
+        .expect(rt, "memory")
+}
+
+fn scalar(rt: &impl Abort, alloc: Global) -> MetaType {
+    let plain = ScalarMetaOf::new(alloc, "String", check_string, refuse_token);
+    let described = plain
+        .expect(rt, "memory")
+        .description("text")
+        .expect(rt, "memory");
+    described
+        .specified_by_url("https://example.com")
+        .expect(rt, "memory")
+        .into_meta()
+}
+
+fn enumeration(rt: &impl Abort, alloc: Global) -> MetaType {
+    let values = alone(alloc, full_value(rt, alloc)).expect(rt, "memory");
+    let plain = EnumMetaOf::new(alloc, "Command", values, check_string).expect(rt, "memory");
+    plain
+        .description("what a dog does")
+        .expect(rt, "memory")
+        .into_meta()
+}
+
+fn input(rt: &impl Abort, alloc: Global) -> MetaType {
+    let fields = alone(alloc, full_argument(rt, alloc)).expect(rt, "memory");
+    let plain = InputObjectMetaOf::new(alloc, "Pair", fields, check_string).expect(rt, "memory");
+    plain.description("a pair").expect(rt, "memory").into_meta()
+}
+
+/// The list of the type `Being`.
+fn beings(rt: &impl Abort, alloc: Global) -> Vec<Type> {
+    alone(alloc, Type::nullable(alloc, "Being").expect(rt, "memory")).expect(rt, "memory")
+}
+
+fn interface(rt: &impl Abort, alloc: Global) -> MetaType {
+    let plain = InterfaceMeta::new(alloc, "Pet", Vec::new(alloc)).expect(rt, "memory");
+    let listing = plain.interfaces(beings(rt, alloc)).expect(rt, "memory");
+    listing
+        .description("a pet")
+        .expect(rt, "memory")
+        .into_meta()
+}
+
+fn object(rt: &impl Abort, alloc: Global) -> MetaType {
+    let plain = ObjectMeta::new(alloc, "Dog", Vec::new(alloc)).expect(rt, "memory");
+    let listing = plain.interfaces(beings(rt, alloc)).expect(rt, "memory");
+    listing
+        .description("a dog")
+        .expect(rt, "memory")
+        .into_meta()
+}
+
+fn union_of_beings(rt: &impl Abort, alloc: Global) -> MetaType {
+    let plain = UnionMeta::new(alloc, "Beings", beings(rt, alloc)).expect(rt, "memory");
+    plain
+        .description("all that lives")
+        .expect(rt, "memory")
+        .into_meta()
+}
+
+/// The metadata has this name, this description and this address.
+fn shows(rt: &impl Abort, alloc: Global, meta: MetaType, want: &str) {
+    let name = meta.name().unwrap_or("none");
+    let description = meta.description().unwrap_or("none");
+    let address = meta.specified_by_url().unwrap_or("none");
+    let text = format!(in alloc; "{name} {description} {address}");
+    says(rt, text.expect(rt, "memory"), want);
 }
 
 fn shown(text: &Option<String>) -> &str {
@@ -40,152 +121,115 @@ fn shown(text: &Option<String>) -> &str {
     }
 }
 
-/// The name, the description, how many arguments there are, and why the field is deprecated.
-fn field_text(alloc: Global, field: &FieldMeta) -> Result<String, SchemaError> {
-    let arguments = match &field.arguments {
-        Some(list) => list.len(),
-        None => 0,
-    };
-    let name = field.name.as_str();
-    let description = shown(&field.description);
-    let reason = field.deprecation_status.reason().unwrap_or("none");
-    Ok(format!(in alloc; "{name} {description} {arguments} {reason}")?)
-}
-
-#[test]
-fn fields_keep_what_is_set(rt: HostRuntime) {
-    let alloc = rt.alloc();
-    let made = full_field(alloc).expect(&rt, "memory");
-    says(&rt, field_text(alloc, &made), "name second 2 old");
-    let copy = made.clone().expect(&rt, "memory");
-    says(&rt, field_text(alloc, &copy), "name second 2 old");
-}
-
-/// The name, the description and the address of the metadata.
-fn meta_text(alloc: Global, meta: &MetaType) -> Result<String, SchemaError> {
-    let name = meta.name().unwrap_or("none");
-    let description = meta.description().unwrap_or("none");
-    let address = meta.specified_by_url().unwrap_or("none");
-    Ok(format!(in alloc; "{name} {description} {address}")?)
-}
-
-fn scalar_text(alloc: Global) -> Result<String, SchemaError> {
-    let made: MetaType = ScalarMetaOf::new(alloc, "String", check_string, refuse_token)?
-        .description("text")?
-        .specified_by_url("https://example.com")?
-        .into_meta();
-    meta_text(alloc, &made)
-}
-
-/// An enum value of which everything was set.
-fn full_value(alloc: Global) -> Result<EnumValue, SchemaError> {
-    Ok(
-        EnumValue::new(alloc, "SIT")?
-            .description("down")?
-            .deprecated(None)?,
-    )
-}
-
-fn value_text(alloc: Global, value: &EnumValue) -> Result<String, SchemaError> {
-    let (name, description) = (value.name.as_str(), shown(&value.description));
-    let is_deprecated = value.deprecation_status.is_deprecated();
-    Ok(format!(in alloc; "{name} {description} {is_deprecated}")?)
-}
-
-fn enum_text(alloc: Global) -> Result<String, SchemaError> {
-    let values = alone(alloc, full_value(alloc)?)?;
-    let made: MetaType = EnumMetaOf::new(alloc, "Command", values, check_string)?
-        .description("what a dog does")?
-        .into_meta();
-    meta_text(alloc, &made)
-}
-
-/// An argument of which everything was set.
-fn full_argument(alloc: Global) -> Result<ArgumentMeta, SchemaError> {
-    let one = InputValue::Scalar(DefaultScalarValue::Int(1));
-    Ok(
-        argument(alloc, "x", "Int")?
-            .description("a number")?
-            .default_value(one),
-    )
-}
-
-fn argument_text(alloc: Global, made: &ArgumentMeta) -> Result<String, SchemaError> {
+/// The name, the description and the default value.
+fn argument_text(rt: &impl Abort, alloc: Global, made: &Argument<DefaultScalarValue>) -> String {
     let (name, description) = (made.name.as_str(), shown(&made.description));
-    match &made.default_value {
-        Some(value) => Ok(format!(in alloc; "{name} {description} {value}")?),
-        None => Ok(format!(in alloc; "{name} {description} none")?),
+    let text = match &made.default_value {
+        Some(value) => format!(in alloc; "{name} {description} {value}"),
+        None => format!(in alloc; "{name} {description} none"),
+    };
+    text.expect(rt, "memory")
+}
+
+/// What the field `x` of the input object shows.
+fn input_text(rt: &impl Abort, alloc: Global, meta: MetaType) -> String {
+    match meta.input_field_by_name("x") {
+        Some(field) => argument_text(rt, alloc, field),
+        None => words(rt, alloc, "no field"),
     }
-}
-
-/// An input object with that argument as its field.
-fn full_input(alloc: Global) -> Result<MetaType, SchemaError> {
-    let fields = alone(alloc, full_argument(alloc)?)?;
-    let made = InputObjectMetaOf::new(alloc, "Pair", fields, check_string)?;
-    Ok(made.description("a pair")?.into_meta())
-}
-
-fn input_text(alloc: Global) -> Result<String, SchemaError> {
-    let made = full_input(alloc)?;
-    match made.input_field_by_name("x") {
-        Some(field) => argument_text(alloc, field),
-        None => meta_text(alloc, &made),
-    }
-}
-
-/// The list of the type `Being`.
-fn beings(alloc: Global) -> Result<Vec<Type>, SchemaError> {
-    Ok(alone(alloc, Type::nullable(alloc, "Being")?)?)
-}
-
-fn interface_text(alloc: Global) -> Result<String, SchemaError> {
-    let made: MetaType = InterfaceMeta::new(alloc, "Pet", Vec::new(alloc))?
-        .interfaces(beings(alloc)?)?
-        .description("a pet")?
-        .into_meta();
-    meta_text(alloc, &made)
-}
-
-fn object_text(alloc: Global) -> Result<String, SchemaError> {
-    let made: MetaType = ObjectMeta::new(alloc, "Dog", Vec::new(alloc))?
-        .interfaces(beings(alloc)?)?
-        .description("a dog")?
-        .into_meta();
-    meta_text(alloc, &made)
-}
-
-fn union_text(alloc: Global) -> Result<String, SchemaError> {
-    let made: MetaType = UnionMeta::new(alloc, "Beings", beings(alloc)?)?
-        .description("all that lives")?
-        .into_meta();
-    meta_text(alloc, &made)
 }
 
 #[test]
 fn every_kind_is_made(rt: HostRuntime) {
     let alloc = rt.alloc();
-    says(&rt, scalar_text(alloc), "String text https://example.com");
-    says(&rt, enum_text(alloc), "Command what a dog does none");
-    says(&rt, input_text(alloc), "x a number 1");
-    says(&rt, interface_text(alloc), "Pet a pet none");
-    says(&rt, object_text(alloc), "Dog a dog none");
-    says(&rt, union_text(alloc), "Beings all that lives none");
+    shows(
+        &rt,
+        alloc,
+        scalar(&rt, alloc),
+        "String text https://example.com",
+    );
+    shows(
+        &rt,
+        alloc,
+        enumeration(&rt, alloc),
+        "Command what a dog does none",
+    );
+    says(
+        &rt,
+        input_text(&rt, alloc, input(&rt, alloc)),
+        "x a number 1",
+    );
+    shows(&rt, alloc, interface(&rt, alloc), "Pet a pet none");
+    shows(&rt, alloc, object(&rt, alloc), "Dog a dog none");
+    shows(
+        &rt,
+        alloc,
+        union_of_beings(&rt, alloc),
+        "Beings all that lives none",
+    );
+}
+
+/// The type of the metadata prints so.
+fn prints(rt: &impl Abort, alloc: Global, meta: MetaType, want: &str) {
+    let made = meta.as_type(alloc).expect(rt, "memory");
+    says(rt, made.to_string(alloc).expect(rt, "memory"), want);
+}
+
+fn int(rt: &impl Abort, alloc: Global) -> Type {
+    Type::non_null(alloc, "Int").expect(rt, "memory")
+}
+
+#[test]
+fn types_are_printed(rt: HostRuntime) {
+    let alloc = rt.alloc();
+    let list = MetaType::List(ListMeta::new(int(&rt, alloc), Some(2)));
+    prints(&rt, alloc, list, "[Int!]!");
+    let nullable = MetaType::Nullable(NullableMeta::new(int(&rt, alloc)));
+    prints(&rt, alloc, nullable, "Int");
+}
+
+/// The name, the description, how many arguments there are, and why the field is deprecated.
+fn field_text(rt: &impl Abort, alloc: Global, field: &Field<DefaultScalarValue>) -> String {
+    let arguments = match &field.arguments {
+        Some(list) => list.len(),
+        None => 0,
+    };
+    let (name, description) = (field.name.as_str(), shown(&field.description));
+    let reason = field.deprecation_status.reason().unwrap_or("none");
+    let text = format!(in alloc; "{name} {description} {arguments} {reason}");
+    text.expect(rt, "memory")
+}
+
+/// The name, the description, and whether the value is deprecated.
+fn value_text(rt: &impl Abort, alloc: Global, value: &EnumValue) -> String {
+    let (name, description) = (value.name.as_str(), shown(&value.description));
+    let is_deprecated = value.deprecation_status.is_deprecated();
+    format!(in alloc; "{name} {description} {is_deprecated}").expect(rt, "memory")
+}
+
+#[test]
+fn fields_keep_what_is_set(rt: HostRuntime) {
+    let alloc = rt.alloc();
+    let made = full_field(&rt, alloc);
+    says(&rt, field_text(&rt, alloc, &made), "name second 2 old");
+    let copy = made.clone().expect(&rt, "memory");
+    says(&rt, field_text(&rt, alloc, &copy), "name second 2 old");
 }
 
 #[test]
 fn enum_values_are_copied(rt: HostRuntime) {
     let alloc = rt.alloc();
-    let value = full_value(alloc).expect(&rt, "memory");
-    says(&rt, value_text(alloc, &value), "SIT down true");
+    let value = full_value(&rt, alloc);
+    says(&rt, value_text(&rt, alloc, &value), "SIT down true");
     let copy = value.clone().expect(&rt, "memory");
-    says(&rt, value_text(alloc, &copy), "SIT down true");
+    says(&rt, value_text(&rt, alloc, &copy), "SIT down true");
 }
 
 #[test]
 fn arguments_are_copied(rt: HostRuntime) {
-    let argument = full_argument(rt.alloc()).expect(&rt, "memory");
-    let copy = argument.clone().expect(&rt, "memory");
-    says(&rt, argument_text(rt.alloc(), &copy), "x a number 1");
+    let alloc = rt.alloc();
+    let copy = full_argument(&rt, alloc).clone().expect(&rt, "memory");
+    says(&rt, argument_text(&rt, alloc, &copy), "x a number 1");
 }
 
 #[test]
@@ -194,66 +238,47 @@ fn copies_are_the_same(rt: HostRuntime) {
     assert_eq!(rt; kind, TypeKind::InputObject);
     let current = DeprecationStatus::Current.clone().expect(&rt, "a copy");
     assert_eq!(rt; current, DeprecationStatus::Current);
-    let text = String::from_str(rt.alloc(), "old").expect(&rt, "memory");
-    let old = DeprecationStatus::Deprecated(Some(text));
+    let old = DeprecationStatus::Deprecated(Some(words(&rt, rt.alloc(), "old")));
     let copy = old.clone().expect(&rt, "memory");
     assert_eq!(rt; copy, old);
 }
 
-/// What the type of the metadata prints.
-fn printed(alloc: Global, meta: MetaType) -> Result<String, SchemaError> {
-    Ok(meta.as_type(alloc)?.to_string(alloc)?)
-}
-
-#[test]
-fn types_are_printed(rt: HostRuntime) {
-    let alloc = rt.alloc();
-    let item = Type::non_null(alloc, "Int").expect(&rt, "memory");
-    let list = MetaType::List(ListMeta::new(item, Some(2)));
-    says(&rt, printed(alloc, list), "[Int!]!");
-    let inner = Type::non_null(alloc, "Int").expect(&rt, "memory");
-    let nullable = MetaType::Nullable(NullableMeta::new(inner));
-    says(&rt, printed(alloc, nullable), "Int");
-}
-
-fn plain_scalar(alloc: Global) -> Result<MetaType, SchemaError> {
-    Ok(ScalarMetaOf::new(alloc, "String", check_string, refuse_token)?.into_meta())
+/// What the check says of null.
+fn said_by(rt: &impl Abort, alloc: Global, check: &DefaultCheck) -> String {
+    match <DefaultScalarValue as CheckedScalar>::run_check(check, alloc, &InputValue::Null) {
+        Ok(()) => words(rt, alloc, "accepted"),
+        Err(refused) => refused.to_string(alloc).expect(rt, "memory"),
+    }
 }
 
 /// What the check of a scalar says of null.
-fn said_of_null(alloc: Global) -> Result<String, SchemaError> {
-    let scalar = plain_scalar(alloc)?;
-    match scalar.input_value_parse_fn() {
-        Some(check) => said_by(alloc, check),
-        None => Ok(String::from_str(alloc, "no check")?),
+fn said_of_null(rt: &impl Abort, alloc: Global) -> String {
+    match scalar(rt, alloc).input_value_parse_fn() {
+        Some(check) => said_by(rt, alloc, check),
+        None => words(rt, alloc, "no check"),
     }
 }
 
-fn said_by(alloc: Global, check: &DefaultCheck) -> Result<String, SchemaError> {
-    match <DefaultScalarValue as CheckedScalar>::run_check(check, alloc, &InputValue::Null) {
-        Ok(()) => Ok(String::from_str(alloc, "accepted")?),
-        Err(refused) => Ok(refused.to_string(alloc)?),
-    }
+fn directive(rt: &impl Abort, alloc: Global) -> DirectiveType<DefaultScalarValue> {
+    let locations = alone(alloc, DirectiveLocation::Query).expect(rt, "memory");
+    let plain = DirectiveType::new(alloc, "flag", locations, Vec::new(alloc), true);
+    plain
+        .expect(rt, "memory")
+        .description("marks")
+        .expect(rt, "memory")
 }
 
 /// The name, the description, and whether the directive is repeatable.
-fn directive_text(alloc: Global) -> Result<String, SchemaError> {
-    let locations = alone(alloc, DirectiveLocation::Query)?;
-    let made: DirectiveType<DefaultScalarValue> = DirectiveType::new(
-        alloc,
-        "flag",
-        locations,
-        Vec::new(alloc),
-        true,
-    )?.description("marks")?;
+fn directive_text(rt: &impl Abort, alloc: Global) -> String {
+    let made = directive(rt, alloc);
     let (name, description) = (made.name.as_str(), shown(&made.description));
     let is_repeatable = made.is_repeatable;
-    Ok(format!(in alloc; "{name} {description} {is_repeatable}")?)
+    format!(in alloc; "{name} {description} {is_repeatable}").expect(rt, "memory")
 }
 
 #[test]
 fn checks_and_directives_are_made(rt: HostRuntime) {
     let alloc = rt.alloc();
-    says(&rt, said_of_null(alloc), "not a value of String");
-    says(&rt, directive_text(alloc), "flag marks true");
+    says(&rt, said_of_null(&rt, alloc), "not a value of String");
+    says(&rt, directive_text(&rt, alloc), "flag marks true");
 }

@@ -1,5 +1,5 @@
 //! What places of directives and refusals print.
-use crate::said::says;
+use crate::said::{says, words};
 use schema::error::SchemaError;
 use schema::model::DirectiveLocation;
 use std::alloc::Global;
@@ -24,27 +24,19 @@ const PLACES: [(DirectiveLocation, &str); 11] = [
 fn places_are_printed_in_words(rt: HostRuntime) {
     let alloc = rt.alloc();
     for (place, words) in &PLACES {
-        says(&rt, text_of(alloc, place), words);
-        says(
-            &rt,
-            text_of(alloc, &place.clone().expect(&rt, "a copy")),
-            words,
-        );
+        says(&rt, place.to_string(alloc).expect(&rt, "memory"), words);
+        let copy = place.clone().expect(&rt, "a copy");
+        says(&rt, copy.to_string(alloc).expect(&rt, "memory"), words);
     }
-}
-
-fn text_of(alloc: Global, place: &DirectiveLocation) -> Result<String, SchemaError> {
-    Ok(place.to_string(alloc)?)
 }
 
 /// What the refusal prints is the text.
 fn tells(rt: &impl Abort, alloc: Global, refused: SchemaError, text: &str) {
-    let said = refused.to_string(alloc).expect(rt, "memory");
-    assert_eq!(rt; said.as_str(), text);
+    says(rt, refused.to_string(alloc).expect(rt, "memory"), text);
 }
 
 fn dog(rt: &impl Abort, alloc: Global) -> String {
-    String::from_str(alloc, "Dog").expect(rt, "memory")
+    words(rt, alloc, "Dog")
 }
 
 #[test]

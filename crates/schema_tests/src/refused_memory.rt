@@ -3,8 +3,8 @@ use crate::schemas::{demo_types, schema_of};
 use language::types::Type;
 use language::value::DefaultScalarValue;
 use meta::MetaType;
-use samples::build::union_of;
 use samples::checks::{check_string, refuse_token};
+use samples::rows::add_unions;
 use schema::error::SchemaError;
 use schema::model::{DirectiveType, SchemaType, TypeType};
 use std::alloc::Global;
@@ -59,23 +59,23 @@ fn said_of_schema(
     Ok((lists, said_of_types(alloc, &schema)?))
 }
 
-/// The types, and a union of `Dog`.
-fn with_dogs(alloc: Global, mut types: Vec<MetaType>) -> Result<Vec<MetaType>, SchemaError> {
-    types.push(union_of(alloc, "Pets", &["Dog"])?)?;
-    Ok(types)
+/// The same of the types with a union of `Dog`.
+fn said_with_dogs(
+    alloc: Global,
+    mut types: Vec<MetaType>,
+) -> Result<((usize, usize), (usize, usize)), SchemaError> {
+    add_unions(alloc, &mut types, &[("Pets", &["Dog"])])?;
+    said_of_schema(alloc, types)
 }
 
 /// Run with each request for memory refused in turn, the answer is the same or tells of the refusal.
 #[test]
 fn a_refused_request_changes_no_answer(rt: HostRuntime) {
     let alloc = rt.alloc();
-    let Ok(listed) = demo_types(alloc, check_string, refuse_token) else {
+    let Ok(types) = demo_types(alloc, check_string, refuse_token) else {
         return;
     };
-    let Ok(types) = with_dogs(alloc, listed) else {
-        return;
-    };
-    match said_of_schema(alloc, types) {
+    match said_with_dogs(alloc, types) {
         Ok(said) => assert_eq!(rt; said, ((7, 5), (1, 6))),
         Err(refused) => assert_eq!(rt; refused, SchemaError::OutOfMemory),
     }

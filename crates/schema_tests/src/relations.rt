@@ -1,16 +1,18 @@
 //! Questions to the schema `pets`, each with its answer as a text.
-use crate::said::says;
+use crate::said::{says, words};
 use crate::schemas::pets_schema;
 use language::types::Type;
 use language::value::DefaultScalarValue;
 use meta::MetaType;
 use samples::checks::{check_string, refuse_token};
-use schema::error::SchemaError;
+use samples::rows::written;
 use schema::model::{SchemaType, TypeType};
 use std::alloc::Global;
 use std::process::Abort;
 
 type Pets = SchemaType<DefaultScalarValue>;
+
+type Shown<'a> = TypeType<'a, DefaultScalarValue>;
 
 /// What a schema is asked. Types are named, or written as in a document.
 #[derive(Clone, Copy)]
@@ -82,47 +84,49 @@ const MADE: [(Question, &str); 6] = [
 ];
 
 /// The names, each followed by a blank.
-fn joined(alloc: Global, metas: &[&MetaType]) -> Result<String, SchemaError> {
+fn joined(rt: &impl Abort, alloc: Global, metas: &[&MetaType]) -> String {
     let mut text = String::new(alloc);
     for meta in metas {
         let name = meta.name().unwrap_or("?");
-        write!(text, "{name} ")?;
+        write!(text, "{name} ").expect(rt, "memory");
     }
-    Ok(text)
+    text
 }
 
-fn concrete_names(alloc: Global, schema: &Pets) -> Result<String, SchemaError> {
-    joined(alloc, schema.concrete_type_list(alloc)?.as_slice())
+fn concrete_names(rt: &impl Abort, alloc: Global, schema: &Pets) -> String {
+    let types = schema.concrete_type_list(alloc).expect(rt, "memory");
+    joined(rt, alloc, types.as_slice())
 }
 
 /// What the types print, each followed by a blank.
-fn types_printed(alloc: Global, schema: &Pets) -> Result<String, SchemaError> {
+fn types_printed(rt: &impl Abort, alloc: Global, schema: &Pets) -> String {
     let mut text = String::new(alloc);
-    let types: Vec<TypeType<'_, DefaultScalarValue>> = schema.type_list(alloc)?;
+    let types: Vec<Shown<'_>> = schema.type_list(alloc).expect(rt, "memory");
     for listed in types.iter() {
-        write!(text, "{listed} ")?;
+        write!(text, "{listed} ").expect(rt, "memory");
     }
-    Ok(text)
+    text
 }
 
 /// The names of the directives, each followed by a blank.
-pub fn directive_names(alloc: Global, schema: &Pets) -> Result<String, SchemaError> {
+pub fn directive_names(rt: &impl Abort, alloc: Global, schema: &Pets) -> String {
     let mut text = String::new(alloc);
-    let list = schema.directive_list(alloc)?;
+    let list = schema.directive_list(alloc).expect(rt, "memory");
     for directive in list.iter() {
         let name = directive.name.as_str();
-        write!(text, "{name} ")?;
+        write!(text, "{name} ").expect(rt, "memory");
     }
-    Ok(text)
+    text
 }
 
 /// The names of what the interface or the union of the name may be.
-fn possible_names(alloc: Global, schema: &Pets, name: &str) -> Result<String, SchemaError> {
+fn possible_names(rt: &impl Abort, alloc: Global, schema: &Pets, name: &str) -> String {
     match schema.concrete_type_by_name(name) {
         Some(meta) if meta.is_abstract() => {
-            joined(alloc, schema.possible_types(alloc, meta)?.as_slice())
+            let types = schema.possible_types(alloc, meta).expect(rt, "memory");
+            joined(rt, alloc, types.as_slice())
         }
-        _ => Ok(String::new(alloc)),
+        _ => String::new(alloc),
     }
 }
 
@@ -142,128 +146,109 @@ fn do_overlap(schema: &Pets, first: &str, second: &str) -> Option<bool> {
     Some(schema.type_overlap(first, second))
 }
 
-/// The type of the name, which is followed by `!` where it is never null.
-fn named(alloc: Global, text: &str) -> Result<Type, SchemaError> {
-    match text.strip_suffix("!") {
-        Some(name) => Ok(Type::non_null(alloc, name)?),
-        None => Ok(Type::nullable(alloc, text)?),
-    }
-}
-
-/// The type that is written so, with one list at most.
-fn written(alloc: Global, text: &str) -> Result<Type, SchemaError> {
-    let Some(rest) = text.strip_prefix("[") else {
-        return named(alloc, text);
-    };
-    match rest.strip_suffix("]!") {
-        Some(item) => Ok(named(alloc, item)?.wrap_list(None)?.wrap_non_null()?),
-        None => Ok(named(alloc, rest.strip_suffix("]").unwrap_or(rest))?.wrap_list(None)?),
-    }
-}
-
 /// Whether the one type, as it is written, is a subtype of the other.
-fn is_below(
-    alloc: Global,
-    schema: &Pets,
-    sub_type: &str,
-    super_type: &str,
-) -> Result<bool, SchemaError> {
-    let sub_type = written(alloc, sub_type)?;
-    is_written_above(alloc, schema, &sub_type, super_type)
-}
-
-fn is_written_above(
-    alloc: Global,
-    schema: &Pets,
-    sub_type: &Type,
-    super_type: &str,
-) -> Result<bool, SchemaError> {
-    let super_type = written(alloc, super_type)?;
-    Ok(schema.is_subtype(sub_type.as_borrowed(), super_type.as_borrowed()))
+fn is_below(rt: &impl Abort, alloc: Global, schema: &Pets, sub: &str, super_type: &str) -> bool {
+    let sub = written(alloc, sub).expect(rt, "memory");
+    let super_type = written(alloc, super_type).expect(rt, "memory");
+    schema.is_subtype(sub.as_borrowed(), super_type.as_borrowed())
 }
 
 /// `[Int]` of this size.
-fn sized(alloc: Global, size: usize) -> Result<Type, SchemaError> {
-    Ok(Type::nullable(alloc, "Int")?.wrap_list(Some(size))?)
+fn sized(rt: &impl Abort, alloc: Global, size: usize) -> Type {
+    let item = Type::nullable(alloc, "Int").expect(rt, "memory");
+    item.wrap_list(Some(size)).expect(rt, "memory")
 }
 
-fn is_sized_below(alloc: Global, schema: &Pets) -> Result<bool, SchemaError> {
-    let two = sized(alloc, 2)?;
-    let three = sized(alloc, 3)?;
-    Ok(schema.is_subtype(two.as_borrowed(), three.as_borrowed()))
+fn is_sized_below(rt: &impl Abort, alloc: Global, schema: &Pets) -> bool {
+    let two = sized(rt, alloc, 2);
+    let three = sized(rt, alloc, 3);
+    schema.is_subtype(two.as_borrowed(), three.as_borrowed())
 }
 
-/// What is asked of a type that is made.
-fn said_of_made(
-    alloc: Global,
-    made: &TypeType<'_, DefaultScalarValue>,
-    question: Question,
-) -> Result<String, SchemaError> {
-    match question {
-        Question::MakeType(_) => Ok(made.to_string(alloc)?),
-        Question::CopyOf(_) => Ok(made.clone()?.to_string(alloc)?),
-        Question::ListContents(_) => match made.list_contents() {
-            Some(items) => Ok(items.to_string(alloc)?),
-            None => Ok(String::from_str(alloc, "no list")?),
-        },
-        _ => {
-            let name = made.innermost_concrete().name().unwrap_or("?");
-            let (is_non_null, is_bare) = (made.is_non_null(), made.to_concrete().is_some());
-            Ok(format!(in alloc; "{name} {is_non_null} {is_bare}")?)
-        }
+/// What the type prints.
+fn printed(rt: &impl Abort, alloc: Global, made: &Shown<'_>) -> String {
+    made.to_string(alloc).expect(rt, "memory")
+}
+
+fn copy_printed(rt: &impl Abort, alloc: Global, made: &Shown<'_>) -> String {
+    let copy = made.clone().expect(rt, "memory");
+    printed(rt, alloc, &copy)
+}
+
+fn contents_printed(rt: &impl Abort, alloc: Global, made: &Shown<'_>) -> String {
+    match made.list_contents() {
+        Some(items) => printed(rt, alloc, items),
+        None => words(rt, alloc, "no list"),
     }
+}
+
+fn parts_printed(rt: &impl Abort, alloc: Global, made: &Shown<'_>) -> String {
+    let name = made.innermost_concrete().name().unwrap_or("?");
+    let (is_non_null, is_bare) = (made.is_non_null(), made.to_concrete().is_some());
+    format!(in alloc; "{name} {is_non_null} {is_bare}").expect(rt, "memory")
 }
 
 /// The answer to a question on a type that is made of a written one.
 fn answer_on_made(
+    rt: &impl Abort,
     alloc: Global,
     schema: &Pets,
     text: &str,
     question: Question,
-) -> Result<String, SchemaError> {
-    let named = written(alloc, text)?;
+) -> String {
+    let named = written(alloc, text).expect(rt, "memory");
     if !schema.is_known(named.innermost_name()) {
-        return Ok(String::from_str(alloc, "no such type")?);
+        return words(rt, alloc, "no such type");
     }
-    let made = schema.make_type(alloc, named.as_borrowed())?;
-    said_of_made(alloc, &made, question)
+    let made = schema
+        .make_type(alloc, named.as_borrowed())
+        .expect(rt, "memory");
+    match question {
+        Question::MakeType(_) => printed(rt, alloc, &made),
+        Question::CopyOf(_) => copy_printed(rt, alloc, &made),
+        Question::ListContents(_) => contents_printed(rt, alloc, &made),
+        _ => parts_printed(rt, alloc, &made),
+    }
 }
 
-fn shown(alloc: Global, answer: Option<bool>) -> Result<String, SchemaError> {
-    let text = match answer {
+fn shown(answer: Option<bool>) -> &'static str {
+    match answer {
         Some(true) => "true",
         Some(false) => "false",
         None => "no such types",
-    };
-    Ok(String::from_str(alloc, text)?)
+    }
 }
 
-fn answer(alloc: Global, schema: &Pets, question: Question) -> Result<String, SchemaError> {
+/// Whether the one may be the other, is it in part, or is below it.
+fn relation(rt: &impl Abort, alloc: Global, schema: &Pets, question: Question) -> Option<bool> {
     match question {
-        Question::TypeList => types_printed(alloc, schema),
-        Question::ConcreteTypeList => concrete_names(alloc, schema),
-        Question::DirectiveList => directive_names(alloc, schema),
-        Question::PossibleTypes(name) => possible_names(alloc, schema, name),
-        Question::IsPossibleType(first, second) => shown(alloc, may_be(schema, first, second)),
-        Question::TypeOverlap(first, second) => shown(alloc, do_overlap(schema, first, second)),
-        Question::IsSubtype(first, second) => {
-            shown(alloc, Some(is_below(alloc, schema, first, second)?))
-        }
-        Question::IsNamedSubtype(first, second) => {
-            shown(alloc, Some(schema.is_named_subtype(first, second)))
-        }
-        Question::IsSizedSubtype => shown(alloc, Some(is_sized_below(alloc, schema)?)),
+        Question::IsPossibleType(first, second) => may_be(schema, first, second),
+        Question::TypeOverlap(first, second) => do_overlap(schema, first, second),
+        Question::IsSubtype(first, second) => Some(is_below(rt, alloc, schema, first, second)),
+        Question::IsNamedSubtype(first, second) => Some(schema.is_named_subtype(first, second)),
+        Question::IsSizedSubtype => Some(is_sized_below(rt, alloc, schema)),
+        _ => None,
+    }
+}
+
+fn answer(rt: &impl Abort, alloc: Global, schema: &Pets, question: Question) -> String {
+    match question {
+        Question::TypeList => types_printed(rt, alloc, schema),
+        Question::ConcreteTypeList => concrete_names(rt, alloc, schema),
+        Question::DirectiveList => directive_names(rt, alloc, schema),
+        Question::PossibleTypes(name) => possible_names(rt, alloc, schema, name),
         Question::MakeType(text)
         | Question::CopyOf(text)
         | Question::ListContents(text)
-        | Question::MadeOf(text) => answer_on_made(alloc, schema, text, question),
+        | Question::MadeOf(text) => answer_on_made(rt, alloc, schema, text, question),
+        _ => words(rt, alloc, shown(relation(rt, alloc, schema, question))),
     }
 }
 
 /// Each question has its answer.
 fn answers(rt: &impl Abort, alloc: Global, schema: &Pets, rows: &[(Question, &'static str)]) {
     for row in rows {
-        says(rt, answer(alloc, schema, row.0), row.1);
+        says(rt, answer(rt, alloc, schema, row.0), row.1);
     }
 }
 

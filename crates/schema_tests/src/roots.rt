@@ -1,12 +1,12 @@
 //! Roots that are asked for: listed, missing, and none.
-use crate::said::{says, shown};
+use crate::said::{says, shown, words};
 use crate::schemas::demo_types;
 use language::value::DefaultScalarValue;
 use meta::MetaType;
 use samples::checks::{check_string, refuse_token};
-use schema::error::SchemaError;
 use schema::model::{SchemaType, TypeType};
-use std::alloc::{AllocError, Global};
+use std::alloc::Global;
+use std::process::Abort;
 
 type Demo = SchemaType<DefaultScalarValue>;
 
@@ -49,23 +49,24 @@ const ROOTS: [Row; 7] = [
     ),
 ];
 
-/// Appends what the type of a root prints.
-fn print_root(
-    out: &mut String,
+/// What the type of a root prints.
+fn root_text(
+    rt: &impl Abort,
+    alloc: Global,
     root: Option<TypeType<'_, DefaultScalarValue>>,
-) -> Result<(), AllocError> {
+) -> String {
     match root {
-        Some(root) => write!(out, " {root}"),
-        None => out.push_str(" none"),
+        Some(root) => root.to_string(alloc).expect(rt, "memory"),
+        None => words(rt, alloc, "none"),
     }
 }
 
 /// The roots, as their types print.
-fn types_of_roots(alloc: Global, schema: &Demo) -> Result<String, SchemaError> {
-    let mut text = schema.query_type().to_string(alloc)?;
-    print_root(&mut text, schema.mutation_type())?;
-    print_root(&mut text, schema.subscription_type())?;
-    Ok(text)
+fn types_of_roots(rt: &impl Abort, alloc: Global, schema: &Demo) -> String {
+    let query = root_text(rt, alloc, Some(schema.query_type()));
+    let mutation = root_text(rt, alloc, schema.mutation_type());
+    let subscription = root_text(rt, alloc, schema.subscription_type());
+    format!(in alloc; "{query} {mutation} {subscription}").expect(rt, "memory")
 }
 
 fn name_of(root: Option<&MetaType>) -> &str {
@@ -76,11 +77,17 @@ fn name_of(root: Option<&MetaType>) -> &str {
 }
 
 /// The roots, by the names of their metadata.
-fn names_of_roots(alloc: Global, schema: &Demo) -> Result<String, SchemaError> {
+fn names_of_roots(rt: &impl Abort, alloc: Global, schema: &Demo) -> String {
     let query = name_of(Some(schema.concrete_query_type()));
     let mutation = name_of(schema.concrete_mutation_type());
     let subscription = name_of(schema.concrete_subscription_type());
-    Ok(format!(in alloc; "{query} {mutation} {subscription}")?)
+    format!(in alloc; "{query} {mutation} {subscription}").expect(rt, "memory")
+}
+
+/// The schema has these roots.
+fn has_roots(rt: &impl Abort, alloc: Global, schema: &Demo, want: &str) {
+    says(rt, types_of_roots(rt, alloc, schema), want);
+    says(rt, names_of_roots(rt, alloc, schema), want);
 }
 
 #[test]
@@ -89,11 +96,8 @@ fn roots_are_listed_or_refused(rt: HostRuntime) {
     for row in &ROOTS {
         let types = demo_types(alloc, check_string, refuse_token).expect(&rt, "the list");
         match Demo::new(alloc, types, row.0, row.1, row.2) {
-            Ok(schema) => {
-                says(&rt, types_of_roots(alloc, &schema), row.3);
-                says(&rt, names_of_roots(alloc, &schema), row.3);
-            }
-            Err(refused) => says(&rt, shown(alloc, Some(refused), ""), row.3),
+            Ok(schema) => has_roots(&rt, alloc, &schema, row.3),
+            Err(refused) => says(&rt, shown(&rt, alloc, Some(refused), ""), row.3),
         }
     }
 }

@@ -4,19 +4,24 @@ use std::alloc::Global;
 use std::process::Abort;
 
 /// What is said is the text.
-pub fn says(rt: &impl Abort, said: Result<String, SchemaError>, want: &str) {
-    let said = said.expect(rt, "memory");
+pub fn says(rt: &impl Abort, said: String, want: &str) {
     assert_eq!(rt; said.as_str(), want);
+}
+
+/// These words, as a text of its own.
+pub fn words(rt: &impl Abort, alloc: Global, text: &str) -> String {
+    String::from_str(alloc, text).expect(rt, "memory")
 }
 
 /// The refusal, or these words where there is none.
 pub fn shown(
+    rt: &impl Abort,
     alloc: Global,
     refused: Option<SchemaError>,
     accepted: &str,
-) -> Result<String, SchemaError> {
+) -> String {
     match refused {
-        Some(refused) => Ok(format!(in alloc; "{refused:?}")?),
-        None => Ok(String::from_str(alloc, accepted)?),
+        Some(refused) => format!(in alloc; "{refused:?}").expect(rt, "memory"),
+        None => words(rt, alloc, accepted),
     }
 }

@@ -2,6 +2,7 @@
 ghost use Rattle.std.specs.Prelude.{◌≡◌};
 ghost use Rattle.meta.specs.Answers.{SameAnswer};
 
+use language::error::OutOfMemory;
 use language::value::DefaultScalarValue;
 use meta::MetaType;
 use meta::default_check::{DefaultCheck, InputValueParseFn, ScalarTokenParseFn};
@@ -32,11 +33,11 @@ pub fn demo_types(
     alloc: Global,
     check: InputValueParseFn,
     token: ScalarTokenParseFn,
-) -> Result<Vec<MetaType>, SchemaError>
+) -> Result<Vec<MetaType>, OutOfMemory>
     requires callable { (a : _) (v : _) → InputValueParseFn.pre check a v }
     requires one_answer { (a b : _) (v w : _) (r s : _) → v.now ≡ w.now → InputValueParseFn.post check a v r → InputValueParseFn.post check b w s → SameAnswer r s }
 {
-    Ok(demo::types(alloc, same_checks(check, token))?)
+    demo::types(alloc, same_checks(check, token))
 }
 
 /// The list `pets`, with this check for each type.
@@ -44,11 +45,11 @@ pub fn pets_types(
     alloc: Global,
     check: InputValueParseFn,
     token: ScalarTokenParseFn,
-) -> Result<Vec<MetaType>, SchemaError>
+) -> Result<Vec<MetaType>, OutOfMemory>
     requires callable { (a : _) (v : _) → InputValueParseFn.pre check a v }
     requires one_answer { (a b : _) (v w : _) (r s : _) → v.now ≡ w.now → InputValueParseFn.post check a v r → InputValueParseFn.post check b w s → SameAnswer r s }
 {
-    Ok(pets::types(alloc, same_checks(check, token))?)
+    pets::types(alloc, same_checks(check, token))
 }
 
 /// The schema of a list, whose root of queries is `QueryRoot`.

@@ -4,13 +4,10 @@ use language::error::OutOfMemory;
 use language::scalar::ScalarValue;
 use language::tree::Operation;
 use language::types::BorrowedType;
-use language::value::DefaultScalarValue;
-use meta::MetaType;
-use meta::default_check::DefaultCheck;
+use meta::MetaTypeOf;
+use meta::check::CheckedScalar;
 use std::alloc::AllocError;
 use walk::{Event, Machine, ValidatorContext, Visitor};
-
-type Heard<'a> = Event<'a, DefaultScalarValue>;
 
 /// Writes a line for each event: its name, of what node, and there the type, the type as it was written, the parent type and
 /// the input type as it was written.
@@ -19,18 +16,18 @@ pub struct Recorder {
     pub text: String,
 }
 
-impl Machine<DefaultScalarValue, DefaultCheck> for Recorder {
+impl<S, C> Machine<S, C> for Recorder {
     ghost use Rattle.std.specs.Prelude.{◌≡◌, []};
 
     // No errors.
     ghost step = { λ scope event a b es. es ≡ [] };
 }
 
-impl<'a> Visitor<'a, DefaultScalarValue> for Recorder {
+impl<'a, S: CheckedScalar> Visitor<'a, S> for Recorder {
     fn on(
         &mut self,
-        ctx: &mut ValidatorContext<'a, DefaultScalarValue>,
-        event: &Heard<'a>,
+        ctx: &mut ValidatorContext<'a, S>,
+        event: &Event<'a, S>,
     ) -> Result<(), OutOfMemory> {
         let (name, node) = told(event);
         write!(self.text, "{name}({node})")?;
@@ -40,9 +37,9 @@ impl<'a> Visitor<'a, DefaultScalarValue> for Recorder {
 }
 
 /// Writes the type at hand, that type as it was written, the parent type and the input type as it was written, and ends the line.
-pub fn show_types(
+pub fn show_types<S: CheckedScalar>(
     out: &mut String,
-    ctx: &ValidatorContext<'_, DefaultScalarValue>,
+    ctx: &ValidatorContext<'_, S>,
 ) -> Result<(), AllocError> {
     let current = name_of(ctx.current_type());
     write!(out, " {current} ")?;
@@ -53,7 +50,7 @@ pub fn show_types(
     out.push('\n')
 }
 
-fn name_of<'a>(meta: Option<&'a MetaType>) -> &'a str {
+fn name_of<'a, S, C>(meta: Option<&'a MetaTypeOf<S, C>>) -> &'a str {
     match meta {
         Some(meta) => meta.name().unwrap_or("-"),
         None => "-",
@@ -67,7 +64,7 @@ fn show(out: &mut String, literal: Option<BorrowedType<'_>>) -> Result<(), Alloc
     }
 }
 
-fn name_in<'e>(operation: &'e Operation<'_, DefaultScalarValue>) -> &'e str {
+fn name_in<'e, S>(operation: &'e Operation<'_, S>) -> &'e str {
     match &operation.name {
         Some(name) => name.item,
         None => "",
@@ -75,7 +72,7 @@ fn name_in<'e>(operation: &'e Operation<'_, DefaultScalarValue>) -> &'e str {
 }
 
 /// The name of an event, and what its node is called.
-fn told<'e>(event: &'e Heard<'_>) -> (&'static str, &'e str) {
+fn told<'e, S: ScalarValue>(event: &'e Event<'_, S>) -> (&'static str, &'e str) {
     match event {
         Event::EnterDocument(_) => ("enter_document", ""),
         Event::EnterOperationDefinition(o) => ("enter_operation_definition", name_in(&o.item)),

@@ -6,11 +6,9 @@ use language::error::OutOfMemory;
 use language::types::Type;
 use language::value::DefaultScalarValue;
 use meta::default_check::{DefaultCheck, InputValueParseFn, ScalarTokenParseFn};
-use meta::{Argument, Field, InputObjectMetaOf, MetaType};
-use samples::build::{
-    FieldMeta, add_fields, argument, common, field, object, own_fields, plain_fields, required,
-    scalar,
-};
+use meta::{Argument, MetaType};
+use samples::build::{FieldMeta, common, object, own_fields, scalar};
+use samples::rows::{ArgumentRow, ObjectRow, add_objects, field, input_object, written};
 use schema::error::SchemaError;
 use schema::model::SchemaType;
 use std::alloc::Global;
@@ -40,23 +38,20 @@ pub struct Checks {
     pair: DefaultCheck,
 }
 
-/// `Dog { name(x: Int, x: String): String, name: Int, friends: [Dog!]! }`
-fn dog(alloc: Global) -> Result<MetaType, OutOfMemory> {
-    let mut fields = own_fields(alloc)?;
-    fields.push(two_named_alike(alloc)?)?;
-    add_fields(alloc, &mut fields, &[("name", "Int")])?;
-    let dogs = Type::non_null(alloc, "Dog")?
-        .wrap_list(None)?
-        .wrap_non_null()?;
-    fields.push(Field::new(alloc, "friends", dogs)?)?;
-    object(alloc, "Dog", &[], fields)
-}
+const PAIR: [ArgumentRow; 2] = [("a", "Int!"), ("a", "String")];
 
-fn two_named_alike(alloc: Global) -> Result<FieldMeta, OutOfMemory> {
-    field(alloc, "name", "String")?
-        .argument(argument(alloc, "x", "Int")?)?
-        .argument(argument(alloc, "x", "String")?)
-}
+const DOG_AND_FEED: [ObjectRow; 2] = [
+    (
+        "Dog",
+        &[],
+        &[
+            ("name", "String", &[("x", "Int"), ("x", "String")]),
+            ("name", "Int", &[]),
+            ("friends", "[Dog!]!", &[]),
+        ],
+    ),
+    ("MutationRoot", &[], &[("feed", "Dog", &[])]),
+];
 
 /// `QueryRoot { dog(pair: Pair!, sizes: [[Int]!]): Dog! }`
 fn query_root(alloc: Global) -> Result<MetaType, OutOfMemory> {
@@ -66,25 +61,13 @@ fn query_root(alloc: Global) -> Result<MetaType, OutOfMemory> {
 }
 
 fn dog_field(alloc: Global) -> Result<FieldMeta, OutOfMemory> {
-    Field::new(alloc, "dog", Type::non_null(alloc, "Dog")?)?
-        .argument(required(alloc, "pair", "Pair")?)?
-        .argument(Argument::new(alloc, "sizes", sizes(alloc)?)?)
+    let dog = field(alloc, &("dog", "Dog!", &[("pair", "Pair!")]))?;
+    dog.argument(Argument::new(alloc, "sizes", sizes(alloc)?)?)
 }
 
 /// `[[Int]!]`
 fn sizes(alloc: Global) -> Result<Type, OutOfMemory> {
-    Type::nullable(alloc, "Int")?
-        .wrap_list(None)?
-        .wrap_non_null()?
-        .wrap_list(None)
-}
-
-/// `Pair { a: Int!, a: String }`
-fn pair(alloc: Global, check: DefaultCheck) -> Result<MetaType, OutOfMemory> {
-    let mut fields = Vec::new(alloc);
-    fields.push(required(alloc, "a", "Int")?)?;
-    fields.push(argument(alloc, "a", "String")?)?;
-    Ok(InputObjectMetaOf::with_check(alloc, "Pair", fields, check)?.into_meta())
+    written(alloc, "[Int]")?.wrap_non_null()?.wrap_list(None)
 }
 
 /// The same check for each type of the list.
@@ -100,29 +83,14 @@ pub fn same_checks(check: InputValueParseFn, token: ScalarTokenParseFn) -> Check
     }
 }
 
-/// The types of the walks: `Int`, `MutationRoot { feed: Dog }`, those above, and what each schema has.
+/// The types of the walks: those above, `Int`, and what each schema has.
 fn sample_types(alloc: Global, checks: Checks) -> Result<Vec<MetaType>, OutOfMemory> {
     let mut types = common(alloc, checks.string, checks.boolean)?;
     types.push(scalar(alloc, "Int", checks.int)?)?;
-    types.push(pair(alloc, checks.pair)?)?;
-    add_objects(alloc, &mut types)?;
-    Ok(types)
-}
-
-fn add_objects(alloc: Global, types: &mut Vec<MetaType>) -> Result<(), OutOfMemory> {
-    types.push(dog(alloc)?)?;
+    types.push(input_object(alloc, "Pair", &PAIR, checks.pair)?)?;
     types.push(query_root(alloc)?)?;
-    types.push(mutation_root(alloc)?)?;
-    Ok(())
-}
-
-fn mutation_root(alloc: Global) -> Result<MetaType, OutOfMemory> {
-    object(
-        alloc,
-        "MutationRoot",
-        &[],
-        plain_fields(alloc, &[("feed", "Dog")])?,
-    )
+    add_objects(alloc, &mut types, &DOG_AND_FEED)?;
+    Ok(types)
 }
 
 /// The schema of the walks, which has a root of mutations and none of subscriptions.

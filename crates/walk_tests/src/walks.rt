@@ -9,9 +9,11 @@ use language::position::SourcePosition;
 use language::tree::Definition;
 use language::types::BorrowedType;
 use language::value::DefaultScalarValue;
+use meta::check::CheckedScalar;
 use samples::checks::{check_string, refuse_token};
 use schema::model::SchemaType;
 use std::alloc::Global;
+use std::process::Abort;
 use walk::{MultiVisitorCons, MultiVisitorNil, RuleError, ValidatorContext, visit, visit_rules};
 
 /// The walk over the sample. An event of a node is followed by the type at the node, that type as it is written, the parent
@@ -156,15 +158,13 @@ exit_fragment_definition(F) Dog Dog! - -
 exit_document() - - - -
 ";
 
-type Schema = SchemaType<DefaultScalarValue>;
-
 type Visitors = MultiVisitorCons<Recorder, MultiVisitorNil>;
 
 /// What a visitor hears of the document.
-fn recorded<'a>(
+fn recorded<'a, S: CheckedScalar>(
     alloc: Global,
-    ctx: &mut ValidatorContext<'a, DefaultScalarValue>,
-    document: &'a [Definition<'_, DefaultScalarValue>],
+    ctx: &mut ValidatorContext<'a, S>,
+    document: &'a [Definition<'_, S>],
 ) -> Result<Visitors, OutOfMemory> {
     let recorder = Recorder {
         text: String::new(alloc),
@@ -175,10 +175,10 @@ fn recorded<'a>(
 }
 
 /// The same in a fresh context. After a refusal it says whether the context refuses each later call.
-fn recorded_afresh<'a>(
+fn recorded_afresh<'a, S: CheckedScalar>(
     alloc: Global,
-    schema: &'a Schema,
-    document: &'a [Definition<'_, DefaultScalarValue>],
+    schema: &'a SchemaType<S>,
+    document: &'a [Definition<'_, S>],
 ) -> Result<Visitors, bool> {
     match ValidatorContext::new(alloc, schema, document) {
         Ok(mut ctx) => match recorded(alloc, &mut ctx, document) {
@@ -190,27 +190,35 @@ fn recorded_afresh<'a>(
 }
 
 /// Whether a context refuses each call that reports, pushes or ends, and each walk.
-fn refuses_all<'a>(
+fn refuses_all<'a, S: CheckedScalar>(
     alloc: Global,
-    mut ctx: ValidatorContext<'a, DefaultScalarValue>,
-    document: &'a [Definition<'_, DefaultScalarValue>],
+    mut ctx: ValidatorContext<'a, S>,
+    document: &'a [Definition<'_, S>],
 ) -> bool {
     let reports = ctx.report_error("m", &[]).is_err();
     let appends = ctx.append_errors(Vec::new(alloc)).is_err();
+    let pushes = refuses_pushes(&mut ctx);
+    let walks = recorded(alloc, &mut ctx, document).is_err();
+    let ends = ctx.into_errors().is_err();
+    reports && appends && pushes && walks && ends
+}
+
+fn refuses_pushes<'a, S: CheckedScalar>(ctx: &mut ValidatorContext<'a, S>) -> bool {
     let pushes = ctx.with_pushed_type(None, |_ctx| ()).is_err();
     let pushes_parent = ctx.with_pushed_parent_type(|_ctx| ()).is_err();
     let pushes_input = ctx.with_pushed_input_type(None, |_ctx| ()).is_err();
-    let walks = recorded(alloc, &mut ctx, document).is_err();
-    let ends = ctx.into_errors().is_err();
-    reports && appends && pushes && pushes_parent && pushes_input && walks && ends
+    pushes && pushes_parent && pushes_input
+}
+
+/// The schema of the walks.
+fn schema(rt: &impl Abort, alloc: Global) -> SchemaType<DefaultScalarValue> {
+    sample_schema(alloc, same_checks(check_string, refuse_token)).expect(rt, "a schema")
 }
 
 #[test]
 fn every_kind_of_node_is_told(rt: HostRuntime) {
     let alloc = rt.alloc();
-    let schema = sample_schema(alloc, same_checks(check_string, refuse_token)).expect(
-        &rt, "a schema",
-    );
+    let schema = schema(&rt, alloc);
     let document = read_document(alloc, DOCUMENT).expect(&rt, "a document");
     let recorded = recorded_afresh(alloc, &schema, document.as_slice());
     let visitors = recorded.expect(&rt, "memory");
@@ -221,9 +229,7 @@ fn every_kind_of_node_is_told(rt: HostRuntime) {
 #[test]
 fn fields_are_kept(rt: HostRuntime) {
     let alloc = rt.alloc();
-    let schema = sample_schema(alloc, same_checks(check_string, refuse_token)).expect(
-        &rt, "a schema",
-    );
+    let schema = schema(&rt, alloc);
     let document = read_document(alloc, DOCUMENT).expect(&rt, "a document");
     let count = count_and_free(alloc, &schema, document).expect(&rt, "memory");
     assert_eq!(rt; count, 12);
@@ -245,26 +251,34 @@ fn a_refused_request_changes_no_walk(rt: HostRuntime) {
     }
 }
 
-/// The types at hand: with a type pushed, with that type as the parent too, with an input type pushed, and with nothing.
-fn types_in_turn<'a>(alloc: Global, schema: &'a Schema) -> Result<String, OutOfMemory> {
-    let mut ctx = ValidatorContext::new(alloc, schema, &[])?;
-    let mut text = String::new(alloc);
+/// The types at hand: with a type pushed, and with that type as the parent too.
+fn show_pushed<'a, S: CheckedScalar>(
+    rt: &impl Abort,
+    ctx: &mut ValidatorContext<'a, S>,
+    text: &mut String,
+) {
     let dog = Some(BorrowedType::non_null("Dog"));
-    let int = Some(BorrowedType::nullable("Int"));
-    ctx.with_pushed_type(dog, |ctx| show_types(&mut text, ctx))??;
-    ctx.with_pushed_type(dog, |ctx| {
-        ctx.with_pushed_parent_type(|ctx| show_types(&mut text, ctx))
-    })???;
-    ctx.with_pushed_input_type(int, |ctx| show_types(&mut text, ctx))??;
-    show_types(&mut text, &ctx)?;
-    Ok(text)
+    let shown = ctx.with_pushed_type(dog, |ctx| show_types(text, ctx));
+    shown.expect(rt, "memory").expect(rt, "memory");
+    let as_parent = ctx.with_pushed_type(dog, |ctx| {
+        ctx.with_pushed_parent_type(|ctx| show_types(text, ctx))
+    });
+    as_parent
+        .expect(rt, "memory")
+        .expect(rt, "memory")
+        .expect(rt, "memory");
 }
 
-/// Whether the fragment `F` is known in a document with no definitions, and whether there are errors before anything is reported.
-fn known_at_first<'a>(alloc: Global, schema: &'a Schema) -> Result<(bool, bool), OutOfMemory> {
-    let ctx = ValidatorContext::new(alloc, schema, &[])?;
-    let fragment = ctx.is_known_fragment("F");
-    Ok((fragment, ctx.has_errors()))
+/// The same with an input type pushed, and with nothing.
+fn show_input<'a, S: CheckedScalar>(
+    rt: &impl Abort,
+    ctx: &mut ValidatorContext<'a, S>,
+    text: &mut String,
+) {
+    let int = Some(BorrowedType::nullable("Int"));
+    let shown = ctx.with_pushed_input_type(int, |ctx| show_types(text, ctx));
+    shown.expect(rt, "memory").expect(rt, "memory");
+    show_types(text, ctx).expect(rt, "memory");
 }
 
 fn early() -> SourcePosition {
@@ -276,48 +290,53 @@ fn late() -> SourcePosition {
 }
 
 /// Two errors of a caller.
-fn two_more(alloc: Global) -> Result<Vec<RuleError>, OutOfMemory> {
+fn two_more(rt: &impl Abort, alloc: Global) -> Vec<RuleError> {
     let mut more = Vec::new(alloc);
-    more.push(RuleError::new(alloc, "late", &[late()])?)?;
-    more.push(RuleError::new(alloc, "before", &[early()])?)?;
-    Ok(more)
+    let last = RuleError::new(alloc, "late", &[late()]).expect(rt, "memory");
+    more.push(last).expect(rt, "memory");
+    let first = RuleError::new(alloc, "before", &[early()]).expect(rt, "memory");
+    more.push(first).expect(rt, "memory");
+    more
 }
 
 /// Four errors, in a context that two rules walked with that report nothing.
-fn reported<'a>(alloc: Global, schema: &'a Schema) -> Result<Vec<RuleError>, OutOfMemory> {
-    let mut ctx = ValidatorContext::new(alloc, schema, &[])?;
+fn reported<S: CheckedScalar>(
+    rt: &impl Abort,
+    alloc: Global,
+    schema: &SchemaType<S>,
+) -> Vec<RuleError> {
+    let mut ctx = ValidatorContext::new(alloc, schema, &[]).expect(rt, "memory");
     let mut rules = MultiVisitorNil
         .with_rule(MultiVisitorNil)
         .with_rule(MultiVisitorNil);
-    visit_rules(&mut rules, &mut ctx, &[])?;
-    ctx.report_error("late", &[late()])?;
-    ctx.report_error("early", &[early()])?;
-    ctx.append_errors(two_more(alloc)?)?;
-    ctx.into_errors()
+    visit_rules(&mut rules, &mut ctx, &[]).expect(rt, "memory");
+    ctx.report_error("late", &[late()]).expect(rt, "memory");
+    ctx.report_error("early", &[early()]).expect(rt, "memory");
+    ctx.append_errors(two_more(rt, alloc)).expect(rt, "memory");
+    ctx.into_errors().expect(rt, "memory")
 }
 
 #[test]
 fn a_context_keeps_types(rt: HostRuntime) {
     let alloc = rt.alloc();
-    let schema = sample_schema(alloc, same_checks(check_string, refuse_token)).expect(
-        &rt, "a schema",
-    );
-    let text = types_in_turn(alloc, &schema).expect(&rt, "memory");
+    let schema = schema(&rt, alloc);
+    let mut ctx = ValidatorContext::new(alloc, &schema, &[]).expect(&rt, "memory");
+    let known = (ctx.is_known_fragment("F"), ctx.has_errors());
+    assert_eq!(rt; known, (false, false));
+    let mut text = String::new(alloc);
+    show_pushed(&rt, &mut ctx, &mut text);
+    show_input(&rt, &mut ctx, &mut text);
     assert_eq!(rt;
         text.as_str(),
         " Dog Dog! - -\n Dog Dog! Dog -\n - - - Int\n - - - -\n"
     );
-    let known = known_at_first(alloc, &schema).expect(&rt, "memory");
-    assert_eq!(rt; known, (false, false));
 }
 
 #[test]
 fn a_context_sorts_its_errors(rt: HostRuntime) {
     let alloc = rt.alloc();
-    let schema = sample_schema(alloc, same_checks(check_string, refuse_token)).expect(
-        &rt, "a schema",
-    );
-    let errors = reported(alloc, &schema).expect(&rt, "memory");
+    let schema = schema(&rt, alloc);
+    let errors = reported(&rt, alloc, &schema);
     let mut messages = errors.iter().map(|error| error.message());
     for want in ["before", "early", "late", "late"] {
         assert_eq!(rt; messages.next(), Some(want));

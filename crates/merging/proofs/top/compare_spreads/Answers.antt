@@ -13,8 +13,8 @@ use Rattle.merging.proofs.Order.{rest_is, rest_all, all_at, all_rest}
 use Rattle.merging.proofs.Work.{did_none, did_then, did_map, did_next}
 use Rattle.merging.proofs.top.compare_spreads.Goals as goal
 
-pub write_out-requires : goal.write_out-requires
-write_out-requires g c =
+pub write_own-requires : goal.write_own-requires
+write_own-requires g c =
     let v = world g.J.Judge.judgement c.args.graph.now in
     (spread_falls v c.args.s c.spreads-list.result.now c.loop-k.k c.args.graph.now.falling c.loop-k.invariant.0 c.loop-k-test.true).0
 
@@ -36,9 +36,9 @@ loop-k-preserved g c =
     let v = world g.J.Judge.judgement c.args.graph.now in
     let x = get_or c.spreads-list.result.now c.loop-k.k 0 in (
       c.loop-k.invariant.0,
-      did_next v (λ i M. OwnWritten v M c.args.s (get_or c.spreads-list.result.now i 0) × All (Pair M false (get_or c.spreads-list.result.now i 0)) (drop (i + 1) c.spreads-list.result.now)) c.loop-k.k c.loop-k.invariant.1 (did_then v _ _ c.in_ok-write_out.ensures.done (did_map v _ _ (λ M z. subst (λ ys. All (Pair M false x) ys) (rest_is c.spreads-list.result.now (c.loop-k.k + 1)) z) c.in_ok-pair_all.ensures.done)),
+      did_next v (λ i M. OwnWritten v M c.args.s (get_or c.spreads-list.result.now i 0) × All (Pair M false (get_or c.spreads-list.result.now i 0)) (drop (i + 1) c.spreads-list.result.now)) c.loop-k.k c.loop-k.invariant.1 (did_then v _ _ c.in_ok-write_own.ensures.done (did_map v _ _ (λ M z. subst (λ ys. All (Pair M false x) ys) (rest_is c.spreads-list.result.now (c.loop-k.k + 1)) z) c.in_ok-pair_all.ensures.done)),
       all_plus v false _ _ _ (places_listed v c.args.s c.loop-k.k c.spreads-list.result.now c.loop-k.invariant.0 c.loop-k-test.true)
-          (all_next v false _ _ (λ m. AtWritten v c.args.s (get_or c.spreads-list.result.now m 0)) c.loop-k.k (places_written v c.args.s x (subst (λ zs. Contains zs x) c.loop-k.invariant.0 (Contains-get_or c.spreads-list.result.now c.loop-k.k 0 c.loop-k-test.true))) c.loop-k.invariant.2 c.in_ok-write_out.ensures.real)
+          (all_next v false _ _ (λ m. AtWritten v c.args.s (get_or c.spreads-list.result.now m 0)) c.loop-k.k (places_written v c.args.s x (subst (λ zs. Contains zs x) c.loop-k.invariant.0 (Contains-get_or c.spreads-list.result.now c.loop-k.k 0 c.loop-k-test.true))) c.loop-k.invariant.2 c.in_ok-write_own.ensures.real)
           (adds_map v false _ (AtListed v x (drop (c.loop-k.k + 1) c.spreads-list.result.now)) (λ r z. subst (λ ys. AtListed v x ys r) (rest_is c.spreads-list.result.now (c.loop-k.k + 1)) z) c.in_ok-pair_all.ensures.real),
     )
 
