@@ -1,6 +1,6 @@
 //! Texts that make no schema, each with its fault and the place: line, column and index, each counted from 0.
 use crate::shown::shown_error;
-use schema_reader::read_schema;
+use schema_reader::{SchemaReadError, read_schema};
 use std::alloc::{AllocError, Global};
 
 const FAULTS: &[(&str, &str)] = &[
@@ -159,4 +159,20 @@ fn tells_faults(rt: HostRuntime) {
         let found = told(rt.alloc(), text).expect(&rt, "memory");
         assert_eq!(rt; found.as_str(), *wanted);
     }
+}
+
+// Whether the answer is want of memory, or the same as ever.
+fn is_steady(alloc: Global, text: &str, is_schema: bool) -> bool {
+    match read_schema(alloc, text) {
+        Ok(_) => is_schema,
+        Err(SchemaReadError::OutOfMemory) => true,
+        Err(_) => !is_schema,
+    }
+}
+
+#[test]
+fn a_refused_request_changes_no_answer(rt: HostRuntime) {
+    assert!(rt; is_steady(rt.alloc(), "type Query { a: E } enum E { A }", true));
+    assert!(rt; is_steady(rt.alloc(), "type Query { a: Dog }", false));
+    assert!(rt; is_steady(rt.alloc(), "type Query { a: Int a: Int }", false));
 }
