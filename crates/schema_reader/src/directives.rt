@@ -19,7 +19,7 @@ pub type SourceSchema = SchemaTypeOf<SourceScalar, SourceCheck>;
 pub fn add_directives<'a>(
     alloc: Global,
     schema: &mut SourceSchema,
-    directives: &[&DirectiveDefinition<'a>],
+    directives: &[DirectiveDefinition<'a>],
 ) -> Result<(), SchemaReadError<'a>> {
     let mut names = Names::new(alloc, Defined::Directive);
     for defined in directives {

@@ -8,58 +8,53 @@ use language::error::OutOfMemory;
 use language::position::Spanning;
 use std::alloc::Global;
 
-/// The definitions and the extensions of a document.
+/// The definitions and the extensions of a document, and the standard types whose names it does not define.
 #[derive(Drop)]
-pub struct Parts<'d, 'a> {
-    pub schemas: Vec<&'d Spanning<SchemaDefinition<'a>>>,
-    /// The types, and the standard ones.
-    pub types: Vec<&'d TypeDefinition<'a>>,
-    pub extensions: Vec<&'d TypeDefinition<'a>>,
-    /// The types and the extensions of the document alone, as they stand there.
-    pub own: Vec<&'d TypeDefinition<'a>>,
-    pub directives: Vec<&'d DirectiveDefinition<'a>>,
+pub struct Parts<'a> {
+    pub schemas: Vec<Spanning<SchemaDefinition<'a>>>,
+    pub types: Vec<TypeDefinition<'a>>,
+    pub extensions: Vec<TypeDefinition<'a>>,
+    pub standard: Vec<TypeDefinition<'a>>,
+    pub directives: Vec<DirectiveDefinition<'a>>,
 }
 
-/// The parts of a document. A name of a type may be defined once, and an extension is of a type of its kind; the standard types are
-/// there where the document defines none of their names.
-pub fn parts_of<'d, 'a>(
+/// The parts of a document. A name of a type may be defined once, and an extension is of a type of its kind.
+pub fn parts_of<'a>(
     alloc: Global,
-    document: &'d [TypeSystemDefinition<'a>],
-    standard: &'d [TypeSystemDefinition<'a>],
-) -> Result<Parts<'d, 'a>, SchemaReadError<'a>> {
+    document: Vec<TypeSystemDefinition<'a>>,
+    standard: Vec<TypeSystemDefinition<'a>>,
+) -> Result<Parts<'a>, SchemaReadError<'a>> {
     let mut parts = Parts {
         schemas: Vec::new(alloc),
         types: Vec::new(alloc),
         extensions: Vec::new(alloc),
-        own: Vec::new(alloc),
+        standard: Vec::new(alloc),
         directives: Vec::new(alloc),
     };
     for definition in document {
         add_part(&mut parts, definition)?;
     }
-    check_types(alloc, &parts)?;
-    add_standard(&mut parts, standard)?;
+    check_types(alloc, parts.types.as_slice())?;
+    for definition in standard {
+        add_standard(&mut parts, definition)?;
+    }
     check_extensions(&parts)?;
     Ok(parts)
 }
 
-fn add_part<'d, 'a>(
-    parts: &mut Parts<'d, 'a>,
-    definition: &'d TypeSystemDefinition<'a>,
+fn add_part<'a>(
+    parts: &mut Parts<'a>,
+    definition: TypeSystemDefinition<'a>,
 ) -> Result<(), OutOfMemory> {
     match definition {
         TypeSystemDefinition::Schema(defined) => parts.schemas.push(defined)?,
-        TypeSystemDefinition::Type(defined) => add_type(parts, &defined.item)?,
-        TypeSystemDefinition::Directive(defined) => parts.directives.push(&defined.item)?,
+        TypeSystemDefinition::Type(defined) => add_type(parts, defined.item)?,
+        TypeSystemDefinition::Directive(defined) => parts.directives.push(defined.item)?,
     }
     Ok(())
 }
 
-fn add_type<'d, 'a>(
-    parts: &mut Parts<'d, 'a>,
-    defined: &'d TypeDefinition<'a>,
-) -> Result<(), OutOfMemory> {
-    parts.own.push(defined)?;
+fn add_type<'a>(parts: &mut Parts<'a>, defined: TypeDefinition<'a>) -> Result<(), OutOfMemory> {
     if defined.is_extension {
         parts.extensions.push(defined)?;
     } else {
@@ -68,16 +63,14 @@ fn add_type<'d, 'a>(
     Ok(())
 }
 
-// Each type of the list whose name is not defined yet.
-fn add_standard<'d, 'a>(
-    parts: &mut Parts<'d, 'a>,
-    standard: &'d [TypeSystemDefinition<'a>],
+// A standard type, if its name is not defined.
+fn add_standard<'a>(
+    parts: &mut Parts<'a>,
+    definition: TypeSystemDefinition<'a>,
 ) -> Result<(), OutOfMemory> {
-    for definition in standard {
-        if let TypeSystemDefinition::Type(defined) = definition {
-            if first_named(parts.types.as_slice(), defined.item.name.item).is_none() {
-                parts.types.push(&defined.item)?;
-            }
+    if let TypeSystemDefinition::Type(defined) = definition {
+        if first_named(parts.types.as_slice(), defined.item.name.item).is_none() {
+            parts.standard.push(defined.item)?;
         }
     }
     Ok(())
@@ -85,46 +78,55 @@ fn add_standard<'d, 'a>(
 
 /// The first type of the name.
 pub fn first_named<'d, 'a>(
-    types: &[&'d TypeDefinition<'a>],
+    types: &'d [TypeDefinition<'a>],
     name: &str,
 ) -> Option<&'d TypeDefinition<'a>> {
     for defined in types {
         if defined.name.item == name {
-            return Some(*defined);
+            return Some(defined);
         }
     }
     None
 }
 
-fn check_types<'a>(alloc: Global, parts: &Parts<'_, 'a>) -> Result<(), SchemaReadError<'a>> {
+fn check_types<'a>(alloc: Global, types: &[TypeDefinition<'a>]) -> Result<(), SchemaReadError<'a>> {
     let mut names = Names::new(alloc, Defined::Type);
-    for defined in parts.types.as_slice() {
+    for defined in types {
         names.add(&defined.name)?;
     }
     Ok(())
 }
 
-fn check_extensions<'a>(parts: &Parts<'_, 'a>) -> Result<(), SchemaReadError<'a>> {
+fn check_extensions<'a>(parts: &Parts<'a>) -> Result<(), SchemaReadError<'a>> {
     for extension in parts.extensions.as_slice() {
-        check_extension(parts.types.as_slice(), extension)?;
+        check_extension(parts, extension)?;
     }
     Ok(())
 }
 
 fn check_extension<'a>(
-    types: &[&TypeDefinition<'a>],
+    parts: &Parts<'a>,
     extension: &TypeDefinition<'a>,
 ) -> Result<(), SchemaReadError<'a>> {
     let name = extension.name.item;
-    let fault = match first_named(types, name) {
-        Some(defined) => {
-            if is_same_kind(&defined.body, &extension.body) {
-                return Ok(());
-            }
-            SchemaFault::OtherKindExtended(name)
-        }
-        None => SchemaFault::UnknownExtended(name),
-    };
+    if let Some(defined) = first_named(parts.types.as_slice(), name) {
+        return check_kind(defined, extension);
+    }
+    if let Some(defined) = first_named(parts.standard.as_slice(), name) {
+        return check_kind(defined, extension);
+    }
+    let fault = SchemaFault::UnknownExtended(name);
+    Err(SchemaReadError::Fault(extension.name.span.start, fault))
+}
+
+fn check_kind<'a>(
+    defined: &TypeDefinition<'a>,
+    extension: &TypeDefinition<'a>,
+) -> Result<(), SchemaReadError<'a>> {
+    if is_same_kind(&defined.body, &extension.body) {
+        return Ok(());
+    }
+    let fault = SchemaFault::OtherKindExtended(extension.name.item);
     Err(SchemaReadError::Fault(extension.name.span.start, fault))
 }
 

@@ -17,7 +17,7 @@ pub enum Mention {
 
 /// The first place where types name this one.
 pub fn first_mention(
-    types: &[&TypeDefinition<'_>],
+    types: &[TypeDefinition<'_>],
     mention: Mention,
     name: &str,
 ) -> Option<SourcePosition> {

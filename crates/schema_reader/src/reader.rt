@@ -7,7 +7,6 @@ use crate::roots::{SchemaRoots, roots_of};
 use crate::standard::STANDARD_TYPES;
 use crate::types::types_of;
 use graphql_reader::read_type_system;
-use graphql_reader::type_system::TypeSystemDefinition;
 use language::position::SourcePosition;
 use schema::error::SchemaError;
 use schema::model::SchemaTypeOf;
@@ -17,26 +16,19 @@ use std::alloc::Global;
 pub fn read_schema<'a>(alloc: Global, text: &'a str) -> Result<SourceSchema, SchemaReadError<'a>> {
     let document = read_type_system(alloc, text)?;
     let standard = read_type_system(alloc, STANDARD_TYPES)?;
-    schema_of(alloc, document.as_slice(), standard.as_slice())
+    let parts = parts_of(alloc, document, standard)?;
+    schema_of(alloc, &parts)
 }
 
-fn schema_of<'a>(
-    alloc: Global,
-    document: &[TypeSystemDefinition<'a>],
-    standard: &[TypeSystemDefinition<'a>],
-) -> Result<SourceSchema, SchemaReadError<'a>> {
-    let parts = parts_of(alloc, document, standard)?;
-    let mut schema = plain_schema(alloc, &parts)?;
-    describe(&mut schema, &parts)?;
+fn schema_of<'a>(alloc: Global, parts: &Parts<'a>) -> Result<SourceSchema, SchemaReadError<'a>> {
+    let mut schema = plain_schema(alloc, parts)?;
+    describe(&mut schema, parts)?;
     add_directives(alloc, &mut schema, parts.directives.as_slice())?;
     Ok(schema)
 }
 
 // The schema of the types and the roots.
-fn plain_schema<'a>(
-    alloc: Global,
-    parts: &Parts<'_, 'a>,
-) -> Result<SourceSchema, SchemaReadError<'a>> {
+fn plain_schema<'a>(alloc: Global, parts: &Parts<'a>) -> Result<SourceSchema, SchemaReadError<'a>> {
     let roots = roots_of(parts)?;
     let types = types_of(alloc, parts)?;
     let (mutation, subscription) = (roots.mutation_name(), roots.subscription_name());
@@ -46,10 +38,7 @@ fn plain_schema<'a>(
     }
 }
 
-fn describe<'a>(
-    schema: &mut SourceSchema,
-    parts: &Parts<'_, 'a>,
-) -> Result<(), SchemaReadError<'a>> {
+fn describe<'a>(schema: &mut SourceSchema, parts: &Parts<'a>) -> Result<(), SchemaReadError<'a>> {
     for defined in parts.schemas.as_slice() {
         if let Some(text) = &defined.item.description {
             schema.set_description(text.item.as_str())?;
@@ -60,7 +49,7 @@ fn describe<'a>(
 
 // The refusal at the place of its name.
 fn refusal_of<'a>(
-    parts: &Parts<'_, 'a>,
+    parts: &Parts<'a>,
     roots: &SchemaRoots<'a>,
     error: SchemaError,
 ) -> SchemaReadError<'a> {
@@ -77,13 +66,16 @@ fn refusal_of<'a>(
     SchemaReadError::Fault(position, SchemaFault::Refused(error))
 }
 
-// Where the document names the type first, or else defines it: what the standard types name is there where it is not of their kind.
-fn place_of(parts: &Parts<'_, '_>, mention: Mention, name: &str) -> SourcePosition {
-    let own = parts.own.as_slice();
-    if let Some(position) = first_mention(own, mention, name) {
+// Where the document names the type first, in a definition or else in an extension, or else defines it: what the standard types name is
+// there where it is not of their kind.
+fn place_of(parts: &Parts<'_>, mention: Mention, name: &str) -> SourcePosition {
+    if let Some(position) = first_mention(parts.types.as_slice(), mention, name) {
         return position;
     }
-    match first_named(own, name) {
+    if let Some(position) = first_mention(parts.extensions.as_slice(), mention, name) {
+        return position;
+    }
+    match first_named(parts.types.as_slice(), name) {
         Some(defined) => defined.name.span.start,
         None => SourcePosition::new(0, 0, 0),
     }

@@ -57,7 +57,7 @@ impl<'a> SchemaRoots<'a> {
 }
 
 /// The roots of a document: those that are named, and where no schema is defined those that have the usual names.
-pub fn roots_of<'a>(parts: &Parts<'_, 'a>) -> Result<SchemaRoots<'a>, SchemaReadError<'a>> {
+pub fn roots_of<'a>(parts: &Parts<'a>) -> Result<SchemaRoots<'a>, SchemaReadError<'a>> {
     let mut roots = Roots {
         query: None,
         mutation: None,
@@ -84,7 +84,7 @@ pub fn roots_of<'a>(parts: &Parts<'_, 'a>) -> Result<SchemaRoots<'a>, SchemaRead
 }
 
 // Where the schema is defined, which it may be once.
-fn schema_start<'a>(parts: &Parts<'_, 'a>) -> Result<Option<SourcePosition>, SchemaReadError<'a>> {
+fn schema_start<'a>(parts: &Parts<'a>) -> Result<Option<SourcePosition>, SchemaReadError<'a>> {
     let mut start = None;
     for schema in parts.schemas.as_slice() {
         if !schema.item.is_extension {
@@ -152,7 +152,7 @@ fn with_root<'a>(
     Ok(roots)
 }
 
-fn with_usual_roots<'a>(roots: Roots<'a>, types: &[&TypeDefinition<'a>]) -> Roots<'a> {
+fn with_usual_roots<'a>(roots: Roots<'a>, types: &[TypeDefinition<'a>]) -> Roots<'a> {
     Roots {
         query: named_or_usual(roots.query, types, "Query"),
         mutation: named_or_usual(roots.mutation, types, "Mutation"),
@@ -162,7 +162,7 @@ fn with_usual_roots<'a>(roots: Roots<'a>, types: &[&TypeDefinition<'a>]) -> Root
 
 fn named_or_usual<'a>(
     named: Option<Root<'a>>,
-    types: &[&TypeDefinition<'a>],
+    types: &[TypeDefinition<'a>],
     name: &str,
 ) -> Option<Root<'a>> {
     if named.is_some() {

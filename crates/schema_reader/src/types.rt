@@ -8,6 +8,8 @@ use graphql_reader::SourceScalar;
 use graphql_reader::type_system::{TypeBody, TypeDefinition};
 use language::error::OutOfMemory;
 use language::types::Type;
+use meta::arguments::Argument;
+use meta::enum_values::EnumValue;
 use meta::enums::EnumMetaOf;
 use meta::fields::Field;
 use meta::inputs::InputObjectMetaOf;
@@ -22,49 +24,45 @@ use std::alloc::Global;
 /// Metadata of a type that a text defines.
 pub type SourceMeta = MetaTypeOf<SourceScalar, SourceCheck>;
 
-// A definition, and then its extensions.
-type Whole<'w, 'd, 'a> = &'w [&'d TypeDefinition<'a>];
+// The extensions of a document, of which those of a type's name are of that type.
+type Extensions<'e, 'a> = &'e [TypeDefinition<'a>];
 
-/// The types of a document.
+/// The types of a document, and then the standard ones.
 pub fn types_of<'a>(
     alloc: Global,
-    parts: &Parts<'_, 'a>,
+    parts: &Parts<'a>,
 ) -> Result<Vec<SourceMeta>, SchemaReadError<'a>> {
     let mut types = Vec::new(alloc);
-    for defined in parts.types.as_slice() {
-        let whole = whole_of(alloc, defined, parts.extensions.as_slice())?;
-        types.push(type_of(alloc, defined, whole.as_slice())?)?;
-    }
+    let extensions = parts.extensions.as_slice();
+    add_types(alloc, parts.types.as_slice(), extensions, &mut types)?;
+    add_types(alloc, parts.standard.as_slice(), extensions, &mut types)?;
     Ok(types)
 }
 
-fn whole_of<'d, 'a>(
+fn add_types<'a>(
     alloc: Global,
-    defined: &'d TypeDefinition<'a>,
-    extensions: &[&'d TypeDefinition<'a>],
-) -> Result<Vec<&'d TypeDefinition<'a>>, OutOfMemory> {
-    let mut whole = Vec::new(alloc);
-    whole.push(defined)?;
-    for extension in extensions {
-        if extension.name.item == defined.name.item {
-            whole.push(*extension)?;
-        }
+    defined: &[TypeDefinition<'a>],
+    extensions: Extensions<'_, 'a>,
+    types: &mut Vec<SourceMeta>,
+) -> Result<(), SchemaReadError<'a>> {
+    for definition in defined {
+        types.push(type_of(alloc, definition, extensions)?)?;
     }
-    Ok(whole)
+    Ok(())
 }
 
 fn type_of<'a>(
     alloc: Global,
     defined: &TypeDefinition<'a>,
-    whole: Whole<'_, '_, 'a>,
+    extensions: Extensions<'_, 'a>,
 ) -> Result<SourceMeta, SchemaReadError<'a>> {
     match &defined.body {
-        TypeBody::Scalar => Ok(scalar_of(alloc, defined, whole)?),
-        TypeBody::Object(_) => object_of(alloc, defined, whole),
-        TypeBody::Interface(_) => interface_of(alloc, defined, whole),
-        TypeBody::Union(_) => union_of(alloc, defined, whole),
-        TypeBody::Enum(_) => enum_of(alloc, defined, whole),
-        TypeBody::InputObject(_) => input_object_of(alloc, defined, whole),
+        TypeBody::Scalar => Ok(scalar_of(alloc, defined, extensions)?),
+        TypeBody::Object(_) => object_of(alloc, defined, extensions),
+        TypeBody::Interface(_) => interface_of(alloc, defined, extensions),
+        TypeBody::Union(_) => union_of(alloc, defined, extensions),
+        TypeBody::Enum(_) => enum_of(alloc, defined, extensions),
+        TypeBody::InputObject(_) => input_object_of(alloc, defined, extensions),
     }
 }
 
@@ -83,21 +81,31 @@ fn check_of(name: &str) -> SourceCheck {
 fn scalar_of(
     alloc: Global,
     defined: &TypeDefinition<'_>,
-    whole: Whole<'_, '_, '_>,
+    extensions: Extensions<'_, '_>,
 ) -> Result<SourceMeta, OutOfMemory> {
     let name = defined.name.item;
     let mut meta = ScalarMetaOf::with_check(alloc, name, check_of(name))?;
     meta.description = copied(alloc, &defined.description)?;
-    if let Some(url) = url_of(whole) {
+    if let Some(url) = url_of(defined, extensions) {
         meta.specified_by_url = Some(String::from_str(alloc, url)?);
     }
     Ok(meta.into_meta())
 }
 
-fn url_of<'d>(whole: &[&'d TypeDefinition<'_>]) -> Option<&'d str> {
-    for part in whole {
-        if let Some(url) = specified_by(&part.directives) {
-            return Some(url);
+fn url_of<'d>(
+    defined: &'d TypeDefinition<'_>,
+    extensions: &'d [TypeDefinition<'_>],
+) -> Option<&'d str> {
+    let url = specified_by(&defined.directives);
+    if url.is_some() {
+        return url;
+    }
+    for part in extensions {
+        if part.name.item == defined.name.item {
+            let url = specified_by(&part.directives);
+            if url.is_some() {
+                return url;
+            }
         }
     }
     None
@@ -106,10 +114,10 @@ fn url_of<'d>(whole: &[&'d TypeDefinition<'_>]) -> Option<&'d str> {
 fn object_of<'a>(
     alloc: Global,
     defined: &TypeDefinition<'a>,
-    whole: Whole<'_, '_, 'a>,
+    extensions: Extensions<'_, 'a>,
 ) -> Result<SourceMeta, SchemaReadError<'a>> {
-    let fields = fields_of(alloc, whole)?;
-    let interface_names = interfaces_of(alloc, whole)?;
+    let fields = fields_of(alloc, defined, extensions)?;
+    let interface_names = interfaces_of(alloc, defined, extensions)?;
     Ok(MetaTypeOf::Object(ObjectMeta {
         name: String::from_str(alloc, defined.name.item)?,
         description: copied(alloc, &defined.description)?,
@@ -121,10 +129,10 @@ fn object_of<'a>(
 fn interface_of<'a>(
     alloc: Global,
     defined: &TypeDefinition<'a>,
-    whole: Whole<'_, '_, 'a>,
+    extensions: Extensions<'_, 'a>,
 ) -> Result<SourceMeta, SchemaReadError<'a>> {
-    let fields = fields_of(alloc, whole)?;
-    let interface_names = interfaces_of(alloc, whole)?;
+    let fields = fields_of(alloc, defined, extensions)?;
+    let interface_names = interfaces_of(alloc, defined, extensions)?;
     Ok(MetaTypeOf::Interface(InterfaceMeta {
         name: String::from_str(alloc, defined.name.item)?,
         description: copied(alloc, &defined.description)?,
@@ -142,29 +150,46 @@ fn typename(alloc: Global) -> Result<Field<SourceScalar>, OutOfMemory> {
 
 fn fields_of<'a>(
     alloc: Global,
-    whole: Whole<'_, '_, 'a>,
+    defined: &TypeDefinition<'a>,
+    extensions: Extensions<'_, 'a>,
 ) -> Result<Vec<Field<SourceScalar>>, SchemaReadError<'a>> {
     let mut names = Names::new(alloc, Defined::Field);
     let mut fields = Vec::new(alloc);
     fields.push(typename(alloc)?)?;
-    for part in whole {
-        match &part.body {
-            TypeBody::Object(defined) | TypeBody::Interface(defined) => {
-                add_fields(alloc, defined.as_slice(), &mut names, &mut fields)?;
-            }
-            _ => {}
+    add_fields_of(alloc, defined, &mut names, &mut fields)?;
+    for part in extensions {
+        if part.name.item == defined.name.item {
+            add_fields_of(alloc, part, &mut names, &mut fields)?;
         }
     }
     Ok(fields)
 }
 
+fn add_fields_of<'a>(
+    alloc: Global,
+    part: &TypeDefinition<'a>,
+    names: &mut Names<'a>,
+    fields: &mut Vec<Field<SourceScalar>>,
+) -> Result<(), SchemaReadError<'a>> {
+    match &part.body {
+        TypeBody::Object(defined) | TypeBody::Interface(defined) => {
+            add_fields(alloc, defined.as_slice(), names, fields)
+        }
+        _ => Ok(()),
+    }
+}
+
 fn interfaces_of<'a>(
     alloc: Global,
-    whole: Whole<'_, '_, 'a>,
+    defined: &TypeDefinition<'a>,
+    extensions: Extensions<'_, 'a>,
 ) -> Result<Vec<String>, SchemaReadError<'a>> {
     let mut names = Names::new(alloc, Defined::Interface);
-    for part in whole {
-        names.add_all(part.interfaces.as_slice())?;
+    names.add_all(defined.interfaces.as_slice())?;
+    for part in extensions {
+        if part.name.item == defined.name.item {
+            names.add_all(part.interfaces.as_slice())?;
+        }
     }
     Ok(names.copied(alloc)?)
 }
@@ -172,9 +197,9 @@ fn interfaces_of<'a>(
 fn union_of<'a>(
     alloc: Global,
     defined: &TypeDefinition<'a>,
-    whole: Whole<'_, '_, 'a>,
+    extensions: Extensions<'_, 'a>,
 ) -> Result<SourceMeta, SchemaReadError<'a>> {
-    let of_type_names = members_of(alloc, whole)?;
+    let of_type_names = members_of(alloc, defined, extensions)?;
     Ok(MetaTypeOf::Union(UnionMeta {
         name: String::from_str(alloc, defined.name.item)?,
         description: copied(alloc, &defined.description)?,
@@ -184,27 +209,40 @@ fn union_of<'a>(
 
 fn members_of<'a>(
     alloc: Global,
-    whole: Whole<'_, '_, 'a>,
+    defined: &TypeDefinition<'a>,
+    extensions: Extensions<'_, 'a>,
 ) -> Result<Vec<String>, SchemaReadError<'a>> {
     let mut names = Names::new(alloc, Defined::Member);
-    for part in whole {
-        if let TypeBody::Union(members) = &part.body {
-            names.add_all(members.as_slice())?;
+    add_members_of(defined, &mut names)?;
+    for part in extensions {
+        if part.name.item == defined.name.item {
+            add_members_of(part, &mut names)?;
         }
     }
     Ok(names.copied(alloc)?)
 }
 
+fn add_members_of<'a>(
+    part: &TypeDefinition<'a>,
+    names: &mut Names<'a>,
+) -> Result<(), SchemaReadError<'a>> {
+    match &part.body {
+        TypeBody::Union(members) => names.add_all(members.as_slice()),
+        _ => Ok(()),
+    }
+}
+
 fn enum_of<'a>(
     alloc: Global,
     defined: &TypeDefinition<'a>,
-    whole: Whole<'_, '_, 'a>,
+    extensions: Extensions<'_, 'a>,
 ) -> Result<SourceMeta, SchemaReadError<'a>> {
     let mut names = Names::new(alloc, Defined::EnumValue);
     let mut values = Vec::new(alloc);
-    for part in whole {
-        if let TypeBody::Enum(listed) = &part.body {
-            add_values(alloc, listed.as_slice(), &mut names, &mut values)?;
+    add_values_of(alloc, defined, &mut names, &mut values)?;
+    for part in extensions {
+        if part.name.item == defined.name.item {
+            add_values_of(alloc, part, &mut names, &mut values)?;
         }
     }
     let check = SourceCheck::Enum(names.copied(alloc)?);
@@ -216,17 +254,42 @@ fn enum_of<'a>(
 fn input_object_of<'a>(
     alloc: Global,
     defined: &TypeDefinition<'a>,
-    whole: Whole<'_, '_, 'a>,
+    extensions: Extensions<'_, 'a>,
 ) -> Result<SourceMeta, SchemaReadError<'a>> {
     let mut names = Names::new(alloc, Defined::InputField);
     let mut fields = Vec::new(alloc);
-    for part in whole {
-        if let TypeBody::InputObject(listed) = &part.body {
-            add_arguments(alloc, listed.as_slice(), &mut names, &mut fields)?;
+    add_inputs_of(alloc, defined, &mut names, &mut fields)?;
+    for part in extensions {
+        if part.name.item == defined.name.item {
+            add_inputs_of(alloc, part, &mut names, &mut fields)?;
         }
     }
     let name = defined.name.item;
     let mut meta = InputObjectMetaOf::with_check(alloc, name, fields, SourceCheck::Any)?;
     meta.description = copied(alloc, &defined.description)?;
     Ok(meta.into_meta())
+}
+
+fn add_values_of<'a>(
+    alloc: Global,
+    part: &TypeDefinition<'a>,
+    names: &mut Names<'a>,
+    values: &mut Vec<EnumValue>,
+) -> Result<(), SchemaReadError<'a>> {
+    match &part.body {
+        TypeBody::Enum(listed) => add_values(alloc, listed.as_slice(), names, values),
+        _ => Ok(()),
+    }
+}
+
+fn add_inputs_of<'a>(
+    alloc: Global,
+    part: &TypeDefinition<'a>,
+    names: &mut Names<'a>,
+    fields: &mut Vec<Argument<SourceScalar>>,
+) -> Result<(), SchemaReadError<'a>> {
+    match &part.body {
+        TypeBody::InputObject(listed) => add_arguments(alloc, listed.as_slice(), names, fields),
+        _ => Ok(()),
+    }
 }
