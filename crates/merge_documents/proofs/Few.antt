@@ -31,9 +31,9 @@ within_by name x xs false e h = let l = h refl in omega (arith, l)
 later : (name x : List ℕ) (xs : List (List ℕ)) → Contains (x ∷ xs) name → bytes_eq x name ≡ false → Contains xs name
 later name x xs c e = at_place (contains_get (x ∷ xs) name c).0 (contains_get (x ∷ xs) name c).1
   where
-  at_place : (k : ℕ) → slice_get (x ∷ xs) k ≡ Some name → Contains xs name
-  at_place zero h = absurd (true≢false (sym ((bytes_eq-Decides x name).1 (same_some x name h)) ∙ e))
-  at_place (suc k) h = contains_at xs k name h
+    at_place : (k : ℕ) → slice_get (x ∷ xs) k ≡ Some name → Contains xs name
+    at_place zero h = absurd (true≢false (sym ((bytes_eq-Decides x name).1 (same_some x name h)) ∙ e))
+    at_place (suc k) h = contains_at xs k name h
 
 index_within : (name : List ℕ) (xs : List (List ℕ)) → Contains xs name → first_index name xs < length xs
 unfolding first_index
@@ -90,9 +90,9 @@ module _ {S : Type 0} where
       let names = names_of c.graph.numbers in
       let node : ℕ → ℕ = λ g. get_or c.outcome.order.items g 0 in
       let ranked : (g : ℕ) → g < length fragments → (v : ℕ) × (v < length names) × (node g ≡ v) × (slice_get c.outcome.ranks.items v ≡ Some g) = λ g l.
-          (let r = named g l in
-          let (v, at, rank) = rank_split document c s r.0 g r.1 in
-          (v, below c.graph.numbers s.graph.numbers.numbered r.0 v at, get_or_from_slice_get c.outcome.order.items g v 0 ((s.outcome.ranked v g).0 rank), rank)) in
+      (let r = named g l in
+      let (v, at, rank) = rank_split document c s r.0 g r.1 in
+      (v, below c.graph.numbers s.graph.numbers.numbered r.0 v at, get_or_from_slice_get c.outcome.order.items g v 0 ((s.outcome.ranked v g).0 rank), rank)) in
       let most = pigeonhole (length fragments) (length names) node
       (λ g l. let r = ranked g l in subst (λ (v : ℕ). v < length names) (sym r.2) r.1)
       (λ i j l m e.

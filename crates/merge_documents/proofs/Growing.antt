@@ -127,9 +127,13 @@ module _ {S C : Type 0} (schema : Catalog S C) (document : List (Definition S)) 
       sets_from k l = elim (less_or k (length b.table.sets.items)) [
         | inl lt ↦ (let (q, inner, i, is) = built.sets_from k lt in (q, inner, i, set_more schema numbers (numbered b.table) (numbered b'.table) k q inner extends is))
         | inr low ↦
-            (let (q, inner, i, is) = a.adds.from.sets k low (subst (λ ss. k < length ss) sets_are l) in
-            (q, inner, (d, stands, i), subst (λ m. IsSetOf schema numbers m k q inner) (sym a.notes.same)
-            (set_renumbered schema (number_in b.names) numbers (numbered a.grown) k q inner is (λ x c. agree x (spreads_inside schema i x c)))))
+            (let (q, inner, i, is) = a.adds.from.sets k low (subst (λ ss. k < length ss) sets_are l) in (
+              q,
+              inner,
+              (d, stands, i),
+              subst (λ m. IsSetOf schema numbers m k q inner) (sym a.notes.same)
+                  (set_renumbered schema (number_in b.names) numbers (numbered a.grown) k q inner is (λ x c. agree x (spreads_inside schema i x c))),
+            ))
       ]
 
       fields_from : (k : ℕ) (x : PlainEntry S C) → slice_get (map plain b'.table.fields.items) k ≡ Some x → IsFieldIn schema document x

@@ -29,9 +29,9 @@ module _ {S C : Type 0} (may : Answers (InputValue S) C) (shown : InputValue S �
       let asked = asked_none disabled (scope_of schema document) untyped document r.reported.asked r.reported.introspected in
       let told : r.found ≡ r.reported.of_rules ++ r.reported.asked = r.reported.all in (
         λ e.
-        let none_found : r.reported.of_rules ++ r.reported.asked ≡ [] = sym told ∙ permuted_none _ (IsPermutation-sym _ _ (subst (λ z. IsPermutation r.found z) e r.ordered)) in
-        (rules.0 (left_none _ _ none_found), asked.0 (right_none _ _ none_found)),
+            let none_found : r.reported.of_rules ++ r.reported.asked ≡ [] = sym told ∙ permuted_none _ (IsPermutation-sym _ _ (subst (λ z. IsPermutation r.found z) e r.ordered)) in
+            (rules.0 (left_none _ _ none_found), asked.0 (right_none _ _ none_found)),
         λ (v, h).
-        let none_told : r.found ≡ [] = told ∙ ap (λ zs. zs ++ r.reported.asked) (rules.1 v) ∙ asked.1 h in
-        permuted_none _ (subst (λ z. IsPermutation z errors) none_told r.ordered),
+            let none_told : r.found ≡ [] = told ∙ ap (λ zs. zs ++ r.reported.asked) (rules.1 v) ∙ asked.1 h in
+            permuted_none _ (subst (λ z. IsPermutation z errors) none_told r.ordered),
       )

@@ -90,9 +90,11 @@ module _ {S C : Type 0} (may : Answers (InputValue S) C) (shown : InputValue S �
         let none_now : mid.errors ≡ [] = is_none mid.errors quiet in
         let none_before : old.errors ≡ [] = left_none old.errors fs (sym (ap (λ w. w.errors) e) ∙ none_now) in
         let here : MergeErrors E old.schema document end es = subst (λ z. MergeErrors E z document end es) (ap (λ w. w.schema) e) told in
-        let reported = of_stage_two none_before (silent.0 (none_now ∙ sym none_before)) here in
-        (es, subst (λ n. Reported may shown E old.errors (scope_of old.schema document) (typing old) document es n) counted reported,
-        e' ∙ ap (λ w. with_errors w es) e ∙ ap (λ zs. record old { errors = zs ++ es }) (sym (ap (λ w. w.errors) e) ∙ none_now ∙ sym none_before))
+        let reported = of_stage_two none_before (silent.0 (none_now ∙ sym none_before)) here in (
+          es,
+          subst (λ n. Reported may shown E old.errors (scope_of old.schema document) (typing old) document es n) counted reported,
+          e' ∙ ap (λ w. with_errors w es) e ∙ ap (λ zs. record old { errors = zs ++ es }) (sym (ap (λ w. w.errors) e) ∙ none_now ∙ sym none_before),
+        )
 
   -- nothing is reported just if the document is valid
   module _ (one : OneAnswer may) (schema : Catalog S C) (t : Typing S C) (document : List (Definition S)) where

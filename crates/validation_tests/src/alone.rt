@@ -60,13 +60,28 @@ fn told<'a>(
             told_by_one(alloc, schema, known_directives::factory(alloc), document)
         }
         Alone::VariablesAreInputTypes => {
-            told_by_one(alloc, schema, variables_are_input_types::factory(alloc), document)
+            told_by_one(
+                alloc,
+                schema,
+                variables_are_input_types::factory(alloc),
+                document,
+            )
         }
         Alone::DisableIntrospection => {
-            told_by_one(alloc, schema, disable_introspection::factory(alloc), document)
+            told_by_one(
+                alloc,
+                schema,
+                disable_introspection::factory(alloc),
+                document,
+            )
         }
         Alone::DefaultValuesOfCorrectType => {
-            told_by_one(alloc, schema, default_values_of_correct_type::factory(alloc), document)
+            told_by_one(
+                alloc,
+                schema,
+                default_values_of_correct_type::factory(alloc),
+                document,
+            )
         }
     }
 }

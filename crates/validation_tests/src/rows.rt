@@ -30,11 +30,7 @@ const ROWS: [(&str, &str, (usize, usize)); 5] = [
         "0",
         (0, 0),
     ),
-    (
-        "{ dog { ...A } } fragment A on Dog { name }",
-        "0",
-        (0, 0),
-    ),
+    ("{ dog { ...A } } fragment A on Dog { name }", "0", (0, 0)),
 ];
 
 // How many errors two walks of a linter append.
