@@ -4,18 +4,12 @@
 //! introspection are there where the text defines none of their names. Safety is claimed: each call answers, whatever the text.
 #![tactic(auto)]
 
-mod applied;
 mod directives;
-mod error;
 mod fields;
-mod names;
-mod parts;
-mod places;
 mod reader;
-mod roots;
 mod standard;
 mod types;
 
-pub use error::{Defined, SchemaFault, SchemaReadError};
 pub use graphql_reader::{Found, SourceScalar, SyntaxError};
 pub use reader::read_schema;
+pub use schema_parts::error::{Defined, SchemaFault, SchemaReadError};

@@ -1,7 +1,4 @@
 //! Metadata of fields, of arguments and input fields, and of enum values.
-use crate::applied::deprecation;
-use crate::error::{Defined, SchemaReadError};
-use crate::names::Names;
 use graphql_reader::SourceScalar;
 use graphql_reader::type_system::{
     Description, EnumValueDefinition, FieldDefinition, InputValueDefinition,
@@ -12,6 +9,9 @@ use language::value::InputValue;
 use meta::arguments::Argument;
 use meta::enum_values::EnumValue;
 use meta::fields::Field;
+use schema_parts::applied::deprecation;
+use schema_parts::error::{Defined, SchemaReadError};
+use schema_parts::names::Names;
 use std::alloc::Global;
 
 /// The description, if there is one.

@@ -1,15 +1,15 @@
 //! From a text to a schema.
 use crate::directives::{SourceSchema, add_directives};
-use crate::error::{SchemaFault, SchemaReadError};
-use crate::parts::{Parts, first_named, parts_of};
-use crate::places::{Mention, first_mention};
-use crate::roots::{SchemaRoots, roots_of};
 use crate::standard::STANDARD_TYPES;
 use crate::types::types_of;
 use graphql_reader::read_type_system;
 use language::position::SourcePosition;
 use schema::error::SchemaError;
 use schema::model::SchemaTypeOf;
+use schema_parts::error::{SchemaFault, SchemaReadError};
+use schema_parts::parts::{Parts, first_named, parts_of};
+use schema_parts::places::{Mention, first_mention};
+use schema_parts::roots::{SchemaRoots, roots_of};
 use std::alloc::Global;
 
 /// Reads a type system document and makes its schema. The error tells the first fault that is found, with its place.

@@ -1,14 +1,14 @@
 //! The directives of a schema (GraphQL, October 2021, section 3.13).
-use crate::error::{Defined, SchemaFault, SchemaReadError};
 use crate::fields::{arguments_of, copied};
-use crate::names::Names;
-use crate::places::place_of_input;
 use graphql_reader::SourceScalar;
 use graphql_reader::type_system::{DirectiveDefinition, DirectivePlace};
 use language::error::OutOfMemory;
 use language::position::{SourcePosition, Spanning};
 use schema::error::SchemaError;
 use schema::model::{DirectiveLocation, DirectiveType, SchemaTypeOf};
+use schema_parts::error::{Defined, SchemaFault, SchemaReadError};
+use schema_parts::names::Names;
+use schema_parts::places::place_of_input;
 use source_scalars::check::SourceCheck;
 use std::alloc::Global;
 

@@ -1,9 +1,5 @@
 //! Metadata of types: of a definition with its extensions.
-use crate::applied::specified_by;
-use crate::error::{Defined, SchemaReadError};
 use crate::fields::{add_arguments, add_fields, add_values, copied};
-use crate::names::Names;
-use crate::parts::Parts;
 use graphql_reader::SourceScalar;
 use graphql_reader::type_system::{TypeBody, TypeDefinition};
 use language::error::OutOfMemory;
@@ -18,6 +14,10 @@ use meta::kinds::MetaTypeOf;
 use meta::objects::ObjectMeta;
 use meta::scalars::ScalarMetaOf;
 use meta::unions::UnionMeta;
+use schema_parts::applied::specified_by;
+use schema_parts::error::{Defined, SchemaReadError};
+use schema_parts::names::Names;
+use schema_parts::parts::Parts;
 use source_scalars::check::SourceCheck;
 use std::alloc::Global;
 
