@@ -53,13 +53,17 @@ fn judge_all_like(
         "_EmptyMutation",
         "_EmptySubscription",
     )?;
-    let open = RootNode::new(schema);
-    let root = if header.mode == Mode::Closed {
-        open.disable_introspection()
-    } else {
-        open
-    };
+    let root = root_of(schema, header.mode);
     judge_run(alloc, header, &root, lines, report)
+}
+
+// Closed where the header asks for that.
+fn root_of(schema: SchemaType<DefaultScalarValue>, mode: Mode) -> RootNode {
+    let root = RootNode::new(schema);
+    match mode {
+        Mode::Closed => root.disable_introspection(),
+        Mode::Plain | Mode::Merge | Mode::Variables => root,
+    }
 }
 
 fn judge_run(
@@ -75,7 +79,7 @@ fn judge_run(
         }
         let vector = take_vector(lines, header.mode)?;
         let came = judge(alloc, root, &vector)?;
-        report.count(vector.wanted, came.as_ref().map(|came| came.as_str()))?;
+        report.count(vector.wanted, came.as_str())?;
     }
     Ok(())
 }

@@ -1,4 +1,6 @@
 //! The program's work.
+ghost use Rattle.std.specs.Prelude.{◌≤◌};
+
 use crate::failure::Failure;
 use crate::open::numbers_of;
 use crate::report::Report;
@@ -29,7 +31,9 @@ const LIST: &str = "open.txt";
 /// - 2: a file is out of the format;
 /// - 3: a request for memory was refused;
 /// - 5: a read or a write failed.
-pub fn run<R: Files + Env + AllocGlobal + Print + Eprint>(rt: &R) -> u8 {
+pub fn run<R: Files + Env + AllocGlobal + Print + Eprint>(rt: &R) -> u8
+    ensures { result ≤ 5 }
+{
     let mut report = Report::new(rt.alloc());
     match judge_and_tell(rt, &mut report) {
         Ok(()) => if report.is_clean() { 0 } else { 1 },
@@ -47,7 +51,10 @@ fn judge_and_tell<R: Files + Env + AllocGlobal + Print>(
     Ok(())
 }
 
-fn tell_failure<R: Eprint>(rt: &R, report: &Report, failure: Failure) -> u8 {
+fn tell_failure<R: Eprint>(rt: &R, report: &Report, failure: Failure) -> u8
+    ensures least { 2 ≤ result }
+    ensures most { result ≤ 5 }
+{
     match eprintln!(rt; "conformance: {}: {failure}", report.file) {
         Ok(()) => failure.status(),
         Err(_) => Failure::InputOutput.status(),

@@ -1,4 +1,8 @@
 //! What our own code reports of the values of variables.
+ghost use Rattle.std.specs.Prelude.{IfOk, string_bytes};
+ghost use Rattle.conformance.specs.Told.{TellsFaults};
+ghost use Rattle.variable_values.specs.Inputs.{HasInputTypes};
+
 use crate::failure::Failure;
 use crate::judge::lines_of;
 use crate::lines::Lines;
@@ -8,8 +12,8 @@ use std::collections::BTreeMap;
 use validation::ast::{Operation, VariableDefinition};
 use validation::parser::Spanning;
 use validation::{
-    DefaultScalarValue, Definition, InputValue, SchemaType, Variables, has_input_types,
-    validate_input_values,
+    CheckedScalar, DefaultScalarValue, Definition, InputValue, ScalarValue, SchemaType, Variables,
+    has_input_types, validate_input_values,
 };
 
 /// The errors of the values of the variables of a document's first operation, a line each.
@@ -39,11 +43,25 @@ fn judge(
     values: &Variables,
     operation: &Spanning<Operation<'_, DefaultScalarValue>>,
 ) -> Result<String, Failure> {
-    if !has_input_types(schema, &operation.item) {
-        return Ok(String::from_str(alloc, "no input types\n")?);
+    if has_input_types(schema, &operation.item) {
+        faults_of(alloc, schema, values, operation)
+    } else {
+        Ok(String::from_str(alloc, "no input types\n")?)
     }
+}
+
+fn faults_of(
+    alloc: Global,
+    schema: &SchemaType<DefaultScalarValue>,
+    values: &Variables,
+    operation: &Spanning<Operation<'_, DefaultScalarValue>>,
+) -> Result<String, Failure>
+    requires known { HasInputTypes schema.now operation.now.item }
+    ensures { IfOk result (λ text. TellsFaults schema.now ⟦<DefaultScalarValue as CheckedScalar>⟧.may_answer ⟦<DefaultScalarValue as ScalarValue>⟧.text ⟦<DefaultScalarValue as ScalarValue>⟧.str_of values.now operation.now.item (string_bytes text)) }
+{
     let errors = validate_input_values(alloc, values, operation, schema)?;
-    lines_of(alloc, errors.as_slice())
+    let text = lines_of(alloc, errors.as_slice())?;
+    Ok(text)
 }
 
 // Gives the variables of the lines the types that stand there.

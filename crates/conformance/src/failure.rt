@@ -1,4 +1,6 @@
 //! Why a file of vectors can't be judged.
+ghost use Rattle.std.specs.Prelude.{◌≤◌};
+
 use document_reader::ReadError;
 use std::alloc::{AllocError, AllocFailed};
 use std::{fmt, io};
@@ -20,7 +22,10 @@ pub enum Failure {
 
 impl Failure {
     /// The status that the program ends with.
-    pub fn status(self) -> u8 {
+    pub fn status(self) -> u8
+        ensures least { 2 ≤ result }
+        ensures most { result ≤ 5 }
+    {
         match self {
             Failure::Format(_) | Failure::Unread(_) => 2,
             Failure::OutOfMemory => 3,

@@ -1,4 +1,7 @@
 //! What is told of files of vectors.
+ghost use Rattle.std.specs.Prelude.{◌≡◌, ◌+◌, [], ◌∷◌, ◌++◌, ◌==◌, List, OnOk, count_by, string_bytes};
+ghost use Rattle.conformance.specs.Counts.{HasCounted, Judged, counted, counts_text, differs};
+
 use crate::failure::Failure;
 use std::alloc::{AllocError, Global};
 use std::collections::BTreeSet;
@@ -15,31 +18,32 @@ pub struct Report {
     open: BTreeSet<usize>,
     // How many of this file were counted.
     number: usize,
-    // How many were counted in all files, and of these: those that agree, those that differ and are listed, and those whose mode
-    // has no call.
-    all: usize,
+    // How many of all files agree, how many differ, and how many of these are listed.
     agree: usize,
+    differ: usize,
     listed: usize,
-    unjudged: usize,
 }
 
 impl Report {
     /// Of no file.
-    pub fn new(alloc: Global) -> Report {
+    pub fn new(alloc: Global) -> Report
+        ensures { HasCounted [] result }
+    {
         Report {
             text: String::new(alloc),
             file: String::new(alloc),
             open: BTreeSet::new(alloc),
             number: 0,
-            all: 0,
             agree: 0,
+            differ: 0,
             listed: 0,
-            unjudged: 0,
         }
     }
 
     /// Goes on to a file of which these vectors are listed.
-    pub fn begin(&mut self, file: &str, open: BTreeSet<usize>) -> Result<(), Failure> {
+    pub fn begin(&mut self, file: &str, open: BTreeSet<usize>) -> Result<(), Failure>
+        ensures { (all : List Judged) → HasCounted all self.old → HasCounted all self.new }
+    {
         self.file.clear();
         self.file.push_str(file)?;
         self.open = open;
@@ -48,23 +52,29 @@ impl Report {
     }
 
     /// Whether all vectors agree.
-    pub fn is_clean(&self) -> bool {
-        self.agree == self.all
+    pub fn is_clean(&self) -> bool
+        ensures { (all : List Judged) → HasCounted all self.now → result ≡ (count_by differs all == 0) }
+    {
+        self.differ == 0
     }
 
-    /// Counts a vector, by the errors that are wanted and those that came, if a call judges it.
-    pub fn count(&mut self, wanted: &[u8], came: Option<&str>) -> Result<(), Failure> {
+    /// Counts a vector, by the errors that are wanted and those that came.
+    pub fn count(&mut self, wanted: &[u8], came: &str) -> Result<(), Failure>
+        ensures { OnOk result ((all : List Judged) → HasCounted all self.old → HasCounted (record { wanted = wanted.now; came = came.now } ∷ all) self.new) }
+    {
         self.number = self.number.saturating_add(1);
-        self.all = self.all.saturating_add(1);
-        match came {
-            None => self.unjudged = self.unjudged.saturating_add(1),
-            Some(came) if came.as_bytes() == wanted => self.count_agreeing()?,
-            Some(came) => self.count_differing(wanted, came)?,
+        if came.as_bytes() == wanted {
+            self.count_agreeing()?;
+        } else {
+            self.count_differing(wanted, came)?;
         }
         Ok(())
     }
 
-    fn count_agreeing(&mut self) -> Result<(), AllocError> {
+    fn count_agreeing(&mut self) -> Result<(), AllocError>
+        ensures agree { OnOk result (self.new.agree ≡ counted (self.old.agree + 1)) }
+        ensures differ { OnOk result (self.new.differ ≡ self.old.differ) }
+    {
         self.agree = self.agree.saturating_add(1);
         if self.open.contains(&self.number) {
             writeln!(
@@ -76,7 +86,11 @@ impl Report {
         Ok(())
     }
 
-    fn count_differing(&mut self, wanted: &[u8], came: &str) -> Result<(), AllocError> {
+    fn count_differing(&mut self, wanted: &[u8], came: &str) -> Result<(), AllocError>
+        ensures agree { OnOk result (self.new.agree ≡ self.old.agree) }
+        ensures differ { OnOk result (self.new.differ ≡ counted (self.old.differ + 1)) }
+    {
+        self.differ = self.differ.saturating_add(1);
         if self.open.contains(&self.number) {
             self.listed = self.listed.saturating_add(1);
             return Ok(());
@@ -89,10 +103,13 @@ impl Report {
     }
 
     /// Ends with the counts.
-    pub fn end(&mut self) -> Result<(), AllocError> {
+    pub fn end(&mut self) -> Result<(), AllocError>
+        ensures text { OnOk result (string_bytes self.new.text ≡ string_bytes self.old.text ++ counts_text self.old) }
+        ensures same { (all : List Judged) → HasCounted all self.old → HasCounted all self.new }
+    {
+        let all = self.agree.saturating_add(self.differ);
         writeln!(self.text, "{} listed as open", self.listed)?;
-        writeln!(self.text, "{} not judged", self.unjudged)?;
-        writeln!(self.text, "{} of {} agree", self.agree, self.all)
+        writeln!(self.text, "{} of {all} agree", self.agree)
     }
 }
 
