@@ -1,3 +1,4 @@
 mod NoCycle
 mod Inside
 mod Merging
+mod CleanMerging
