@@ -9,6 +9,8 @@ use validation::{OutOfMemory, SchemaError};
 pub enum Failure {
     /// The input is no document.
     Syntax,
+    /// The document begins with no operation whose variables have input types.
+    NoVariables,
     /// The words are other ones.
     Usage,
     /// A request for memory was refused.
@@ -21,7 +23,10 @@ impl fmt::Display for Failure {
     fn fmt<W: fmt::Write>(&self, f: &mut fmt::Formatter<W>) -> fmt::Result {
         f.write_str(match self {
             Failure::Syntax => "the input is no document",
-            Failure::Usage => "usage: bench <pets, number of input fields> READS WALKS",
+            Failure::NoVariables =>
+                "the input begins with no operation whose variables have input types",
+            Failure::Usage =>
+                "usage: bench <pets, number of input fields> READS WALKS VALUES, or bench <sdl, queries> READS",
             Failure::OutOfMemory => "out of memory",
             Failure::InputOutput => "input, output or the clock failed",
         })
@@ -57,6 +62,15 @@ impl From<ReadError> for Failure {
         match error {
             ReadError::Fault(_) => Failure::Syntax,
             ReadError::OutOfMemory => Failure::OutOfMemory,
+        }
+    }
+}
+
+impl From<graphql_reader::ReadError<'_>> for Failure {
+    fn from(error: graphql_reader::ReadError<'_>) -> Self {
+        match error {
+            graphql_reader::ReadError::Syntax(_) => Failure::Syntax,
+            graphql_reader::ReadError::OutOfMemory => Failure::OutOfMemory,
         }
     }
 }

@@ -1,7 +1,9 @@
 //! The program's work.
 use crate::failure::Failure;
 use crate::phases::{time_reading, time_walking};
+use crate::readers::{kind_named, time_reader};
 use crate::schemas::{root_fields, wide_input};
+use crate::values::{first_operation, judge, time_values, values_of};
 use document_reader::read_document;
 use samples::build::{Checks, common, object, scalar};
 use samples::checks::{
@@ -15,6 +17,14 @@ use std::io::{self, Read};
 use std::rt::CpuClock;
 use validation::meta::default_check::DefaultCheck;
 use validation::{DefaultScalarValue, Definition, SchemaType, ValidatorContext, visit_all_rules};
+
+/// How often each phase is to be done.
+#[derive(Clone, Copy, Debug)]
+struct Times {
+    reads: usize,
+    walks: usize,
+    values: usize,
+}
 
 /// Measures what the words ask for, and answers 0, or 1 where nothing is measured.
 pub fn run<R: CpuClock + Env + AllocGlobal + Print + Eprint, I: Read>(rt: &R, input: &mut I) -> u8 {
@@ -32,23 +42,51 @@ fn measure<R: CpuClock + Env + AllocGlobal + Print, I: Read>(
     let words = words(rt)?;
     let mut text = Vec::new(rt.alloc());
     input.read_to_end(&mut text)?;
+    println!(rt; "bytes {}", text.len())?;
     match words.as_slice() {
-        [schema, reads, walks] => {
-            let times = (number(reads)?, number(walks)?);
+        [reader, reads] => measure_reader(rt, reader.as_str(), text.as_slice(), number(reads)?),
+        [schema, reads, walks, values] => {
+            let times = Times {
+                reads: number(reads)?,
+                walks: number(walks)?,
+                values: number(values)?,
+            };
             measure_against(rt, schema.as_str(), text.as_slice(), times)
         }
         _ => Err(Failure::Usage),
     }
 }
 
+/// The words after the program's own name.
+fn words<R: Env + AllocGlobal>(rt: &R) -> io::Result<Vec<String>> {
+    env::args(rt)?
+        .skip(1)
+        .collect(rt.alloc())
+        .map_err(io::Error::from)
+}
+
+fn number(word: &String) -> Result<usize, Failure> {
+    word.parse::<usize>().map_err(|_| Failure::Usage)
+}
+
+fn measure_reader<R: CpuClock + AllocGlobal + Print>(
+    rt: &R,
+    word: &str,
+    text: &[u8],
+    reads: usize,
+) -> Result<(), Failure> {
+    let kind = kind_named(word)?;
+    let text = str::from_utf8(text).map_err(|_| Failure::Syntax)?;
+    tell(rt, "read", time_reader(rt, rt.alloc(), kind, text, reads)?)
+}
+
 fn measure_against<R: CpuClock + AllocGlobal + Print>(
     rt: &R,
     word: &str,
     text: &[u8],
-    (reads, walks): (usize, usize),
+    times: Times,
 ) -> Result<(), Failure> {
-    println!(rt; "bytes {}", text.len())?;
-    tell(rt, "read", time_reading(rt, rt.alloc(), text, reads)?)?;
+    tell(rt, "read", time_reading(rt, rt.alloc(), text, times.reads)?)?;
     let checks = Checks {
         int: DefaultCheck::with_token(check_int, refuse_token),
         string: DefaultCheck::with_token(check_string, refuse_token),
@@ -76,45 +114,48 @@ fn measure_against<R: CpuClock + AllocGlobal + Print>(
         "_EmptyMutation",
         "_EmptySubscription",
     )?;
-    measure_walks(rt, &schema, text, walks)
+    measure_text(rt, &schema, text, times)
 }
 
-/// The words after the program's own name.
-fn words<R: Env + AllocGlobal>(rt: &R) -> io::Result<Vec<String>> {
-    env::args(rt)?
-        .skip(1)
-        .collect(rt.alloc())
-        .map_err(io::Error::from)
-}
-
-fn number(word: &String) -> Result<usize, Failure> {
-    word.parse::<usize>().map_err(|_| Failure::Usage)
-}
-
-fn measure_walks<R: CpuClock + AllocGlobal + Print>(
+fn measure_text<R: CpuClock + AllocGlobal + Print>(
     rt: &R,
     schema: &SchemaType<DefaultScalarValue>,
     text: &[u8],
-    walks: usize,
+    times: Times,
 ) -> Result<(), Failure> {
     match read_document(rt.alloc(), text) {
-        Ok(document) => measure_walks_over(rt, schema, document.as_slice(), walks),
+        Ok(document) => measure_document(rt, schema, document.as_slice(), times),
         Err(error) => Err(Failure::from(error)),
     }
 }
 
-fn measure_walks_over<R: CpuClock + AllocGlobal + Print>(
+fn measure_document<R: CpuClock + AllocGlobal + Print>(
     rt: &R,
     schema: &SchemaType<DefaultScalarValue>,
     document: &[Definition<'_, DefaultScalarValue>],
-    walks: usize,
+    times: Times,
 ) -> Result<(), Failure> {
-    tell(
-        rt,
-        "walk",
-        time_walking(rt, rt.alloc(), schema, document, walks)?,
-    )?;
+    let walk = time_walking(rt, rt.alloc(), schema, document, times.walks)?;
+    tell(rt, "walk", walk)?;
     println!(rt; "errors {}", count_errors(rt.alloc(), schema, document)?)?;
+    if times.values > 0 {
+        measure_values(rt, schema, document, times.values)?;
+    }
+    Ok(())
+}
+
+fn measure_values<R: CpuClock + AllocGlobal + Print>(
+    rt: &R,
+    schema: &SchemaType<DefaultScalarValue>,
+    document: &[Definition<'_, DefaultScalarValue>],
+    times: usize,
+) -> Result<(), Failure> {
+    let operation = first_operation(document)?;
+    let values = values_of(rt.alloc(), operation)?;
+    let time = time_values(rt, rt.alloc(), schema, operation, &values, times)?;
+    tell(rt, "values", time)?;
+    let faults = judge(rt.alloc(), schema, operation, &values)?;
+    println!(rt; "faults {}", faults.len())?;
     Ok(())
 }
 

@@ -60,10 +60,14 @@ fn settled_by(left: Option<&TypeModifier>, right: Option<&TypeModifier>) -> Sett
     }
 }
 
+// The names first: most pairs of types are equal, and the others cost two look-ups.
 fn names_conflict<S, C>(schema: &SchemaTypeOf<S, C>, left: &str, right: &str) -> bool
     ensures { result ≡ do_names_conflict schema.now left.now right.now }
 {
-    (is_leaf(schema, left) || is_leaf(schema, right)) && left != right
+    if left == right {
+        return false;
+    }
+    is_leaf(schema, left) || is_leaf(schema, right)
 }
 
 fn is_leaf<S, C>(schema: &SchemaTypeOf<S, C>, name: &str) -> bool

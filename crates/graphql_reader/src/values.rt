@@ -25,6 +25,19 @@ pub enum Variables {
     Refused,
 }
 
+/// Reads a text that is one value without variables.
+pub fn read_constant<'a>(
+    alloc: Global,
+    text: &'a str,
+) -> Result<Spanning<InputValue<SourceScalar>>, ReadError<'a>> {
+    let mut tokens = Tokens::new(alloc, text.as_bytes());
+    let value = read_value(&mut tokens, Variables::Refused)?;
+    if tokens.is_at_end() {
+        return Ok(value);
+    }
+    Err(tokens.fault("the end of the text"))
+}
+
 /// Reads a value.
 pub fn read_value<'a>(
     tokens: &mut Tokens<'a>,

@@ -138,8 +138,8 @@ fn refuses(rt: HostRuntime) {
     tells(&rt, rt.alloc(), REFUSED);
 }
 
-// Pieces of text one after the other, each so many times.
-fn repeated(alloc: Global, pieces: &[(&str, usize)]) -> Result<String, AllocError> {
+/// Pieces of text one after the other, each so many times.
+pub fn repeated(alloc: Global, pieces: &[(&str, usize)]) -> Result<String, AllocError> {
     let mut text = String::new(alloc);
     for (piece, times) in pieces {
         for _ in 0..*times {

@@ -96,7 +96,7 @@ const OTHERS: &[(&str, &str)] = &[
 ];
 
 /// Each text is told so.
-fn tells(rt: &impl Abort, alloc: Global, rows: &[(&str, &str)]) {
+pub fn tells(rt: &impl Abort, alloc: Global, rows: &[(&str, &str)]) {
     for (text, wanted) in rows {
         let found = value_of(alloc, text).expect(rt, "memory");
         assert_eq!(rt; found.as_str(), *wanted);

@@ -1,11 +1,12 @@
 -- How fragments are opened.
-use Rattle.std.proofs.Common.{◌≡◌, ℕ, ◌+◌, ◌-◌, ◌*◌, ◌<◌, ◌≤◌, List, [], ◌∷◌, ◌++◌, length, take, get_or, refl, sym, subst, ap, ◌∙◌, arith, Bool, false, true, not, cond, inl, inr, ◌⊎◌, length-append}
+use Rattle.std.proofs.Common.{◌≡◌, ℕ, ◌+◌, ◌-◌, ◌*◌, ◌<◌, ◌≤◌, List, [], ◌∷◌, ◌++◌, length, take, get_or, refl, sym, subst, ap, ◌∙◌, arith, Bool, false, true, not, inl, inr, ◌⊎◌, length-append}
 use Rattle.std.specs.List.{All, Contains}
-use Rattle.std.specs.Ordering.{nat_cmp, is_eq}
-use Rattle.std.specs.BTreeSet.{BTreeSet, contains}
+use Rattle.std.proofs.lemmas.Bool.{cases_eq}
 use Rattle.std.proofs.lemmas.List.{take_all, length-take}
 use Rattle.std.proofs.lemmas.List.Elements.{Contains-get_or, All-more, All-contains, All-nil, All-cons, All-weaker, Contains-push, Contains-append_left, Contains-push_cases}
 use Rattle.std.proofs.lemmas.Option.{slice_get_within, get_or_from_slice_get}
+use Rattle.bit_rows.specs.declared.set.BitSet.{BitSet}
+use Rattle.bit_rows.specs.Set.{has}
 use Rattle.merging.specs.Graph.{Falling}
 use Rattle.merging.specs.World.{World, spreads_of, set_of}
 use Rattle.merging.specs.Opening.{Reaches, start, step, Opens}
@@ -13,16 +14,19 @@ use Rattle.merging.specs.Sound.{NoRepeats, Once, Gains, Sound}
 use Rattle.merging.specs.declared.opening.Opening.{Opening}
 use Rattle.merging.proofs.Distinct.{few_below, repeats_push}
 use Rattle.merging.proofs.Laws.{clash}
-use Rattle.merging.proofs.Logs.{equal_is, equal_self, cond_cases, cond_right}
 
-abbrev pub Inserted : ℕ → BTreeSet ℕ → BTreeSet ℕ → Type 0
-Inserted f old new = (q : ℕ) → contains nat_cmp new q ≡ cond (is_eq (nat_cmp f q)) true (contains nat_cmp old q)
+-- f was added, and nothing else
+abbrev pub Inserted : ℕ → BitSet → BitSet → Type 0
+Inserted f old new = (has new f ≡ true) × ((m : ℕ) → (m ≡ f → ⊥) → has new m ≡ has old m)
+
+seen_still : (f h : ℕ) (old new : BitSet) → Inserted f old new → has old h ≡ true → has new h ≡ true
+seen_still f h old new u z = elim (cases_eq h f) [ inl is ↦ subst (λ (x : ℕ). has new x ≡ true) (sym is) u.0 | inr other ↦ u.1 h other ∙ z ]
 
 one_of : (f h : ℕ) → f ≡ h → Contains (f ∷ []) h
 one_of f h eq = subst (λ (x : ℕ). Contains (f ∷ []) x) eq (Contains-push [] f)
 
 -- a fragment that was not open is
-pub gains_new : (f : ℕ) (s t : Opening) → Inserted f s.seen t.seen → contains nat_cmp s.seen f ≡ false
+pub gains_new : (f : ℕ) (s t : Opening) → Inserted f s.seen t.seen → has s.seen f ≡ false
     → t.order.items ≡ s.order.items ++ f ∷ [] → t.waiting.items ≡ s.waiting.items ++ f ∷ [] → Gains (f ∷ []) (f ∷ []) s t
 gains_new f s t u fresh os ws =
     let here : Contains t.order.items f = subst (λ zs. Contains zs f) (sym os) (Contains-push s.order.items f) in
@@ -30,15 +34,15 @@ gains_new f s t u fresh os ws =
     let cases : (h : ℕ) → Contains t.order.items h → Contains s.order.items h ⊎ (f ≡ h) = λ h c. Contains-push_cases s.order.items f h (subst (λ zs. Contains zs h) os c) in
     record {
       once = λ o. record {
-        seen = λ h z. elim (cond_cases (is_eq (nat_cmp f h)) (contains nat_cmp s.seen h) (sym (u h) ∙ z)) [
-          | inl is ↦ subst (λ (x : ℕ). Contains t.order.items x) (equal_is f h is) here
-          | inr old ↦ kept h (o.seen h old)
+        seen = λ h z. elim (cases_eq h f) [
+          | inl is ↦ subst (λ (x : ℕ). Contains t.order.items x) (sym is) here
+          | inr other ↦ kept h (o.seen h (sym (u.1 h other) ∙ z))
         ];
-        noted = λ h c. u h ∙ (elim (cases h c) [
-          | inl old ↦ cond_right (is_eq (nat_cmp f h)) (contains nat_cmp s.seen h) (o.noted h old)
-          | inr is ↦ subst (λ (x : ℕ). cond (is_eq (nat_cmp f x)) true (contains nat_cmp s.seen x) ≡ true) is (subst (λ b. cond b true (contains nat_cmp s.seen f) ≡ true) (sym (equal_self f)) refl)
-        ]);
-        distinct = subst (λ zs. NoRepeats zs) (sym os) (repeats_push s.order.items f o.distinct (λ c. clash (contains nat_cmp s.seen f) (o.noted f c) fresh));
+        noted = λ h c. elim (cases h c) [
+          | inl old ↦ seen_still f h s.seen t.seen u (o.noted h old)
+          | inr is ↦ subst (λ (x : ℕ). has t.seen x ≡ true) is u.0
+        ];
+        distinct = subst (λ zs. NoRepeats zs) (sym os) (repeats_push s.order.items f o.distinct (λ c. clash (has s.seen f) (o.noted f c) fresh));
       };
       opened = λ o. All-cons (λ h. Contains t.order.items h) f [] here (All-nil (λ h. Contains t.order.items h));
       kept = kept;
@@ -50,17 +54,17 @@ gains_new f s t u fresh os ws =
     }
 
 -- a fragment that was open is still
-pub gains_old : (f : ℕ) (s t : Opening) → Inserted f s.seen t.seen → contains nat_cmp s.seen f ≡ true → t.order ≡ s.order → t.waiting ≡ s.waiting → Gains (f ∷ []) (f ∷ []) s t
+pub gains_old : (f : ℕ) (s t : Opening) → Inserted f s.seen t.seen → has s.seen f ≡ true → t.order ≡ s.order → t.waiting ≡ s.waiting → Gains (f ∷ []) (f ∷ []) s t
 gains_old f s t u seen os ws =
     let kept : (h : ℕ) → Contains s.order.items h → Contains t.order.items h = λ h c. subst (λ v. Contains v.items h) (sym os) c in
     let back : (h : ℕ) → Contains t.order.items h → Contains s.order.items h = λ h c. subst (λ v. Contains v.items h) os c in
     record {
       once = λ o. record {
-        seen = λ h z. elim (cond_cases (is_eq (nat_cmp f h)) (contains nat_cmp s.seen h) (sym (u h) ∙ z)) [
-          | inl is ↦ kept h (o.seen h (subst (λ (x : ℕ). contains nat_cmp s.seen x ≡ true) (equal_is f h is) seen))
-          | inr old ↦ kept h (o.seen h old)
+        seen = λ h z. elim (cases_eq h f) [
+          | inl is ↦ kept h (o.seen h (subst (λ (x : ℕ). has s.seen x ≡ true) (sym is) seen))
+          | inr other ↦ kept h (o.seen h (sym (u.1 h other) ∙ z))
         ];
-        noted = λ h c. u h ∙ cond_right (is_eq (nat_cmp f h)) (contains nat_cmp s.seen h) (o.noted h (back h c));
+        noted = λ h c. seen_still f h s.seen t.seen u (o.noted h (back h c));
         distinct = subst (λ v. NoRepeats v.items) (sym os) o.distinct;
       };
       opened = λ o. All-cons (λ h. Contains t.order.items h) f [] (kept f (o.seen f seen)) (All-nil (λ h. Contains t.order.items h));
@@ -107,11 +111,11 @@ pub gains_all : (xs ys : List ℕ) (k : ℕ) {s t : Opening} → length xs ≤ k
 gains_all xs ys k {s} {t} l eq a = subst (λ zs. Gains zs zs s t) eq (subst (λ zs. Gains zs xs s t) (take_all k xs l) a)
 
 -- the first fragment
-pub sound_start : (w : World) (g : ℕ) (s t : Opening) → g < length w.fragments → ((h : ℕ) → contains nat_cmp s.seen h ≡ false) → s.order.items ≡ [] → s.waiting.items ≡ []
+pub sound_start : (w : World) (g : ℕ) (s t : Opening) → g < length w.fragments → ((h : ℕ) → has s.seen h ≡ false) → s.order.items ≡ [] → s.waiting.items ≡ []
     → Gains (g ∷ []) (g ∷ []) s t → Sound w g t
 sound_start w g s t lt none os ws a =
     let empty : (h : ℕ) → Contains s.order.items h → ⊥ = λ h c. omega (arith, c.1, ap length os) in
-    let once : Once s = record { seen = λ h z. absurd (clash (contains nat_cmp s.seen h) z (none h)); noted = λ h c. absurd (empty h c); distinct = λ k l x less p q. absurd (empty x (k, slice_get_within s.order.items k x p, get_or_from_slice_get s.order.items k x x p)) } in
+    let once : Once s = record { seen = λ h z. absurd (clash (has s.seen h) z (none h)); noted = λ h c. absurd (empty h c); distinct = λ k l x less p q. absurd (empty x (k, slice_get_within s.order.items k x p, get_or_from_slice_get s.order.items k x x p)) } in
     let is : (h : ℕ) → Contains t.order.items h → (g ≡ h) × Contains t.waiting.items h = λ h c. elim (a.only h c) [ inl old ↦ absurd (empty h old) | inr z ↦ (same_one g h z.0, z.1) ] in
     record {
       once = a.once once;
@@ -127,8 +131,8 @@ pub sound_next : (w : World) (g f : ℕ) (s m t : Opening) → Falling w.sets w.
     → Gains (spreads_of w (set_of w f)) (spreads_of w (set_of w f)) m t → Sound w g t
 sound_next w g f s m t falling o se os ws a =
     let once : Once m = record {
-      seen = λ h z. subst (λ v. Contains v.items h) (sym os) (o.once.seen h (subst (λ v. contains nat_cmp v h ≡ true) se z));
-      noted = λ h c. subst (λ v. contains nat_cmp v h ≡ true) (sym se) (o.once.noted h (subst (λ v. Contains v.items h) os c));
+      seen = λ h z. subst (λ v. Contains v.items h) (sym os) (o.once.seen h (subst (λ v. has v h ≡ true) se z));
+      noted = λ h c. subst (λ v. has v h ≡ true) (sym se) (o.once.noted h (subst (λ v. Contains v.items h) os c));
       distinct = subst (λ v. NoRepeats v.items) (sym os) o.once.distinct;
     } in
     let fwd : (h : ℕ) → Contains s.order.items h → Contains t.order.items h = λ h c. a.kept h (subst (λ v. Contains v.items h) (sym os) c) in

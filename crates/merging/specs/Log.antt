@@ -1,11 +1,10 @@
 -- Questions that were asked: of two numbers, under a flag.
 use Rattle.std.specs.Prelude.{ℕ, Bool, true, false, ◌≡◌, ◌⊎◌, ◌&&◌, ◌||◌, if◌then◌else◌}
-use Rattle.std.specs.Ordering.{nat_cmp, ordering_then}
-use Rattle.std.specs.BTreeSet.{contains}
+use Rattle.bit_rows.specs.Rows.{marked}
 use Rattle.merging.specs.declared.log.Log.{Log}
 
 abbrev pub in_log : Log → Bool → ℕ → ℕ → Bool
-in_log log e f g = contains (λ x y. ordering_then (nat_cmp x.0 y.0) (nat_cmp x.1 y.1)) (if e then log.flagged else log.plain) (f, g)
+in_log log e f g = marked (if e then log.flagged else log.plain) f g
 
 -- A question without the flag is the stronger one.
 abbrev pub covers_of : (Bool → ℕ → ℕ → Bool) → Bool → ℕ → ℕ → Bool

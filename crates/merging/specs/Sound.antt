@@ -1,8 +1,7 @@
 -- A search's fragments as far as they were opened.
 use Rattle.std.specs.Prelude.{ℕ, ◌+◌, ◌<◌, ◌≤◌, List, length, Some, true, ◌≡◌, ◌⊎◌, slice_get}
 use Rattle.std.specs.List.{All, Contains}
-use Rattle.std.specs.Ordering.{nat_cmp}
-use Rattle.std.specs.BTreeSet.{contains}
+use Rattle.bit_rows.specs.Set.{has}
 use Rattle.merging.specs.World.{World, spreads_of, set_of}
 use Rattle.merging.specs.Opening.{Reaches}
 use Rattle.merging.specs.declared.opening.Opening.{Opening}
@@ -13,8 +12,8 @@ NoRepeats xs = (k l x : ℕ) → k < l → slice_get xs k ≡ Some x → slice_g
 
 -- No fragment is opened twice.
 pub record Once (o : Opening) : Type 0 where
-  pub seen : (h : ℕ) → contains nat_cmp o.seen h ≡ true → Contains o.order.items h
-  pub noted : (h : ℕ) → Contains o.order.items h → contains nat_cmp o.seen h ≡ true
+  pub seen : (h : ℕ) → has o.seen h ≡ true → Contains o.order.items h
+  pub noted : (h : ℕ) → Contains o.order.items h → has o.seen h ≡ true
   pub distinct : NoRepeats o.order.items
 
 -- The first fragments are open now; those that are new wait, and are among the second.

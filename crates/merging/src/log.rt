@@ -2,14 +2,14 @@
 ghost use Rattle.std.specs.Prelude.{◌≡◌, OnOk, Bool, ℕ, false};
 ghost use Rattle.merging.specs.Log.{in_log, Notes};
 
+use bit_rows::rows::BitRows;
 use std::alloc::{AllocError, Global};
-use std::collections::BTreeSet;
 
 /// The questions that were asked with the flag, and those without.
 #[derive(Drop)]
 pub struct Log {
-    pub flagged: BTreeSet<(usize, usize)>,
-    pub plain: BTreeSet<(usize, usize)>,
+    pub flagged: BitRows,
+    pub plain: BitRows,
 }
 
 /// No question.
@@ -17,8 +17,8 @@ pub fn no_questions(alloc: Global) -> Log
     ensures { (e : Bool) (f g : ℕ) → in_log result e f g ≡ false }
 {
     Log {
-        flagged: BTreeSet::new(alloc),
-        plain: BTreeSet::new(alloc),
+        flagged: BitRows::new(alloc),
+        plain: BitRows::new(alloc),
     }
 }
 
@@ -27,9 +27,9 @@ pub fn is_in(log: &Log, e: bool, f: usize, g: usize) -> bool
     ensures { result ≡ in_log log.now e f g }
 {
     if e {
-        log.flagged.contains(&(f, g))
+        log.flagged.contains(f, g)
     } else {
-        log.plain.contains(&(f, g))
+        log.plain.contains(f, g)
     }
 }
 
@@ -38,9 +38,9 @@ pub fn note(log: &mut Log, e: bool, f: usize, g: usize) -> Result<(), AllocError
     ensures { OnOk result (Notes e f g (in_log log.old) (in_log log.new)) }
 {
     if e {
-        log.flagged.insert((f, g))?;
+        log.flagged.insert(f, g)?;
     } else {
-        log.plain.insert((f, g))?;
+        log.plain.insert(f, g)?;
     }
     Ok(())
 }

@@ -1,7 +1,6 @@
 //! The fragments that a search opens, each once.
 ghost use Rattle.std.specs.Prelude.{◌≡◌, ◌<◌, ◌∷◌, [], ℕ, false, OnOk, IfOk, length};
-ghost use Rattle.std.specs.Ordering.{nat_cmp};
-ghost use Rattle.std.specs.BTreeSet.{contains};
+ghost use Rattle.bit_rows.specs.Set.{has};
 ghost use Rattle.merging.specs.World.{world, set_of, spreads_of};
 ghost use Rattle.merging.specs.Opening.{Opens};
 ghost use Rattle.merging.specs.Sound.{Gains};
@@ -9,25 +8,25 @@ ghost use Rattle.merging.specs.Sound.{Gains};
 use crate::graph::Graph;
 use crate::judge::Judge;
 use crate::view::{set, spreads};
+use bit_rows::set::BitSet;
 use std::alloc::{AllocError, Global};
-use std::collections::BTreeSet;
 
 /// The fragments that are open, in order, and those whose spreads wait.
 #[derive(Drop)]
 pub struct Opening {
-    pub seen: BTreeSet<usize>,
+    pub seen: BitSet,
     pub order: Vec<usize>,
     pub waiting: Vec<usize>,
 }
 
 // No fragment is open.
 fn no_opening(alloc: Global) -> Opening
-    ensures seen { (h : ℕ) → contains nat_cmp result.seen h ≡ false }
+    ensures seen { (h : ℕ) → has result.seen h ≡ false }
     ensures order { result.order.items ≡ [] }
     ensures waiting { result.waiting.items ≡ [] }
 {
     Opening {
-        seen: BTreeSet::new(alloc),
+        seen: BitSet::new(alloc),
         order: Vec::new(alloc),
         waiting: Vec::new(alloc),
     }

@@ -1,0 +1,42 @@
+//! The readers of a team's texts, in time of the processor.
+use crate::failure::Failure;
+use crate::times::{median_of, time_of};
+use graphql_reader::{read_document, read_type_system};
+use std::alloc::Global;
+use std::rt::CpuClock;
+
+/// What a text is read as.
+#[derive(Clone, Copy, Debug)]
+pub enum Kind {
+    /// A type system document.
+    TypeSystem,
+    /// An executable document.
+    Queries,
+}
+
+/// What a word says that a text is read as.
+pub fn kind_named(word: &str) -> Result<Kind, Failure> {
+    match word {
+        "sdl" => Ok(Kind::TypeSystem),
+        "queries" => Ok(Kind::Queries),
+        _ => Err(Failure::Usage),
+    }
+}
+
+/// Reads the text so often, and answers the median of the times, or none where it is asked for no time.
+pub fn time_reader<R: CpuClock>(
+    clock: &R,
+    alloc: Global,
+    kind: Kind,
+    text: &str,
+    times: usize,
+) -> Result<Option<u128>, Failure> {
+    match kind {
+        Kind::TypeSystem => median_of(alloc, times, || {
+            time_of(clock, || Ok(read_type_system(alloc, text)?))
+        }),
+        Kind::Queries => median_of(alloc, times, || {
+            time_of(clock, || Ok(read_document(alloc, text)?))
+        }),
+    }
+}

@@ -1,0 +1,11 @@
+-- Which numbers a set of bits has.
+use Rattle.std.specs.Prelude.{ℕ, ◌/◌, ◌%◌, ◌==◌, Bool, List, slice_index}
+use Rattle.std.specs.Int.{bit_at}
+use Rattle.bit_rows.specs.declared.set.BitSet.{BitSet}
+
+-- Bit n of the words, from the lowest bit of the first on.
+abbrev pub bit_of : List ℕ → ℕ → Bool
+bit_of words n = bit_at (slice_index words (n / 64)) (n % 64) == 1
+
+unfoldable pub has : BitSet → ℕ → Bool
+has set n = bit_of set.words.items n

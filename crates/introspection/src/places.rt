@@ -1,0 +1,153 @@
+//! A value of the result, and where it stands.
+use crate::error::IntrospectionError;
+use crate::names::is_name;
+use serde_json::Value;
+use std::alloc::{AllocError, Global};
+
+// The last step to a value.
+#[derive(Clone, Copy)]
+enum Step {
+    // None: the value is the whole result.
+    Whole,
+    Member(&'static str),
+    Item(usize),
+}
+
+/// A value of the result. Its path is made only where it is told.
+#[derive(Clone, Copy)]
+pub struct Place<'p> {
+    alloc: Global,
+    value: &'p Value,
+    // The object or the list that the value stands in.
+    above: Option<&'p Place<'p>>,
+    step: Step,
+}
+
+impl<'p> Place<'p> {
+    /// The whole result.
+    pub fn whole(alloc: Global, value: &'p Value) -> Place<'p> {
+        Place {
+            alloc,
+            value,
+            above: None,
+            step: Step::Whole,
+        }
+    }
+
+    /// Where memory is asked for.
+    pub fn alloc(&self) -> Global {
+        self.alloc
+    }
+
+    fn below<'c>(&'c self, value: &'c Value, step: Step) -> Place<'c> {
+        Place {
+            alloc: self.alloc,
+            value,
+            above: Some(self),
+            step,
+        }
+    }
+
+    /// The item at an index of this list.
+    pub fn item<'c>(&'c self, index: usize, value: &'c Value) -> Place<'c> {
+        self.below(value, Step::Item(index))
+    }
+
+    /// The member of the name, which this object has to have.
+    pub fn member<'c>(&'c self, name: &'static str) -> Result<Place<'c>, IntrospectionError> {
+        match self.value.get(name) {
+            Some(value) => Ok(self.below(value, Step::Member(name))),
+            None if self.value.is_object() => Err(self.without(name)),
+            None => Err(self.unexpected("an object")),
+        }
+    }
+
+    /// The member of the name, where there is one that is not null.
+    pub fn optional<'c>(&'c self, name: &'static str) -> Option<Place<'c>> {
+        match self.value.get(name) {
+            Some(value) if !value.is_null() => Some(self.below(value, Step::Member(name))),
+            _ => None,
+        }
+    }
+
+    /// The items of this list.
+    pub fn items(&self) -> Result<&'p [Value], IntrospectionError> {
+        match self.value.as_array() {
+            Some(items) => Ok(items.as_slice()),
+            None => Err(self.unexpected("a list")),
+        }
+    }
+
+    /// This text.
+    pub fn text(&self) -> Result<&'p str, IntrospectionError> {
+        match self.value.as_str() {
+            Some(text) => Ok(text),
+            None => Err(self.unexpected("a string")),
+        }
+    }
+
+    /// This name (section 2.1.9).
+    pub fn name(&self) -> Result<&'p str, IntrospectionError> {
+        let text = self.text()?;
+        if is_name(text) {
+            Ok(text)
+        } else {
+            Err(self.not_a_name())
+        }
+    }
+
+    /// Whether this is true.
+    pub fn is_true(&self) -> Result<bool, IntrospectionError> {
+        match self.value.as_bool() {
+            Some(is_true) => Ok(is_true),
+            None => Err(self.unexpected("true or false")),
+        }
+    }
+
+    /// The error that something else was expected here.
+    pub fn unexpected(&self, expected: &'static str) -> IntrospectionError {
+        match self.path() {
+            Ok(path) => IntrospectionError::Unexpected { path, expected },
+            Err(_) => IntrospectionError::OutOfMemory,
+        }
+    }
+
+    fn without(&self, name: &'static str) -> IntrospectionError {
+        match self.below(self.value, Step::Member(name)).path() {
+            Ok(path) => IntrospectionError::Missing(path),
+            Err(_) => IntrospectionError::OutOfMemory,
+        }
+    }
+
+    fn not_a_name(&self) -> IntrospectionError {
+        match self.path() {
+            Ok(path) => IntrospectionError::NotAName(path),
+            Err(_) => IntrospectionError::OutOfMemory,
+        }
+    }
+
+    // The steps to the value, written from the last to the first.
+    fn path(&self) -> Result<String, AllocError> {
+        let mut path = String::new(self.alloc);
+        let mut place = Some(self);
+        while let Some(here) = place {
+            path = with_step(self.alloc, here.step, path.as_str())?;
+            place = here.above;
+        }
+        Ok(path)
+    }
+}
+
+// The step before the rest of a path.
+fn with_step(alloc: Global, step: Step, rest: &str) -> Result<String, AllocError> {
+    let between = if rest.is_empty() || rest.starts_with('[') {
+        ""
+    } else {
+        "."
+    };
+    match step {
+        Step::Whole => String::from_str(alloc, rest),
+        Step::Member(name) => format!(in alloc; "{name}{between}{rest}"),
+        Step::Item(index) => format!(in alloc; "[{index}]{between}{rest}"),
+    }
+}
