@@ -1,0 +1,52 @@
+//! Why the program judges no further.
+use std::alloc::{AllocError, AllocFailed};
+use std::{fmt, io};
+use validation::OutOfMemory;
+
+/// Why the program judges no further.
+#[derive(Clone, Copy, Debug)]
+pub enum Failure {
+    /// There are faults of files or words, which are told.
+    Told,
+    /// A request for memory was refused.
+    OutOfMemory,
+    /// A read or a write failed.
+    InputOutput,
+}
+
+impl fmt::Display for Failure {
+    fn fmt<W: fmt::Write>(&self, f: &mut fmt::Formatter<W>) -> fmt::Result {
+        f.write_str(match self {
+            Failure::Told => "there are faults",
+            Failure::OutOfMemory => "out of memory",
+            Failure::InputOutput => "input or output failed",
+        })
+    }
+}
+
+impl From<AllocError> for Failure {
+    fn from(_: AllocError) -> Self {
+        Failure::OutOfMemory
+    }
+}
+
+impl<T: Drop> From<AllocFailed<T>> for Failure {
+    fn from(_: AllocFailed<T>) -> Self {
+        Failure::OutOfMemory
+    }
+}
+
+impl From<OutOfMemory> for Failure {
+    fn from(_: OutOfMemory) -> Self {
+        Failure::OutOfMemory
+    }
+}
+
+impl From<io::Error> for Failure {
+    fn from(error: io::Error) -> Self {
+        match error.kind() {
+            io::ErrorKind::OutOfMemory => Failure::OutOfMemory,
+            _ => Failure::InputOutput,
+        }
+    }
+}

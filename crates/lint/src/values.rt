@@ -1,0 +1,54 @@
+//! Values of variables: those of a file, and what is wrong with them in a document.
+use crate::failure::Failure;
+use crate::files::read_sources;
+use crate::schemas::tell_json;
+use graphql_reader::SourceScalar;
+use lint_parts::sources::Source;
+use lint_parts::variables::read_variables;
+use std::alloc::Global;
+use std::rt::Files;
+use validation::ast::Operation;
+use validation::parser::Spanning;
+use validation::{
+    OutOfMemory, RuleError, SchemaType, Variables, has_input_types, validate_input_values,
+};
+
+/// The values of the file of this path. Its faults are told.
+pub fn values_of_file<R: Files + Input + AllocGlobal>(
+    rt: &R,
+    path: &str,
+    faults: &mut String,
+) -> Result<Variables<SourceScalar>, Failure> {
+    let sources = read_sources(rt, [path].as_slice(), faults)?;
+    match sources.as_slice() {
+        [source] => values_of(rt.alloc(), source, sources.as_slice(), faults),
+        _ => Err(Failure::Told),
+    }
+}
+
+fn values_of(
+    alloc: Global,
+    source: &Source,
+    sources: &[Source],
+    faults: &mut String,
+) -> Result<Variables<SourceScalar>, Failure> {
+    match read_variables(alloc, source.text.as_str()) {
+        Ok(values) => Ok(values),
+        Err(error) => Err(tell_json(sources, error, faults)),
+    }
+}
+
+/// What is wrong with the values of an operation's variables. Their types are known input types, as those of a document without errors
+/// are.
+pub fn errors_of_values(
+    alloc: Global,
+    schema: &SchemaType<SourceScalar>,
+    values: &Variables<SourceScalar>,
+    operation: &Spanning<Operation<'_, SourceScalar>>,
+) -> Result<Vec<RuleError>, OutOfMemory> {
+    if has_input_types(schema, &operation.item) {
+        validate_input_values(alloc, values, operation, schema)
+    } else {
+        Ok(Vec::new(alloc))
+    }
+}
