@@ -9,7 +9,7 @@ use Rattle.merging.specs.declared.state.Finding.{Finding}
 use Rattle.merging.specs.World.{World, spreads_of, set_of}
 use Rattle.merging.specs.Log.{in_log, covers_of, Covers}
 use Rattle.merging.specs.Work.{pair_in, search_in, Searched, Pair, OwnPairs, ClosedSearch, ClosedPair, Grows, Did, Owes}
-use Rattle.merging.specs.State.{NotesPair, NotesSearch, Reports, CountsList}
+use Rattle.merging.specs.State.{NotesPair, NotesSearch, Reports, CountsList, Keeps}
 use Rattle.merging.proofs.Tallying.{tally_same, tally_pair, tally_list}
 
 abbrev pub no_entry : Entry
@@ -172,6 +172,20 @@ module _ (w : World) where
         keeps = λ h. tally_same n.pairs n.compared (λ o. subst (λ (k : ℕ). k ≤ length w.fragments * u.lists) (sym n.opened) (subst (λ (k : ℕ). t.opened ≤ length w.fragments * k) (sym n.lists) o)) (d.keeps h);
         grows = grows_then d.grows up;
         holds = λ M k. (d.holds M (grows_then up k), k.more_found y (subst (λ zs. Contains zs y) (sym n.found) (Contains-push t.found.items y)));
+        closes = λ M k c. let had = d.closes M (grows_then up k) c in record {
+          searches_closed = λ x i h z. had.searches_closed x i h (search_back t u n.searched x i h z);
+          pairs_closed = λ x i j z. had.pairs_closed x i j (pair_back t u n.pairs x i j z);
+        };
+      }
+
+  -- nothing that is spoken of changed, after other work
+  pub did_kept : (P : Search → Type 0) {s t u : Search} → Keeps t u → Did w P s t → Did w P s u
+  did_kept P {s} {t} {u} n d =
+      let up : Grows t u = record { more_pairs = pair_from t u n.pairs; more_searched = search_from t u n.searched; more_found = λ z h. subst (λ zs. Contains zs z) (sym n.found) h } in
+      record {
+        keeps = λ h. tally_same n.pairs n.compared (λ o. subst (λ (k : ℕ). k ≤ length w.fragments * u.lists) (sym n.opened) (subst (λ (k : ℕ). t.opened ≤ length w.fragments * k) (sym n.lists) o)) (d.keeps h);
+        grows = grows_then d.grows up;
+        holds = λ M k. d.holds M (grows_then up k);
         closes = λ M k c. let had = d.closes M (grows_then up k) c in record {
           searches_closed = λ x i h z. had.searches_closed x i h (search_back t u n.searched x i h z);
           pairs_closed = λ x i j z. had.pairs_closed x i j (pair_back t u n.pairs x i j z);

@@ -44,3 +44,12 @@ pub record CountsList (n : ℕ) (old new : Search) : Type 0 where
   pub searched : new.searched ≡ old.searched
   pub found : new.found.items ≡ old.found.items
   pub compared : new.compared ≡ old.compared
+
+-- Nothing changed but which searches may be made once more.
+pub record Keeps (old new : Search) : Type 0 where
+  pub pairs : new.pairs ≡ old.pairs
+  pub searched : new.searched ≡ old.searched
+  pub found : new.found.items ≡ old.found.items
+  pub compared : new.compared ≡ old.compared
+  pub opened : new.opened ≡ old.opened
+  pub lists : new.lists ≡ old.lists

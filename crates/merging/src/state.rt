@@ -1,11 +1,12 @@
 //! What a search has found and noted.
-ghost use Rattle.std.specs.Prelude.{◌≡◌, ◌≤◌, ◌++◌, ◌∷◌, [], OnOk, ℕ, Bool, false, max, min, length};
+ghost use Rattle.std.specs.Prelude.{◌≡◌, ◌≤◌, ◌++◌, ◌∷◌, [], OnOk, ℕ, Bool, true, false, max, min, length};
 ghost use Rattle.merging.specs.Log.{covers_of};
 ghost use Rattle.merging.specs.Work.{pair_in, search_in};
-ghost use Rattle.merging.specs.State.{Begins, NotesPair, NotesSearch, Reports, CountsList};
+ghost use Rattle.merging.specs.State.{Begins, NotesPair, NotesSearch, Reports, CountsList, Keeps};
 
 use crate::log::{Log, is_in, no_questions, note};
 use crate::node::Entry;
+use bit_rows::set::BitSet;
 use std::alloc::{AllocError, Global};
 
 /// What was found, in postfix order: a nested conflict stands after those below it, with their number.
@@ -17,6 +18,9 @@ pub enum Finding {
     Nested(Entry, Entry, usize),
 }
 
+/// How many searches below fields are made once more in one document, at most.
+pub const REPEATS: usize = 100;
+
 /// A search as far as it has come.
 #[derive(Drop)]
 pub struct Search {
@@ -25,6 +29,10 @@ pub struct Search {
     pub pairs: Log,
     /// The sets whose own fields were compared with a fragment's, below a field.
     pub searched: Log,
+    /// The sets whose own fields conflict with a fragment's, below a field.
+    pub conflicting: BitSet,
+    /// How many searches below a field may still be made once more.
+    pub repeats: usize,
     pub found: Vec<Finding>,
     /// How many pairs of fragments were compared.
     pub compared: u128,
@@ -42,6 +50,8 @@ pub fn no_search(alloc: Global) -> Search
         alloc,
         pairs: no_questions(alloc),
         searched: no_questions(alloc),
+        conflicting: BitSet::new(alloc),
+        repeats: REPEATS,
         found: Vec::new(alloc),
         compared: 0,
         opened: 0,
@@ -58,11 +68,21 @@ pub fn is_compared(search: &Search, f: usize, g: usize, e: bool) -> bool
     is_in(&search.pairs, false, high, low) || (e && is_in(&search.pairs, true, high, low))
 }
 
-/// Whether the own fields of a set were compared with a fragment's under the flag, or without one.
-pub fn is_searched(search: &Search, i: usize, g: usize, e: bool) -> bool
+// Whether the own fields of a set were compared with a fragment's under the flag, or without one.
+fn is_searched(search: &Search, i: usize, g: usize, e: bool) -> bool
     ensures { result ≡ covers_of (search_in search.now) e i g }
 {
     is_in(&search.searched, false, i, g) || (e && is_in(&search.searched, true, i, g))
+}
+
+/// Whether a search below a field need not be made: it was made, under the flag or without one, and isn't made once more.
+///
+/// Where the own fields of a set were found in conflict, its searches are made again, so that each pair of fields tells of what lies
+/// below it. `REPEATS` bounds the work on documents with many conflicts.
+pub fn is_settled(search: &Search, i: usize, g: usize, e: bool) -> bool
+    ensures { result ≡ true → covers_of (search_in search.now) e i g ≡ true }
+{
+    is_searched(search, i, g, e) && (search.repeats == 0 || !search.conflicting.contains(i))
 }
 
 /// Notes that two fragments are compared.
@@ -74,11 +94,24 @@ pub fn note_pair(search: &mut Search, f: usize, g: usize, e: bool) -> Result<(),
     Ok(())
 }
 
-/// Notes that the own fields of a set are compared with a fragment's.
+/// Notes that the own fields of a set are compared with a fragment's. Where they were before, one repetition is taken.
 pub fn note_search(search: &mut Search, i: usize, g: usize, e: bool) -> Result<(), AllocError>
     ensures { OnOk result (NotesSearch i g e search.old search.new) }
 {
+    if is_searched(search, i, g, e) {
+        search.repeats = search.repeats.saturating_sub(1);
+    }
     note(&mut search.searched, e, i, g)
+}
+
+/// Notes that the own fields of a set conflict with a fragment's, where something was found since `start`.
+pub fn note_conflicts(search: &mut Search, i: usize, start: usize) -> Result<(), AllocError>
+    ensures { OnOk result (Keeps search.old search.new) }
+{
+    if search.found.len() > start {
+        search.conflicting.insert(i)?;
+    }
+    Ok(())
 }
 
 /// Keeps what was found.

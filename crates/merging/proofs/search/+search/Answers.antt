@@ -9,7 +9,7 @@ use Rattle.merging.specs.Opening.{Opens, Reaches}
 use Rattle.merging.specs.Work.{pair_in, search_in, Searched, Pair, Done, stood, shallow, deep, SetsDone, OwnPairs}
 use Rattle.merging.specs.Reports.{Adds, NestedRoot, AtFields, AtWith, AtNamed, AtOwn, AtFirst, AtSecond}
 use Rattle.merging.proofs.Falls.{spread_falls, own_falls, reach_falls}
-use Rattle.merging.proofs.Work.{did_none, did_start, did_then, did_map, did_more, did_all, did_list, did_opened, owes_search, owes_none, owes_start, owes_more, owes_full, did_fragments, did_report, no_entry, covers_yes, covers_no}
+use Rattle.merging.proofs.Work.{did_none, did_start, did_then, did_map, did_more, did_all, did_list, did_opened, owes_search, owes_none, owes_start, owes_more, owes_full, did_fragments, did_report, did_kept, no_entry, covers_yes, covers_no}
 use Rattle.merging.proofs.Adding.{adds_none, adds_map, adds_then, adds_from, adds_node, adds_same, all_leaf, all_quiet, all_start, all_more, all_done}
 use Rattle.merging.proofs.Rows.{in_list, row_with, row_named, row_own, tell_with, tell_named, tell_own, own_pairs, row_opened, row_fragments, row_first, row_second, row_below_own, row_below_forth, row_below_back, row_below_spreads, row_nested}
 use Rattle.merging.proofs.search.+search.Goals as goal
@@ -246,19 +246,19 @@ compare_below-returns g t c =
           c.all_against_all.ensures.real;
     }
 
-pub own_against-returns-then-is_searched : goal.own_against-returns-then-is_searched
-own_against-returns-then-is_searched g t c =
+pub own_against-returns-then-is_settled : goal.own_against-returns-then-is_settled
+own_against-returns-then-is_settled g t c =
     let v = world g.J.Judge.judgement c.args.graph.now in
     record {
-      done = did_none v _ c.args.search.now (λ M grown. let z = covers_yes (search_in c.args.search.now) c.args.e c.args.i c.args.g (sym c.is_searched.ensures ∙ c.if-is_searched.true) in (z.0, z.1, grown.more_searched z.0 c.args.i c.args.g z.2));
+      done = did_none v _ c.args.search.now (λ M grown. let z = covers_yes (search_in c.args.search.now) c.args.e c.args.i c.args.g (c.is_settled.ensures c.if-is_settled.true) in (z.0, z.1, grown.more_searched z.0 c.args.i c.args.g z.2));
       real = adds_none v c.args.e _ _;
     }
 
-pub open_fragment-returns-then-is_searched : goal.open_fragment-returns-then-is_searched
-open_fragment-returns-then-is_searched g t c =
+pub open_fragment-returns-then-is_settled : goal.open_fragment-returns-then-is_settled
+open_fragment-returns-then-is_settled g t c =
     let v = world g.J.Judge.judgement c.args.graph.now in
     record {
-      done = owes_none v _ _ c.args.search.now (λ M grown. let z = covers_yes (search_in c.args.search.now) c.args.e c.args.i c.args.g (sym c.is_searched.ensures ∙ c.if-is_searched.true) in (z.0, z.1, grown.more_searched z.0 c.args.i c.args.g z.2));
+      done = owes_none v _ _ c.args.search.now (λ M grown. let z = covers_yes (search_in c.args.search.now) c.args.e c.args.i c.args.g (c.is_settled.ensures c.if-is_settled.true) in (z.0, z.1, grown.more_searched z.0 c.args.i c.args.g z.2));
       real = adds_none v c.args.e _ _;
     }
 
@@ -266,8 +266,13 @@ pub open_fragment-returns : goal.open_fragment-returns
 open_fragment-returns g t c =
     let v = world g.J.Judge.judgement c.args.graph.now in
     record {
-      done = on_ok_weaker c.compare_own.result (λ d. owes_search v c.args.e c.args.i c.args.g c.in_ok-note_search.ensures (did_map v _ _ (λ M z. subst (λ (s : ℕ). OwnPairs v M c.args.e c.args.i s) c.set.ensures z) d)) c.compare_own.ensures.done;
-      real = on_ok_weaker c.compare_own.result (λ d. adds_from v c.args.e _ c.in_ok-note_search.ensures.found (adds_map v c.args.e _ _ (λ r z. subst (λ (s : ℕ). AtOwn v c.args.i s r) c.set.ensures z) d.adds)) c.compare_own.ensures.real;
+      done = on_ok_weaker c.note_conflicts.result
+          (λ k. owes_search v c.args.e c.args.i c.args.g c.in_ok-note_search.ensures (did_kept v _ k (did_map v _ _ (λ M z. subst (λ (s : ℕ). OwnPairs v M c.args.e c.args.i s) c.set.ensures z) c.in_ok-compare_own.ensures.done)))
+          c.note_conflicts.ensures;
+      real = on_ok_weaker c.note_conflicts.result
+          (λ k. subst (λ zs. Adds v c.args.e (AtOwn v c.args.i (set_of v c.args.g)) c.args.search.now.found.items zs) (sym k.found)
+          (adds_from v c.args.e _ c.in_ok-note_search.ensures.found (adds_map v c.args.e _ _ (λ r z. subst (λ (s : ℕ). AtOwn v c.args.i s r) c.set.ensures z) c.in_ok-compare_own.ensures.real.adds)))
+          c.note_conflicts.ensures;
     }
 
 pub own_against-returns : goal.own_against-returns
