@@ -7,6 +7,7 @@ pub mod judge;
 pub mod log;
 pub mod node;
 pub mod opening;
+pub mod repeats;
 pub mod search;
 pub mod state;
 pub mod top;

@@ -11,9 +11,9 @@ use crate::graph::Graph;
 use crate::judge::Judge;
 use crate::node::Entry;
 use crate::opening::opened;
+use crate::repeats::is_settled;
 use crate::state::{
-    Finding, Search, count_list, is_compared, is_settled, note_conflicts, note_pair, note_search,
-    report,
+    Finding, Search, count_list, is_compared, note_conflicts, note_pair, note_search, report,
 };
 use crate::view::{are_exclusive, are_in_conflict, group, names, set, spreads};
 use std::alloc::AllocError;
@@ -147,7 +147,7 @@ fn open_fragment<J: Judge>(
     ensures done { OnOk result (Owes (world J.judgement graph.now) (λ M. All (λ h. Searched M e i h) (spreads_of (world J.judgement graph.now) (set_of (world J.judgement graph.now) g))) (λ M. Searched M e i g) search.old search.new) }
     ensures real { OnOk result (Adds (world J.judgement graph.now) e (AtOwn (world J.judgement graph.now) i (set_of (world J.judgement graph.now) g)) search.old.found.items search.new.found.items) }
 {
-    if is_settled(search, i, g, e) {
+    if is_settled(graph, search, i, g, e) {
         return Ok(());
     }
     note_search(search, i, g, e)?;
@@ -189,7 +189,7 @@ fn own_against<J: Judge>(
     ensures done { OnOk result (Did (world J.judgement graph.now) (λ M. Searched M e i g) search.old search.new) }
     ensures real { OnOk result (Adds (world J.judgement graph.now) e (AtSearch (world J.judgement graph.now) i g) search.old.found.items search.new.found.items) }
 {
-    if is_settled(search, i, g, e) {
+    if is_settled(graph, search, i, g, e) {
         return Ok(());
     }
     let opening = opened(search.alloc, graph, g)?;

@@ -1,11 +1,12 @@
 //! What a search has found and noted.
-ghost use Rattle.std.specs.Prelude.{◌≡◌, ◌≤◌, ◌++◌, ◌∷◌, [], OnOk, ℕ, Bool, true, false, max, min, length};
+ghost use Rattle.std.specs.Prelude.{◌≡◌, ◌≤◌, ◌++◌, ◌∷◌, [], OnOk, ℕ, Bool, false, max, min, length};
 ghost use Rattle.merging.specs.Log.{covers_of};
 ghost use Rattle.merging.specs.Work.{pair_in, search_in};
 ghost use Rattle.merging.specs.State.{Begins, NotesPair, NotesSearch, Reports, CountsList, Keeps};
 
 use crate::log::{Log, is_in, no_questions, note};
 use crate::node::Entry;
+use crate::repeats::REPEATS;
 use bit_rows::set::BitSet;
 use std::alloc::{AllocError, Global};
 
@@ -17,9 +18,6 @@ pub enum Finding {
     Direct(Entry, Entry, bool),
     Nested(Entry, Entry, usize),
 }
-
-/// How many searches below fields are made once more in one document, at most.
-pub const REPEATS: usize = 100;
 
 /// A search as far as it has come.
 #[derive(Drop)]
@@ -68,21 +66,11 @@ pub fn is_compared(search: &Search, f: usize, g: usize, e: bool) -> bool
     is_in(&search.pairs, false, high, low) || (e && is_in(&search.pairs, true, high, low))
 }
 
-// Whether the own fields of a set were compared with a fragment's under the flag, or without one.
-fn is_searched(search: &Search, i: usize, g: usize, e: bool) -> bool
+/// Whether the own fields of a set were compared with a fragment's under the flag, or without one.
+pub fn is_searched(search: &Search, i: usize, g: usize, e: bool) -> bool
     ensures { result ≡ covers_of (search_in search.now) e i g }
 {
     is_in(&search.searched, false, i, g) || (e && is_in(&search.searched, true, i, g))
-}
-
-/// Whether a search below a field need not be made: it was made, under the flag or without one, and isn't made once more.
-///
-/// Where the own fields of a set were found in conflict, its searches are made again, so that each pair of fields tells of what lies
-/// below it. `REPEATS` bounds the work on documents with many conflicts.
-pub fn is_settled(search: &Search, i: usize, g: usize, e: bool) -> bool
-    ensures { result ≡ true → covers_of (search_in search.now) e i g ≡ true }
-{
-    is_searched(search, i, g, e) && (search.repeats == 0 || !search.conflicting.contains(i))
 }
 
 /// Notes that two fragments are compared.

@@ -17,6 +17,16 @@ pub fn names<J: Judge>(graph: &Graph<J>, s: usize) -> &[usize]
     }
 }
 
+/// The own fields of a set.
+pub fn own<J: Judge>(graph: &Graph<J>, s: usize) -> &[Entry]
+    ensures { result.now ≡ own_of (world J.judgement graph.now) s }
+{
+    match graph.sets.get(s) {
+        Some(node) => node.own.as_slice(),
+        None => &[],
+    }
+}
+
 /// The own fields of a set that have a response name.
 pub fn group<J: Judge>(graph: &Graph<J>, s: usize, name: usize) -> &[Entry]
     ensures { result.now ≡ named name (own_of (world J.judgement graph.now) s) }
