@@ -14,8 +14,6 @@ mod refused_memory;
 #[cfg(test)]
 mod relations;
 #[cfg(test)]
-mod roots;
-#[cfg(test)]
 mod said;
 #[cfg(test)]
 mod schemas;

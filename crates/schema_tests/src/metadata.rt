@@ -1,4 +1,5 @@
 //! Metadata: each call that takes memory, by what it shows.
+use crate::builder::one_type;
 use crate::said::{says, words};
 use language::types::Type;
 use language::value::{DefaultScalarValue, InputValue};
@@ -12,19 +13,29 @@ use samples::build::{argument, field};
 use samples::checks::{check_string, refuse_token};
 use samples::documents::alone;
 use schema::model::{DirectiveLocation, DirectiveType};
-use std::alloc::Global;
+use std::alloc::{AllocError, Global};
 use std::process::Abort;
 
-/// A field of which everything was set, the description and the argument twice.
-fn full_field(rt: &impl Abort, alloc: Global) -> Field<DefaultScalarValue> {
+type FieldMeta = Field<DefaultScalarValue>;
+
+/// The field with an argument of this type.
+fn with_x(rt: &impl Abort, alloc: Global, field: FieldMeta, type_name: &str) -> FieldMeta {
+    let x = argument(alloc, "x", type_name).expect(rt, "memory");
+    field.argument(x).expect(rt, "memory")
+}
+
+/// A field whose description was set twice.
+fn described_field(rt: &impl Abort, alloc: Global) -> FieldMeta {
     let plain = field(alloc, "name", "String").expect(rt, "memory");
     let once = plain.description("first").expect(rt, "memory");
-    let twice = once.description("second").expect(rt, "memory");
-    let one = argument(alloc, "x", "String").expect(rt, "memory");
-    let given = twice.argument(one).expect(rt, "memory");
-    let other = argument(alloc, "x", "Int").expect(rt, "memory");
-    let full = given.argument(other).expect(rt, "memory");
-    full.deprecated(Some("old")).expect(rt, "memory")
+    once.description("second").expect(rt, "memory")
+}
+
+/// A field of which everything was set, the description and the argument twice.
+fn full_field(rt: &impl Abort, alloc: Global) -> FieldMeta {
+    let once = with_x(rt, alloc, described_field(rt, alloc), "String");
+    let twice = with_x(rt, alloc, once, "Int");
+    twice.deprecated(Some("old")).expect(rt, "memory")
 }
 
 /// An argument of which everything was set.
@@ -76,7 +87,7 @@ fn input(rt: &impl Abort, alloc: Global) -> MetaType {
 
 /// The list of the type `Being`.
 fn beings(rt: &impl Abort, alloc: Global) -> Vec<Type> {
-    alone(alloc, Type::nullable(alloc, "Being").expect(rt, "memory")).expect(rt, "memory")
+    one_type(alloc, "Being").expect(rt, "memory")
 }
 
 fn interface(rt: &impl Abort, alloc: Global) -> MetaType {
@@ -110,8 +121,11 @@ fn shows(rt: &impl Abort, alloc: Global, meta: MetaType, want: &str) {
     let name = meta.name().unwrap_or("none");
     let description = meta.description().unwrap_or("none");
     let address = meta.specified_by_url().unwrap_or("none");
-    let text = format!(in alloc; "{name} {description} {address}");
-    says(rt, text.expect(rt, "memory"), want);
+    says(
+        rt,
+        format!(in alloc; "{name} {description} {address}"),
+        want,
+    );
 }
 
 fn shown(text: &Option<String>) -> &str {
@@ -122,20 +136,19 @@ fn shown(text: &Option<String>) -> &str {
 }
 
 /// The name, the description and the default value.
-fn argument_text(rt: &impl Abort, alloc: Global, made: &Argument<DefaultScalarValue>) -> String {
+fn argument_text(alloc: Global, made: &Argument<DefaultScalarValue>) -> Result<String, AllocError> {
     let (name, description) = (made.name.as_str(), shown(&made.description));
-    let text = match &made.default_value {
+    match &made.default_value {
         Some(value) => format!(in alloc; "{name} {description} {value}"),
         None => format!(in alloc; "{name} {description} none"),
-    };
-    text.expect(rt, "memory")
+    }
 }
 
 /// What the field `x` of the input object shows.
-fn input_text(rt: &impl Abort, alloc: Global, meta: MetaType) -> String {
+fn input_text(alloc: Global, meta: &MetaType) -> Result<String, AllocError> {
     match meta.input_field_by_name("x") {
-        Some(field) => argument_text(rt, alloc, field),
-        None => words(rt, alloc, "no field"),
+        Some(field) => argument_text(alloc, field),
+        None => words(alloc, "no field"),
     }
 }
 
@@ -154,11 +167,7 @@ fn every_kind_is_made(rt: HostRuntime) {
         enumeration(&rt, alloc),
         "Command what a dog does none",
     );
-    says(
-        &rt,
-        input_text(&rt, alloc, input(&rt, alloc)),
-        "x a number 1",
-    );
+    says(&rt, input_text(alloc, &input(&rt, alloc)), "x a number 1");
     shows(&rt, alloc, interface(&rt, alloc), "Pet a pet none");
     shows(&rt, alloc, object(&rt, alloc), "Dog a dog none");
     shows(
@@ -172,7 +181,7 @@ fn every_kind_is_made(rt: HostRuntime) {
 /// The type of the metadata prints so.
 fn prints(rt: &impl Abort, alloc: Global, meta: MetaType, want: &str) {
     let made = meta.as_type(alloc).expect(rt, "memory");
-    says(rt, made.to_string(alloc).expect(rt, "memory"), want);
+    says(rt, made.to_string(alloc), want);
 }
 
 fn int(rt: &impl Abort, alloc: Global) -> Type {
@@ -189,47 +198,46 @@ fn types_are_printed(rt: HostRuntime) {
 }
 
 /// The name, the description, how many arguments there are, and why the field is deprecated.
-fn field_text(rt: &impl Abort, alloc: Global, field: &Field<DefaultScalarValue>) -> String {
+fn field_text(alloc: Global, field: &FieldMeta) -> Result<String, AllocError> {
     let arguments = match &field.arguments {
         Some(list) => list.len(),
         None => 0,
     };
     let (name, description) = (field.name.as_str(), shown(&field.description));
     let reason = field.deprecation_status.reason().unwrap_or("none");
-    let text = format!(in alloc; "{name} {description} {arguments} {reason}");
-    text.expect(rt, "memory")
+    format!(in alloc; "{name} {description} {arguments} {reason}")
 }
 
 /// The name, the description, and whether the value is deprecated.
-fn value_text(rt: &impl Abort, alloc: Global, value: &EnumValue) -> String {
+fn value_text(alloc: Global, value: &EnumValue) -> Result<String, AllocError> {
     let (name, description) = (value.name.as_str(), shown(&value.description));
     let is_deprecated = value.deprecation_status.is_deprecated();
-    format!(in alloc; "{name} {description} {is_deprecated}").expect(rt, "memory")
+    format!(in alloc; "{name} {description} {is_deprecated}")
 }
 
 #[test]
 fn fields_keep_what_is_set(rt: HostRuntime) {
     let alloc = rt.alloc();
     let made = full_field(&rt, alloc);
-    says(&rt, field_text(&rt, alloc, &made), "name second 2 old");
+    says(&rt, field_text(alloc, &made), "name second 2 old");
     let copy = made.clone().expect(&rt, "memory");
-    says(&rt, field_text(&rt, alloc, &copy), "name second 2 old");
+    says(&rt, field_text(alloc, &copy), "name second 2 old");
 }
 
 #[test]
 fn enum_values_are_copied(rt: HostRuntime) {
     let alloc = rt.alloc();
     let value = full_value(&rt, alloc);
-    says(&rt, value_text(&rt, alloc, &value), "SIT down true");
+    says(&rt, value_text(alloc, &value), "SIT down true");
     let copy = value.clone().expect(&rt, "memory");
-    says(&rt, value_text(&rt, alloc, &copy), "SIT down true");
+    says(&rt, value_text(alloc, &copy), "SIT down true");
 }
 
 #[test]
 fn arguments_are_copied(rt: HostRuntime) {
     let alloc = rt.alloc();
     let copy = full_argument(&rt, alloc).clone().expect(&rt, "memory");
-    says(&rt, argument_text(&rt, alloc, &copy), "x a number 1");
+    says(&rt, argument_text(alloc, &copy), "x a number 1");
 }
 
 #[test]
@@ -238,24 +246,25 @@ fn copies_are_the_same(rt: HostRuntime) {
     assert_eq!(rt; kind, TypeKind::InputObject);
     let current = DeprecationStatus::Current.clone().expect(&rt, "a copy");
     assert_eq!(rt; current, DeprecationStatus::Current);
-    let old = DeprecationStatus::Deprecated(Some(words(&rt, rt.alloc(), "old")));
+    let old = words(rt.alloc(), "old").expect(&rt, "memory");
+    let old = DeprecationStatus::Deprecated(Some(old));
     let copy = old.clone().expect(&rt, "memory");
     assert_eq!(rt; copy, old);
 }
 
 /// What the check says of null.
-fn said_by(rt: &impl Abort, alloc: Global, check: &DefaultCheck) -> String {
+fn said_by(alloc: Global, check: &DefaultCheck) -> Result<String, AllocError> {
     match <DefaultScalarValue as CheckedScalar>::run_check(check, alloc, &InputValue::Null) {
-        Ok(()) => words(rt, alloc, "accepted"),
-        Err(refused) => refused.to_string(alloc).expect(rt, "memory"),
+        Ok(()) => words(alloc, "accepted"),
+        Err(refused) => refused.to_string(alloc),
     }
 }
 
-/// What the check of a scalar says of null.
-fn said_of_null(rt: &impl Abort, alloc: Global) -> String {
-    match scalar(rt, alloc).input_value_parse_fn() {
-        Some(check) => said_by(rt, alloc, check),
-        None => words(rt, alloc, "no check"),
+/// What the check of the scalar says of null.
+fn said_of_null(alloc: Global, meta: &MetaType) -> Result<String, AllocError> {
+    match meta.input_value_parse_fn() {
+        Some(check) => said_by(alloc, check),
+        None => words(alloc, "no check"),
     }
 }
 
@@ -269,16 +278,20 @@ fn directive(rt: &impl Abort, alloc: Global) -> DirectiveType<DefaultScalarValue
 }
 
 /// The name, the description, and whether the directive is repeatable.
-fn directive_text(rt: &impl Abort, alloc: Global) -> String {
-    let made = directive(rt, alloc);
+fn directive_text(
+    alloc: Global,
+    made: &DirectiveType<DefaultScalarValue>,
+) -> Result<String, AllocError> {
     let (name, description) = (made.name.as_str(), shown(&made.description));
     let is_repeatable = made.is_repeatable;
-    format!(in alloc; "{name} {description} {is_repeatable}").expect(rt, "memory")
+    format!(in alloc; "{name} {description} {is_repeatable}")
 }
 
 #[test]
 fn checks_and_directives_are_made(rt: HostRuntime) {
     let alloc = rt.alloc();
-    says(&rt, said_of_null(&rt, alloc), "not a value of String");
-    says(&rt, directive_text(&rt, alloc), "flag marks true");
+    let check = scalar(&rt, alloc);
+    says(&rt, said_of_null(alloc, &check), "not a value of String");
+    let made = directive(&rt, alloc);
+    says(&rt, directive_text(alloc, &made), "flag marks true");
 }

@@ -24,19 +24,19 @@ const PLACES: [(DirectiveLocation, &str); 11] = [
 fn places_are_printed_in_words(rt: HostRuntime) {
     let alloc = rt.alloc();
     for (place, words) in &PLACES {
-        says(&rt, place.to_string(alloc).expect(&rt, "memory"), words);
+        says(&rt, place.to_string(alloc), words);
         let copy = place.clone().expect(&rt, "a copy");
-        says(&rt, copy.to_string(alloc).expect(&rt, "memory"), words);
+        says(&rt, copy.to_string(alloc), words);
     }
 }
 
 /// What the refusal prints is the text.
 fn tells(rt: &impl Abort, alloc: Global, refused: SchemaError, text: &str) {
-    says(rt, refused.to_string(alloc).expect(rt, "memory"), text);
+    says(rt, refused.to_string(alloc), text);
 }
 
 fn dog(rt: &impl Abort, alloc: Global) -> String {
-    words(rt, alloc, "Dog")
+    words(alloc, "Dog").expect(rt, "memory")
 }
 
 #[test]

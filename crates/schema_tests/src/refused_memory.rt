@@ -1,82 +1,113 @@
 //! Each request for memory refused in turn, from metadata to answers of a schema.
-use crate::schemas::{demo_types, schema_of};
+use crate::schemas::{Schema, demo_types, schema_of_queries};
+use language::error::OutOfMemory;
 use language::types::Type;
 use language::value::DefaultScalarValue;
 use meta::MetaType;
-use samples::checks::{check_string, refuse_token};
 use samples::rows::add_unions;
 use schema::error::SchemaError;
-use schema::model::{DirectiveType, SchemaType, TypeType};
-use std::alloc::Global;
+use schema::model::{DirectiveType, TypeType};
+use std::alloc::{AllocError, Global};
+use std::process::Abort;
 
-/// How many types may stand for the union, and how long the printed form of a copy of `[Dog!]` is.
-fn said_of_types(
+/// How many types and how many directives there are, how many types may stand for the union, and how long the printed form of a copy
+/// of `[Dog!]` is.
+type Counts = (usize, usize, usize, usize);
+
+/// How many types may stand for the union.
+fn count_of_members(alloc: Global, schema: &Schema) -> Result<usize, OutOfMemory> {
+    match schema.concrete_type_by_name("Pets") {
+        Some(meta) if meta.is_abstract() => Ok(schema.possible_types(alloc, meta)?.len()),
+        _ => Ok(0),
+    }
+}
+
+fn length(alloc: Global, made: &TypeType<'_, DefaultScalarValue>) -> Result<usize, AllocError> {
+    Ok(made.to_string(alloc)?.len())
+}
+
+fn length_of_copy(
     alloc: Global,
-    schema: &SchemaType<DefaultScalarValue>,
-) -> Result<(usize, usize), SchemaError> {
-    let members = match schema.concrete_type_by_name("Pets") {
-        Some(meta) if meta.is_abstract() => schema.possible_types(alloc, meta)?.len(),
-        _ => 0,
-    };
-    let named = Type::non_null(alloc, "Dog")?.wrap_list(None)?;
+    made: &TypeType<'_, DefaultScalarValue>,
+) -> Result<usize, AllocError> {
+    length(alloc, &made.clone()?)
+}
+
+/// How long the printed form of a copy of the type is.
+fn length_of_made(alloc: Global, schema: &Schema, named: &Type) -> Result<usize, OutOfMemory> {
     if !schema.is_known(named.innermost_name()) {
-        return Ok((members, 0));
+        return Ok(0);
     }
-    let made: TypeType<'_, DefaultScalarValue> = schema.make_type(alloc, named.as_borrowed())?;
-    Ok((members, made.clone()?.to_string(alloc)?.len()))
+    let made = schema.make_type(alloc, named.as_borrowed())?;
+    Ok(length_of_copy(alloc, &made)?)
 }
 
-/// Adds a directive `flag`; where that is refused, the schema still has its four.
-fn add_flag(alloc: Global, schema: &mut SchemaType<DefaultScalarValue>) -> Result<(), SchemaError> {
-    let flag = DirectiveType::new(alloc, "flag", Vec::new(alloc), Vec::new(alloc), false)?;
-    let Err(refused) = schema.add_directive(flag) else {
-        return Ok(());
-    };
-    match schema.directive_list(alloc)?.len() {
-        4 => Err(refused),
-        _ => Err(SchemaError::UnnamedType),
+/// `[Dog!]`
+fn dogs(alloc: Global) -> Result<Type, OutOfMemory> {
+    Type::non_null(alloc, "Dog")?.wrap_list(None)
+}
+
+fn count_of_types(alloc: Global, schema: &Schema) -> Result<usize, OutOfMemory> {
+    Ok(schema.type_list(alloc)?.len())
+}
+
+fn count_of_directives(alloc: Global, schema: &Schema) -> Result<usize, OutOfMemory> {
+    Ok(schema.directive_list(alloc)?.len())
+}
+
+/// What the calls that take memory say of a schema.
+fn counts(alloc: Global, schema: &Schema) -> Result<Counts, OutOfMemory> {
+    let types = count_of_types(alloc, schema)?;
+    let directives = count_of_directives(alloc, schema)?;
+    let members = count_of_members(alloc, schema)?;
+    let made = length_of_made(alloc, schema, &dogs(alloc)?)?;
+    Ok((types, directives, members, made))
+}
+
+/// Adds a directive `flag`.
+fn add_flag(alloc: Global, schema: &mut Schema) -> Result<(), SchemaError> {
+    let flag = DirectiveType::new(alloc, "flag", Vec::new(alloc), Vec::new(alloc), false);
+    schema.add_directive(flag?)
+}
+
+/// The same with the directive `flag` and a description added; where they are refused, the schema still has its four directives.
+fn counts_of_changed(
+    rt: &impl Abort,
+    alloc: Global,
+    schema: &mut Schema,
+) -> Result<Counts, SchemaError> {
+    match add_flag(alloc, schema) {
+        Ok(()) => {
+            schema.set_description("animals")?;
+            Ok(counts(alloc, schema)?)
+        }
+        Err(refused) => {
+            assert!(rt; count_of_directives(alloc, schema) == Ok(4));
+            Err(refused)
+        }
     }
 }
 
-/// How many types and how many directives there are.
-fn said_of_lists(
-    alloc: Global,
-    schema: &SchemaType<DefaultScalarValue>,
-) -> Result<(usize, usize), SchemaError> {
-    let types: Vec<TypeType<'_, DefaultScalarValue>> = schema.type_list(alloc)?;
-    Ok((types.len(), schema.directive_list(alloc)?.len()))
-}
-
-/// What the calls that take memory say of a schema of the types, with the directive `flag` added.
-fn said_of_schema(
-    alloc: Global,
-    types: Vec<MetaType>,
-) -> Result<((usize, usize), (usize, usize)), SchemaError> {
-    let mut schema = schema_of(alloc, types)?;
-    add_flag(alloc, &mut schema)?;
-    schema.set_description("animals")?;
-    let lists = said_of_lists(alloc, &schema)?;
-    Ok((lists, said_of_types(alloc, &schema)?))
-}
-
-/// The same of the types with a union of `Dog`.
-fn said_with_dogs(
-    alloc: Global,
-    mut types: Vec<MetaType>,
-) -> Result<((usize, usize), (usize, usize)), SchemaError> {
+/// The list with a union of `Dog`.
+fn with_dogs(alloc: Global, mut types: Vec<MetaType>) -> Result<Vec<MetaType>, OutOfMemory> {
     add_unions(alloc, &mut types, &[("Pets", &["Dog"])])?;
-    said_of_schema(alloc, types)
+    Ok(types)
+}
+
+fn schema_with_dogs(alloc: Global) -> Result<Schema, SchemaError> {
+    schema_of_queries(alloc, with_dogs(alloc, demo_types(alloc)?)?)
+}
+
+fn counts_with_dogs(rt: &impl Abort, alloc: Global) -> Result<Counts, SchemaError> {
+    let mut schema = schema_with_dogs(alloc)?;
+    counts_of_changed(rt, alloc, &mut schema)
 }
 
 /// Run with each request for memory refused in turn, the answer is the same or tells of the refusal.
 #[test]
 fn a_refused_request_changes_no_answer(rt: HostRuntime) {
-    let alloc = rt.alloc();
-    let Ok(types) = demo_types(alloc, check_string, refuse_token) else {
-        return;
-    };
-    match said_with_dogs(alloc, types) {
-        Ok(said) => assert_eq!(rt; said, ((7, 5), (1, 6))),
+    match counts_with_dogs(&rt, rt.alloc()) {
+        Ok(said) => assert_eq!(rt; said, (7, 5, 1, 6)),
         Err(refused) => assert_eq!(rt; refused, SchemaError::OutOfMemory),
     }
 }

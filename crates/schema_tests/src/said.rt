@@ -1,27 +1,20 @@
 //! What is said, as a text.
 use schema::error::SchemaError;
-use std::alloc::Global;
+use std::alloc::{AllocError, Global};
 use std::process::Abort;
 
 /// What is said is the text.
-pub fn says(rt: &impl Abort, said: String, want: &str) {
+pub fn says(rt: &impl Abort, said: Result<String, AllocError>, want: &str) {
+    let said = said.expect(rt, "memory");
     assert_eq!(rt; said.as_str(), want);
 }
 
 /// These words, as a text of its own.
-pub fn words(rt: &impl Abort, alloc: Global, text: &str) -> String {
-    String::from_str(alloc, text).expect(rt, "memory")
+pub fn words(alloc: Global, text: &str) -> Result<String, AllocError> {
+    String::from_str(alloc, text)
 }
 
-/// The refusal, or these words where there is none.
-pub fn shown(
-    rt: &impl Abort,
-    alloc: Global,
-    refused: Option<SchemaError>,
-    accepted: &str,
-) -> String {
-    match refused {
-        Some(refused) => format!(in alloc; "{refused:?}").expect(rt, "memory"),
-        None => words(rt, alloc, accepted),
-    }
+/// The refusal, as it is debugged.
+pub fn refusal(alloc: Global, refused: SchemaError) -> Result<String, AllocError> {
+    format!(in alloc; "{refused:?}")
 }

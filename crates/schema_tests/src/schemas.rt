@@ -1,63 +1,60 @@
-//! The schemas of the sample lists.
-ghost use Rattle.std.specs.Prelude.{◌≡◌};
-ghost use Rattle.meta.specs.Answers.{SameAnswer};
-
+//! The schemas of the sample lists, with one check for every type.
 use language::error::OutOfMemory;
 use language::value::DefaultScalarValue;
 use meta::MetaType;
-use meta::default_check::{DefaultCheck, InputValueParseFn, ScalarTokenParseFn};
+use meta::default_check::DefaultCheck;
 use samples::build::Checks;
+use samples::checks::{check_string, refuse_token};
 use samples::{demo, pets};
 use schema::error::SchemaError;
 use schema::model::SchemaType;
 use std::alloc::Global;
+use std::process::Abort;
 
-/// The same check for each type of a list.
-fn same_checks(check: InputValueParseFn, token: ScalarTokenParseFn) -> Checks
-    requires callable { (a : _) (v : _) → InputValueParseFn.pre check a v }
-    requires one_answer { (a b : _) (v w : _) (r s : _) → v.now ≡ w.now → InputValueParseFn.post check a v r → InputValueParseFn.post check b w s → SameAnswer r s }
-{
+pub type Schema = SchemaType<DefaultScalarValue>;
+
+fn scalar_check() -> DefaultCheck {
+    DefaultCheck::with_token(check_string, refuse_token)
+}
+
+pub fn input_check() -> DefaultCheck {
+    DefaultCheck::new(check_string)
+}
+
+fn checks() -> Checks {
     Checks {
-        int: DefaultCheck::with_token(check, token),
-        string: DefaultCheck::with_token(check, token),
-        boolean: DefaultCheck::with_token(check, token),
-        id: DefaultCheck::with_token(check, token),
-        dog_command: DefaultCheck::new(check),
-        complex_input: DefaultCheck::new(check),
-        pair_input: DefaultCheck::new(check),
+        int: scalar_check(),
+        string: scalar_check(),
+        boolean: scalar_check(),
+        id: scalar_check(),
+        dog_command: input_check(),
+        complex_input: input_check(),
+        pair_input: input_check(),
     }
 }
 
-/// The list `demo`, with this check for each type.
-pub fn demo_types(
-    alloc: Global,
-    check: InputValueParseFn,
-    token: ScalarTokenParseFn,
-) -> Result<Vec<MetaType>, OutOfMemory>
-    requires callable { (a : _) (v : _) → InputValueParseFn.pre check a v }
-    requires one_answer { (a b : _) (v w : _) (r s : _) → v.now ≡ w.now → InputValueParseFn.post check a v r → InputValueParseFn.post check b w s → SameAnswer r s }
-{
-    demo::types(alloc, same_checks(check, token))
+pub fn demo_types(alloc: Global) -> Result<Vec<MetaType>, OutOfMemory> {
+    demo::types(alloc, checks())
 }
 
-/// The list `pets`, with this check for each type.
-pub fn pets_types(
-    alloc: Global,
-    check: InputValueParseFn,
-    token: ScalarTokenParseFn,
-) -> Result<Vec<MetaType>, OutOfMemory>
-    requires callable { (a : _) (v : _) → InputValueParseFn.pre check a v }
-    requires one_answer { (a b : _) (v w : _) (r s : _) → v.now ≡ w.now → InputValueParseFn.post check a v r → InputValueParseFn.post check b w s → SameAnswer r s }
-{
-    pets::types(alloc, same_checks(check, token))
+pub fn pets_types(alloc: Global) -> Result<Vec<MetaType>, OutOfMemory> {
+    pets::types(alloc, checks())
 }
 
-/// The schema of a list, whose root of queries is `QueryRoot`.
+/// The schema of a list with these roots, or why it is refused. All tests make theirs here, since a call of the builder is dear to prove.
 pub fn schema_of(
     alloc: Global,
     types: Vec<MetaType>,
-) -> Result<SchemaType<DefaultScalarValue>, SchemaError> {
-    SchemaType::<DefaultScalarValue>::new(
+    query: &str,
+    mutation: &str,
+    subscription: &str,
+) -> Result<Schema, SchemaError> {
+    Schema::new(alloc, types, query, mutation, subscription)
+}
+
+/// The same with queries alone.
+pub fn schema_of_queries(alloc: Global, types: Vec<MetaType>) -> Result<Schema, SchemaError> {
+    schema_of(
         alloc,
         types,
         "QueryRoot",
@@ -67,13 +64,7 @@ pub fn schema_of(
 }
 
 /// The schema of the list `pets`.
-pub fn pets_schema(
-    alloc: Global,
-    check: InputValueParseFn,
-    token: ScalarTokenParseFn,
-) -> Result<SchemaType<DefaultScalarValue>, SchemaError>
-    requires callable { (a : _) (v : _) → InputValueParseFn.pre check a v }
-    requires one_answer { (a b : _) (v w : _) (r s : _) → v.now ≡ w.now → InputValueParseFn.post check a v r → InputValueParseFn.post check b w s → SameAnswer r s }
-{
-    schema_of(alloc, pets_types(alloc, check, token)?)
+pub fn pets_schema(rt: &impl Abort, alloc: Global) -> Schema {
+    let types = pets_types(alloc).expect(rt, "the list");
+    schema_of_queries(alloc, types).expect(rt, "a schema")
 }
