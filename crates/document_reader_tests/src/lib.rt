@@ -4,4 +4,6 @@
 #[cfg(test)]
 mod outline;
 #[cfg(test)]
+mod same;
+#[cfg(test)]
 mod texts;

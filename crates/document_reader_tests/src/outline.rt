@@ -1,12 +1,12 @@
 //! What the reader makes of a document that has everything, with its spans.
+use crate::same::same;
 use document_reader::read_document;
 use language::position::{Span, Spanning};
 use language::tree::{
-    Arguments, Definition, Directive, Fragment, Operation, OperationType, Selection,
+    Arguments, Definition, Directive, Field, Fragment, Operation, OperationType, Selection,
     VariableDefinition, VariableDefinitions,
 };
 use language::value::{DefaultScalarValue, InputValue};
-use std::alloc::AllocError;
 
 type Value = InputValue<DefaultScalarValue>;
 
@@ -130,214 +130,191 @@ no alias\n\
 name n7 293=14:2 295=14:4\n\
 end\n";
 
-/// A line: the kind of node, and the index, line and column of its start and of its end.
-fn print_span(out: &mut String, kind: &str, span: &Span) -> Result<(), AllocError> {
-    let Span { start, end } = *span;
-    let (first, last) = (start.index(), end.index());
-    writeln!(out, "{kind} {first}={start} {last}={end}")
+/// A line: the kind of node, and the index, line and column of its start and of its end. A line that finds no memory is missed
+/// when the outlines are compared.
+fn print_span(out: &mut String, kind: &str, span: &Span) {
+    let (first, last) = (span.start.index(), span.end.index());
+    let _ = writeln!(out, "{kind} {first}={} {last}={}", span.start, span.end);
 }
 
 /// The same with the node's text after its kind.
-fn print_node(out: &mut String, kind: &str, text: &str, span: &Span) -> Result<(), AllocError> {
-    write!(out, "{kind} {text}")?;
-    print_span(out, "", span)
+fn print_node(out: &mut String, kind: &str, text: &str, span: &Span) {
+    let _ = write!(out, "{kind} {text}");
+    print_span(out, "", span);
 }
 
-fn print_name(out: &mut String, kind: &str, name: &Spanning<&str>) -> Result<(), AllocError> {
-    print_node(out, kind, name.item, &name.span)
+fn print_name(out: &mut String, kind: &str, name: &Spanning<&str>) {
+    print_node(out, kind, name.item, &name.span);
 }
 
-fn print_optional(
-    out: &mut String,
-    kind: &str,
-    name: &Option<Spanning<&str>>,
-) -> Result<(), AllocError> {
+fn print_optional(out: &mut String, kind: &str, name: &Option<Spanning<&str>>) {
     match name {
         Some(name) => print_name(out, kind, name),
-        None => writeln!(out, "no {kind}"),
+        None => print_word(out, "no ", kind),
     }
 }
 
-fn print_value(out: &mut String, value: &Spanning<Value>) -> Result<(), AllocError> {
+/// A line of a word and what stands before it.
+fn print_word(out: &mut String, before: &str, word: &str) {
+    let _ = writeln!(out, "{before}{word}");
+}
+
+fn print_value(out: &mut String, value: &Spanning<Value>) {
     match &value.item {
-        InputValue::Null => print_span(out, "null", &value.span),
-        InputValue::Scalar(DefaultScalarValue::Int(n)) => {
-            writeln!(out, "int {n}")?;
-            print_span(out, "at", &value.span)
-        }
-        InputValue::Scalar(DefaultScalarValue::String(text)) => {
-            print_node(out, "string", text.as_str(), &value.span)
-        }
-        InputValue::Scalar(DefaultScalarValue::Boolean(true)) => {
-            print_node(out, "boolean", "true", &value.span)
-        }
-        InputValue::Scalar(DefaultScalarValue::Boolean(false)) => {
-            print_node(out, "boolean", "false", &value.span)
-        }
-        InputValue::Enum(name) => print_node(out, "enum", name.as_str(), &value.span),
-        InputValue::Variable(name) => print_node(out, "variable", name.as_str(), &value.span),
         InputValue::List(items) => {
-            print_span(out, "list", &value.span)?;
+            print_span(out, "list", &value.span);
             for item in items {
-                print_value(out, item)?;
+                print_value(out, item);
             }
-            Ok(())
         }
         InputValue::Object(entries) => {
-            print_span(out, "object", &value.span)?;
+            print_span(out, "object", &value.span);
             for (key, item) in entries {
-                print_node(out, "key", key.item.as_str(), &key.span)?;
-                print_value(out, item)?;
+                print_node(out, "key", key.item.as_str(), &key.span);
+                print_value(out, item);
             }
-            Ok(())
         }
+        InputValue::Scalar(scalar) => print_scalar(out, scalar, &value.span),
+        InputValue::Null => print_span(out, "null", &value.span),
+        InputValue::Enum(name) => print_node(out, "enum", name.as_str(), &value.span),
+        InputValue::Variable(name) => print_node(out, "variable", name.as_str(), &value.span),
+    }
+}
+
+fn print_scalar(out: &mut String, scalar: &DefaultScalarValue, span: &Span) {
+    match scalar {
+        DefaultScalarValue::Int(n) => {
+            let _ = writeln!(out, "int {n}");
+            print_span(out, "at", span);
+        }
+        DefaultScalarValue::String(text) => print_node(out, "string", text.as_str(), span),
+        DefaultScalarValue::Boolean(true) => print_node(out, "boolean", "true", span),
+        DefaultScalarValue::Boolean(false) => print_node(out, "boolean", "false", span),
     }
 }
 
 fn print_arguments(
     out: &mut String,
     arguments: &Option<Spanning<Arguments<'_, DefaultScalarValue>>>,
-) -> Result<(), AllocError> {
-    let Some(arguments) = arguments else {
-        return Ok(());
-    };
-    print_span(out, "arguments", &arguments.span)?;
-    for (name, value) in &arguments.item.items {
-        print_name(out, "argument", name)?;
-        print_value(out, value)?;
+) {
+    if let Some(arguments) = arguments {
+        print_span(out, "arguments", &arguments.span);
+        for (name, value) in &arguments.item.items {
+            print_name(out, "argument", name);
+            print_value(out, value);
+        }
     }
-    Ok(())
 }
 
 fn print_directives(
     out: &mut String,
     directives: &Option<Vec<Spanning<Directive<'_, DefaultScalarValue>>>>,
-) -> Result<(), AllocError> {
-    let Some(directives) = directives else {
-        return Ok(());
-    };
-    for directive in directives {
-        print_span(out, "directive", &directive.span)?;
-        print_name(out, "name", &directive.item.name)?;
-        print_arguments(out, &directive.item.arguments)?;
+) {
+    if let Some(directives) = directives {
+        for directive in directives {
+            print_span(out, "directive", &directive.span);
+            print_name(out, "name", &directive.item.name);
+            print_arguments(out, &directive.item.arguments);
+        }
     }
-    Ok(())
 }
 
-fn print_selections(
-    out: &mut String,
-    selections: &[Selection<'_, DefaultScalarValue>],
-) -> Result<(), AllocError> {
+fn print_selections(out: &mut String, selections: &[Selection<'_, DefaultScalarValue>]) {
     for selection in selections {
         match selection {
             Selection::Field(field) => {
-                print_span(out, "field", &field.span)?;
-                print_optional(out, "alias", &field.item.alias)?;
-                print_name(out, "name", &field.item.name)?;
-                print_arguments(out, &field.item.arguments)?;
-                print_directives(out, &field.item.directives)?;
+                print_field(out, &field.item, &field.span);
                 if let Some(set) = &field.item.selection_set {
-                    print_selections(out, set.as_slice())?;
-                    writeln!(out, "end")?;
+                    print_selections(out, set.as_slice());
+                    print_word(out, "", "end");
                 }
             }
             Selection::FragmentSpread(spread) => {
-                print_span(out, "spread", &spread.span)?;
-                print_name(out, "name", &spread.item.name)?;
-                print_directives(out, &spread.item.directives)?;
+                print_span(out, "spread", &spread.span);
+                print_name(out, "name", &spread.item.name);
+                print_directives(out, &spread.item.directives);
             }
             Selection::InlineFragment(inline) => {
-                print_span(out, "inline", &inline.span)?;
-                print_optional(out, "condition", &inline.item.type_condition)?;
-                print_directives(out, &inline.item.directives)?;
-                print_selections(out, inline.item.selection_set.as_slice())?;
-                writeln!(out, "end")?;
+                print_span(out, "inline", &inline.span);
+                print_optional(out, "condition", &inline.item.type_condition);
+                print_directives(out, &inline.item.directives);
+                print_selections(out, inline.item.selection_set.as_slice());
+                print_word(out, "", "end");
             }
         }
     }
-    Ok(())
 }
 
-fn print_variable(
-    out: &mut String,
-    definition: &VariableDefinition<'_, DefaultScalarValue>,
-) -> Result<(), AllocError> {
-    let var_type = &definition.var_type.item;
-    writeln!(out, "type {var_type}")?;
-    print_span(out, "at", &definition.var_type.span)?;
+// A field without its set.
+fn print_field(out: &mut String, field: &Field<'_, DefaultScalarValue>, span: &Span) {
+    print_span(out, "field", span);
+    print_optional(out, "alias", &field.alias);
+    print_name(out, "name", &field.name);
+    print_arguments(out, &field.arguments);
+    print_directives(out, &field.directives);
+}
+
+fn print_variable(out: &mut String, definition: &VariableDefinition<'_, DefaultScalarValue>) {
+    let _ = writeln!(out, "type {}", definition.var_type.item);
+    print_span(out, "at", &definition.var_type.span);
     if let Some(value) = &definition.default_value {
-        print_value(out, value)?;
+        print_value(out, value);
     }
-    print_directives(out, &definition.directives)
+    print_directives(out, &definition.directives);
 }
 
 fn print_variables(
     out: &mut String,
     definitions: &Option<Spanning<VariableDefinitions<'_, DefaultScalarValue>>>,
-) -> Result<(), AllocError> {
-    let Some(definitions) = definitions else {
-        return Ok(());
-    };
-    print_span(out, "variables", &definitions.span)?;
-    for (name, definition) in &definitions.item.items {
-        print_name(out, "defines", name)?;
-        print_variable(out, definition)?;
+) {
+    if let Some(definitions) = definitions {
+        print_span(out, "variables", &definitions.span);
+        for (name, definition) in &definitions.item.items {
+            print_name(out, "defines", name);
+            print_variable(out, definition);
+        }
     }
-    Ok(())
 }
 
-fn print_operation(
-    out: &mut String,
-    operation: &Operation<'_, DefaultScalarValue>,
-    span: &Span,
-) -> Result<(), AllocError> {
-    let kind = match operation.operation_type {
+fn kind_of(operation: OperationType) -> &'static str {
+    match operation {
         OperationType::Query => "query",
         OperationType::Mutation => "mutation",
         OperationType::Subscription => "subscription",
-    };
-    print_span(out, kind, span)?;
-    print_optional(out, "name", &operation.name)?;
-    print_variables(out, &operation.variable_definitions)?;
-    print_directives(out, &operation.directives)?;
-    print_selections(out, operation.selection_set.as_slice())?;
-    writeln!(out, "end")
+    }
 }
 
-fn print_fragment(
-    out: &mut String,
-    fragment: &Fragment<'_, DefaultScalarValue>,
-    span: &Span,
-) -> Result<(), AllocError> {
-    print_span(out, "fragment", span)?;
-    print_name(out, "name", &fragment.name)?;
-    print_name(out, "condition", &fragment.type_condition)?;
-    print_directives(out, &fragment.directives)?;
-    print_selections(out, fragment.selection_set.as_slice())?;
-    writeln!(out, "end")
+fn print_operation(out: &mut String, operation: &Spanning<Operation<'_, DefaultScalarValue>>) {
+    let item = &operation.item;
+    print_span(out, kind_of(item.operation_type), &operation.span);
+    print_optional(out, "name", &item.name);
+    print_variables(out, &item.variable_definitions);
+    print_directives(out, &item.directives);
+    print_selections(out, item.selection_set.as_slice());
 }
 
-fn print_definitions(
-    out: &mut String,
-    definitions: &[Definition<'_, DefaultScalarValue>],
-) -> Result<(), AllocError> {
+fn print_fragment(out: &mut String, fragment: &Spanning<Fragment<'_, DefaultScalarValue>>) {
+    print_span(out, "fragment", &fragment.span);
+    print_name(out, "name", &fragment.item.name);
+    print_name(out, "condition", &fragment.item.type_condition);
+    print_directives(out, &fragment.item.directives);
+    print_selections(out, fragment.item.selection_set.as_slice());
+}
+
+fn print_definitions(out: &mut String, definitions: &[Definition<'_, DefaultScalarValue>]) {
     for definition in definitions {
         match definition {
-            Definition::Operation(operation) => {
-                print_operation(out, &operation.item, &operation.span)?;
-            }
-            Definition::Fragment(fragment) => {
-                print_fragment(out, &fragment.item, &fragment.span)?;
-            }
+            Definition::Operation(operation) => print_operation(out, operation),
+            Definition::Fragment(fragment) => print_fragment(out, fragment),
         }
+        print_word(out, "", "end");
     }
-    Ok(())
 }
 
 #[test]
 fn reads_everything_in_its_place(rt: HostRuntime) {
     let definitions = read_document(rt.alloc(), DOCUMENT).expect(&rt, "a document");
     let mut out = String::new(rt.alloc());
-    print_definitions(&mut out, definitions.as_slice()).expect(&rt, "memory");
-    assert_eq!(rt; out.as_str(), OUTLINE);
+    print_definitions(&mut out, definitions.as_slice());
+    same(&rt, out.as_str(), OUTLINE);
 }

@@ -1,43 +1,51 @@
-//! What the reader makes of texts that are no documents.
+//! What the reader makes of a type, of a value, and of texts that are neither.
+use crate::same::same;
 use document_reader::{ReadError, read_type, read_value};
 use language::types::TypeModifier;
+use std::alloc::Global;
 use std::process::Abort;
+
+/// What stands round `Int`, from the inside.
+const MODIFIERS: [TypeModifier; 3] = [
+    TypeModifier::List(Some(12)),
+    TypeModifier::NonNull,
+    TypeModifier::List(Some(0)),
+];
 
 #[test]
 fn a_list_keeps_the_size_behind_it(rt: HostRuntime) {
     let read = read_type(rt.alloc(), b" [[Int]#12!]#0").expect(&rt, "a type");
-    let modifiers = [
-        TypeModifier::List(Some(12)),
-        TypeModifier::NonNull,
-        TypeModifier::List(Some(0)),
-    ];
-    assert_eq!(rt; read.item.modifiers(), modifiers.as_slice());
-    assert_eq!(rt; read.span.start.index(), 1);
+    let kept = read.item.modifiers() == MODIFIERS.as_slice();
+    assert!(rt; kept && read.span.start.index() == 1);
 }
 
 /// The fault is there.
 fn is_at(rt: &impl Abort, refused: Option<ReadError>, index: usize) {
-    match refused {
-        Some(ReadError::Fault(place)) => assert_eq!(rt; place.index(), index),
-        _ => panic!(rt; "no fault"),
-    }
+    let told = match refused {
+        Some(ReadError::Fault(place)) => place.index() == index,
+        _ => false,
+    };
+    assert!(rt; told);
 }
 
+/// A type is the whole text, and a value of a variable holds none.
 #[test]
-fn a_type_is_the_whole_text(rt: HostRuntime) {
+fn a_fault_is_told_where_it_is(rt: HostRuntime) {
     is_at(&rt, read_type(rt.alloc(), b"[Int] !!").err(), 7);
+    is_at(&rt, read_value(rt.alloc(), b"{a: $b}").err(), 4);
+}
+
+/// A value as it prints, and where it ends.
+fn printed(alloc: Global, text: &[u8]) -> String {
+    let mut out = String::new(alloc);
+    if let Ok(read) = read_value(alloc, text) {
+        let _ = write!(out, "{} {}", read.item, read.span.end.index());
+    }
+    out
 }
 
 #[test]
 fn a_value_prints_as_it_was_read(rt: HostRuntime) {
-    let read = read_value(rt.alloc(), b"{a: [1 null], b: {c: X}}").expect(&rt, "a value");
-    let value = &read.item;
-    let text = value.to_string(rt.alloc()).expect(&rt, "memory");
-    assert_eq!(rt; text.as_str(), "{a: [1, null], b: {c: X}}");
-    assert_eq!(rt; read.span.end.index(), 24);
-}
-
-#[test]
-fn a_value_of_a_variable_holds_none(rt: HostRuntime) {
-    is_at(&rt, read_value(rt.alloc(), b"{a: $b}").err(), 4);
+    let text = printed(rt.alloc(), b"{a: [1 null], b: {c: X}}");
+    same(&rt, text.as_str(), "{a: [1, null], b: {c: X}} 24");
 }
