@@ -12,4 +12,4 @@ pub mod Order
 pub mod Rows
 pub mod Tallying
 pub mod Work
-pub mod Gathering
+pub mod Naming

@@ -11,4 +11,3 @@ pub mod Counts
 pub mod State
 pub mod Sound
 pub mod Tops
-pub mod Groups

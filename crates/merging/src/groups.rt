@@ -1,60 +1,55 @@
 //! The fields of a set by their response names.
-ghost use Rattle.std.specs.Prelude.{◌≡◌, [], ℕ, OnOk, IfOk};
-ghost use Rattle.merging.specs.Groups.{group_of, Takes, AddsField, Gathers};
+ghost use Rattle.std.specs.Prelude.{◌≡◌, IfOk};
+ghost use Rattle.merging.specs.Names as Spec;
 
 use crate::node::{Entry, SetNode};
 use std::alloc::{AllocError, Global};
-use std::collections::BTreeMap;
 
-/// The response names that were met, and the fields of each.
-#[derive(Drop)]
-pub struct Groups {
-    pub names: Vec<usize>,
-    pub fields: BTreeMap<usize, Vec<Entry>>,
+/// The fields of a response name, among fields sorted by it.
+pub(crate) fn fields_named(fields: &[Entry], name: usize) -> &[Entry]
+    requires { Spec.AreSorted fields.now }
+    ensures { result.now ≡ Spec.named name fields.now }
+{
+    let start = fields.partition_point(|a| a.response < name);
+    let rest = &fields[start..];
+    let end = rest.partition_point(|a| a.response <= name);
+    &rest[..end]
 }
 
-// No field.
-fn no_groups(alloc: Global) -> Groups
-    ensures { (n : ℕ) → group_of result n ≡ [] }
+// The fields by the numbers of their response names; those of one name keep their order.
+fn sort_fields(alloc: Global, own: &[Entry]) -> Result<Vec<Entry>, AllocError>
+    ensures sorted { IfOk result (λ v. Spec.AreSorted v.items) }
+    ensures grouped { IfOk result (λ v. Spec.HaveSameGroups v.items own.now) }
 {
-    Groups {
-        names: Vec::new(alloc),
-        fields: BTreeMap::new(alloc),
+    let mut by_name = Vec::from_slice(alloc, own)?;
+    by_name.sort_by_key(|a| a.response)?;
+    Ok(by_name)
+}
+
+// Whether a field is the first of its name.
+fn is_first(by_name: &[Entry], field: Entry) -> bool
+    requires { Spec.AreSorted by_name.now }
+    ensures { result ≡ Spec.is_first by_name.now field }
+{
+    match fields_named(by_name, field.response).first() {
+        Some(first) => first.field == field.field,
+        None => false,
     }
 }
 
-// Takes the fields of a name out.
-fn take_group(alloc: Global, groups: &mut Groups, name: usize) -> Vec<Entry>
-    ensures { Takes name result.items groups.old groups.new }
+// The response names, in the order in which they stand first.
+fn list_names(alloc: Global, own: &[Entry], by_name: &[Entry]) -> Result<Vec<usize>, AllocError>
+    requires sorted { Spec.AreSorted by_name.now }
+    requires grouped { Spec.HaveSameGroups by_name.now own.now }
+    ensures { IfOk result (λ v. Spec.AreListed v.items own.now) }
 {
-    match groups.fields.remove(&name) {
-        Some(fields) => fields,
-        None => Vec::new(alloc),
-    }
-}
-
-// Adds a field to those of its name.
-fn add_field(alloc: Global, groups: &mut Groups, field: Entry) -> Result<(), AllocError>
-    ensures { OnOk result (AddsField field groups.old groups.new) }
-{
-    let mut fields = take_group(alloc, groups, field.response);
-    if fields.is_empty() {
-        groups.names.push(field.response)?;
-    }
-    fields.push(field)?;
-    groups.fields.insert(field.response, fields)?;
-    Ok(())
-}
-
-// The fields by their names.
-fn gather(alloc: Global, own: &[Entry]) -> Result<Groups, AllocError>
-    ensures { IfOk result (Gathers own.now) }
-{
-    let mut groups = no_groups(alloc);
+    let mut names = Vec::with_capacity(alloc, own.len())?;
     for field in own {
-        add_field(alloc, &mut groups, *field)?;
+        if is_first(by_name, *field) {
+            names.push(field.response)?;
+        }
     }
-    Ok(groups)
+    Ok(names)
 }
 
 /// A set of these own fields, which spreads these fragments.
@@ -62,11 +57,12 @@ pub fn make_set(alloc: Global, own: Vec<Entry>, spreads: Vec<usize>) -> Result<S
     ensures own { IfOk result (λ set. set.own ≡ own) }
     ensures spreads { IfOk result (λ set. set.spreads ≡ spreads) }
 {
-    let groups = gather(alloc, own.as_slice())?;
+    let by_name = sort_fields(alloc, own.as_slice())?;
+    let names = list_names(alloc, own.as_slice(), by_name.as_slice())?;
     Ok(SetNode {
         own,
         spreads,
-        names: groups.names,
-        groups: groups.fields,
+        names,
+        by_name,
     })
 }

@@ -1,11 +1,5 @@
 //! Sets of fields.
-ghost use Rattle.std.specs.Prelude.{◌≡◌, ℕ, []};
-ghost use Rattle.std.specs.Option.{option_map_or};
-ghost use Rattle.std.specs.Ordering.{nat_cmp};
-ghost use Rattle.std.specs.BTreeMap.{get};
-ghost use Rattle.merging.specs.Names.{named, AreListed};
-
-use std::collections::BTreeMap;
+ghost use Rattle.merging.specs.Names.{AreListed, AreSorted, HaveSameGroups};
 
 /// A field of a set: the numbers of its response name, of itself, and of the set below it.
 #[derive(Clone, Copy, Debug)]
@@ -22,8 +16,9 @@ pub struct SetNode {
     pub spreads: Vec<usize>,
     /// The response names, in the order in which they stand first.
     pub names: Vec<usize>,
-    /// The fields of each name.
-    pub groups: BTreeMap<usize, Vec<Entry>>,
+    /// The own fields by the numbers of their response names; those of one name in their order.
+    pub by_name: Vec<Entry>,
     ghost listed: { AreListed names.items own.items },
-    ghost grouped: { (n : ℕ) → option_map_or (λ g. g.items) (get nat_cmp groups n) [] ≡ named n own.items },
+    ghost sorted: { AreSorted by_name.items },
+    ghost grouped: { HaveSameGroups by_name.items own.items },
 }

@@ -4,6 +4,7 @@ ghost use Rattle.merging.specs.Names.{named, AreListed};
 ghost use Rattle.merging.specs.World.{world, own_of, spreads_of, set_of, exclusive_of, conflict_of};
 
 use crate::graph::Graph;
+use crate::groups::fields_named;
 use crate::judge::Judge;
 use crate::node::Entry;
 
@@ -32,10 +33,7 @@ pub fn group<J: Judge>(graph: &Graph<J>, s: usize, name: usize) -> &[Entry]
     ensures { result.now ≡ named name (own_of (world J.judgement graph.now) s) }
 {
     match graph.sets.get(s) {
-        Some(node) => match node.groups.get(&name) {
-            Some(fields) => fields.as_slice(),
-            None => &[],
-        },
+        Some(node) => fields_named(node.by_name.as_slice(), name),
         None => &[],
     }
 }
