@@ -1,4 +1,7 @@
 //! Errors of documents, with their places in files.
+ghost use Rattle.std.specs.Prelude.{◌≡◌, IfOk};
+ghost use Rattle.lint_parts.specs.Issues.{file_count};
+
 use crate::sources::{Joined, Place};
 use language::error::OutOfMemory;
 use language::position::SourcePosition;
@@ -42,7 +45,9 @@ impl Issue {
 }
 
 /// How many files errors are told of.
-pub fn files_of(alloc: Global, issues: &[Issue]) -> Result<usize, OutOfMemory> {
+pub fn files_of(alloc: Global, issues: &[Issue]) -> Result<usize, OutOfMemory>
+    ensures { IfOk result (λ n. n ≡ file_count issues.now) }
+{
     let mut files = BTreeSet::new(alloc);
     for issue in issues {
         files.insert(issue.file)?;

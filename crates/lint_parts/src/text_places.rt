@@ -1,4 +1,8 @@
 //! Places of a text, and its lines. A line ends with a line feed, a carriage return, or both in this order (section 2.1.3).
+ghost use Rattle.std.specs.Prelude.{◌≡◌, take_while};
+ghost use Rattle.std.specs.List.{prefix_len};
+ghost use Rattle.lint_parts.specs.ShownLines.{IsLineOf, is_in_line};
+
 use language::position::SourcePosition;
 
 /// The place of an index of a text: its line, and the number of bytes before it in that line.
@@ -31,12 +35,28 @@ pub fn lines_before_feed(text: &str) -> usize {
 }
 
 /// The line in which a place of a text stands, without its end.
-pub fn line_of(text: &str, position: SourcePosition) -> &str {
+pub fn line_of(text: &str, position: SourcePosition) -> &str
+    ensures { IsLineOf text.now position result.now }
+{
     let start = position.index().saturating_sub(position.column());
-    let from_line = text.get(start..).unwrap_or("");
-    let length = from_line
-        .bytes()
+    match text.get(start..) {
+        Some(from_line) => first_line(from_line),
+        None => "",
+    }
+}
+
+// What stands before the first end of a line.
+fn first_line(text: &str) -> &str
+    ensures { result.now ≡ take_while is_in_line text.now }
+{
+    text.get(..first_length(text)).unwrap_or(text)
+}
+
+// How many bytes stand before the first end of a line.
+fn first_length(text: &str) -> usize
+    ensures { result ≡ prefix_len is_in_line text.now }
+{
+    text.bytes()
         .take_while(|byte| *byte != b'\n' && *byte != b'\r')
-        .count();
-    from_line.get(..length).unwrap_or(from_line)
+        .count()
 }
