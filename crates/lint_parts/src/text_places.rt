@@ -39,9 +39,10 @@ pub fn line_of(text: &str, position: SourcePosition) -> &str
     ensures { IsLineOf text.now position result.now }
 {
     let start = position.index().saturating_sub(position.column());
-    match text.get(start..) {
-        Some(from_line) => first_line(from_line),
-        None => "",
+    if text.is_char_boundary(start) {
+        first_line(&text[start..])
+    } else {
+        ""
     }
 }
 
@@ -49,7 +50,7 @@ pub fn line_of(text: &str, position: SourcePosition) -> &str
 fn first_line(text: &str) -> &str
     ensures { result.now ≡ take_while is_in_line text.now }
 {
-    text.get(..first_length(text)).unwrap_or(text)
+    &text[..first_length(text)]
 }
 
 // How many bytes stand before the first end of a line.

@@ -158,10 +158,15 @@ fn write_line(text: &mut String, sources: &[Source], place: Place) -> Result<(),
     Ok(())
 }
 
+// What stands before a column of a line.
 fn before_column(line: &str, column: usize) -> &str
     ensures { IsBefore line.now column result.now }
 {
-    line.get(..column).unwrap_or(line)
+    if line.is_char_boundary(column) {
+        &line[..column]
+    } else {
+        line
+    }
 }
 
 // A blank for each character, and a tab for a tab, so that what follows lines up.
