@@ -1,0 +1,3 @@
+pub mod Issues
+pub mod Lines
+pub mod Places
