@@ -14,3 +14,7 @@ ends_line byte bytes = if byte == 13 then not (starts_with_feed bytes) else byte
 abbrev pub line_ends : List ℕ → ℕ
 line_ends [] = 0
 line_ends (byte ∷ bytes) = (if ends_line byte bytes then 1 else 0) + line_ends bytes
+
+-- how many lines end with one byte more, which a carriage return precedes or not
+abbrev pub more_ends : Bool → ℕ → ℕ
+more_ends after_return byte = if byte == 13 then 1 else if byte == 10 then (if after_return then 0 else 1) else 0

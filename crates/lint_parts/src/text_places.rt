@@ -1,7 +1,7 @@
 //! Places of a text, and its lines. A line ends with a line feed, a carriage return, or both in this order (section 2.1.3).
-ghost use Rattle.std.specs.Prelude.{◌≡◌, ◌++◌, [], ◌∷◌, take};
+ghost use Rattle.std.specs.Prelude.{◌≡◌, ◌+◌, ◌≤◌, if◌then◌else◌, [], ◌∷◌, ◌++◌, length, take};
 ghost use Rattle.language.specs.Position as position;
-ghost use Rattle.lint_parts.specs.Lines.{line_ends};
+ghost use Rattle.lint_parts.specs.Lines.{line_ends, more_ends};
 
 use language::position::SourcePosition;
 
@@ -15,34 +15,41 @@ pub fn position_at(text: &[u8], index: usize) -> SourcePosition
         .rev()
         .take_while(|byte| **byte != b'\n' && **byte != b'\r')
         .count();
-    SourcePosition::new(before.len(), lines_ended(before), column)
+    SourcePosition::new(before.len(), lines_ended(before).0, column)
 }
 
 /// How many lines end in a text that a line feed follows.
 pub fn lines_before_feed(text: &str) -> usize
     ensures { result ≡ line_ends (text.now ++ 10 ∷ []) }
 {
-    let bytes = text.as_bytes();
-    let ended = lines_ended(bytes);
-    match bytes.last() {
-        Some(b'\r') => ended,
-        _ => ended + 1,
-    }
+    let (ended, after_return) = lines_ended(text.as_bytes());
+    if after_return { ended } else { ended + 1 }
 }
 
-// How many lines end in a text.
-fn lines_ended(text: &[u8]) -> usize
-    ensures { result ≡ line_ends text.now }
+// How many lines end in a text, and whether its last byte is a carriage return, so that a line feed ends no further line.
+fn lines_ended(text: &[u8]) -> (usize, bool)
+    ensures ended { result.0 ≡ line_ends text.now }
+    ensures fed { result.0 + (if result.1 then 0 else 1) ≡ line_ends (text.now ++ 10 ∷ []) }
+    ensures within { result.0 ≤ length text.now }
 {
     let mut ended: usize = 0;
     let mut after_return = false;
     for byte in text {
-        if *byte == b'\r' || (*byte == b'\n' && !after_return) {
-            ended += 1;
-        }
+        ended += more_ended(*byte, after_return);
         after_return = *byte == b'\r';
     }
-    ended
+    (ended, after_return)
+}
+
+// How many lines end with a byte, which a carriage return may precede.
+fn more_ended(byte: u8, after_return: bool) -> usize
+    ensures { result ≡ more_ends after_return byte }
+{
+    match byte {
+        b'\r' => 1,
+        b'\n' if !after_return => 1,
+        _ => 0,
+    }
 }
 
 /// The line in which a place of a text stands, without its end.

@@ -4,4 +4,4 @@ use Rattle.lint_parts.proofs.sources.Joined.start_before.Given as goal
 
 -- the last one so far
 abbrev pub invariant-loop-start : goal.invariant-loop-start
-invariant-loop-start l = l.found ≡ start_at (take l.start-index l.self.starts.items) l.index
+invariant-loop-start l = l.found ≡ start_at (take l.start-index l.start-items) l.index
