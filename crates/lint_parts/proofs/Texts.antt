@@ -1,0 +1,65 @@
+-- Texts that are added to a text.
+use Rattle.std.proofs.Common.{◌≡◌, ◌∙◌, ◌+◌, ◌<◌, ℕ, List, [], ◌∷◌, ◌++◌, Option, Some, None, IfSome, append_assoc, append-nil, ap, arith, codes, get_or, length, refl, string_bytes, subst, sym, take}
+use Rattle.std.proofs.lemmas.List.{take_more}
+use Rattle.std.proofs.lemmas.List.Folds.{concat-append}
+use Rattle.std.specs.Fmt.{AppendsText, option_append, with_newline}
+use Rattle.std.specs.List.{AllZip, concat}
+use Rattle.lint_parts.specs.declared.sources.Place.{Place}
+use Rattle.lint_parts.specs.declared.sources.Source.{Source}
+use Rattle.lint_parts.specs.Texts.{Adds, AreNotes, AreTexts, IsErrorText, IsTextAt, ShowsLine, line, path_in, told_place}
+
+-- one item more
+each_more : {X Y : Type 0} (P : X → Y → Type 0) (xs : List X) (ys : List Y) (x : X) (y : Y) → AllZip P xs ys → P x y → AllZip P (xs ++ x ∷ []) (ys ++ y ∷ [])
+each_more P [] [] x y each holds = (holds, tt)
+each_more P [] (v ∷ ys) x y each holds = absurd each
+each_more P (u ∷ xs) [] x y each holds = absurd each
+each_more P (u ∷ xs) (v ∷ ys) x y each holds = (each.0, each_more P xs ys x y each.1 holds)
+
+concat_more : (texts : List (List ℕ)) (text : List ℕ) → concat (texts ++ text ∷ []) ≡ concat texts ++ text
+concat_more texts text = concat-append texts (text ∷ []) ∙ ap (λ t. concat texts ++ t) (append-nil text)
+
+-- the text of the next item was written
+pub texts_more : {X : Type 0} (P : X → List ℕ → Type 0) (items : List X) (i : ℕ) (item : X) (start old new : List ℕ) → i < length items → item ≡ get_or items i item → Adds (AreTexts P (take i items)) start old → Adds (P item) old new → Adds (AreTexts P (take (i + 1) items)) start new
+texts_more P items i item start old new within is so_far more = record {
+  added = so_far.added ++ more.added;
+  new_is = more.new_is ∙ ap (λ t. t ++ more.added) so_far.new_is ∙ append_assoc start so_far.added more.added;
+  holds = record {
+    texts = so_far.holds.texts ++ more.added ∷ [];
+    each = subst (λ l. AllZip P l (so_far.holds.texts ++ more.added ∷ [])) (ap (λ x. take i items ++ x ∷ []) is ∙ sym (take_more items i item within)) (each_more P (take i items) so_far.holds.texts item more.added so_far.holds.each more.holds);
+    text_is = ap (λ t. t ++ more.added) so_far.holds.text_is ∙ sym (concat_more so_far.holds.texts more.added);
+  };
+}
+
+-- no item has been written
+pub no_texts : {X : Type 0} (P : X → List ℕ → Type 0) (start : List ℕ) → Adds (AreTexts P []) start start
+no_texts P start = record {
+  added = [];
+  new_is = sym (append-nil start);
+  holds = record { texts = []; each = tt; text_is = refl };
+}
+
+-- four texts in a row
+pub four_added : (old one two new a b c d : List ℕ) → one ≡ old ++ a → two ≡ one ++ (b ++ c) → new ≡ two ++ d → new ≡ old ++ (a ++ b ++ c ++ d)
+four_added old one two new a b c d first second third = third ∙ ap (λ t. t ++ d) (second ∙ ap (λ t. t ++ (b ++ c)) first) ∙ simp append_assoc refl
+
+-- an error is its place, its message and the line of the place
+pub error_added : (sources : List Source) (place : Place) (said : Option (List ℕ)) (old one two new : List ℕ) → one ≡ old ++ told_place sources place → AppendsText one two (with_newline (option_append (Some (codes "error: ")) said)) → Adds (ShowsLine sources place) two new → IfSome said (λ message. Adds (IsErrorText sources place message) old new)
+error_added sources place None old one two new placed told shown = tt
+error_added sources place (Some message) old one two new placed told shown = record {
+  added = told_place sources place ++ codes "error: " ++ line message ++ shown.added;
+  new_is = four_added old one two new (told_place sources place) (codes "error: ") (line message) shown.added placed (told ∙ ap (λ t. one ++ t) (append_assoc (codes "error: ") message (10 ∷ []))) shown.new_is;
+  holds = record { below = shown.added; shows = shown.holds; text_is = refl };
+}
+
+-- an error without a place
+pub unplaced_added : (sources : List Source) (file : ℕ) (message : List ℕ) (places : List Place) (old new : List ℕ) → length places ≡ 0 → new ≡ old ++ (path_in sources file ++ codes ": error: " ++ line message) → Adds (IsTextAt sources file message places) old new
+unplaced_added sources file message [] old new none is = record { added = path_in sources file ++ codes ": error: " ++ line message; new_is = is; holds = refl }
+unplaced_added sources file message (first ∷ others) old new none is = absurd (omega arith)
+
+-- an error with places
+pub placed_added : (sources : List Source) (file : ℕ) (message : List ℕ) (first : Place) (others places : List Place) (old one new : List ℕ) → places ≡ first ∷ others → Adds (IsErrorText sources first message) old one → Adds (AreNotes sources others) one new → Adds (IsTextAt sources file message places) old new
+placed_added sources file message first others places old one new is error notes = subst (λ l. Adds (IsTextAt sources file message l) old new) (sym is) (record {
+  added = error.added ++ notes.added;
+  new_is = notes.new_is ∙ ap (λ t. t ++ notes.added) error.new_is ∙ append_assoc old error.added notes.added;
+  holds = record { error = error.added; notes = notes.added; is_error = error.holds; are_notes = notes.holds; text_is = refl };
+})
