@@ -2,7 +2,7 @@
 use Rattle.std.proofs.Common.{◌≡◌, ◌∙◌, ◌+◌, ◌<◌, ◌≤◌, ℕ, List, [], ◌∷◌, ◌++◌, Option, Some, None, IfSome, append_assoc, append-nil, ap, codes, get_or, length, refl, string_bytes, subst, sym, take}
 use Rattle.std.proofs.lemmas.List.{take_all, take_more}
 use Rattle.std.proofs.lemmas.List.Folds.{concat-append}
-use Rattle.std.specs.Fmt.{AppendsText, option_append, with_newline}
+use Rattle.std.specs.Fmt.{AppendsText, option_append}
 use Rattle.std.specs.List.{AllZip, concat}
 use Rattle.lint_parts.specs.declared.issues.Issue.{Issue}
 use Rattle.lint_parts.specs.declared.sources.Place.{Place}
@@ -41,11 +41,11 @@ pub four_added : (old one two new a b c d : List ℕ) → one ≡ old ++ a → t
 four_added old one two new a b c d first second third = three_added old one two new a (b ++ c) d first second third ∙ ap (λ t. old ++ (t ++ d)) (sym (append_assoc a b c))
 
 -- an error is its place, its message and the line of the place
-pub error_added : (sources : List Source) (place : Place) (said : Option (List ℕ)) (old one two new : List ℕ) → one ≡ old ++ told_place sources place → AppendsText one two (with_newline (option_append (Some (codes "error: ")) said)) → Adds (ShowsLine sources place) two new → IfSome said (λ message. Adds (IsErrorText sources place message) old new)
+pub error_added : (sources : List Source) (place : Place) (said : Option (List ℕ)) (old one two new : List ℕ) → one ≡ old ++ told_place sources place → AppendsText one two (option_append (Some (codes "error: ")) (option_append said (Some (10 ∷ [])))) → Adds (ShowsLine sources place) two new → IfSome said (λ message. Adds (IsErrorText sources place message) old new)
 error_added sources place None old one two new placed told shown = tt
 error_added sources place (Some message) old one two new placed told shown = record {
   added = told_place sources place ++ codes "error: " ++ line message ++ shown.added;
-  new_is = four_added old one two new (told_place sources place) (codes "error: ") (line message) shown.added placed (told ∙ ap (λ t. one ++ t) (append_assoc (codes "error: ") message (10 ∷ []))) shown.new_is;
+  new_is = four_added old one two new (told_place sources place) (codes "error: ") (line message) shown.added placed told shown.new_is;
   holds = record { below = shown.added; shows = shown.holds; text_is = refl };
 }
 
