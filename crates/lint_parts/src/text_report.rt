@@ -61,11 +61,7 @@ pub fn text_report(
 
 /// An error: `path:line:column: error: message`, line and column counted from 1 and the column in bytes, and below it the line of that
 /// place with a mark below the place. Each further place is a note in the same form. An error without a place has its path alone.
-pub fn write_issue(
-    text: &mut String,
-    sources: &[Source],
-    issue: &Issue,
-) -> Result<(), OutOfMemory>
+pub fn write_issue(text: &mut String, sources: &[Source], issue: &Issue) -> Result<(), OutOfMemory>
     ensures { OnOk result (Adds (IsIssueText sources.now issue.now) (string_bytes text.old) (string_bytes text.new)) }
 {
     let Some((first, others)) = issue.places.as_slice().split_first() else {
@@ -92,11 +88,7 @@ pub fn write_fault<M: fmt::Display>(
 }
 
 // A note for each further place.
-fn write_notes(
-    text: &mut String,
-    sources: &[Source],
-    places: &[Place],
-) -> Result<(), OutOfMemory>
+fn write_notes(text: &mut String, sources: &[Source], places: &[Place]) -> Result<(), OutOfMemory>
     ensures { OnOk result (Adds (AreNotes sources.now places.now) (string_bytes text.old) (string_bytes text.new)) }
 {
     for place in places {
