@@ -1,8 +1,13 @@
 //! Errors of documents, with their places in files.
+ghost use Rattle.std.specs.Prelude.{◌≡◌, IfOk, map};
+ghost use Rattle.std.specs.BTreeSet.{IsFromIterResult};
+ghost use Rattle.std.specs.Ordering.{nat_cmp};
+ghost use Rattle.lint_parts.specs.Issues.{IsIssueIn, file_count, file_of};
+
 use crate::sources::{Joined, Place};
 use language::error::OutOfMemory;
 use language::position::SourcePosition;
-use std::alloc::Global;
+use std::alloc::{AllocError, Global};
 use std::collections::BTreeSet;
 
 /// An error of a document, or a fault of a file.
@@ -23,15 +28,14 @@ impl Issue {
         file: usize,
         message: &str,
         locations: &[SourcePosition],
-    ) -> Result<Issue, OutOfMemory> {
+    ) -> Result<Issue, OutOfMemory>
+        ensures { IfOk result (IsIssueIn joined.now file message.now locations.now) }
+    {
         let mut places = Vec::new(alloc);
         for location in locations {
             places.push(joined.place_of(*location))?;
         }
-        let file = match places.first() {
-            Some(place) => place.file,
-            None => file,
-        };
+        let file = file_of_first(places.as_slice(), file);
         let message = String::from_str(alloc, message)?;
         Ok(Issue {
             file,
@@ -41,11 +45,27 @@ impl Issue {
     }
 }
 
-/// How many files errors are told of.
-pub fn files_of(alloc: Global, issues: &[Issue]) -> Result<usize, OutOfMemory> {
-    let mut files = BTreeSet::new(alloc);
-    for issue in issues {
-        files.insert(issue.file)?;
+// The file of the first place, and this one where there is no place.
+fn file_of_first(places: &[Place], file: usize) -> usize
+    ensures { result ≡ file_of file places.now }
+{
+    match places.first() {
+        Some(place) => place.file,
+        None => file,
     }
+}
+
+/// How many files errors are told of.
+pub fn files_of(alloc: Global, issues: &[Issue]) -> Result<usize, OutOfMemory>
+    ensures { IfOk result (λ n. n ≡ file_count issues.now) }
+{
+    let files = file_set(alloc, issues)?;
     Ok(files.len())
+}
+
+// The files that errors are told of.
+fn file_set(alloc: Global, issues: &[Issue]) -> Result<BTreeSet<usize>, AllocError>
+    ensures { IfOk result (IsFromIterResult nat_cmp (map (λ i. i.file) issues.now)) }
+{
+    issues.iter().map(|issue| issue.file).collect(alloc)
 }

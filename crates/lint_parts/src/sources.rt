@@ -1,4 +1,7 @@
 //! Files that are read as one text, and the places of that text in the files.
+ghost use Rattle.std.specs.Prelude.{◌≡◌, OnOk};
+ghost use Rattle.lint_parts.specs.Places.{HasNoFile, JoinsFile, place_in, start_at, text_of};
+
 use crate::text_places::lines_before_feed;
 use language::error::OutOfMemory;
 use language::position::SourcePosition;
@@ -40,7 +43,9 @@ pub struct Joined {
 
 impl Joined {
     /// Of no file.
-    pub fn new(alloc: Global) -> Joined {
+    pub fn new(alloc: Global) -> Joined
+        ensures { HasNoFile result }
+    {
         Joined {
             text: String::new(alloc),
             starts: Vec::new(alloc),
@@ -49,12 +54,16 @@ impl Joined {
     }
 
     /// The whole text.
-    pub fn text(&self) -> &str {
+    pub fn text(&self) -> &str
+        ensures { result.now ≡ text_of self.now }
+    {
         self.text.as_str()
     }
 
     /// Adds the file of this number and this text.
-    pub fn add(&mut self, file: usize, text: &str) -> Result<(), OutOfMemory> {
+    pub fn add(&mut self, file: usize, text: &str) -> Result<(), OutOfMemory>
+        ensures { OnOk result (JoinsFile self.old file text.now self.new) }
+    {
         if !self.starts.is_empty() {
             self.text.push('\n')?;
         }
@@ -69,7 +78,9 @@ impl Joined {
     }
 
     /// Where a place of the joined text stands in its file. Its column stays, since each file begins a line.
-    pub fn place_of(&self, position: SourcePosition) -> Place {
+    pub fn place_of(&self, position: SourcePosition) -> Place
+        ensures { result ≡ place_in self.now position }
+    {
         let start = self.start_before(position.index());
         let index = position.index().saturating_sub(start.index);
         let line = position.line().saturating_sub(start.line);
@@ -80,13 +91,15 @@ impl Joined {
     }
 
     // The start of the last file that starts at an index or before it.
-    fn start_before(&self, index: usize) -> Start {
+    fn start_before(&self, index: usize) -> Start
+        ensures { result ≡ start_at self.now.starts.items index }
+    {
         let mut found = Start {
             file: 0,
             index: 0,
             line: 0,
         };
-        for start in self.starts.as_slice() {
+        for start in &self.starts {
             if start.index <= index {
                 found = *start;
             }
