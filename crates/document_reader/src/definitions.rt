@@ -25,6 +25,7 @@ pub fn read_document(
     for _ in 0..tokens.bound() {
         definitions.push(read_definition(alloc, &mut tokens)?)?;
         if matches!(tokens.ahead(), Token::End) {
+            definitions.shrink_to_fit();
             return Ok(definitions);
         }
     }
@@ -140,6 +141,7 @@ fn read_variable_definitions<'a>(
         tokens.expect(Punctuator::Colon)?;
         items.push((name, read_variable_definition(alloc, tokens)?))?;
         if tokens.take(Punctuator::ParenClose) {
+            items.shrink_to_fit();
             return Ok(Some(Spanning {
                 item: VariableDefinitions { items },
                 span: tokens.span_from(start),

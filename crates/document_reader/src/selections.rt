@@ -34,6 +34,7 @@ fn read_set<'a>(
     for _ in 0..tokens.bound() {
         read_selection(alloc, tokens, inner, &mut nodes)?;
         if tokens.take(Punctuator::BraceClose) {
+            nodes.shrink_to_fit();
             return Ok(nodes);
         }
     }

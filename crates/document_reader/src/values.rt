@@ -66,6 +66,7 @@ fn read_items(
     let mut items = Vec::new(alloc);
     for _ in 0..tokens.bound() {
         if tokens.take(Punctuator::BracketClose) {
+            items.shrink_to_fit();
             return Ok(items);
         }
         items.push(read_nested(alloc, tokens, variables, inner)?)?;
@@ -87,6 +88,7 @@ fn read_entries(
     let mut entries = Vec::new(alloc);
     for _ in 0..tokens.bound() {
         if tokens.take(Punctuator::BraceClose) {
+            entries.shrink_to_fit();
             return Ok(entries);
         }
         let key = read_key(alloc, tokens)?;
@@ -151,6 +153,7 @@ pub fn read_arguments<'a>(
         tokens.expect(Punctuator::Colon)?;
         items.push((name, read_value(alloc, tokens, variables)?))?;
         if tokens.take(Punctuator::ParenClose) {
+            items.shrink_to_fit();
             return Ok(Some(Spanning {
                 item: Arguments { items },
                 span: tokens.span_from(start),
@@ -172,6 +175,7 @@ pub fn read_directives<'a>(
     let mut directives = Vec::new(alloc);
     for _ in 0..tokens.bound() {
         if !tokens.is(Punctuator::At) {
+            directives.shrink_to_fit();
             return Ok(Some(directives));
         }
         directives.push(read_directive(alloc, tokens, variables)?)?;

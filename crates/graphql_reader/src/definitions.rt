@@ -28,6 +28,7 @@ pub fn read_document<'a>(
     for _ in 0..tokens.bound() {
         definitions.push(read_definition(&mut tokens)?)?;
         if tokens.is_at_end() {
+            definitions.shrink_to_fit();
             return Ok(definitions);
         }
     }
@@ -156,6 +157,7 @@ fn read_variables_from<'a>(
         tokens.expect(Punctuator::Colon, ":")?;
         items.push((name, read_variable_definition(tokens)?))?;
         if tokens.take(Punctuator::ParenClose) {
+            items.shrink_to_fit();
             return Ok(Some(Spanning {
                 item: VariableDefinitions { items },
                 span: tokens.span_from(start),

@@ -25,6 +25,7 @@ fn read_set<'a>(tokens: &mut Tokens<'a>, levels: usize) -> Result<Nodes<'a>, Rea
     for _ in 0..tokens.bound() {
         read_selection(tokens, inner, &mut nodes)?;
         if tokens.take(Punctuator::BraceClose) {
+            nodes.shrink_to_fit();
             return Ok(nodes);
         }
     }

@@ -82,6 +82,7 @@ fn read_items<'a>(
     let mut items = Vec::new(tokens.alloc());
     for _ in 0..tokens.bound() {
         if tokens.take(Punctuator::BracketClose) {
+            items.shrink_to_fit();
             return Ok(items);
         }
         items.push(read_nested(tokens, variables, inner)?)?;
@@ -102,6 +103,7 @@ fn read_entries<'a>(
     let mut entries = Vec::new(tokens.alloc());
     for _ in 0..tokens.bound() {
         if tokens.take(Punctuator::BraceClose) {
+            entries.shrink_to_fit();
             return Ok(entries);
         }
         let key = read_key(tokens)?;
@@ -216,6 +218,7 @@ pub fn read_arguments<'a>(
         tokens.expect(Punctuator::Colon, ":")?;
         items.push((name, read_value(tokens, variables)?))?;
         if tokens.take(Punctuator::ParenClose) {
+            items.shrink_to_fit();
             return Ok(Some(Spanning {
                 item: Arguments { items },
                 span: tokens.span_from(start),
@@ -236,6 +239,7 @@ pub fn read_directives<'a>(
     let mut directives = Vec::new(tokens.alloc());
     for _ in 0..tokens.bound() {
         if !tokens.is(Punctuator::At) {
+            directives.shrink_to_fit();
             return Ok(Some(directives));
         }
         directives.push(read_directive(tokens, variables)?)?;

@@ -42,7 +42,7 @@ fn searched_set(alloc: Global, set: &NumberedSet) -> Result<SetNode, AllocError>
 fn searched_sets(alloc: Global, sets: &[NumberedSet]) -> Result<Vec<SetNode>, AllocError>
     ensures { IfOk result (λ v. map plain_node v.items ≡ map plain_row sets.now) }
 {
-    let mut nodes = Vec::new(alloc);
+    let mut nodes = Vec::with_capacity(alloc, sets.len())?;
     for set in sets {
         nodes.push(searched_set(alloc, set)?)?;
     }

@@ -75,11 +75,10 @@ pub fn close_set<S, C>(
     ensures { IfOk result (λ n. ClosesSet place part n table.old table.new) }
 {
     let spreads = each_once(alloc, part.spreads.as_slice())?;
+    let mut own = part.own;
+    own.shrink_to_fit();
     let number = table.sets.len();
-    table.sets.push(NumberedSet {
-        own: part.own,
-        spreads,
-    })?;
+    table.sets.push(NumberedSet { own, spreads })?;
     table.order[place] = number;
     Ok(number)
 }
