@@ -4,8 +4,8 @@ use language::error::OutOfMemory;
 use language::scalar::ScalarValue;
 use language::tree::Operation;
 use language::types::BorrowedType;
-use meta::MetaTypeOf;
-use meta::check::CheckedScalar;
+use language::value::DefaultScalarValue;
+use meta::MetaType;
 use std::alloc::AllocError;
 use walk::{Event, Machine, ValidatorContext, Visitor};
 
@@ -23,11 +23,11 @@ impl<S, C> Machine<S, C> for Recorder {
     ghost step = { λ scope event a b es. es ≡ [] };
 }
 
-impl<'a, S: CheckedScalar> Visitor<'a, S> for Recorder {
+impl<'a> Visitor<'a, DefaultScalarValue> for Recorder {
     fn on(
         &mut self,
-        ctx: &mut ValidatorContext<'a, S>,
-        event: &Event<'a, S>,
+        ctx: &mut ValidatorContext<'a, DefaultScalarValue>,
+        event: &Event<'a, DefaultScalarValue>,
     ) -> Result<(), OutOfMemory> {
         let (name, node) = told(event);
         write!(self.text, "{name}({node})")?;
@@ -37,9 +37,9 @@ impl<'a, S: CheckedScalar> Visitor<'a, S> for Recorder {
 }
 
 /// Writes the type at hand, that type as it was written, the parent type and the input type as it was written, and ends the line.
-pub fn show_types<S: CheckedScalar>(
+pub fn show_types(
     out: &mut String,
-    ctx: &ValidatorContext<'_, S>,
+    ctx: &ValidatorContext<'_, DefaultScalarValue>,
 ) -> Result<(), AllocError> {
     let current = name_of(ctx.current_type());
     write!(out, " {current} ")?;
@@ -50,7 +50,7 @@ pub fn show_types<S: CheckedScalar>(
     out.push('\n')
 }
 
-fn name_of<'a, S, C>(meta: Option<&'a MetaTypeOf<S, C>>) -> &'a str {
+fn name_of(meta: Option<&MetaType>) -> &str {
     match meta {
         Some(meta) => meta.name().unwrap_or("-"),
         None => "-",
@@ -64,7 +64,7 @@ fn show(out: &mut String, literal: Option<BorrowedType<'_>>) -> Result<(), Alloc
     }
 }
 
-fn name_in<'e, S>(operation: &'e Operation<'_, S>) -> &'e str {
+fn name_in<'e>(operation: &'e Operation<'_, DefaultScalarValue>) -> &'e str {
     match &operation.name {
         Some(name) => name.item,
         None => "",
@@ -72,7 +72,7 @@ fn name_in<'e, S>(operation: &'e Operation<'_, S>) -> &'e str {
 }
 
 /// The name of an event, and what its node is called.
-fn told<'e, S: ScalarValue>(event: &'e Event<'_, S>) -> (&'static str, &'e str) {
+fn told<'e>(event: &'e Event<'_, DefaultScalarValue>) -> (&'static str, &'e str) {
     match event {
         Event::EnterDocument(_) => ("enter_document", ""),
         Event::EnterOperationDefinition(o) => ("enter_operation_definition", name_in(&o.item)),

@@ -1,13 +1,12 @@
 //! A schema and a document that has every kind of node, for the tests.
-ghost use Rattle.std.specs.Prelude.{◌≡◌};
-ghost use Rattle.meta.specs.Answers.{SameAnswer};
 
 use language::error::OutOfMemory;
 use language::types::Type;
 use language::value::DefaultScalarValue;
-use meta::default_check::{DefaultCheck, InputValueParseFn, ScalarTokenParseFn};
+use meta::default_check::DefaultCheck;
 use meta::{Argument, MetaType};
 use samples::build::{FieldMeta, common, object, own_fields, scalar};
+use samples::checks::{check_string, refuse_token};
 use samples::rows::{ArgumentRow, ObjectRow, add_objects, field, input_object, written};
 use schema::error::SchemaError;
 use schema::model::SchemaType;
@@ -28,15 +27,6 @@ mutation M { feed { name } }
 subscription S { dog { name } }
 fragment F on Dog @skip { __typename }
 ";
-
-/// A check for each type that has one.
-#[derive(Drop)]
-pub struct Checks {
-    string: DefaultCheck,
-    boolean: DefaultCheck,
-    int: DefaultCheck,
-    pair: DefaultCheck,
-}
 
 const PAIR: [ArgumentRow; 2] = [("a", "Int!"), ("a", "String")];
 
@@ -70,37 +60,33 @@ fn sizes(alloc: Global) -> Result<Type, OutOfMemory> {
     written(alloc, "[Int]")?.wrap_non_null()?.wrap_list(None)
 }
 
-/// The same check for each type of the list.
-pub fn same_checks(check: InputValueParseFn, token: ScalarTokenParseFn) -> Checks
-    requires callable { (a : _) (v : _) → InputValueParseFn.pre check a v }
-    requires one_answer { (a b : _) (v w : _) (r s : _) → v.now ≡ w.now → InputValueParseFn.post check a v r → InputValueParseFn.post check b w s → SameAnswer r s }
-{
-    Checks {
-        string: DefaultCheck::with_token(check, token),
-        boolean: DefaultCheck::with_token(check, token),
-        int: DefaultCheck::with_token(check, token),
-        pair: DefaultCheck::new(check),
-    }
+/// The check of each scalar.
+fn scalar_check() -> DefaultCheck {
+    DefaultCheck::with_token(check_string, refuse_token)
 }
 
-/// The types of the walks: those above, `Int`, and what each schema has.
-fn sample_types(alloc: Global, checks: Checks) -> Result<Vec<MetaType>, OutOfMemory> {
-    let mut types = common(alloc, checks.string, checks.boolean)?;
-    types.push(scalar(alloc, "Int", checks.int)?)?;
-    types.push(input_object(alloc, "Pair", &PAIR, checks.pair)?)?;
+/// `Int`, and what each schema has.
+fn scalars(alloc: Global) -> Result<Vec<MetaType>, OutOfMemory> {
+    let mut types = common(alloc, scalar_check(), scalar_check())?;
+    types.push(scalar(alloc, "Int", scalar_check())?)?;
+    Ok(types)
+}
+
+/// The types of the walks.
+fn sample_types(alloc: Global) -> Result<Vec<MetaType>, OutOfMemory> {
+    let mut types = scalars(alloc)?;
+    let pair = input_object(alloc, "Pair", &PAIR, DefaultCheck::new(check_string))?;
+    types.push(pair)?;
     types.push(query_root(alloc)?)?;
     add_objects(alloc, &mut types, &DOG_AND_FEED)?;
     Ok(types)
 }
 
 /// The schema of the walks, which has a root of mutations and none of subscriptions.
-pub fn sample_schema(
-    alloc: Global,
-    checks: Checks,
-) -> Result<SchemaType<DefaultScalarValue>, SchemaError> {
+pub fn sample_schema(alloc: Global) -> Result<SchemaType<DefaultScalarValue>, SchemaError> {
     SchemaType::<DefaultScalarValue>::new(
         alloc,
-        sample_types(alloc, checks)?,
+        sample_types(alloc)?,
         "QueryRoot",
         "MutationRoot",
         "_EmptySubscription",

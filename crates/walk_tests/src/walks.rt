@@ -2,15 +2,13 @@
 
 use crate::kept_fields::count_and_free;
 use crate::recorder::{Recorder, show_types};
-use crate::sample::{DOCUMENT, same_checks, sample_schema};
+use crate::sample::{DOCUMENT, sample_schema};
 use document_reader::read_document;
 use language::error::OutOfMemory;
 use language::position::SourcePosition;
 use language::tree::Definition;
 use language::types::BorrowedType;
 use language::value::DefaultScalarValue;
-use meta::check::CheckedScalar;
-use samples::checks::{check_string, refuse_token};
 use schema::model::SchemaType;
 use std::alloc::Global;
 use std::process::Abort;
@@ -158,13 +156,15 @@ exit_fragment_definition(F) Dog Dog! - -
 exit_document() - - - -
 ";
 
+type Context<'a> = ValidatorContext<'a, DefaultScalarValue>;
+
 type Visitors = MultiVisitorCons<Recorder, MultiVisitorNil>;
 
 /// What a visitor hears of the document.
-fn recorded<'a, S: CheckedScalar>(
+fn recorded<'a>(
     alloc: Global,
-    ctx: &mut ValidatorContext<'a, S>,
-    document: &'a [Definition<'_, S>],
+    ctx: &mut Context<'a>,
+    document: &'a [Definition<'_, DefaultScalarValue>],
 ) -> Result<Visitors, OutOfMemory> {
     let recorder = Recorder {
         text: String::new(alloc),
@@ -175,10 +175,10 @@ fn recorded<'a, S: CheckedScalar>(
 }
 
 /// The same in a fresh context. After a refusal it says whether the context refuses each later call.
-fn recorded_afresh<'a, S: CheckedScalar>(
+fn recorded_afresh<'a>(
     alloc: Global,
-    schema: &'a SchemaType<S>,
-    document: &'a [Definition<'_, S>],
+    schema: &'a SchemaType<DefaultScalarValue>,
+    document: &'a [Definition<'_, DefaultScalarValue>],
 ) -> Result<Visitors, bool> {
     match ValidatorContext::new(alloc, schema, document) {
         Ok(mut ctx) => match recorded(alloc, &mut ctx, document) {
@@ -190,10 +190,10 @@ fn recorded_afresh<'a, S: CheckedScalar>(
 }
 
 /// Whether a context refuses each call that reports, pushes or ends, and each walk.
-fn refuses_all<'a, S: CheckedScalar>(
+fn refuses_all<'a>(
     alloc: Global,
-    mut ctx: ValidatorContext<'a, S>,
-    document: &'a [Definition<'_, S>],
+    mut ctx: Context<'a>,
+    document: &'a [Definition<'_, DefaultScalarValue>],
 ) -> bool {
     let reports = ctx.report_error("m", &[]).is_err();
     let appends = ctx.append_errors(Vec::new(alloc)).is_err();
@@ -203,7 +203,7 @@ fn refuses_all<'a, S: CheckedScalar>(
     reports && appends && pushes && walks && ends
 }
 
-fn refuses_pushes<'a, S: CheckedScalar>(ctx: &mut ValidatorContext<'a, S>) -> bool {
+fn refuses_pushes(ctx: &mut Context<'_>) -> bool {
     let pushes = ctx.with_pushed_type(None, |_ctx| ()).is_err();
     let pushes_parent = ctx.with_pushed_parent_type(|_ctx| ()).is_err();
     let pushes_input = ctx.with_pushed_input_type(None, |_ctx| ()).is_err();
@@ -212,7 +212,7 @@ fn refuses_pushes<'a, S: CheckedScalar>(ctx: &mut ValidatorContext<'a, S>) -> bo
 
 /// The schema of the walks.
 fn schema(rt: &impl Abort, alloc: Global) -> SchemaType<DefaultScalarValue> {
-    sample_schema(alloc, same_checks(check_string, refuse_token)).expect(rt, "a schema")
+    sample_schema(alloc).expect(rt, "a schema")
 }
 
 #[test]
@@ -235,28 +235,32 @@ fn fields_are_kept(rt: HostRuntime) {
     assert_eq!(rt; count, 12);
 }
 
-/// Run with each request for memory refused in turn, a walk tells the same, or it answers a refusal and the context has failed.
-#[test]
-fn a_refused_request_changes_no_walk(rt: HostRuntime) {
-    let alloc = rt.alloc();
-    let Ok(schema) = sample_schema(alloc, same_checks(check_string, refuse_token)) else {
-        return;
-    };
-    let Ok(document) = read_document(alloc, DOCUMENT) else {
-        return;
-    };
-    match recorded_afresh(alloc, &schema, document.as_slice()) {
+/// A walk tells of every kind of node, or it answers a refusal and the context has failed.
+fn tells_or_refuses(
+    rt: &impl Abort,
+    alloc: Global,
+    schema: &SchemaType<DefaultScalarValue>,
+    document: &[Definition<'_, DefaultScalarValue>],
+) {
+    match recorded_afresh(alloc, schema, document) {
         Ok(visitors) => assert_eq!(rt; visitors.newest().text.as_str(), WALK),
         Err(refuses) => assert!(rt; refuses),
     }
 }
 
+/// Run with each request for memory refused in turn, a walk tells the same, or it answers a refusal and the context has failed.
+#[test]
+fn a_refused_request_changes_no_walk(rt: HostRuntime) {
+    let alloc = rt.alloc();
+    if let Ok(schema) = sample_schema(alloc) {
+        if let Ok(document) = read_document(alloc, DOCUMENT) {
+            tells_or_refuses(&rt, alloc, &schema, document.as_slice());
+        }
+    }
+}
+
 /// The types at hand: with a type pushed, and with that type as the parent too.
-fn show_pushed<'a, S: CheckedScalar>(
-    rt: &impl Abort,
-    ctx: &mut ValidatorContext<'a, S>,
-    text: &mut String,
-) {
+fn show_pushed(rt: &impl Abort, ctx: &mut Context<'_>, text: &mut String) {
     let dog = Some(BorrowedType::non_null("Dog"));
     let shown = ctx.with_pushed_type(dog, |ctx| show_types(text, ctx));
     shown.expect(rt, "memory").expect(rt, "memory");
@@ -270,11 +274,7 @@ fn show_pushed<'a, S: CheckedScalar>(
 }
 
 /// The same with an input type pushed, and with nothing.
-fn show_input<'a, S: CheckedScalar>(
-    rt: &impl Abort,
-    ctx: &mut ValidatorContext<'a, S>,
-    text: &mut String,
-) {
+fn show_input(rt: &impl Abort, ctx: &mut Context<'_>, text: &mut String) {
     let int = Some(BorrowedType::nullable("Int"));
     let shown = ctx.with_pushed_input_type(int, |ctx| show_types(text, ctx));
     shown.expect(rt, "memory").expect(rt, "memory");
@@ -300,10 +300,10 @@ fn two_more(rt: &impl Abort, alloc: Global) -> Vec<RuleError> {
 }
 
 /// Four errors, in a context that two rules walked with that report nothing.
-fn reported<S: CheckedScalar>(
+fn reported(
     rt: &impl Abort,
     alloc: Global,
-    schema: &SchemaType<S>,
+    schema: &SchemaType<DefaultScalarValue>,
 ) -> Vec<RuleError> {
     let mut ctx = ValidatorContext::new(alloc, schema, &[]).expect(rt, "memory");
     let mut rules = MultiVisitorNil
