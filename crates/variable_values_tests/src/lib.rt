@@ -1,8 +1,10 @@
 //! Values of variables: the rows of a text and its values, lists with an expected size, and requests for memory refused in turn.
 #![tactic(auto)]
 
-pub mod given;
-pub mod operations;
+#[cfg(test)]
+mod given;
+#[cfg(test)]
+mod operations;
 #[cfg(test)]
 mod pets;
 #[cfg(test)]

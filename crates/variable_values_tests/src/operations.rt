@@ -6,11 +6,14 @@ use language::tree::{Definition, Operation};
 use language::value::{DefaultScalarValue, Variables};
 use schema::model::SchemaType;
 use std::alloc::Global;
+use std::process::Abort;
 use variable_values::{has_input_types, validate_input_values};
 use walk::RuleError;
 
+type Schema = SchemaType<DefaultScalarValue>;
+
 // The errors, a line each.
-fn lines(alloc: Global, errors: Vec<RuleError>) -> Result<String, OutOfMemory> {
+fn lines(alloc: Global, errors: &[RuleError]) -> Result<String, OutOfMemory> {
     let mut told = String::new(alloc);
     for error in errors {
         writeln!(told, "{error}")?;
@@ -18,26 +21,25 @@ fn lines(alloc: Global, errors: Vec<RuleError>) -> Result<String, OutOfMemory> {
     Ok(told)
 }
 
-/// What is said of values for an operation.
-pub fn said_of_operation(
+// What is said of values for an operation.
+fn said_of_operation(
     alloc: Global,
-    schema: &SchemaType<DefaultScalarValue>,
+    schema: &Schema,
     values: &Variables,
     operation: &Spanning<Operation<'_, DefaultScalarValue>>,
 ) -> Result<String, OutOfMemory> {
-    if !has_input_types(schema, &operation.item) {
-        return Ok(String::from_str(alloc, "no input types")?);
+    if has_input_types(schema, &operation.item) {
+        let errors = validate_input_values(alloc, values, operation, schema)?;
+        lines(alloc, errors.as_slice())
+    } else {
+        Ok(String::from_str(alloc, "no input types")?)
     }
-    lines(
-        alloc,
-        validate_input_values(alloc, values, operation, schema)?,
-    )
 }
 
 /// What is said of values for the first definition of a document.
 pub fn said(
     alloc: Global,
-    schema: &SchemaType<DefaultScalarValue>,
+    schema: &Schema,
     values: &Variables,
     document: &[Definition<'_, DefaultScalarValue>],
 ) -> Result<String, OutOfMemory> {
@@ -46,5 +48,20 @@ pub fn said(
             said_of_operation(alloc, schema, values, operation)
         }
         _ => Ok(String::from_str(alloc, "no operation")?),
+    }
+}
+
+/// What is said of values for the first definition of a document is the text.
+pub fn says(
+    rt: &impl Abort,
+    alloc: Global,
+    schema: &Schema,
+    values: &Variables,
+    document: &[Definition<'_, DefaultScalarValue>],
+    want: &str,
+) {
+    let said = said(alloc, schema, values, document).expect(rt, "memory");
+    if said.as_str() != want {
+        rt.panic(said);
     }
 }

@@ -1,83 +1,60 @@
-//! Lists with an expected size, which no text writes.
+//! Lists with an expected size, which no document writes.
 
-use crate::given::{Given, values};
-use crate::operations::said_of_operation;
+use crate::given::values;
+use crate::operations::says;
 use crate::pets::schema;
-use language::error::OutOfMemory;
-use language::position::{SourcePosition, Span, Spanning};
-use language::tree::{Operation, OperationType, VariableDefinition, VariableDefinitions};
-use language::types::Type;
+use document_reader::{read_document, read_type};
+use language::position::Spanning;
+use language::tree::{Definition, VariableDefinition};
 use language::value::DefaultScalarValue;
-use schema::model::SchemaType;
 use std::alloc::Global;
-use std::test::Fail;
+use std::process::Abort;
 
-const ROWS: [(Given, &str); 4] = [
+const TEXT: &str = "query ($c: [Int]) { dog { name } }";
+
+/// A value for the variable, and what is said of it against lists of two.
+const ROWS: [(&str, &str); 4] = [
     (
-        Given::ListOfOne,
+        "[1]",
         "Variable \"$c\" got invalid value. Expected list of 2 elements, found 1 elements.. At 0:7\n",
     ),
     (
-        Given::Lists,
+        "[[1, null], \"x\"]",
         "Variable \"$c\" got invalid value. In element #0: Expected input scalar `Int`. Got: `[1, null]`. Details: not a value of Int.. At 0:7\nVariable \"$c\" got invalid value. In element #1: Expected input scalar `Int`. Got: `\"x\"`. Details: not a value of Int.. At 0:7\n",
     ),
-    (Given::Integer, ""),
-    (Given::Null, ""),
+    ("1", ""),
+    ("null", ""),
 ];
 
-fn at<T>(item: T) -> Spanning<T> {
-    let place = SourcePosition::new(7, 0, 7);
-    Spanning {
-        item,
-        span: Span {
-            start: place,
-            end: place,
-        },
+/// Gives each variable of the operations the type `[Int]` of size 2.
+fn resize(rt: &impl Abort, alloc: Global, document: &mut [Definition<'_, DefaultScalarValue>]) {
+    for definition in document {
+        if let Definition::Operation(operation) = definition {
+            if let Some(definitions) = &mut operation.item.variable_definitions {
+                resize_each(rt, alloc, definitions.item.items.as_mut_slice());
+            }
+        }
     }
 }
 
-// A variable `c` of the type `[Int]` of size 2.
-fn definitions<'a>(
+fn resize_each(
+    rt: &impl Abort,
     alloc: Global,
-) -> Result<VariableDefinitions<'a, DefaultScalarValue>, OutOfMemory> {
-    let definition = VariableDefinition {
-        var_type: at(Type::nullable(alloc, "Int")?.wrap_list(Some(2))?),
-        default_value: None,
-        directives: None,
-    };
-    Ok(VariableDefinitions {
-        items: vec![in alloc; (at("c"), definition)]?,
-    })
-}
-
-fn operation<'a>(
-    alloc: Global,
-) -> Result<Spanning<Operation<'a, DefaultScalarValue>>, OutOfMemory> {
-    Ok(at(Operation {
-        operation_type: OperationType::Query,
-        name: None,
-        variable_definitions: Some(at(definitions(alloc)?)),
-        directives: None,
-        selection_set: Vec::new(alloc),
-    }))
-}
-
-fn told(
-    alloc: Global,
-    schema: &SchemaType<DefaultScalarValue>,
-    given: Given,
-) -> Result<String, OutOfMemory> {
-    let operation = operation(alloc)?;
-    let values = values(alloc, "c", given)?;
-    said_of_operation(alloc, schema, &values, &operation)
+    definitions: &mut [(Spanning<&str>, VariableDefinition<'_, DefaultScalarValue>)],
+) {
+    for definition in definitions {
+        definition.1.var_type = read_type(alloc, b"[Int]#2").expect(rt, "a type");
+    }
 }
 
 #[test]
-fn lists_with_an_expected_size(rt: HostRuntime) -> Result<(), Fail> {
+fn lists_with_an_expected_size(rt: HostRuntime) {
     let alloc = rt.alloc();
-    let schema = schema(alloc)?;
-    for (given, want) in ROWS {
-        assert_eq!(rt; told(alloc, &schema, given)?.as_str(), want);
+    let schema = schema(alloc).expect(&rt, "the list is accepted");
+    let mut document = read_document(alloc, TEXT.as_bytes()).expect(&rt, "it is a document");
+    resize(&rt, alloc, document.as_mut_slice());
+    for (text, want) in ROWS {
+        let values = values(alloc, text).expect(&rt, "a value");
+        says(&rt, alloc, &schema, &values, document.as_slice(), want);
     }
-    Ok(())
 }
