@@ -1,0 +1,44 @@
+-- What is told where the words ask for it.
+use Rattle.std.specs.Prelude.{◌≡◌, ◌-◌, ◌==◌, Bool, true, false, not, ℕ, List, Option, is_some, length, string_bytes, if◌then◌else◌}
+use Rattle.lint.specs.declared.documents.Report.{Report}
+use Rattle.lint.specs.declared.program.Told.{Told}
+use Rattle.lint.specs.declared.words.Task.{Task}
+use Rattle.lint.specs.Told.{AreReadOf, GivenValues, IsReport, Root}
+use Rattle.lint_parts.specs.declared.sources.Source.{Source}
+use Rattle.lint_parts.specs.Texts.{IsTextReport}
+use Rattle.source_scalars.specs.declared.scalar.SourceScalar.{SourceScalar}
+
+-- the text form of a report: its issues, and how many files were judged and how many weren't; nothing is said of JSON
+abbrev pub IsTextOf : Task → List Source → Report → List ℕ → Type 0
+IsTextOf task sources report text = task.is_json ≡ false → IsTextReport sources report.issues.items report.judged (length task.queries.items - report.judged) text
+
+-- a report is told: whether it has issues, and whether all files were judged
+pub record IsToldOf (task : Task) (sources : List Source) (report : Report) (told : Told) : Type 0 where
+  pub text : IsTextOf task sources report (string_bytes told.text)
+  pub has_errors : told.has_errors ≡ not (length report.issues.items == 0)
+  pub is_whole : told.is_whole ≡ (report.judged == length task.queries.items)
+
+-- Which scalars are the same.
+module _ (same : SourceScalar → SourceScalar → Bool) where
+  -- the files of queries were read and judged, and a report on them is told
+  pub record TellsQueries (task : Task) (root : Root) (values : Option GivenValues) (told : Told) : Type 0 where
+    pub sources : List Source
+    pub read : AreReadOf task.queries.items sources
+    pub report : Report
+    pub reported : IsReport same task.is_together root values sources report
+    pub is_told : IsToldOf task sources report told
+
+  -- the same by a schema that was read, closed where the words ask for it, and values where they name a file of them
+  pub record TellsTask (task : Task) (told : Told) : Type 0 where
+    pub root : Root
+    pub closed : root.introspection_disabled ≡ task.is_closed
+    pub values : Option GivenValues
+    pub given : is_some values ≡ is_some task.variables
+    pub tells : TellsQueries task root values told
+
+  -- all files were judged, and the status says whether errors are told
+  pub record EndsTask (task : Task) (status : ℕ) : Type 0 where
+    pub told : Told
+    pub tells : TellsTask task told
+    pub whole : told.is_whole ≡ true
+    pub status_is : status ≡ (if told.has_errors then 1 else 0)
