@@ -1,2 +1,4 @@
 pub mod LineEnds
+pub mod ShownLines
 pub mod Starts
+pub mod Texts

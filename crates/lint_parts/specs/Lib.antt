@@ -1,3 +1,5 @@
 pub mod Issues
 pub mod Lines
 pub mod Places
+pub mod ShownLines
+pub mod Texts

@@ -1,7 +1,9 @@
 //! Places of a text, and its lines. A line ends with a line feed, a carriage return, or both in this order (section 2.1.3).
-ghost use Rattle.std.specs.Prelude.{◌≡◌, ◌+◌, ◌≤◌, if◌then◌else◌, [], ◌∷◌, ◌++◌, length, take};
+ghost use Rattle.std.specs.Prelude.{◌≡◌, ◌+◌, ◌≤◌, if◌then◌else◌, [], ◌∷◌, ◌++◌, length, take, take_while};
+ghost use Rattle.std.specs.List.{prefix_len};
 ghost use Rattle.language.specs.Position as position;
 ghost use Rattle.lint_parts.specs.Lines.{line_ends, more_ends};
+ghost use Rattle.lint_parts.specs.ShownLines.{IsLineOf, is_in_line};
 
 use language::position::SourcePosition;
 
@@ -53,12 +55,29 @@ fn more_ended(byte: u8, after_return: bool) -> usize
 }
 
 /// The line in which a place of a text stands, without its end.
-pub fn line_of(text: &str, position: SourcePosition) -> &str {
+pub fn line_of(text: &str, position: SourcePosition) -> &str
+    ensures { IsLineOf text.now position result.now }
+{
     let start = position.index().saturating_sub(position.column());
-    let from_line = text.get(start..).unwrap_or("");
-    let length = from_line
-        .bytes()
+    if text.is_char_boundary(start) {
+        first_line(&text[start..])
+    } else {
+        ""
+    }
+}
+
+// What stands before the first end of a line.
+fn first_line(text: &str) -> &str
+    ensures { result.now ≡ take_while is_in_line text.now }
+{
+    &text[..first_length(text)]
+}
+
+// How many bytes stand before the first end of a line.
+fn first_length(text: &str) -> usize
+    ensures { result ≡ prefix_len is_in_line text.now }
+{
+    text.bytes()
         .take_while(|byte| *byte != b'\n' && *byte != b'\r')
-        .count();
-    from_line.get(..length).unwrap_or(from_line)
+        .count()
 }
