@@ -1,9 +1,10 @@
 -- What is told of documents, as loops go on.
+use denote.Ref.{Bor}
 use mir.Val.{bool_byte}
-use Rattle.std.proofs.Common.{◌≡◌, ◌↔◌, ◌∙◌, ℕ, ◌+◌, ◌<◌, ◌≤◌, ◌==◌, arith, Bool, true, false, IsPermutation, IsSorted, List, [], ◌∷◌, ◌++◌, Option, Some, None, append_assoc, length, suc, get_or, drop, take, refl, sym, subst, ap, cond}
+use Rattle.std.proofs.Common.{◌≡◌, ◌↔◌, ◌∙◌, ℕ, ◌+◌, ◌<◌, ◌≤◌, ◌==◌, arith, Bool, true, false, IsPermutation, IsSorted, List, [], ◌∷◌, ◌++◌, Option, Some, None, append_assoc, length, suc, get_or, drop, take, refl, sym, subst, ap, cond, string_bytes}
 use Rattle.std.specs.List.{AllZip, flat_map, count_by}
-use Rattle.std.specs.Option.{IfSome, is_some}
-use Rattle.std.proofs.lemmas.List.{append-nil, flat_map_more, take_more}
+use Rattle.std.specs.Option.{IfSome, is_some, option_to_list}
+use Rattle.std.proofs.lemmas.List.{append-nil, flat_map_more, get_or_default, take_more}
 use Rattle.std.proofs.lemmas.List.Sums.{fold-append}
 use Rattle.std.proofs.lemmas.Bool.Decides.{nat_tests}
 use Rattle.std.proofs.lemmas.Slice.Zip.{all_zipped_more}
@@ -14,7 +15,7 @@ use Rattle.language.specs.declared.tree.Definition.TheVariants as definition
 use Rattle.language.specs.declared.tree.Fragment.{Fragment}
 use Rattle.language.specs.declared.tree.Operation.{Operation}
 use Rattle.language.specs.ValuesPrinted.{printed_value}
-use Rattle.lint.specs.Told.{Adds, AddsIf, AreErrorsOf, AreFaultsOf, AreToldAs, Document, FaultsAt, FaultsIn, FaultsOf, GivenValues, IsErrorFree, Root, TellsDocument, TellsFaultsAt, TellsFaultsIn, TellsFile, TellsFiles, issues_of}
+use Rattle.lint.specs.Told.{Adds, AddsIf, AreErrorsOf, AreFaultsOf, AreToldAs, Document, FaultsAt, FaultsIn, FaultsOf, GivenValues, IsErrorFree, IsReadOf, Root, TellsDocument, TellsFaultsAt, TellsFaultsIn, TellsFile, TellsFiles, issues_of}
 use Rattle.lint_parts.specs.declared.issues.Issue.{Issue}
 use Rattle.lint_parts.specs.declared.sources.Joined.{Joined}
 use Rattle.lint_parts.specs.declared.sources.Source.{Source}
@@ -194,3 +195,10 @@ module _ (root : Root) (values : GivenValues) (joined : Joined) (file : ℕ) whe
 pub some_as : {X : Type 0} (P Q : X → Type 0) → ((x : X) → P x → Q x) → (o : Option X) → IfSome o P → IfSome o Q
 some_as P Q f None h = tt
 some_as P Q f (Some x) h = f x h
+
+-- one more path
+pub paths_more : (paths : List (Bor (List ℕ))) (k : ℕ) (d : Bor (List ℕ)) (before new : List Source) (read : Option Source) → k < length paths
+    → IfSome read (λ source. string_bytes source.path ≡ (get_or paths k d).now) → new ≡ before ++ option_to_list read → Done IsReadOf paths k before → Done IsReadOf paths (k + 1) new
+paths_more paths k d before new read here is added h =
+    let path = get_or paths k d in
+    subst (Done IsReadOf paths (k + 1)) (sym added) (done_more IsReadOf paths k path before (option_to_list read) here (get_or_default paths k d path here) h (read, refl, is))

@@ -1,5 +1,5 @@
 -- What is told where the words ask for it.
-use Rattle.std.specs.Prelude.{◌≡◌, ◌-◌, ◌==◌, Bool, true, false, not, ℕ, List, Option, is_some, length, string_bytes, if◌then◌else◌}
+use Rattle.std.specs.Prelude.{◌≡◌, ◌-◌, ◌==◌, Bool, true, false, not, ℕ, List, Option, is_some, string_bytes, vec_len, if◌then◌else◌}
 use Rattle.lint.specs.declared.documents.Report.{Report}
 use Rattle.lint.specs.declared.program.Told.{Told}
 use Rattle.lint.specs.declared.words.Task.{Task}
@@ -10,13 +10,13 @@ use Rattle.source_scalars.specs.declared.scalar.SourceScalar.{SourceScalar}
 
 -- the text form of a report: its issues, and how many files were judged and how many weren't; nothing is said of JSON
 abbrev pub IsTextOf : Task → List Source → Report → List ℕ → Type 0
-IsTextOf task sources report text = task.is_json ≡ false → IsTextReport sources report.issues.items report.judged (length task.queries.items - report.judged) text
+IsTextOf task sources report text = task.is_json ≡ false → IsTextReport sources report.issues.items report.judged (vec_len task.queries - report.judged) text
 
 -- a report is told: whether it has issues, and whether all files were judged
 pub record IsToldOf (task : Task) (sources : List Source) (report : Report) (told : Told) : Type 0 where
   pub text : IsTextOf task sources report (string_bytes told.text)
-  pub has_errors : told.has_errors ≡ not (length report.issues.items == 0)
-  pub is_whole : told.is_whole ≡ (report.judged == length task.queries.items)
+  pub has_errors : told.has_errors ≡ not (vec_len report.issues == 0)
+  pub is_whole : told.is_whole ≡ (report.judged == vec_len task.queries)
 
 -- Which scalars are the same.
 module _ (same : SourceScalar → SourceScalar → Bool) where

@@ -99,7 +99,7 @@ fn tell<R: Print + Eprint>(rt: &R, told: &Told) -> u8
 }
 
 fn tell_failure<R: Eprint>(rt: &R, failure: Failure) -> u8
-    ensures { result ≤ 2 }
+    ensures { result ≡ 2 }
 {
     if !matches!(failure, Failure::Told) {
         // Where the standard error is closed, too, the status alone tells of it.
@@ -141,7 +141,7 @@ fn judge_queries<R: Files + Input + AllocGlobal>(
     values: Option<&Variables<SourceScalar>>,
     faults: &mut String,
 ) -> Result<Told, Failure>
-    ensures { IfOk result (TellsQueries ⟦<SourceScalar as PartialEq>⟧.eq task.now root.now (option_copied values)) }
+    ensures { IfOk result (TellsQueries ⟦<SourceScalar as PartialEq>⟧.eq task.now root.now (option_copied values.entry)) }
 {
     let read = read_sources(rt, task.queries.as_slice(), faults)?;
     let sources = read.as_slice();
