@@ -45,7 +45,7 @@ module _ (joined : Joined) (file : ℕ) where
       record {
         more = h.more ++ issue ∷ [];
         told = subst (λ es. AreToldAs joined file es (h.more ++ issue ∷ [])) (sym next)
-        (all_zipped_more (λ e i. IsIssueIn joined file e.message e.locations i) (take k errors) h.more error issue h.told told);
+            (all_zipped_more (λ e i. IsIssueIn joined file e.message e.locations i) (take k errors) h.more error issue h.told told);
         all = added ∙ ap (λ xs. xs ++ issue ∷ []) h.all ∙ append_assoc old h.more (issue ∷ []);
       }
 
@@ -139,11 +139,11 @@ module _ (same : SourceScalar → SourceScalar → Bool) (root : Root) (values :
   pub each_more : (file : ℕ) (source : Source) (is_document : Bool) (before new : List Issue) (count more : ℕ) → file < length sources → source ≡ get_or sources file source
       → AddsIf is_document (TellsFiles same root values file (source ∷ [])) before new → more ≡ bool_byte is_document → EachSoFar file before count → EachSoFar (file + 1) new (count + more)
   each_more file source is_document before new count more here is adds one h = (
-        h.0 ++ adds.outcome ∷ [],
-        done_more (TellsFile same root values) sources file source h.0 (adds.outcome ∷ []) here is h.1 (adds.outcome, refl, adds.told),
-        adds.all ∙ ap (λ xs. xs ++ issues_of adds.outcome) h.2 ∙ flat_map_more issues_of [] h.0 adds.outcome,
-        ap (λ n. n + more) h.3 ∙ ap (λ n. count_by is_some h.0 + n) (one ∙ byte_of is_document ∙ ap (λ b. cond b 1 0) adds.is) ∙ sym (count_more h.0 adds.outcome),
-      )
+    h.0 ++ adds.outcome ∷ [],
+    done_more (TellsFile same root values) sources file source h.0 (adds.outcome ∷ []) here is h.1 (adds.outcome, refl, adds.told),
+    adds.all ∙ ap (λ xs. xs ++ issues_of adds.outcome) h.2 ∙ flat_map_more issues_of [] h.0 adds.outcome,
+    ap (λ n. n + more) h.3 ∙ ap (λ n. count_by is_some h.0 + n) (one ∙ byte_of is_document ∙ ap (λ b. cond b 1 0) adds.is) ∙ sym (count_more h.0 adds.outcome),
+  )
 
 module _ (root : Root) (values : GivenValues) (joined : Joined) (file : ℕ) where
   -- the faults of an operation, where the list is seen otherwise

@@ -1,5 +1,5 @@
 -- What is told where the words ask for it.
-use Rattle.std.specs.Prelude.{◌≡◌, ◌-◌, ◌==◌, Bool, true, false, not, ℕ, List, Option, is_some, string_bytes, vec_len, if◌then◌else◌}
+use Rattle.std.specs.Prelude.{◌≡◌, ◌-◌, ◌==◌, Bool, false, not, ℕ, List, Option, string_bytes, vec_len}
 use Rattle.lint.specs.declared.documents.Report.{Report}
 use Rattle.lint.specs.declared.program.Told.{Told}
 use Rattle.lint.specs.declared.words.Task.{Task}
@@ -27,18 +27,3 @@ module _ (same : SourceScalar → SourceScalar → Bool) where
     pub report : Report
     pub reported : IsReport same task.is_together root values sources report
     pub is_told : IsToldOf task sources report told
-
-  -- the same by a schema that was read, closed where the words ask for it, and values where they name a file of them
-  pub record TellsTask (task : Task) (told : Told) : Type 0 where
-    pub root : Root
-    pub closed : root.introspection_disabled ≡ task.is_closed
-    pub values : Option GivenValues
-    pub given : is_some values ≡ is_some task.variables
-    pub tells : TellsQueries task root values told
-
-  -- all files were judged, and the status says whether errors are told
-  pub record EndsTask (task : Task) (status : ℕ) : Type 0 where
-    pub told : Told
-    pub tells : TellsTask task told
-    pub whole : told.is_whole ≡ true
-    pub status_is : status ≡ (if told.has_errors then 1 else 0)

@@ -2,7 +2,7 @@
 ghost use Rattle.std.specs.Prelude.{◌≡◌, ◌≤◌, IfOk, string_bytes, true, if◌then◌else◌};
 ghost use Rattle.std.specs.Option.{option_copied};
 ghost use Rattle.lint.specs.Told.{IsReport};
-ghost use Rattle.lint.specs.Tasks.{EndsTask, IsTextOf, IsToldOf, TellsQueries, TellsTask};
+ghost use Rattle.lint.specs.Tasks.{IsTextOf, IsToldOf, TellsQueries};
 
 use crate::documents::{Judge, Report};
 use crate::failure::Failure;
@@ -67,8 +67,7 @@ fn show<R: Print + Eprint>(rt: &R, error: &Error) -> u8
 }
 
 fn run_task<R: Files + Input + AllocGlobal + Print + Eprint>(rt: &R, task: &Task<'_>) -> u8
-    ensures status { result ≤ 2 }
-    ensures told { result ≤ 1 → EndsTask ⟦<SourceScalar as PartialEq>⟧.eq task.now result }
+    ensures { result ≤ 2 }
 {
     let mut faults = String::new(rt.alloc());
     let told = judge_all(rt, task, &mut faults);
@@ -113,9 +112,7 @@ fn judge_all<R: Files + Input + AllocGlobal>(
     rt: &R,
     task: &Task<'_>,
     faults: &mut String,
-) -> Result<Told, Failure>
-    ensures { IfOk result (TellsTask ⟦<SourceScalar as PartialEq>⟧.eq task.now) }
-{
+) -> Result<Told, Failure> {
     if task.inputs() > 1 {
         faults.push_str("lint: error: the standard input is read once\n")?;
         return Err(Failure::Told);

@@ -16,7 +16,7 @@ loop-file-init c = record {
 pub loop-file-preserved : goal.loop-file-preserved
 loop-file-preserved c = record {
   told = each_more eq-value.it c.args.self.now.root.now (option_copied c.args.self.now.values) c.args.self.now.sources.now c.loop-file.file c.index-sources-file.result c.in_ok-is_document.is_document c.loop-file.issues.items c.judge_file.new.issues.items c.loop-file.judged c.from-judged.result
-  c.loop-file-test.true c.index-sources-file.is c.in_ok-is_document.ensures c.from-judged.ensures c.loop-file.invariant.told;
+      c.loop-file-test.true c.index-sources-file.is c.in_ok-is_document.ensures c.from-judged.ensures c.loop-file.invariant.told;
   few = omega (arith, one_at_most c.in_ok-is_document.is_document c.from-judged.result c.from-judged.ensures, c.loop-file.invariant.few);
 }
 
