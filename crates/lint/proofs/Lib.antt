@@ -1,0 +1,2 @@
+pub mod KnownTypes
+pub mod Telling

@@ -1,4 +1,8 @@
 //! Files by the words that name them.
+ghost use Rattle.std.specs.Prelude.{◌≡◌, ◌++◌, IfOk, IfSome, OnOk, string_bytes};
+ghost use Rattle.std.specs.Option.{option_to_list};
+ghost use Rattle.lint.specs.Told.{AreReadOf, IsJoined};
+
 use crate::failure::Failure;
 use crate::words::INPUT;
 use lint_parts::sources::{Joined, Source};
@@ -14,14 +18,24 @@ pub fn read_sources<R: Files + Input + AllocGlobal>(
     rt: &R,
     paths: &[&str],
     faults: &mut String,
-) -> Result<Vec<Source>, Failure> {
+) -> Result<Vec<Source>, Failure>
+    ensures { IfOk result (λ sources. AreReadOf paths.now sources.items) }
+{
     let mut sources = Vec::new(rt.alloc());
     for path in paths {
-        if let Some(source) = read_source(rt, path, faults)? {
-            sources.push(source)?;
-        }
+        let read = read_source(rt, path, faults)?;
+        add_read(&mut sources, read)?;
     }
     Ok(sources)
+}
+
+fn add_read(sources: &mut Vec<Source>, read: Option<Source>) -> Result<(), Failure>
+    ensures { OnOk result (sources.new.items ≡ sources.old.items ++ option_to_list read) }
+{
+    if let Some(source) = read {
+        sources.push(source)?;
+    }
+    Ok(())
 }
 
 // The file of this path, if it can be read; else it is told why not.
@@ -29,7 +43,9 @@ fn read_source<R: Files + Input + AllocGlobal>(
     rt: &R,
     path: &str,
     faults: &mut String,
-) -> Result<Option<Source>, Failure> {
+) -> Result<Option<Source>, Failure>
+    ensures { IfOk result (λ read. IfSome read (λ source. string_bytes source.path ≡ path.now)) }
+{
     match read_bytes(rt, path) {
         Ok(bytes) => source_of(rt.alloc(), path, bytes.as_slice(), faults),
         Err(error) => {
@@ -53,7 +69,9 @@ fn source_of(
     path: &str,
     bytes: &[u8],
     faults: &mut String,
-) -> Result<Option<Source>, Failure> {
+) -> Result<Option<Source>, Failure>
+    ensures { IfOk result (λ read. IfSome read (λ source. string_bytes source.path ≡ path.now)) }
+{
     match str::from_utf8(bytes) {
         Ok(text) => Ok(Some(Source {
             path: String::from_str(alloc, path)?,
@@ -68,7 +86,9 @@ fn source_of(
 }
 
 /// All files as one text.
-pub fn joined_of(alloc: Global, sources: &[Source]) -> Result<Joined, Failure> {
+pub fn joined_of(alloc: Global, sources: &[Source]) -> Result<Joined, Failure>
+    ensures { IfOk result (IsJoined 0 sources.now) }
+{
     let mut joined = Joined::new(alloc);
     for (file, source) in sources.iter().enumerate() {
         joined.add(file, source.text.as_str())?;

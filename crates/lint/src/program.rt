@@ -1,5 +1,8 @@
 //! The program's work.
-ghost use Rattle.std.specs.Prelude.{◌≤◌};
+ghost use Rattle.std.specs.Prelude.{◌≡◌, ◌≤◌, IfOk, string_bytes, true, if◌then◌else◌};
+ghost use Rattle.std.specs.Option.{option_copied};
+ghost use Rattle.lint.specs.Told.{IsReport};
+ghost use Rattle.lint.specs.Tasks.{IsTextOf, IsToldOf, TellsQueries};
 
 use crate::documents::{Judge, Report};
 use crate::failure::Failure;
@@ -16,13 +19,16 @@ use std::alloc::Global;
 use std::env::{self, Env};
 use std::io;
 use std::rt::Files;
-use validation::{RootNode, Variables};
+use validation::{OutOfMemory, RootNode, Variables};
 
-/// What is written to the output, and whether it tells of errors.
+/// What is written to the output.
 #[derive(Drop)]
 struct Told {
     text: String,
+    /// Whether it tells of errors.
     has_errors: bool,
+    /// Whether all files were judged.
+    is_whole: bool,
 }
 
 /// Does what the words ask for, and answers the status to end with: 0 where no document has an error, 1 where some have, and 2 where the
@@ -69,18 +75,20 @@ fn run_task<R: Files + Input + AllocGlobal + Print + Eprint>(rt: &R, task: &Task
         return 2;
     }
     match told {
-        Ok(told) => tell(rt, &told, faults.is_empty()),
+        Ok(told) => tell(rt, &told),
         Err(failure) => tell_failure(rt, failure),
     }
 }
 
-fn tell<R: Print + Eprint>(rt: &R, told: &Told, is_whole: bool) -> u8
-    ensures { result ≤ 2 }
+fn tell<R: Print + Eprint>(rt: &R, told: &Told) -> u8
+    ensures status { result ≤ 2 }
+    ensures whole { result ≤ 1 → told.now.is_whole ≡ true }
+    ensures value { result ≤ 1 → result ≡ (if told.now.has_errors then 1 else 0) }
 {
     if let Err(error) = rt.print(told.text.as_str()) {
         return tell_failure(rt, Failure::from(error));
     }
-    if !is_whole {
+    if !told.is_whole {
         2
     } else if told.has_errors {
         1
@@ -90,7 +98,7 @@ fn tell<R: Print + Eprint>(rt: &R, told: &Told, is_whole: bool) -> u8
 }
 
 fn tell_failure<R: Eprint>(rt: &R, failure: Failure) -> u8
-    ensures { result ≤ 2 }
+    ensures { result ≡ 2 }
 {
     if !matches!(failure, Failure::Told) {
         // Where the standard error is closed, too, the status alone tells of it.
@@ -110,12 +118,16 @@ fn judge_all<R: Files + Input + AllocGlobal>(
         return Err(Failure::Told);
     }
     let root = read_root(rt, task, faults)?;
-    match task.variables() {
+    match task.variables {
         Some(path) => {
             let values = values_of_file(rt, path, faults)?;
-            judge_queries(rt, task, &root, Some(&values), faults)
+            let told = judge_queries(rt, task, &root, Some(&values), faults)?;
+            Ok(told)
         }
-        None => judge_queries(rt, task, &root, None, faults),
+        None => {
+            let told = judge_queries(rt, task, &root, None, faults)?;
+            Ok(told)
+        }
     }
 }
 
@@ -125,15 +137,19 @@ fn judge_queries<R: Files + Input + AllocGlobal>(
     root: &RootNode<SourceScalar>,
     values: Option<&Variables<SourceScalar>>,
     faults: &mut String,
-) -> Result<Told, Failure> {
-    let sources = read_sources(rt, task.queries(), faults)?;
+) -> Result<Told, Failure>
+    ensures { IfOk result (TellsQueries ⟦<SourceScalar as PartialEq>⟧.eq task.now root.now (option_copied values.entry)) }
+{
+    let read = read_sources(rt, task.queries.as_slice(), faults)?;
+    let sources = read.as_slice();
     let judge = Judge {
         root,
         values,
-        sources: sources.as_slice(),
+        sources,
     };
     let report = report_of(rt.alloc(), task, &judge, faults)?;
-    told_of(rt.alloc(), task, sources.as_slice(), &report)
+    let told = told_of(rt.alloc(), task, sources, &report)?;
+    Ok(told)
 }
 
 // Several files are one document only if all of them are read.
@@ -142,14 +158,18 @@ fn report_of(
     task: &Task<'_>,
     judge: &Judge<'_>,
     faults: &mut String,
-) -> Result<Report, Failure> {
-    if !task.is_together() {
-        return judge.each(alloc, faults);
+) -> Result<Report, Failure>
+    ensures { IfOk result (IsReport ⟦<SourceScalar as PartialEq>⟧.eq task.now.is_together judge.now.root.now (option_copied judge.now.values) judge.now.sources.now) }
+{
+    if !task.is_together {
+        let report = judge.each(alloc, faults)?;
+        return Ok(report);
     }
-    if judge.sources.len() == task.queries().len() {
-        return judge.together(alloc, faults);
+    if judge.sources.len() < task.queries.len() {
+        return Ok(Report::empty(alloc));
     }
-    Ok(Report::empty(alloc))
+    let report = judge.together(alloc, faults)?;
+    Ok(report)
 }
 
 fn told_of(
@@ -157,16 +177,31 @@ fn told_of(
     task: &Task<'_>,
     sources: &[Source],
     report: &Report,
-) -> Result<Told, Failure> {
-    let issues = report.issues.as_slice();
-    let unjudged = task.queries().len().saturating_sub(report.judged);
-    let text = if task.is_json() {
-        json_report(alloc, sources, issues)?
-    } else {
-        text_report(alloc, sources, issues, report.judged, unjudged)?
-    };
+) -> Result<Told, Failure>
+    ensures { IfOk result (IsToldOf task.now sources.now report.now) }
+{
+    let text = text_of(alloc, task, sources, report)?;
     Ok(Told {
         text,
-        has_errors: !issues.is_empty(),
+        has_errors: !report.issues.is_empty(),
+        is_whole: report.judged == task.queries.len(),
     })
+}
+
+fn text_of(
+    alloc: Global,
+    task: &Task<'_>,
+    sources: &[Source],
+    report: &Report,
+) -> Result<String, OutOfMemory>
+    ensures { IfOk result (λ text. IsTextOf task.now sources.now report.now (string_bytes text)) }
+{
+    let issues = report.issues.as_slice();
+    if task.is_json {
+        let text = json_report(alloc, sources, issues)?;
+        return Ok(text);
+    }
+    let unjudged = task.queries.len().saturating_sub(report.judged);
+    let text = text_report(alloc, sources, issues, report.judged, unjudged)?;
+    Ok(text)
 }

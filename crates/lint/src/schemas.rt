@@ -1,4 +1,6 @@
 //! The schema of the files that the words name.
+ghost use Rattle.std.specs.Prelude.{◌≡◌, IfOk};
+
 use crate::failure::Failure;
 use crate::files::{joined_of, read_sources};
 use crate::words::Task;
@@ -17,14 +19,16 @@ pub fn read_root<R: Files + Input + AllocGlobal>(
     rt: &R,
     task: &Task<'_>,
     faults: &mut String,
-) -> Result<RootNode<SourceScalar>, Failure> {
-    let sources = read_sources(rt, task.schemas(), faults)?;
-    if sources.len() < task.schemas().len() {
+) -> Result<RootNode<SourceScalar>, Failure>
+    ensures { IfOk result (λ root. root.introspection_disabled ≡ task.now.is_closed) }
+{
+    let sources = read_sources(rt, task.schemas.as_slice(), faults)?;
+    if sources.len() < task.schemas.len() {
         return Err(Failure::Told);
     }
     let schema = schema_of(rt.alloc(), sources.as_slice(), faults)?;
     let root = RootNode::new(schema);
-    Ok(if task.is_closed() {
+    Ok(if task.is_closed {
         root.disable_introspection()
     } else {
         root

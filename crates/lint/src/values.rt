@@ -1,4 +1,4 @@
-//! Values of variables: those of a file, and what is wrong with them in a document.
+//! Values of variables, of a file.
 use crate::failure::Failure;
 use crate::files::read_sources;
 use crate::schemas::tell_json;
@@ -7,11 +7,7 @@ use lint_parts::sources::Source;
 use lint_parts::variables::read_variables;
 use std::alloc::Global;
 use std::rt::Files;
-use validation::ast::Operation;
-use validation::parser::Spanning;
-use validation::{
-    OutOfMemory, RuleError, SchemaType, Variables, has_input_types, validate_input_values,
-};
+use validation::Variables;
 
 /// The values of the file of this path. Its faults are told.
 pub fn values_of_file<R: Files + Input + AllocGlobal>(
@@ -35,20 +31,5 @@ fn values_of(
     match read_variables(alloc, source.text.as_str()) {
         Ok(values) => Ok(values),
         Err(error) => Err(tell_json(sources, error, faults)),
-    }
-}
-
-/// What is wrong with the values of an operation's variables. Their types are known input types, as those of a document without errors
-/// are.
-pub fn errors_of_values(
-    alloc: Global,
-    schema: &SchemaType<SourceScalar>,
-    values: &Variables<SourceScalar>,
-    operation: &Spanning<Operation<'_, SourceScalar>>,
-) -> Result<Vec<RuleError>, OutOfMemory> {
-    if has_input_types(schema, &operation.item) {
-        validate_input_values(alloc, values, operation, schema)
-    } else {
-        Ok(Vec::new(alloc))
     }
 }

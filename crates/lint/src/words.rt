@@ -21,63 +21,39 @@ the schema, or out of memory; what ends with 2 is told on the standard error.";
 /// What the words ask for.
 #[derive(Drop)]
 pub struct Task<'w> {
-    matches: ArgMatches<'w>,
-    schemas: Vec<&'w str>,
-    queries: Vec<&'w str>,
+    /// The files that are the schema.
+    pub schemas: Vec<&'w str>,
+    /// The files that are judged.
+    pub queries: Vec<&'w str>,
+    /// The file of values of variables.
+    pub variables: Option<&'w str>,
+    /// Whether errors are told as JSON.
+    pub is_json: bool,
+    /// Whether introspection is an error.
+    pub is_closed: bool,
+    /// Whether all files are one document.
+    pub is_together: bool,
 }
 
 impl<'w> Task<'w> {
     /// What these words ask for, of which the first is the program's own name.
     pub fn of(alloc: Global, words: &'w [String]) -> Result<Task<'w>, Error> {
         let matches = command_line(alloc)?.try_get_matches_from(words)?;
-        let schemas = files_of(alloc, &matches, "schema")?;
-        let queries = files_of(alloc, &matches, "query")?;
         Ok(Task {
-            matches,
-            schemas,
-            queries,
+            schemas: files_of(alloc, &matches, "schema")?,
+            queries: files_of(alloc, &matches, "query")?,
+            variables: matches.get_str("variables"),
+            is_json: matches!(matches.get_str("format"), Some("json")),
+            is_closed: matches.get_flag("closed"),
+            is_together: matches.get_flag("together"),
         })
-    }
-
-    /// The files that are the schema.
-    pub fn schemas(&self) -> &[&'w str] {
-        self.schemas.as_slice()
-    }
-
-    /// The files that are judged.
-    pub fn queries(&self) -> &[&'w str] {
-        self.queries.as_slice()
-    }
-
-    /// The file of values of variables.
-    pub fn variables(&self) -> Option<&'w str> {
-        self.matches.get_str("variables")
-    }
-
-    /// Whether errors are told as JSON.
-    pub fn is_json(&self) -> bool {
-        matches!(self.matches.get_str("format"), Some("json"))
-    }
-
-    /// Whether introspection is an error.
-    pub fn is_closed(&self) -> bool {
-        self.matches.get_flag("closed")
-    }
-
-    /// Whether all files are one document.
-    pub fn is_together(&self) -> bool {
-        self.matches.get_flag("together")
     }
 
     /// How often the words name the standard input.
     pub fn inputs(&self) -> usize {
-        let schemas = inputs_of(self.schemas());
-        let queries = inputs_of(self.queries());
-        let variables: usize = if self.variables() == Some(INPUT) {
-            1
-        } else {
-            0
-        };
+        let schemas = inputs_of(self.schemas.as_slice());
+        let queries = inputs_of(self.queries.as_slice());
+        let variables: usize = if self.variables == Some(INPUT) { 1 } else { 0 };
         schemas.saturating_add(queries).saturating_add(variables)
     }
 }
