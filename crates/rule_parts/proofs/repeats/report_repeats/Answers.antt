@@ -1,4 +1,4 @@
-use Rattle.rule_parts.proofs.RepeatsSeen.{seen_more}
+use Rattle.rule_parts.proofs.RepeatsSeen.{none_repeat, seen_more}
 use Rattle.rule_parts.proofs.repeats.report_repeats.Goals as goal
 
 pub loop-entry-preserved : goal.loop-entry-preserved
