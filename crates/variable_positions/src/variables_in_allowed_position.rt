@@ -22,7 +22,7 @@ use language::tree::Definition;
 use language::types::BorrowedType;
 use meta::check::CheckedScalar;
 use scopes::index::{ScopeIndex, index_scopes};
-use scopes::places::places_in;
+use scopes::places::operation_places;
 use scopes::reach::{Search, new_search, reached_definitions};
 pub use scopes::scope::Scope;
 use std::alloc::Global;
@@ -190,7 +190,7 @@ fn report_operations<'a, S: CheckedScalar>(
     ensures ready { OnOk result (IsReady index.now search.new) }
     ensures err { OnErr result (KeepsPlace ctx.old ctx.new) }
 {
-    let own = places_in(&index.places, Scope::Operation(name));
+    let own = operation_places(&index.places, name);
     let variables = FirstVariables::at(alloc, document, own)?;
     let places = reached_definitions(alloc, document, index, search, name)?;
     report_places(alloc, ctx, &variables, uses, places.as_slice())

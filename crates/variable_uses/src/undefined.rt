@@ -83,7 +83,7 @@ fn add_undefined<'a, S>(
     ensures told { OnOk result (AddsUndefined document.now (option_map (λ n. n.now) name.entry) (map undefined_of found.old.items) (map undefined_of found.new.items)) }
     ensures ready { OnOk result (IsReady index.now search.new) }
 {
-    match last_operation(document, &index.places, name) {
+    match last_operation(document, index, name) {
         Some(last) => {
             let uses = reached_uses(alloc, document, index, search, all, name)?;
             let defined = name_set(alloc, variables(last))?;

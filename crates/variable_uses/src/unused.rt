@@ -120,7 +120,7 @@ fn add_unused<'a, S>(
     ensures told { OnOk result (AddsUnused document.now (option_map (λ n. n.now) name.entry) (map unused_of found.old.items) (map unused_of found.new.items)) }
     ensures ready { OnOk result (IsReady index.now search.new) }
 {
-    match last_operation(document, &index.places, name) {
+    match last_operation(document, index, name) {
         Some(last) => {
             let uses = reached_uses(alloc, document, index, search, all, name)?;
             let used = used_names(alloc, uses.as_slice())?;
