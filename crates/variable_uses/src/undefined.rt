@@ -4,17 +4,19 @@ ghost use Rattle.std.specs.List.{flat_map};
 ghost use Rattle.scopes.specs.Index.{IsIndexOf};
 ghost use Rattle.scopes.specs.Scopes.{IsOperationName};
 ghost use Rattle.scopes.specs.Searches.{IsReady};
+ghost use Rattle.variable_uses.specs.DocumentIndex.{IsDocumentIndex};
 ghost use Rattle.variable_uses.specs.InReachUses.{AllUses};
 ghost use Rattle.variable_uses.specs.Names.{has_name};
 ghost use Rattle.variable_uses.specs.Uses.{use_of};
 ghost use Rattle.variable_uses.specs.Undefined.{AddsUndefined, TellsUndefined, UndefinedVariables, told_undefined, undefined_of};
 
+use crate::document_index::{DocumentIndex, index_document};
 use crate::names::{is_named, name_set, variables};
-use crate::uses::{VariableUse, all_uses, reached_uses};
+use crate::uses::{VariableUse, reached_uses};
 use language::error::OutOfMemory;
 use language::position::SourcePosition;
 use language::tree::Document;
-use scopes::index::{ScopeIndex, index_scopes, last_operation};
+use scopes::index::{ScopeIndex, last_operation};
 use scopes::reach::{Search, new_search};
 use std::alloc::Global;
 use std::collections::BTreeSet;
@@ -100,21 +102,26 @@ pub fn undefined_variables<'a, S>(
 ) -> Result<Vec<UndefinedVariable<'a>>, OutOfMemory>
     ensures { IfOk result (λ found. UndefinedVariables document.now (map undefined_of found.items)) }
 {
-    let index = index_scopes(alloc, document)?;
-    let all = all_uses(alloc, document)?;
-    let mut search = new_search(alloc, &index)?;
+    let index = index_document(alloc, document)?;
+    undefined_in(alloc, document, &index)
+}
+
+/// The same, by a document's index.
+pub fn undefined_in<'a, S>(
+    alloc: Global,
+    document: Document<'a, S>,
+    index: &DocumentIndex<'a>,
+) -> Result<Vec<UndefinedVariable<'a>>, OutOfMemory>
+    requires { IsDocumentIndex document.now index.now }
+    ensures { IfOk result (λ found. UndefinedVariables document.now (map undefined_of found.items)) }
+{
+    let scopes = &index.scopes;
+    let all = index.uses.as_slice();
+    let mut search = new_search(alloc, scopes)?;
     let mut found = Vec::new(alloc);
-    for number in 0..index.names.len() {
-        let name = index.names[number];
-        add_undefined(
-            alloc,
-            document,
-            &index,
-            all.as_slice(),
-            name,
-            &mut search,
-            &mut found,
-        )?;
+    for number in 0..scopes.names.len() {
+        let name = scopes.names[number];
+        add_undefined(alloc, document, scopes, all, name, &mut search, &mut found)?;
     }
     Ok(found)
 }
