@@ -18,6 +18,7 @@ use Rattle.fragment_cycles.proofs.Numbering.{named}
 use Rattle.fragment_cycles.proofs.NamePaths.{flat_get, name_of, split_get}
 use Rattle.reachability.specs.Reach.{ScopeName, operation, fragment, definition_spreads, operation_named, scope_spreads, Reach, start, onward}
 use Rattle.reachability.specs.Search.{MarksReached, Reached, WellMarked}
+use Rattle.reachability.proofs.Existence.{explored}
 use Rattle.reachability.proofs.Reaching.{begin_at, further_at, named_reached, marked_at, contains_flat}
 use Rattle.scopes.specs.declared.index.ScopeIndex.{ScopeIndex}
 use Rattle.scopes.specs.Index.{IsIndexOf}
@@ -184,3 +185,10 @@ module _ {S : Type 0} (document : List (Definition S)) where
         let kept = h.places (operation name) in
         let all = subst (λ zs. MarksReached nodes (map (resolved n) zs) marks) (ap (flat_map (spreads_at document)) kept ∙ spreads_at_places name) m in
         subst (InReach document name) (sym (e ∙ ap (λ z. z ++ flat_map (fragment_places index) order) kept)) (all_in_reach order marks all w)
+
+    -- there are such places, though no one searches for them
+    pub some_reach : (places : List ℕ) × InReach document name places
+    some_reach =
+        let own = places_at n index.places (operation name) in
+        let (order, marks, m, w) = explored nodes (map (resolved n) (flat_map (spreads_at document) own)) in
+        (own ++ flat_map (fragment_places index) order, in_reach order (own ++ flat_map (fragment_places index) order) marks m w refl)

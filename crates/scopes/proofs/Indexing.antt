@@ -13,8 +13,9 @@ use Rattle.fragment_cycles.proofs.Lists.{none_some, same_item, same_some, get_so
 use Rattle.fragment_cycles.specs.declared.numbers.Numbers.{Numbers}
 use Rattle.fragment_cycles.specs.Numbers.{defined_number, NumbersOf, WellNumbered}
 use Rattle.reachability.specs.Reach.{ScopeName, operation}
+use Rattle.scopes.specs.declared.index.ScopeIndex.{ScopeIndex}
 use Rattle.scopes.specs.declared.places.ScopePlaces.{ScopePlaces}
-use Rattle.scopes.specs.Index.{HasPlaces, new_name}
+use Rattle.scopes.specs.Index.{HasPlaces, IsIndexOf, new_name}
 use Rattle.scopes.specs.Places.{AddsPlace, HasLists, IsNumberOf, operation_places_at, places_at, places_from, places_of}
 use Rattle.scopes.specs.Scopes.{IsLastOf, IsOperationName, OperationNames, operation_name, same_scope, scope_of}
 use Rattle.scopes.proofs.Once.{once_none, once_push}
@@ -163,6 +164,20 @@ module _ {S : Type 0} (n : Numbers) where
             let m = contains_get (places_from test 0 document) (0 + i) c in
             let low = places_last test document m.0 (0 + i) k end m.1 in omega (arith, low);
       }
+
+module _ {S : Type 0} (document : List (Definition S)) (index : ScopeIndex) (h : IsIndexOf document index) (name : Option (List ℕ)) where
+  abbrev kept : List ℕ
+  kept = places_at index.graph.numbers index.places (operation name)
+
+  last_by : (o : Option ℕ) → slice_get kept (length kept - 1) ≡ o → IsOperationName document name → (last : Spanning (Operation S) Span) × IsLastOf document name last
+  last_by None at named = absurd (no_place index.graph.numbers document index.places name h.places at named)
+  last_by (Some k) at named =
+      let (o, stands) = last_place index.graph.numbers document index.places name k h.places at in
+      (o, last_of index.graph.numbers document index.places name k o h.places at stands)
+
+  -- where some operation has a name one is the last of it
+  pub some_last : IsOperationName document name → (last : Spanning (Operation S) Span) × IsLastOf document name last
+  some_last named = last_by (slice_get kept (length kept - 1)) refl named
 
 pub length_taken : {X : Type 0} (xs : List X) (i : ℕ) → i < length xs → length (take i xs) ≡ i
 length_taken xs i l = length-take-le i xs (omega (arith, l))

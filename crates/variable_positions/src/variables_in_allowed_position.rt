@@ -46,6 +46,22 @@ pub fn factory<'a>(alloc: Global) -> VariableInAllowedPosition<'a>
     }
 }
 
+impl<'a> VariableInAllowedPosition<'a> {
+    /// Leaves the document of an index.
+    pub fn leave<S: CheckedScalar>(
+        &self,
+        ctx: &mut ValidatorContext<'a, S>,
+        document: &'a [Definition<'a, S>],
+        index: &ScopeIndex<'_>,
+    ) -> Result<(), OutOfMemory>
+        requires { IsIndexOf document.now index.now }
+        ensures ok { IfOk result (λ _. Appended (DocumentGives ctx.old.schema.types document.now (recorded_uses self.now)) ctx.old ctx.new) }
+        ensures err { OnErr result (KeepsPlace ctx.old ctx.new) }
+    {
+        report_document(self.alloc, ctx, document, index, self.uses.as_slice())
+    }
+}
+
 impl<'a> Fresh for VariableInAllowedPosition<'a> {
     ghost fresh = { λ a. recorded_uses a ≡ [] };
 }
@@ -79,7 +95,8 @@ impl<'a, S: CheckedScalar> Visitor<'a, S> for VariableInAllowedPosition<'a> {
                 )
             }
             Event::ExitDocument(document) => {
-                report_document(self.alloc, ctx, document, self.uses.as_slice())
+                let index = index_scopes(self.alloc, document)?;
+                self.leave(ctx, document, &index)
             }
             _ => Ok(()),
         }
@@ -222,13 +239,14 @@ fn report_document<'a, S: CheckedScalar>(
     alloc: Global,
     ctx: &mut ValidatorContext<'a, S>,
     document: &'a [Definition<'a, S>],
+    index: &ScopeIndex<'_>,
     uses: &[Vec<TypedUse<'_>>],
 ) -> Result<(), OutOfMemory>
+    requires { IsIndexOf document.now index.now }
     ensures ok { IfOk result (λ _. Appended (DocumentGives ctx.old.schema.types document.now (use_values uses.now)) ctx.old ctx.new) }
     ensures err { OnErr result (KeepsPlace ctx.old ctx.new) }
 {
-    let index = index_scopes(alloc, document)?;
-    let mut search = new_search(alloc, &index)?;
+    let mut search = new_search(alloc, index)?;
     let names = index.names.as_slice();
-    report_names(alloc, ctx, document, &index, &mut search, names, uses)
+    report_names(alloc, ctx, document, index, &mut search, names, uses)
 }

@@ -1,5 +1,5 @@
 //! Variables that are used where they are not defined.
-ghost use Rattle.std.specs.Prelude.{◌≡◌, ◌++◌, ℕ, List, IfOk, OnOk, map, option_map};
+ghost use Rattle.std.specs.Prelude.{◌≡◌, ◌⊎◌, ◌++◌, ℕ, List, IfOk, IsTrue, OnOk, map, option_map};
 ghost use Rattle.std.specs.List.{flat_map};
 ghost use Rattle.scopes.specs.Index.{IsIndexOf};
 ghost use Rattle.scopes.specs.Scopes.{IsOperationName};
@@ -8,7 +8,7 @@ ghost use Rattle.variable_uses.specs.DocumentIndex.{IsDocumentIndex};
 ghost use Rattle.variable_uses.specs.InReachUses.{AllUses};
 ghost use Rattle.variable_uses.specs.Names.{has_name};
 ghost use Rattle.variable_uses.specs.Uses.{use_of};
-ghost use Rattle.variable_uses.specs.Undefined.{AddsUndefined, TellsUndefined, UndefinedVariables, told_undefined, undefined_of};
+ghost use Rattle.variable_uses.specs.Undefined.{AddsUndefined, TellsUndefined, UndefinedVariables, UsesNothing, told_undefined, undefined_of};
 
 use crate::document_index::{DocumentIndex, index_document};
 use crate::names::{is_named, name_set, variables};
@@ -106,7 +106,19 @@ pub fn undefined_variables<'a, S>(
     undefined_in(alloc, document, &index)
 }
 
-/// The same, by a document's index.
+// Whether some definition uses a variable.
+fn is_any_used(all: &[Vec<VariableUse<'_>>]) -> bool
+    ensures { IsTrue result ⊎ UsesNothing all.now }
+{
+    for uses in all {
+        if !uses.is_empty() {
+            return true;
+        }
+    }
+    false
+}
+
+/// The same, by a document's index. Where the document uses no variable it looks for nothing.
 pub fn undefined_in<'a, S>(
     alloc: Global,
     document: Document<'a, S>,
@@ -117,8 +129,11 @@ pub fn undefined_in<'a, S>(
 {
     let scopes = &index.scopes;
     let all = index.uses.as_slice();
-    let mut search = new_search(alloc, scopes)?;
     let mut found = Vec::new(alloc);
+    if !is_any_used(all) {
+        return Ok(found);
+    }
+    let mut search = new_search(alloc, scopes)?;
     for number in 0..scopes.names.len() {
         let name = scopes.names[number];
         add_undefined(alloc, document, scopes, all, name, &mut search, &mut found)?;

@@ -7,7 +7,7 @@ ghost use Rattle.scopes.specs.Searches.{IsReady};
 ghost use Rattle.variable_uses.specs.DocumentIndex.{IsDocumentIndex};
 ghost use Rattle.variable_uses.specs.InReachUses.{AllUses};
 ghost use Rattle.variable_uses.specs.Names.{has_name};
-ghost use Rattle.variable_uses.specs.Unused.{AddsUnused, AddsVariable, UnusedAmong, UnusedVariables, name_and_span, unused_by, unused_of, variable_at};
+ghost use Rattle.variable_uses.specs.Unused.{AddsUnused, AddsVariable, DefinesNone, UnusedAmong, UnusedVariables, name_and_span, unused_by, unused_of, variable_at};
 
 use crate::document_index::{DocumentIndex, index_document};
 use crate::names::{is_named, used_names, variables};
@@ -133,6 +133,40 @@ fn add_unused<'a, S>(
     }
 }
 
+// Whether the last operation of a name defines no variable.
+fn defines_none<S>(document: Document<'_, S>, index: &ScopeIndex<'_>, name: Option<&str>) -> bool
+    requires { IsIndexOf document.now index.now }
+    ensures { IsTrue result → DefinesNone document.now (option_map (λ n. n.now) name.entry) }
+{
+    match last_operation(document, index, name) {
+        Some(last) => variables(last).is_empty(),
+        None => false,
+    }
+}
+
+// Tells of those variables. Where there are none it asks nothing of what is in reach.
+fn add_if_defined<'a, S>(
+    alloc: Global,
+    document: Document<'a, S>,
+    index: &ScopeIndex<'a>,
+    all: &[Vec<VariableUse<'a>>],
+    name: Option<&'a str>,
+    search: &mut Search,
+    found: &mut Vec<UnusedVariable<'a>>,
+) -> Result<(), OutOfMemory>
+    requires index { IsIndexOf document.now index.now }
+    requires ready { IsReady index.now search.old }
+    requires all { AllUses document.now all.now }
+    requires named { IsOperationName document.now (option_map (λ n. n.now) name) }
+    ensures told { OnOk result (AddsUnused document.now (option_map (λ n. n.now) name.entry) (map unused_of found.old.items) (map unused_of found.new.items)) }
+    ensures ready { OnOk result (IsReady index.now search.new) }
+{
+    if defines_none(document, index, name) {
+        return Ok(());
+    }
+    add_unused(alloc, document, index, all, name, search, found)
+}
+
 /// The variables that the last operation of a name defines and that no use in the reach of the operations of that name has, for
 /// each name (GraphQL October 2021, section 5.8.4).
 pub fn unused_variables<'a, S>(
@@ -160,7 +194,7 @@ pub fn unused_in<'a, S>(
     let mut found = Vec::new(alloc);
     for number in 0..scopes.names.len() {
         let name = scopes.names[number];
-        add_unused(alloc, document, scopes, all, name, &mut search, &mut found)?;
+        add_if_defined(alloc, document, scopes, all, name, &mut search, &mut found)?;
     }
     Ok(found)
 }

@@ -1,8 +1,9 @@
-use Rattle.std.proofs.Common.{◌++◌, ◌∷◌, [], ◌<◌, ◌≤◌, length, map, option_map, subst, sym, arith, take}
+use Rattle.std.proofs.Common.{◌++◌, ◌∷◌, [], ◌<◌, ◌≤◌, length, map, option_map, subst, sym, arith, take, inl, inr}
 use Rattle.std.proofs.lemmas.List.{length-map, take_all}
 use Rattle.scopes.specs.Index.{operation_names}
 use Rattle.variable_uses.specs.InReachUses.{InTurn}
-use Rattle.variable_uses.specs.Undefined.{UndefinedIn, undefined_of}
+use Rattle.variable_uses.specs.Undefined.{UndefinedIn, UndefinedVariables, UsesNothing, undefined_of}
+use Rattle.variable_uses.proofs.Skipping.{all_defined, not_used}
 use Rattle.variable_uses.proofs.Telling.{in_turn_more, mapped_contains, mapped_next}
 use Rattle.variable_uses.proofs.undefined.undefined_in.Goals as goal
 
@@ -37,3 +38,14 @@ returns g c =
       c.requires.scopes.names,
       subst (λ xs. InTurn (UndefinedIn c.args.document.now) xs (map undefined_of c.loop-number.found.items)) (take_all c.loop-number.number (operation_names c.args.index.now.scopes) all) c.loop-number.invariant.0,
     )
+
+pub returns-then-not-is_any_used : goal.returns-then-not-is_any_used
+returns-then-not-is_any_used g c =
+    let doc = c.args.document.now in
+    let index = c.args.index.now in
+    elim c.if-not-is_any_used.ensures [
+      | inl used ↦ absurd (not_used used)
+      | inr nothing ↦
+          subst (λ xs. UndefinedVariables doc (map undefined_of xs)) (sym c.new-found.ensures.items)
+          (all_defined doc index.scopes c.requires.scopes index.uses.items c.requires.uses (subst UsesNothing c.as_slice-all.ensures.value nothing))
+    ]
