@@ -1,6 +1,6 @@
 use Rattle.std.proofs.lemmas.Result.{IfOk-weaker}
 use Rattle.std.specs.Option.{option_copied}
-use Rattle.events.specs.Outline.{outline_of_value, outline_of_object_field, outline_of_argument, outline_of_directive, outline_of_variable_definition, outline_of_selection}
+use Rattle.events.specs.Outline.{outline_of_value, outline_of_object_field, outline_of_argument, outline_of_directive, outline_of_variable_definition, outline_of_selection, outline_of_definition}
 use Rattle.events.specs.EventValue.{typing_of}
 use Rattle.events.proofs.Events.{first_of_each}
 use Rattle.events.proofs.cursor.enter_part.Goals as goal
