@@ -27,20 +27,24 @@ fn searched_field(field: &OwnField) -> Entry
 fn searched_fields(alloc: Global, own: &[OwnField]) -> Result<Vec<Entry>, AllocError>
     ensures { IfOk result (λ v. v.items ≡ map entry_of own.now) }
 {
-    own.iter().map(|field| searched_field(field)).collect(alloc)
+    let mut fields = Vec::with_capacity(alloc, own.len())?;
+    for field in own {
+        fields.push(searched_field(field))?;
+    }
+    Ok(fields)
 }
 
-// The set for the search.
-fn searched_set(alloc: Global, set: &NumberedSet) -> Result<SetNode, AllocError>
-    ensures { IfOk result (λ node. plain_node node ≡ plain_row set.now) }
+// The set for the search, in place of the table's.
+fn searched_set(alloc: Global, set: NumberedSet) -> Result<SetNode, AllocError>
+    ensures { IfOk result (λ node. plain_node node ≡ plain_row set) }
 {
     let own = searched_fields(alloc, set.own.as_slice())?;
-    let spreads = Vec::from_slice(alloc, set.spreads.as_slice())?;
-    make_set(alloc, own, spreads)
+    make_set(alloc, own, set.spreads)
 }
 
-fn searched_sets(alloc: Global, sets: &[NumberedSet]) -> Result<Vec<SetNode>, AllocError>
-    ensures { IfOk result (λ v. map plain_node v.items ≡ map plain_row sets.now) }
+// The sets for the search. Each of the table's is let go as soon as it isn't needed, so that few stand there twice.
+fn searched_sets(alloc: Global, sets: Vec<NumberedSet>) -> Result<Vec<SetNode>, AllocError>
+    ensures { IfOk result (λ v. map plain_node v.items ≡ map plain_row sets.items) }
 {
     let mut nodes = Vec::with_capacity(alloc, sets.len())?;
     for set in sets {
@@ -61,7 +65,7 @@ pub fn graph_of_table<'a, S: ScalarValue, C>(
     requires whole { IsWhole table.sets.items order.items }
     ensures { IfOk result (IsGraphOfTable schema.now (numbered table.entry) fragments.items) }
 {
-    let sets = searched_sets(alloc, table.sets.as_slice())?;
+    let sets = searched_sets(alloc, table.sets)?;
     Ok(Graph {
         judge: judge_fields(schema, table.fields),
         sets,

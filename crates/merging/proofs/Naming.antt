@@ -1,6 +1,7 @@
 -- How fields are found by their response names.
 use Rattle.std.proofs.Common.{◌≡◌, ◌==◌, ℕ, ◌+◌, ◌-◌, ◌<◌, ◌≤◌, List, [], ◌∷◌, ◌++◌, length, take, drop, get_or, refl, sym, subst, ap, ◌∙◌, arith, Bool, true, false, cond, not, ◌&&◌, ltb, leb, ltb-true, ltb-false, leb-true, leb-false, None, Some, append-nil}
-use Rattle.std.specs.List.{All, Contains, filter, list_any, slice_get}
+use Rattle.std.specs.Bool.{OnTrue}
+use Rattle.std.specs.List.{All, Contains, IsAllAdjacentAnswer, filter, list_any, slice_get}
 use Rattle.std.specs.List.Sorted.{IsStableByKey, ties, IsPartitionPoint}
 use Rattle.std.specs.Option.{option_map_or}
 use Rattle.std.specs.Ordering.{is_lt, nat_cmp}
@@ -8,10 +9,11 @@ use Rattle.std.proofs.lemmas.Bool.Decides.{nat_tests}
 use Rattle.std.proofs.lemmas.Bool.{or_left, or_right}
 use Rattle.std.proofs.lemmas.Option.{slice_get-get_or}
 use Rattle.std.proofs.lemmas.List.{take_all, take_rest, length-take, length-drop, get_or-take, get_or-drop, take-append-drop}
-use Rattle.std.proofs.lemmas.List.Folds.{list_any-append}
+use Rattle.std.proofs.lemmas.List.Folds.{list_any-append, list_any_at}
+use Rattle.std.proofs.lemmas.List.Sorted.{IsNonDecreasingBy-from_all_adjacent}
 use Rattle.std.proofs.lemmas.List.Elements.{filter_agree, filter-append, All-head, All-tail, All-more, All-weaker, All-contains, Contains-get_or}
 use Rattle.merging.specs.declared.node.Entry.{Entry}
-use Rattle.merging.specs.Names.{named, AreListed, HaveSameGroups, is_first}
+use Rattle.merging.specs.Names.{named, AreListed, AreSorted, HaveSameGroups, is_first}
 use Rattle.merging.proofs.Rows.{named_own, named_is, named_in}
 use Rattle.merging.proofs.Work.{no_entry}
 
@@ -92,9 +94,9 @@ module _ (n i j : ℕ) (xs : List Entry) (start : IsPartitionPoint (λ (a : Entr
       ap (take j) (take_rest xs i)
       ∙ sym (run_in (subst (λ (l : List Entry). IsPartitionPoint (λ (a : Entry). leb a.response n ≡ true) (λ a. leb a.response n ≡ false) l j) (take_rest xs i) end))
 
--- each field that is the first of its name has the name listed
-abbrev pub AreFirstListed : List Entry → List ℕ → List Entry → Type 0
-AreFirstListed by_name names own = All (λ a. is_first by_name a ≡ true → list_any (λ n. a.response == n) names ≡ true) own
+-- each field that is the first of its name has one of its name listed
+abbrev pub AreFirstListed : List Entry → List Entry → List Entry → Type 0
+AreFirstListed by_name firsts own = All (λ a. is_first by_name a ≡ true → list_any (λ f. a.response == f.response) firsts ≡ true) own
 
 eq_self : (m : ℕ) → (m == m) ≡ true
 eq_self m = grind arith
@@ -104,21 +106,21 @@ module _ (by_name : List Entry) where
   first_is b n same h =
       ap (λ o. option_map_or (λ (a : Entry). a.field == b.field) o false) (subst (λ m. slice_get (named m by_name) 0 ≡ Some b) (sym same) h) ∙ eq_self b.field
 
-  module _ (own : List Entry) (k : ℕ) (inside : k < length own) (names : List ℕ) (had : AreFirstListed by_name names (take k own)) where
-    pub first_passed : is_first by_name (get_or own k no_entry) ≡ false → AreFirstListed by_name names (take (k + 1) own)
+  module _ (own : List Entry) (k : ℕ) (inside : k < length own) (firsts : List Entry) (had : AreFirstListed by_name firsts (take k own)) where
+    pub first_passed : is_first by_name (get_or own k no_entry) ≡ false → AreFirstListed by_name firsts (take (k + 1) own)
     first_passed other =
-        All-more (λ a. is_first by_name a ≡ true → list_any (λ n. a.response == n) names ≡ true) own k no_entry inside had (λ yes. cc)
+        All-more (λ a. is_first by_name a ≡ true → list_any (λ f. a.response == f.response) firsts ≡ true) own k no_entry inside had (λ yes. cc)
 
-    pub first_listed : AreFirstListed by_name (names ++ (get_or own k no_entry).response ∷ []) (take (k + 1) own)
+    pub first_listed : AreFirstListed by_name (firsts ++ get_or own k no_entry ∷ []) (take (k + 1) own)
     first_listed =
-        let x : ℕ = (get_or own k no_entry).response in
-        All-more (λ a. is_first by_name a ≡ true → list_any (λ n. a.response == n) (names ++ x ∷ []) ≡ true) own k no_entry inside
-        (All-weaker (λ a. is_first by_name a ≡ true → list_any (λ n. a.response == n) names ≡ true) (λ a. is_first by_name a ≡ true → list_any (λ n. a.response == n) (names ++ x ∷ []) ≡ true)
-        (λ a h yes. list_any-append (λ n. a.response == n) names (x ∷ []) ∙ or_left (list_any (λ n. a.response == n) names) (list_any (λ n. a.response == n) (x ∷ [])) (h yes)) (take k own) had)
-        (λ yes. list_any-append (λ n. x == n) names (x ∷ []) ∙ or_right (list_any (λ n. x == n) names) (list_any (λ n. x == n) (x ∷ [])) (or_left (x == x) false (eq_self x)))
+        let x : Entry = get_or own k no_entry in
+        All-more (λ a. is_first by_name a ≡ true → list_any (λ f. a.response == f.response) (firsts ++ x ∷ []) ≡ true) own k no_entry inside
+        (All-weaker (λ a. is_first by_name a ≡ true → list_any (λ f. a.response == f.response) firsts ≡ true) (λ a. is_first by_name a ≡ true → list_any (λ f. a.response == f.response) (firsts ++ x ∷ []) ≡ true)
+        (λ a h yes. list_any-append (λ f. a.response == f.response) firsts (x ∷ []) ∙ or_left (list_any (λ f. a.response == f.response) firsts) (list_any (λ f. a.response == f.response) (x ∷ [])) (h yes)) (take k own) had)
+        (λ yes. list_any-append (λ f. x.response == f.response) firsts (x ∷ []) ∙ or_right (list_any (λ f. x.response == f.response) firsts) (list_any (λ f. x.response == f.response) (x ∷ [])) (or_left (x.response == x.response) false (eq_self x.response)))
 
-  pub all_listed : (own : List Entry) (k : ℕ) (names : List ℕ) → length own ≤ k → HaveSameGroups by_name own → AreFirstListed by_name names (take k own) → AreListed names own
-  all_listed own k names all grouped had i d l =
+  pub all_listed : (own : List Entry) (k : ℕ) (firsts : List Entry) → length own ≤ k → HaveSameGroups by_name own → AreFirstListed by_name firsts (take k own) → AreListed firsts own
+  all_listed own k firsts all grouped had i d l =
       let a : Entry = get_or own i d in
       let m : ℕ = a.response in
       let group : List Entry = named m by_name in
@@ -127,6 +129,14 @@ module _ (by_name : List Entry) where
       let b : Entry = get_or group 0 a in
       let of_own : Contains (named m own) b = subst (λ xs. Contains xs b) (grouped m) (Contains-get_or group 0 a some) in
       let same : b.response ≡ m = named_is m own b of_own in
-      subst (λ (r : ℕ). list_any (λ n. r == n) names ≡ true) same
-      (All-contains (λ x. is_first by_name x ≡ true → list_any (λ n. x.response == n) names ≡ true) own b (subst (AreFirstListed by_name names) (take_all k own all) had)
+      subst (λ (r : ℕ). list_any (λ f. r == f.response) firsts ≡ true) same
+      (All-contains (λ x. is_first by_name x ≡ true → list_any (λ f. x.response == f.response) firsts ≡ true) own b (subst (AreFirstListed by_name firsts) (take_all k own all) had)
       (named_own m own b of_own) (first_is b m same (slice_get-get_or group 0 a some)))
+
+-- where the response names rise the own fields serve
+pub rising_sorted : (xs : List Entry) (r : Bool) → IsAllAdjacentAnswer (λ (x : Entry) y b. b ≡ ltb x.response y.response) xs r → OnTrue r (AreSorted xs)
+rising_sorted xs true h = IsNonDecreasingBy-from_all_adjacent (λ (a : Entry). a.response) xs (λ k d l. let below = ltb-true (get_or xs k d).response (get_or xs (k + 1) d).response (sym (h k d l)) in omega arith)
+rising_sorted xs false h = tt
+
+pub listed_itself : (own : List Entry) → AreListed own own
+listed_itself own k d l = list_any_at (λ f. (get_or own k d).response == f.response) own k d l (eq_self (get_or own k d).response)

@@ -1,5 +1,5 @@
 -- Two of a list, the first before the second, and what a filter keeps of them.
-use Rattle.std.proofs.Common.{◌≡◌, ◌==◌, ℕ, zero, suc, ◌+◌, ◌-◌, ◌<◌, ◌≤◌, List, [], ◌∷◌, length, take, drop, get_or, refl, sym, subst, ap, ◌∙◌, arith, Bool, true, false, cond, Some, inl, inr, ◌⊎◌, slice_get, length-drop}
+use Rattle.std.proofs.Common.{◌≡◌, ◌==◌, ℕ, zero, suc, ◌+◌, ◌-◌, ◌<◌, ◌≤◌, List, [], ◌∷◌, length, take, drop, get_or, sym, subst, ap, ◌∙◌, arith, Bool, true, false, cond, Some, inl, inr, ◌⊎◌, slice_get, length-drop}
 use Rattle.std.specs.List.{All, Contains, filter}
 use Rattle.std.proofs.lemmas.List.{take_all, get_or-drop, get_or_default}
 use Rattle.std.proofs.lemmas.List.Elements.{All-contains, All-filter, All-contains_itself}
@@ -75,11 +75,12 @@ named_places n xs a b h p q =
 pub places_named : (n : ℕ) (xs : List Entry) (a b : Entry) → Places (named n xs) a b → Places xs a b
 places_named n xs a b h = before_to xs a b (before_passes (λ x. x.response == n) xs a b (before_from (named n xs) h.0 h.1 a b h.2 h.3 h.4))
 
-pub own_within : (w : World) (M : Search) (s : ℕ) (names : List ℕ) → AreListed names (own_of w s)
-    → All (λ n. AllBefore (Done w M false) (named n (own_of w s))) names → OwnWithin w M s
-own_within w M s names listed h k l a b lt p q same =
-    let z = named_places a.response (own_of w s) a b (k, l, lt, p, q) refl (sym same) in
-    All-contains (λ n. AllBefore (Done w M false) (named n (own_of w s))) names a.response h (listed_in names (own_of w s) a listed (at_of (own_of w s) k a p)) z.0 z.1 a b z.2 z.3 z.4
+pub own_within : (w : World) (M : Search) (s : ℕ) (firsts : List Entry) → AreListed firsts (own_of w s)
+    → All (λ f. AllBefore (Done w M false) (named f.response (own_of w s))) firsts → OwnWithin w M s
+own_within w M s firsts listed h k l a b lt p q same =
+    let (f, there, is) = listed_in firsts (own_of w s) a listed (at_of (own_of w s) k a p) in
+    let z = named_places f.response (own_of w s) a b (k, l, lt, p, q) is (sym same ∙ is) in
+    All-contains (λ f. AllBefore (Done w M false) (named f.response (own_of w s))) firsts f h there z.0 z.1 a b z.2 z.3 z.4
 
 -- where the roots lie
 pub row_within : (w : World) (s n : ℕ) (xs : List Entry) → xs ≡ named n (own_of w s) → (r : Root) → AtBefore xs r → AtWithin w s r
@@ -89,12 +90,10 @@ row_within w s n xs eq r h =
       named_is n (own_of w s) r.left (at_of (named n (own_of w s)) z.0 r.left z.3) ∙ sym (named_is n (own_of w s) r.right (at_of (named n (own_of w s)) z.1 r.right z.4)),
     )
 
-pub tell_within : (w : World) (s : ℕ) (names : List ℕ) → AreListed names (own_of w s) → (r : Root) → AtWithin w s r → (n : ℕ) × Contains names n × AtBefore (named n (own_of w s)) r
-tell_within w s names listed r h = (
-  r.left.response,
-  listed_in names (own_of w s) r.left listed (at_of (own_of w s) h.0.0 r.left h.0.3),
-  named_places r.left.response (own_of w s) r.left r.right h.0 refl (sym h.1),
-)
+pub tell_within : (w : World) (s : ℕ) (firsts : List Entry) → AreListed firsts (own_of w s) → (r : Root) → AtWithin w s r → (f : Entry) × Contains firsts f × AtBefore (named f.response (own_of w s)) r
+tell_within w s firsts listed r h =
+    let (f, there, is) = listed_in firsts (own_of w s) r.left listed (at_of (own_of w s) h.0.0 r.left h.0.3) in
+    (f, there, named_places f.response (own_of w s) r.left r.right h.0 is (sym h.1 ∙ is))
 
 pub rest_is : {X : Type 0} (xs : List X) (n : ℕ) → take (length xs - n) (drop n xs) ≡ drop n xs
 rest_is xs n = take_all (length xs - n) (drop n xs) (omega (arith, length-drop n xs))

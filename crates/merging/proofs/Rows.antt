@@ -2,7 +2,7 @@
 use Rattle.std.proofs.Common.{◌≡◌, ◌==◌, ℕ, ◌<◌, List, [], ◌∷◌, length, get_or, refl, sym, subst, ap, ◌∙◌, arith, Bool, true, false, cond, Some, inl, inr}
 use Rattle.std.specs.List.{All, Contains, filter, list_any}
 use Rattle.std.proofs.lemmas.List.Elements.{Contains-get_or, Contains-push, Contains-append_left, Contains-append_right, All-cons, All-weaker, All-contains, All-contains_itself, All-filter, filter_passes}
-use Rattle.std.proofs.lemmas.Map.Views.{Contains-from_any}
+use Rattle.std.proofs.lemmas.List.Folds.{Any-from_list_any}
 use Rattle.merging.specs.declared.node.Entry.{Entry}
 use Rattle.merging.specs.declared.state.Search.{Search}
 use Rattle.merging.specs.Names.{named, AreListed}
@@ -43,9 +43,11 @@ kept test (x ∷ xs) = All-cons (λ a. test a ≡ true → Contains (filter test
 pub named_in : (n : ℕ) (xs : List Entry) (a : Entry) → Contains xs a → a.response ≡ n → Contains (named n xs) a
 named_in n xs a c is = All-contains (λ x. (x.response == n) ≡ true → Contains (named n xs) x) xs a (kept (λ x. x.response == n) xs) c (eq_to a.response n is)
 
-pub listed_in : (names : List ℕ) (xs : List Entry) (a : Entry) → AreListed names xs → Contains xs a → Contains names a.response
-listed_in names xs a h c =
-    Contains-from_any {eq = λ x y. x == y} eq_from a.response names (All-contains (λ x. list_any (λ n. x.response == n) names ≡ true) xs a h c)
+-- the first of the name of a field
+pub listed_in : (firsts xs : List Entry) (a : Entry) → AreListed firsts xs → Contains xs a → (f : Entry) × Contains firsts f × (a.response ≡ f.response)
+listed_in firsts xs a h c =
+    let (k, f, inside, at, same) = Any-from_list_any (λ f. a.response == f.response) firsts (All-contains (λ x. list_any (λ f. x.response == f.response) firsts ≡ true) xs a h c) in
+    (f, (k, inside, at), eq_from a.response f.response same)
 
 reaches_in : (w : World) (g h t : ℕ) (a : Entry) → Reaches w g h → t ≡ set_of w h → Stands w t a → Stands w (set_of w g) a
 reaches_in w g h t a start is p = subst (λ u. Stands w u a) is p
@@ -77,16 +79,19 @@ module _ (w : World) where
   pub tell_named : (i j n : ℕ) (r : Root) → AtNamed w i j n r → (a : Entry) × Contains (named n (own_of w i)) a × AtWith w a j r
   tell_named i j n r h = (r.left, named_in n (own_of w i) r.left h.0 h.1, (refl, h.2, h.3))
 
-  pub tell_own : (i j : ℕ) (names : List ℕ) → AreListed names (own_of w i) → (r : Root) → AtOwn w i j r → (n : ℕ) × Contains names n × AtNamed w i j n r
-  tell_own i j names l r h = (r.left.response, listed_in names (own_of w i) r.left l h.0, (h.0, refl, h.1, h.2))
+  pub tell_own : (i j : ℕ) (firsts : List Entry) → AreListed firsts (own_of w i) → (r : Root) → AtOwn w i j r → (f : Entry) × Contains firsts f × AtNamed w i j f.response r
+  tell_own i j firsts l r h =
+      let (f, there, same) = listed_in firsts (own_of w i) r.left l h.0 in
+      (f, there, (h.0, same, h.1, h.2))
 
-  pub own_pairs : (M : Search) (e : Bool) (i j : ℕ) (names : List ℕ) → AreListed names (own_of w i)
-      → All (λ n. All (λ a. All (λ b. Done w M e a b) (named a.response (own_of w j))) (named n (own_of w i))) names → OwnPairs w M e i j
-  own_pairs M e i j names l h c d p q same =
+  pub own_pairs : (M : Search) (e : Bool) (i j : ℕ) (firsts : List Entry) → AreListed firsts (own_of w i)
+      → All (λ f. All (λ a. All (λ b. Done w M e a b) (named a.response (own_of w j))) (named f.response (own_of w i))) firsts → OwnPairs w M e i j
+  own_pairs M e i j firsts l h c d p q same =
+      let (f, there, is) = listed_in firsts (own_of w i) c l p in
       All-contains (λ b. Done w M e c b) (named c.response (own_of w j)) d
-      (All-contains (λ a. All (λ b. Done w M e a b) (named a.response (own_of w j))) (named c.response (own_of w i)) c
-      (All-contains (λ n. All (λ a. All (λ b. Done w M e a b) (named a.response (own_of w j))) (named n (own_of w i))) names c.response h (listed_in names (own_of w i) c l p))
-      (named_in c.response (own_of w i) c p refl)) (named_in c.response (own_of w j) d q (sym same))
+      (All-contains (λ a. All (λ b. Done w M e a b) (named a.response (own_of w j))) (named f.response (own_of w i)) c
+      (All-contains (λ f. All (λ a. All (λ b. Done w M e a b) (named a.response (own_of w j))) (named f.response (own_of w i))) firsts f h there)
+      (named_in f.response (own_of w i) c p is)) (named_in c.response (own_of w j) d q (sym same))
 
   pub row_opened : (i g h : ℕ) → Reaches w g h → (r : Root) → AtOwn w i (set_of w h) r → AtSearch w i g r
   row_opened i g h at r z = (z.0, reached_stands w g h r.right at (own z.1), z.2)

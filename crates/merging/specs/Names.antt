@@ -9,9 +9,9 @@ use Rattle.merging.specs.declared.node.Entry.{Entry}
 abbrev pub named : ℕ → List Entry → List Entry
 named n own = filter (λ a. a.response == n) own
 
--- The response name of each field is among the names.
-abbrev pub AreListed : List ℕ → List Entry → Type 0
-AreListed names own = All (λ a. list_any (λ n. a.response == n) names ≡ true) own
+-- The response name of each field is that of one of the firsts.
+abbrev pub AreListed : List Entry → List Entry → Type 0
+AreListed firsts own = All (λ a. list_any (λ f. a.response == f.response) firsts ≡ true) own
 
 -- By the numbers of their response names, ascending.
 abbrev pub AreSorted : List Entry → Type 0

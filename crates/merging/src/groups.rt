@@ -1,8 +1,9 @@
 //! The fields of a set by their response names.
 ghost use Rattle.std.specs.Prelude.{◌≡◌, IfOk};
+ghost use Rattle.std.specs.Bool.{OnTrue};
 ghost use Rattle.merging.specs.Names as Spec;
 
-use crate::node::{Entry, SetNode};
+use crate::node::{Entry, NameIndex, SetNode};
 use std::alloc::{AllocError, Global};
 
 /// The fields of a response name, among fields sorted by it.
@@ -37,19 +38,26 @@ fn is_first(by_name: &[Entry], field: Entry) -> bool
     }
 }
 
-// The response names, in the order in which they stand first.
-fn list_names(alloc: Global, own: &[Entry], by_name: &[Entry]) -> Result<Vec<usize>, AllocError>
+// The first field of each response name, in the order in which they stand.
+fn list_firsts(alloc: Global, own: &[Entry], by_name: &[Entry]) -> Result<Vec<Entry>, AllocError>
     requires sorted { Spec.AreSorted by_name.now }
     requires grouped { Spec.HaveSameGroups by_name.now own.now }
     ensures { IfOk result (λ v. Spec.AreListed v.items own.now) }
 {
-    let mut names = Vec::with_capacity(alloc, own.len())?;
+    let mut firsts = Vec::with_capacity(alloc, own.len())?;
     for field in own {
         if is_first(by_name, *field) {
-            names.push(field.response)?;
+            firsts.push(*field)?;
         }
     }
-    Ok(names)
+    Ok(firsts)
+}
+
+// Whether each response name has one field, and their numbers rise.
+fn are_ascending(own: &[Entry]) -> bool
+    ensures { OnTrue result (Spec.AreSorted own.now) }
+{
+    own.is_sorted_by(|a, b| a.response < b.response)
 }
 
 /// A set of these own fields, which spreads these fragments.
@@ -57,12 +65,40 @@ pub fn make_set(alloc: Global, own: Vec<Entry>, spreads: Vec<usize>) -> Result<S
     ensures own { IfOk result (λ set. set.own ≡ own) }
     ensures spreads { IfOk result (λ set. set.spreads ≡ spreads) }
 {
+    if are_ascending(own.as_slice()) {
+        return Ok(SetNode {
+            own,
+            spreads,
+            index: None,
+        });
+    }
     let by_name = sort_fields(alloc, own.as_slice())?;
-    let names = list_names(alloc, own.as_slice(), by_name.as_slice())?;
+    let firsts = list_firsts(alloc, own.as_slice(), by_name.as_slice())?;
+    let index = Box::new(alloc, NameIndex { firsts, by_name })?;
     Ok(SetNode {
         own,
         spreads,
-        names,
-        by_name,
+        index: Some(index),
     })
+}
+
+/// The first own field of each response name, in the order in which they stand.
+pub(crate) fn first_fields(set: &SetNode) -> &[Entry]
+    ensures { Spec.AreListed result.now set.now.own.items }
+{
+    match &set.index {
+        Some(index) => index.firsts.as_slice(),
+        None => set.own.as_slice(),
+    }
+}
+
+/// The own fields by the numbers of their response names.
+pub(crate) fn sorted_fields(set: &SetNode) -> &[Entry]
+    ensures sorted { Spec.AreSorted result.now }
+    ensures grouped { Spec.HaveSameGroups result.now set.now.own.items }
+{
+    match &set.index {
+        Some(index) => index.by_name.as_slice(),
+        None => set.own.as_slice(),
+    }
 }

@@ -15,7 +15,7 @@ use crate::repeats::is_settled;
 use crate::state::{
     Finding, Search, count_list, is_compared, note_conflicts, note_pair, note_search, report,
 };
-use crate::view::{are_exclusive, are_in_conflict, group, names, set, spreads};
+use crate::view::{are_exclusive, are_in_conflict, firsts, group, set, spreads};
 use std::alloc::AllocError;
 
 /// Two fields of one response name.
@@ -129,8 +129,8 @@ pub fn compare_own<J: Judge>(
     ensures done { OnOk result (Did (world J.judgement graph.now) (λ M. OwnPairs (world J.judgement graph.now) M e i j) search.old search.new) }
     ensures real { OnOk result (AddsAll (world J.judgement graph.now) e (AtOwn (world J.judgement graph.now) i j) (AtOwn (world J.judgement graph.now) i j) search.old.found.items search.new.found.items) }
 {
-    for name in names(graph, i) {
-        compare_named(graph, i, j, *name, e, search)?;
+    for first in firsts(graph, i) {
+        compare_named(graph, i, j, first.response, e, search)?;
     }
     Ok(())
 }

@@ -14,7 +14,7 @@ use crate::node::Entry;
 use crate::opening::opened;
 use crate::search::{compare_fields, compare_fragments, compare_own};
 use crate::state::{Search, count_list, no_search};
-use crate::view::{group, names, order, set, spreads};
+use crate::view::{firsts, group, order, set, spreads};
 use std::alloc::{AllocError, Global};
 
 // A field and those after it.
@@ -57,8 +57,8 @@ fn compare_within<J: Judge>(
     ensures done { OnOk result (Did (world J.judgement graph.now) (λ M. OwnWithin (world J.judgement graph.now) M s) search.old search.new) }
     ensures real { OnOk result (AddsAll (world J.judgement graph.now) false (AtWithin (world J.judgement graph.now) s) (AtWithin (world J.judgement graph.now) s) search.old.found.items search.new.found.items) }
 {
-    for name in names(graph, s) {
-        compare_each(graph, group(graph, s, *name), search)?;
+    for first in firsts(graph, s) {
+        compare_each(graph, group(graph, s, first.response), search)?;
     }
     Ok(())
 }
@@ -108,7 +108,7 @@ fn write_own<J: Judge>(
     ensures done { OnOk result (Did (world J.judgement graph.now) (λ M. OwnWritten (world J.judgement graph.now) M s g) search.old search.new) }
     ensures real { OnOk result (AddsAll (world J.judgement graph.now) false (AtWritten (world J.judgement graph.now) s g) (AtWritten (world J.judgement graph.now) s g) search.old.found.items search.new.found.items) }
 {
-    if names(graph, s).is_empty() {
+    if firsts(graph, s).is_empty() {
         return Ok(());
     }
     write_out(graph, s, g, search)

@@ -4,16 +4,16 @@ ghost use Rattle.merging.specs.Names.{named, AreListed};
 ghost use Rattle.merging.specs.World.{world, own_of, spreads_of, set_of, exclusive_of, conflict_of};
 
 use crate::graph::Graph;
-use crate::groups::fields_named;
+use crate::groups::{fields_named, first_fields, sorted_fields};
 use crate::judge::Judge;
 use crate::node::Entry;
 
-/// The response names of a set, in the order in which they stand first.
-pub fn names<J: Judge>(graph: &Graph<J>, s: usize) -> &[usize]
+/// The first own field of each response name of a set, in the order in which they stand.
+pub fn firsts<J: Judge>(graph: &Graph<J>, s: usize) -> &[Entry]
     ensures { AreListed result.now (own_of (world J.judgement graph.now) s) }
 {
     match graph.sets.get(s) {
-        Some(node) => node.names.as_slice(),
+        Some(node) => first_fields(node),
         None => &[],
     }
 }
@@ -33,7 +33,7 @@ pub fn group<J: Judge>(graph: &Graph<J>, s: usize, name: usize) -> &[Entry]
     ensures { result.now ≡ named name (own_of (world J.judgement graph.now) s) }
 {
     match graph.sets.get(s) {
-        Some(node) => fields_named(node.by_name.as_slice(), name),
+        Some(node) => fields_named(sorted_fields(node), name),
         None => &[],
     }
 }

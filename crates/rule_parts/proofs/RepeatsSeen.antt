@@ -1,5 +1,5 @@
 -- The repeats of a list, entry by entry.
-use Rattle.std.proofs.Common.{◌≡◌, ℕ, ◌+◌, ◌<◌, ◌≤◌, get_or, List, [], ◌∷◌, ◌++◌, map, take, length, ap, sym, ◌∙◌, append_assoc}
+use Rattle.std.proofs.Common.{◌≡◌, ℕ, ◌+◌, ◌<◌, ◌≤◌, get_or, List, [], ◌∷◌, ◌++◌, map, take, length, ap, sym, ◌∙◌, append_assoc, arith}
 use mathlib.Core.Path.{fun_ext}
 use Rattle.std.proofs.lemmas.List.{append-nil, take_more, take_all, map-append}
 use Rattle.language.specs.declared.position.SourcePosition.{SourcePosition}
@@ -51,3 +51,9 @@ seen_more message f xs i x name place p q w w₁ w₂ h e s is_name is_place is_
 
 pub seen_all : {S C T : Type 0} (message : List ℕ → List ℕ) (f : T → Named) (xs : List T) (i : ℕ) (p : Places) (w w₁ : ContextState S C) → length xs ≤ i → Seen message (map f (take i xs)) p w w₁ → w₁ ≡ with_errors w (repeats message (map f xs))
 seen_all message f xs i p w w₁ h s = s.told ∙ ap (λ zs. with_errors w (repeats message (map f zs))) (take_all i xs h)
+
+-- with fewer than two names nothing repeats
+pub none_repeat : {S C T : Type 0} (message : List ℕ → List ℕ) (f : T → Named) (xs : List T) (w : ContextState S C) → length xs < 2 → w ≡ with_errors w (repeats message (map f xs))
+none_repeat message f [] w few = ap (λ zs. record w { errors = zs }) (sym (append-nil w.errors))
+none_repeat message f (x ∷ []) w few = ap (λ zs. record w { errors = zs }) (sym (append-nil w.errors))
+none_repeat message f (x ∷ y ∷ xs) w few = absurd (omega arith)

@@ -62,6 +62,10 @@ pub fn report_repeats<'a, S: CheckedScalar, N: HasName>(
     ensures ok { IfOk result (λ _. ctx.new ≡ with_errors ctx.old (repeats (λ name. (before.now ++ name) ++ after.now) (map N.named entries.now.items))) }
     ensures err { OnErr result (KeepsPlace ctx.old ctx.new) }
 {
+    // most lists have one entry, for which a map would ask for memory
+    if entries.len() < 2 {
+        return Ok(());
+    }
     let mut names = FirstPlaces::new(alloc);
     for entry in entries {
         report_repeat(

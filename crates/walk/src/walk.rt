@@ -8,7 +8,8 @@ ghost use Rattle.events.specs.EventValue.{typed_event, typing_of};
 ghost use Rattle.events.specs.Cursor.{events_left};
 ghost use Rattle.events.specs.Outline.{each, outline_of_definition};
 ghost use Rattle.walk.specs.Step.{Ran, Stepped, KeepsPlace};
-ghost use Rattle.events.specs.TypedEvent.{events_of, typed_events};
+ghost use Rattle.events.specs.Node as Node;
+ghost use Rattle.events.specs.TypedEvent.{leaving, events_of, typed_events};
 
 use crate::ValidatorContext;
 use crate::multi_visitor::MultiVisitorCons;
@@ -135,4 +136,21 @@ pub fn visit_rules<'a, 't, S: CheckedScalar, R: Visitor<'a, S> + Rule<S, S::Chec
     ensures stays { ctx.old.failed ≡ true → IsErr result }
 {
     walk_with(rules, ctx, shorten(document))
+}
+
+/// Tells a visitor that a document is left, at the types at hand, and of no other event.
+///
+/// A visitor that is idle until then so needs no walk over the whole document.
+pub fn leave_document<'a, 't, S: CheckedScalar, V: Visitor<'a, S>>(
+    v: &mut V,
+    ctx: &mut ValidatorContext<'a, S>,
+    document: &'a [Definition<'t, S>],
+) -> Result<(), OutOfMemory>
+    ensures stepped { IfOk result (λ _. Stepped V.step (record { side = leaving; node = Node.document document.now; types = typing ctx.old }) v.old v.new ctx.old ctx.new) }
+    ensures err { OnErr result (KeepsPlace ctx.old ctx.new) }
+    ensures failed { OnErr result (ctx.new.failed ≡ true) }
+    ensures stays { ctx.old.failed ≡ true → IsErr result }
+{
+    let types = ctx.types();
+    tell_one(v, ctx, &Event::ExitDocument(shorten(document)), types)
 }

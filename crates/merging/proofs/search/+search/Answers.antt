@@ -207,26 +207,26 @@ compare_named-returns g t c =
           (λ r z. let y = tell_named v c.args.i c.args.j c.args.name r z in (y.0, subst (λ zs. Contains zs (y.0)) (sym c.loop-a.invariant.0) y.1, y.2)) c.loop-a.invariant.2;
     }
 
-pub compare_own-loop-name-init : goal.compare_own-loop-name-init
-compare_own-loop-name-init g t c =
+pub compare_own-loop-first-init : goal.compare_own-loop-first-init
+compare_own-loop-first-init g t c =
     let v = world g.J.Judge.judgement c.args.graph.now in
-    (c.names-name-items.ensures, did_start v (λ n M. All (λ a. All (λ b. Done v M c.args.e a b) (named a.response (own_of v c.args.j))) (named n (own_of v c.args.i))) c.names-name-items.result.now c.args.search.now, all_start v c.args.e _ (λ n. AtNamed v c.args.i c.args.j n) c.names-name-items.result.now 0 _)
+    (c.firsts-first-items.ensures, did_start v (λ f M. All (λ a. All (λ b. Done v M c.args.e a b) (named a.response (own_of v c.args.j))) (named f.response (own_of v c.args.i))) c.firsts-first-items.result.now c.args.search.now, all_start v c.args.e _ (λ f. AtNamed v c.args.i c.args.j f.response) c.firsts-first-items.result.now no_entry _)
 
-pub compare_own-loop-name-preserved : goal.compare_own-loop-name-preserved
-compare_own-loop-name-preserved g t c =
+pub compare_own-loop-first-preserved : goal.compare_own-loop-first-preserved
+compare_own-loop-first-preserved g t c =
     let v = world g.J.Judge.judgement c.args.graph.now in (
-      c.loop-name.invariant.0,
-      did_more v (λ n M. All (λ a. All (λ b. Done v M c.args.e a b) (named a.response (own_of v c.args.j))) (named n (own_of v c.args.i))) _ c.loop-name.name-index 0 c.loop-name-test.true c.loop-name.invariant.1 c.in_ok-compare_named.ensures.done,
-      all_more v c.args.e _ _ (λ n. AtNamed v c.args.i c.args.j n) c.names-name-items.result.now c.loop-name.name-index 0
-          (row_own v c.args.i c.args.j (get_or c.names-name-items.result.now c.loop-name.name-index 0)) c.loop-name.invariant.2 c.in_ok-compare_named.ensures.real,
+      c.loop-first.invariant.0,
+      did_more v (λ f M. All (λ a. All (λ b. Done v M c.args.e a b) (named a.response (own_of v c.args.j))) (named f.response (own_of v c.args.i))) _ c.loop-first.first-index no_entry c.loop-first-test.true c.loop-first.invariant.1 c.in_ok-compare_named.ensures.done,
+      all_more v c.args.e _ _ (λ f. AtNamed v c.args.i c.args.j f.response) c.firsts-first-items.result.now c.loop-first.first-index no_entry
+          (row_own v c.args.i c.args.j (get_or c.firsts-first-items.result.now c.loop-first.first-index no_entry).response) c.loop-first.invariant.2 c.in_ok-compare_named.ensures.real,
     )
 
 pub compare_own-returns : goal.compare_own-returns
 compare_own-returns g t c =
     let v = world g.J.Judge.judgement c.args.graph.now in
     record {
-      done = did_map v _ _ (λ M z. own_pairs v M c.args.e c.args.i c.args.j c.names-name-items.result.now c.loop-name.invariant.0 z) (did_all v (λ n M. All (λ a. All (λ b. Done v M c.args.e a b) (named a.response (own_of v c.args.j))) (named n (own_of v c.args.i))) c.names-name-items.result.now c.names-name-items.result.now c.loop-name.name-index c.loop-name-test.false refl c.loop-name.invariant.1);
-      real = all_done v c.args.e _ _ (λ n. AtNamed v c.args.i c.args.j n) c.names-name-items.result.now c.loop-name.name-index 0 c.loop-name-test.false (tell_own v c.args.i c.args.j c.names-name-items.result.now c.loop-name.invariant.0) c.loop-name.invariant.2;
+      done = did_map v _ _ (λ M z. own_pairs v M c.args.e c.args.i c.args.j c.firsts-first-items.result.now c.loop-first.invariant.0 z) (did_all v (λ f M. All (λ a. All (λ b. Done v M c.args.e a b) (named a.response (own_of v c.args.j))) (named f.response (own_of v c.args.i))) c.firsts-first-items.result.now c.firsts-first-items.result.now c.loop-first.first-index c.loop-first-test.false refl c.loop-first.invariant.1);
+      real = all_done v c.args.e _ _ (λ f. AtNamed v c.args.i c.args.j f.response) c.firsts-first-items.result.now c.loop-first.first-index no_entry c.loop-first-test.false (tell_own v c.args.i c.args.j c.firsts-first-items.result.now c.loop-first.invariant.0) c.loop-first.invariant.2;
     }
 
 pub compare_below-returns : goal.compare_below-returns

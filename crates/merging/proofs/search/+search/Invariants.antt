@@ -63,11 +63,11 @@ invariant-compare_named-loop-a g l =
     × Did (world g.J.Judge.judgement l.graph) (λ M. All (λ a. All (λ b. Done (world g.J.Judge.judgement l.graph) M l.e a b) (named a.response (own_of (world g.J.Judge.judgement l.graph) l.j))) (take l.a-index l.a-items)) l.fn.search l.search
     × AddsAll (world g.J.Judge.judgement l.graph) l.e (AtNamed (world g.J.Judge.judgement l.graph) l.i l.j l.name) (Upto l.a-items l.a-index no_entry (λ a. AtWith (world g.J.Judge.judgement l.graph) a l.j)) l.fn.search.found.items l.search.found.items
 
-abbrev pub invariant-compare_own-loop-name : goal.invariant-compare_own-loop-name
-invariant-compare_own-loop-name g l =
-    (AreListed l.name-items (own_of (world g.J.Judge.judgement l.graph) l.i))
-    × Did (world g.J.Judge.judgement l.graph) (λ M. All (λ n. All (λ a. All (λ b. Done (world g.J.Judge.judgement l.graph) M l.e a b) (named a.response (own_of (world g.J.Judge.judgement l.graph) l.j))) (named n (own_of (world g.J.Judge.judgement l.graph) l.i))) (take l.name-index l.name-items)) l.fn.search l.search
-    × AddsAll (world g.J.Judge.judgement l.graph) l.e (AtOwn (world g.J.Judge.judgement l.graph) l.i l.j) (Upto l.name-items l.name-index 0 (λ n. AtNamed (world g.J.Judge.judgement l.graph) l.i l.j n)) l.fn.search.found.items l.search.found.items
+abbrev pub invariant-compare_own-loop-first : goal.invariant-compare_own-loop-first
+invariant-compare_own-loop-first g l =
+    (AreListed l.first-items (own_of (world g.J.Judge.judgement l.graph) l.i))
+    × Did (world g.J.Judge.judgement l.graph) (λ M. All (λ f. All (λ a. All (λ b. Done (world g.J.Judge.judgement l.graph) M l.e a b) (named a.response (own_of (world g.J.Judge.judgement l.graph) l.j))) (named f.response (own_of (world g.J.Judge.judgement l.graph) l.i))) (take l.first-index l.first-items)) l.fn.search l.search
+    × AddsAll (world g.J.Judge.judgement l.graph) l.e (AtOwn (world g.J.Judge.judgement l.graph) l.i l.j) (Upto l.first-items l.first-index no_entry (λ f. AtNamed (world g.J.Judge.judgement l.graph) l.i l.j f.response)) l.fn.search.found.items l.search.found.items
 
 abbrev pub invariant-open_all-loop-h : goal.invariant-open_all-loop-h
 invariant-open_all-loop-h g l =
