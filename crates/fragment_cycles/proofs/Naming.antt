@@ -1,13 +1,20 @@
 -- Which names have numbers.
-use Rattle.std.proofs.Common.{◌≡◌, ℕ, ◌≤◌, List, [], ◌∷◌, ◌++◌, length, refl, sym, subst, ap, arith, ◌∙◌, inl, inr, ◌⊎◌, None, take, slice_get}
+use Rattle.std.proofs.Common.{◌≡◌, ℕ, ◌≤◌, List, [], ◌∷◌, ◌++◌, length, refl, sym, subst, ap, arith, ◌∙◌, inl, inr, ◌⊎◌, Option, None, map, take, slice_get, suc}
+use Rattle.std.specs.List.{Contains}
 use Rattle.std.proofs.lemmas.List.Elements.{Contains-append_left, Contains-push}
-use Rattle.std.proofs.lemmas.List.{take_all}
+use Rattle.std.proofs.lemmas.List.{map-append, take_all}
 use Rattle.language.specs.declared.tree.Definition.{Definition}
 use Rattle.language.specs.declared.tree.Definition.TheVariants as definition
 use Rattle.fragment_cycles.specs.declared.numbers.Numbers.{Numbers}
-use Rattle.fragment_cycles.specs.Numbers.{number_of, names_of, AddsDefinition, NumbersOf, Defines, IsNamed, HasNumber}
+use Rattle.fragment_cycles.specs.Numbers.{number_of, names_of, defined_number, AddsDefinition, NumberedDefinitions, NumbersOf, Defines, IsNamed, HasNumber}
 use Rattle.fragment_cycles.proofs.Lists.{none_some, get_snoc, contains_at, contains_get}
 use Rattle.fragment_cycles.proofs.Numbering.{number_split, number_keep, number_there, well_more}
+
+same_each : {X Y : Type 0} (f g : X → Y) (xs : List X) → ((x : X) → Contains xs x → f x ≡ g x) → map f xs ≡ map g xs
+same_each f g [] h = refl
+same_each f g (x ∷ xs) h =
+    ap (λ y. y ∷ map f xs) (h x (contains_at (x ∷ xs) 0 x refl))
+    ∙ ap (λ ys. g x ∷ ys) (same_each f g xs (λ y c. let (k, at) = contains_get xs y c in h y (contains_at (x ∷ xs) (suc k) y at)))
 
 module _ {S : Type 0} where
   defines_more : (xs : List (Definition S)) (d : Definition S) (name : List ℕ) → Defines xs name → Defines (xs ++ d ∷ []) name
@@ -53,5 +60,23 @@ module _ {S : Type 0} where
     );
   }
 
-  pub names_all : (xs : List (Definition S)) (k : ℕ) (n : Numbers) → length xs ≤ k → NumbersOf (take k xs) n → NumbersOf xs n
-  names_all xs k n l h = subst (λ (zs : List (Definition S)). NumbersOf zs n) (take_all k xs l) h
+  -- a definition that has a number keeps it
+  number_kept : (xs : List (Definition S)) (d e : Definition S) (old new : Numbers) → AddsDefinition d old new → NumbersOf xs old → Contains xs e → defined_number new e ≡ defined_number old e
+  number_kept xs (definition.Operation o) e old new a h c = ap (λ n. defined_number n e) a
+  number_kept xs (definition.Fragment f) (definition.Operation p) old new a h c = refl
+  number_kept xs (definition.Fragment f) (definition.Fragment p) old new a h c =
+      let (k, is) = (h.defined p.item.name.item.now).1 (definition.Fragment p, c, refl) in
+      number_keep old new f.item.name.item.now a p.item.name.item.now k is ∙ sym is
+
+  pub definitions_more : (xs : List (Definition S)) (d : Definition S) (old new : Numbers) (before after : List (Option ℕ)) (number : Option ℕ)
+      → AddsDefinition d old new → number ≡ defined_number new d → after ≡ before ++ number ∷ []
+      → NumberedDefinitions xs old before → NumberedDefinitions (xs ++ d ∷ []) new after
+  definitions_more xs d old new before after number a is more h = record {
+    numbers = names_more xs d old new a h.numbers;
+    each =
+        more ∙ ap (λ zs. zs ++ number ∷ []) (h.each ∙ same_each (defined_number old) (defined_number new) xs (λ e c. sym (number_kept xs d e old new a h.numbers c)))
+        ∙ ap (λ o. map (defined_number new) xs ++ o ∷ []) is ∙ sym (map-append (defined_number new) xs (d ∷ []));
+  }
+
+  pub names_all : (xs : List (Definition S)) (k : ℕ) (n : Numbers) (defined : List (Option ℕ)) → length xs ≤ k → NumberedDefinitions (take k xs) n defined → NumberedDefinitions xs n defined
+  names_all xs k n defined l h = subst (λ (zs : List (Definition S)). NumberedDefinitions zs n defined) (take_all k xs l) h

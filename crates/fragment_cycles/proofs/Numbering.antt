@@ -26,6 +26,17 @@ adds_new p q name k h u o = u o ∙ new_by (bytes_eq name o) (p o) k (λ e. ap p
 pub adds_old : (p : List ℕ → Option ℕ) (name : List ℕ) (k j : ℕ) → Some j ≡ p name → (o : List ℕ) → p o ≡ or_else (p o) (cond (bytes_eq name o) (Some k) None)
 adds_old p name k j h o = old_by (bytes_eq name o) (p o) k (λ e. (j, ap p (sym ((bytes_eq-Decides name o).0 e)) ∙ sym h))
 
+back_by : (b : Bool) (f q : Option ℕ) (k j : ℕ) → (b ≡ true → f ≡ Some j) → q ≡ cond b (Some k) f → cond b (Some j) q ≡ f
+back_by true f q k j h e = sym (h refl)
+back_by false f q k j h e = e
+
+-- a number that was overwritten and is put back
+pub adds_back : (p q r : List ℕ → Option ℕ) (name : List ℕ) (k next j : ℕ) → Some j ≡ p name → ((o : List ℕ) → q o ≡ update bytes_eq p name (Some next) o)
+    → ((o : List ℕ) → r o ≡ update bytes_eq q name (Some j) o)
+    → (o : List ℕ) → r o ≡ or_else (p o) (cond (bytes_eq name o) (Some k) None)
+adds_back p q r name k next j h u v o =
+    v o ∙ back_by (bytes_eq name o) (p o) (q o) next j (λ e. ap p (sym ((bytes_eq-Decides name o).0 e)) ∙ sym h) (u o) ∙ adds_old p name k j h o
+
 split : (b : Bool) (p : Option ℕ) (c k : ℕ) → or_else p (cond b (Some c) None) ≡ Some k → (p ≡ Some k) ⊎ ((p ≡ None) × (b ≡ true) × (c ≡ k))
 split b (Some j) c k h = inl h
 split true None c k h = inr (refl, refl, same_some c k h)

@@ -8,7 +8,7 @@ use Rattle.fragment_cycles.specs.declared.graph.Spread.{Spread}
 use Rattle.fragment_cycles.specs.declared.numbers.Numbers.{Numbers}
 use Rattle.fragment_cycles.specs.declared.document_graph.DocumentGraph.{DocumentGraph}
 use Rattle.fragment_cycles.specs.Graph.{spreads_of, spread_count}
-use Rattle.fragment_cycles.specs.Numbers.{number_of, names_of, HasNumber, NumbersOf}
+use Rattle.fragment_cycles.specs.Numbers.{defined_number, number_of, names_of, HasNumber, NumbersOf}
 use Rattle.fragment_cycles.specs.Spreads.{PlacedSpread, definition_spreads, fragment_spreads, spreads_named, spreads_of_name}
 
 -- A spread with its target's number, which is past the last where no fragment has the name.
@@ -33,4 +33,6 @@ pub record Joined {S : Type 0} (n : Numbers) (document : List (Definition S)) (n
 
 pub record IsGraphOf {S : Type 0} (document : List (Definition S)) (g : DocumentGraph) : Type 0 where
   pub numbers : NumbersOf document g.numbers
+  -- each definition has the number of its name
+  pub defined : g.defined.items ≡ map (defined_number g.numbers) document
   pub nodes : Joined g.numbers document g.nodes.items

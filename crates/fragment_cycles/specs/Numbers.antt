@@ -48,3 +48,13 @@ Defines {S} document name = (d : Definition S) × Contains document d × IsNamed
 pub record NumbersOf {S : Type 0} (document : List (Definition S)) (n : Numbers) : Type 0 where
   pub numbered : WellNumbered n
   pub defined : (name : List ℕ) → HasNumber n name ↔ Defines document name
+
+-- The number of a fragment's name; an operation has none.
+abbrev pub defined_number : {S : Type 0} → Numbers → Definition S → Option ℕ
+defined_number n (definition.Operation o) = None
+defined_number n (definition.Fragment f) = number_of n f.item.name.item.now
+
+-- The names are numbered, and so is each definition.
+pub record NumberedDefinitions {S : Type 0} (document : List (Definition S)) (n : Numbers) (defined : List (Option ℕ)) : Type 0 where
+  pub numbers : NumbersOf document n
+  pub each : defined ≡ map (defined_number n) document

@@ -1,6 +1,7 @@
 //! The cycles of a document's fragments.
 ghost use Rattle.std.specs.Prelude.{◌≡◌, IfOk, map};
 ghost use Rattle.fragment_cycles.specs.DocumentCycles.{SearchedDocument, name_and_place, told};
+ghost use Rattle.fragment_cycles.specs.Searched.{Searched};
 
 use crate::document_graph::{DocumentGraph, graph_of};
 use crate::numbers::{Numbers, name};
@@ -49,6 +50,26 @@ fn tell_all<'a>(
     Ok(all)
 }
 
+/// What the search of a graph found, and its reports by names.
+#[derive(Drop)]
+pub struct GraphCycles<'a> {
+    pub outcome: Outcome,
+    pub reports: Vec<CycleReport<'a>>,
+}
+
+/// Searches the spreads of a document's graph, looking at each once.
+pub fn search_named<'a>(
+    alloc: Global,
+    graph: &DocumentGraph<'a>,
+) -> Result<GraphCycles<'a>, AllocError>
+    ensures outcome { IfOk result (λ c. Searched graph.now.nodes.items c.outcome) }
+    ensures reports { IfOk result (λ c. map name_and_place c.reports.items ≡ map (told graph.now.numbers) c.outcome.reports.items) }
+{
+    let outcome = search_graph(alloc, graph.nodes.as_slice())?;
+    let reports = tell_all(alloc, &graph.numbers, outcome.reports.as_slice())?;
+    Ok(GraphCycles { outcome, reports })
+}
+
 /// Searches the spreads inside a document's fragments, looking at each once (GraphQL October 2021, section 5.5.2.2).
 pub fn search_document<'a, S>(
     alloc: Global,
@@ -57,8 +78,7 @@ pub fn search_document<'a, S>(
     ensures { IfOk result (SearchedDocument document.now) }
 {
     let graph = graph_of(alloc, document)?;
-    let outcome = search_graph(alloc, graph.nodes.as_slice())?;
-    let reports = tell_all(alloc, &graph.numbers, outcome.reports.as_slice())?;
+    let GraphCycles { outcome, reports } = search_named(alloc, &graph)?;
     Ok(DocumentCycles {
         graph,
         outcome,

@@ -1,12 +1,12 @@
 //! The graph of a document: its fragments by number, the spreads of all definitions of a name joined.
-ghost use Rattle.std.specs.Prelude.{◌≡◌, ℕ, ◌++◌, [], length, OnOk, IfOk, map};
+ghost use Rattle.std.specs.Prelude.{◌≡◌, ℕ, ◌++◌, [], length, OnOk, IfOk, Some, map};
 ghost use Rattle.fragment_cycles.specs.Graph.{spreads_of, spread_count};
 ghost use Rattle.fragment_cycles.specs.Spreads.{placed_spreads_of, placed_spreads_of_all};
-ghost use Rattle.fragment_cycles.specs.Numbers.{names_of, HasNumber, NumbersOf, WellNumbered};
+ghost use Rattle.fragment_cycles.specs.Numbers.{defined_number, names_of, number_of, NumberedDefinitions, WellNumbered};
 ghost use Rattle.fragment_cycles.specs.DocumentGraph.{resolved, IsNumbered, JoinsDefinition, Joined, IsGraphOf};
 
 use crate::graph::{Node, Spread};
-use crate::numbers::{Numbers, name_count, number, number_names};
+use crate::numbers::{NumberedNames, Numbers, name_count, number, number_names};
 use language::position::Spanning;
 use language::tree::{Definition, Document, Fragment, FragmentSpread, Selection};
 use std::alloc::{AllocError, Global};
@@ -15,6 +15,8 @@ use std::alloc::{AllocError, Global};
 #[derive(Drop)]
 pub struct DocumentGraph<'a> {
     pub numbers: Numbers<'a>,
+    /// The number of each definition's name, by its place; an operation has none.
+    pub defined: Vec<Option<usize>>,
     pub nodes: Vec<Node>,
 }
 
@@ -81,40 +83,43 @@ fn empty_nodes(alloc: Global, count: usize) -> Result<Vec<Node>, AllocError>
     Ok(nodes)
 }
 
-// Adds the spreads of a definition to the node of its name.
+// Adds the spreads of a definition to the node of its name, whose number this is.
 fn join_fragment<S>(
     numbers: &Numbers<'_>,
     fragment: &Spanning<Fragment<'_, S>>,
+    place: usize,
     nodes: &mut Vec<Node>,
 ) -> Result<(), AllocError>
     requires numbered { WellNumbered numbers.now }
-    requires has { HasNumber numbers.now fragment.now.item.name.item.now }
+    requires has { number_of numbers.now fragment.now.item.name.item.now ≡ Some place }
     requires sized { length nodes.old.items ≡ length (names_of numbers.now) }
     ensures { OnOk result (JoinsDefinition numbers.now (Definition.Fragment fragment.now) nodes.old.items nodes.new.items) }
 {
-    if let Some(place) = number(numbers, fragment.item.name.item) {
-        add_spreads(
-            numbers,
-            fragment.item.selection_set.as_slice(),
-            &mut nodes[place].spreads,
-        )?;
-    }
-    Ok(())
+    add_spreads(
+        numbers,
+        fragment.item.selection_set.as_slice(),
+        &mut nodes[place].spreads,
+    )
 }
 
-// Adds the spreads of a definition, if it is a fragment's.
+// Adds the spreads of a definition, if it is a fragment's and has a number.
 fn join_definition<S>(
     numbers: &Numbers<'_>,
     definition: &Definition<'_, S>,
+    defined: Option<usize>,
     nodes: &mut Vec<Node>,
 ) -> Result<(), AllocError>
     requires numbered { WellNumbered numbers.now }
     requires has { IsNumbered numbers.now definition.now }
+    requires defined { defined ≡ defined_number numbers.now definition.now }
     requires sized { length nodes.old.items ≡ length (names_of numbers.now) }
     ensures { OnOk result (JoinsDefinition numbers.now definition.now nodes.old.items nodes.new.items) }
 {
     match definition {
-        Definition::Fragment(fragment) => join_fragment(numbers, fragment, nodes),
+        Definition::Fragment(fragment) => match defined {
+            Some(place) => join_fragment(numbers, fragment, place, nodes),
+            None => Ok(()),
+        },
         Definition::Operation(_) => Ok(()),
     }
 }
@@ -124,13 +129,14 @@ fn join_all<S>(
     alloc: Global,
     numbers: &Numbers<'_>,
     document: Document<'_, S>,
+    defined: &[Option<usize>],
 ) -> Result<Vec<Node>, AllocError>
-    requires { NumbersOf document.now numbers.now }
+    requires { NumberedDefinitions document.now numbers.now defined.now }
     ensures { IfOk result (λ v. Joined numbers.now document.now v.items) }
 {
     let mut nodes = empty_nodes(alloc, name_count(numbers))?;
-    for definition in document {
-        join_definition(numbers, definition, &mut nodes)?;
+    for place in 0..document.len() {
+        join_definition(numbers, &document[place], defined[place], &mut nodes)?;
     }
     Ok(nodes)
 }
@@ -142,7 +148,11 @@ pub fn graph_of<'a, S>(
 ) -> Result<DocumentGraph<'a>, AllocError>
     ensures { IfOk result (IsGraphOf document.now) }
 {
-    let numbers = number_names(alloc, document)?;
-    let nodes = join_all(alloc, &numbers, document)?;
-    Ok(DocumentGraph { numbers, nodes })
+    let NumberedNames { numbers, defined } = number_names(alloc, document)?;
+    let nodes = join_all(alloc, &numbers, document, defined.as_slice())?;
+    Ok(DocumentGraph {
+        numbers,
+        defined,
+        nodes,
+    })
 }

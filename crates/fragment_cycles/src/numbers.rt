@@ -1,7 +1,7 @@
 //! The names of a document's fragments, by number.
-ghost use Rattle.std.specs.Prelude.{◌≡◌, [], length, OnOk, IfOk, List, ℕ, None, slice_get};
+ghost use Rattle.std.specs.Prelude.{◌≡◌, [], length, OnOk, IfOk, List, ℕ, None, Some, map, slice_get};
 ghost use Rattle.std.specs.Option.{unwrap_or};
-ghost use Rattle.fragment_cycles.specs.Numbers.{number_of, names_of, AddsName, AddsDefinition, NumbersOf};
+ghost use Rattle.fragment_cycles.specs.Numbers.{number_of, names_of, defined_number, AddsName, AddsDefinition, NumberedDefinitions};
 
 use language::tree::{Definition, Document};
 use std::alloc::{AllocError, Global};
@@ -49,44 +49,60 @@ fn no_numbers<'a>(alloc: Global) -> Numbers<'a>
     }
 }
 
-// Numbers a name, unless it has a number.
-fn add_name<'a>(numbers: &mut Numbers<'a>, name: &'a str) -> Result<(), AllocError>
-    ensures { OnOk result (AddsName numbers.old numbers.new name.now) }
+// Numbers a name, unless it has a number; the number that it has now. Mostly it is new, and then one look at the map does.
+fn add_name<'a>(numbers: &mut Numbers<'a>, name: &'a str) -> Result<usize, AllocError>
+    ensures adds { OnOk result (AddsName numbers.old numbers.new name.now) }
+    ensures number { IfOk result (λ k. number_of numbers.new name.now ≡ Some k) }
 {
-    match number(numbers, name) {
-        Some(_) => Ok(()),
+    let next = name_count(numbers);
+    match numbers.by_name.insert(name, next)? {
+        Some(earlier) => {
+            numbers.by_name.insert(name, earlier)?;
+            Ok(earlier)
+        }
         None => {
-            let next = name_count(numbers);
-            numbers.by_name.insert(name, next)?;
             numbers.names.push(name)?;
-            Ok(())
+            Ok(next)
         }
     }
 }
 
-// Numbers the name of a fragment.
+// Numbers the name of a definition, if it is a fragment's; the number.
 fn add_definition<'a, S>(
     numbers: &mut Numbers<'a>,
     definition: &Definition<'a, S>,
-) -> Result<(), AllocError>
-    ensures { OnOk result (AddsDefinition definition.now numbers.old numbers.new) }
+) -> Result<Option<usize>, AllocError>
+    ensures adds { OnOk result (AddsDefinition definition.now numbers.old numbers.new) }
+    ensures number { IfOk result (λ o. o ≡ defined_number numbers.new definition.now) }
 {
     match definition {
-        Definition::Fragment(fragment) => add_name(numbers, fragment.item.name.item),
-        Definition::Operation(_) => Ok(()),
+        Definition::Fragment(fragment) => {
+            let number = add_name(numbers, fragment.item.name.item)?;
+            Ok(Some(number))
+        }
+        Definition::Operation(_) => Ok(None),
     }
+}
+
+/// The names of a document's fragments, numbered, and the number of each definition's name.
+#[derive(Drop)]
+pub struct NumberedNames<'a> {
+    pub numbers: Numbers<'a>,
+    /// By the definitions' places in the document; an operation has none.
+    pub defined: Vec<Option<usize>>,
 }
 
 /// The names of a document's fragments, numbered.
 pub fn number_names<'a, S>(
     alloc: Global,
     document: Document<'a, S>,
-) -> Result<Numbers<'a>, AllocError>
-    ensures { IfOk result (NumbersOf document.now) }
+) -> Result<NumberedNames<'a>, AllocError>
+    ensures { IfOk result (λ n. NumberedDefinitions document.now n.numbers n.defined.items) }
 {
     let mut numbers = no_numbers(alloc);
+    let mut defined = Vec::new(alloc);
     for definition in document {
-        add_definition(&mut numbers, definition)?;
+        defined.push(add_definition(&mut numbers, definition)?)?;
     }
-    Ok(numbers)
+    Ok(NumberedNames { numbers, defined })
 }

@@ -1,3 +1,4 @@
 pub mod Marking
 pub mod Reaching
 pub mod Searches
+pub mod Existence

@@ -1,8 +1,9 @@
 -- The places of what is reached.
-use Rattle.std.proofs.Common.{◌≡◌, ℕ, ◌+◌, List, [], ◌++◌, refl, sym, subst, ap, arith, inl, inr, Bool, true, cond, Option, Some, map, slice_get, ◌∙◌}
+use Rattle.std.proofs.Common.{◌≡◌, ℕ, ◌+◌, List, [], ◌++◌, length, refl, sym, subst, ap, arith, inl, inr, Bool, true, cond, Option, Some, map, slice_get, ◌∙◌}
 use Rattle.std.specs.List.{Contains, flat_map}
-use Rattle.std.specs.Option.{unwrap_or}
-use Rattle.std.proofs.lemmas.Option.{slice_get_within}
+use Rattle.std.specs.Option.{option_map_or}
+use Rattle.std.proofs.lemmas.Bool.{cases_lt}
+use Rattle.std.proofs.lemmas.Option.{slice_get_past, slice_get_within}
 use Rattle.std.proofs.lemmas.List.Elements.{Contains-append_left, Contains-append_right}
 use Rattle.language.specs.declared.tree.Definition.{Definition}
 use Rattle.language.specs.declared.tree.Definition.TheVariants as definition
@@ -13,16 +14,18 @@ use Rattle.fragment_cycles.specs.Numbers.{number_of, names_of, Defines}
 use Rattle.fragment_cycles.specs.Spreads.{PlacedSpreads}
 use Rattle.fragment_cycles.specs.DocumentGraph.{resolved}
 use Rattle.fragment_cycles.proofs.Lists.{same_item, contains_at, contains_get}
+use Rattle.fragment_cycles.proofs.Numbering.{named}
 use Rattle.fragment_cycles.proofs.NamePaths.{flat_get, name_of, split_get}
 use Rattle.reachability.specs.Reach.{ScopeName, operation, fragment, definition_spreads, operation_named, scope_spreads, Reach, start, onward}
 use Rattle.reachability.specs.Search.{MarksReached, Reached, WellMarked}
+use Rattle.reachability.proofs.Existence.{explored}
 use Rattle.reachability.proofs.Reaching.{begin_at, further_at, named_reached, marked_at, contains_flat}
 use Rattle.scopes.specs.declared.index.ScopeIndex.{ScopeIndex}
 use Rattle.scopes.specs.Index.{IsIndexOf}
-use Rattle.scopes.specs.Places.{places_at, places_of}
+use Rattle.scopes.specs.Places.{numbered_places, places_at, places_of}
 use Rattle.scopes.specs.Scopes.{InReach, IsOnce, same_scope, scope_of}
 use Rattle.scopes.specs.Searches.{fragment_places, spreads_at}
-use Rattle.scopes.proofs.Once.{once_append, once_flat}
+use Rattle.scopes.proofs.Once.{once_append, once_flat, once_none}
 use Rattle.scopes.proofs.PlaceLists.{flat_places, places_get, places_has, places_once}
 use Rattle.scopes.proofs.ScopeTests.{scope_same, scope_self}
 
@@ -91,14 +94,16 @@ module _ {S : Type 0} (document : List (Definition S)) where
     fragment_reached r f e =
         named_reached document index.graph h.graph own (λ g. Reach document name (fragment g)) (λ y c. onward start y c) (λ g y s c. onward s y c) r f e
 
-    numbered_places : (f : List ℕ) (k : ℕ) → number_of n f ≡ Some k → fragment_places index k ≡ places_of document (fragment f)
-    numbered_places f k e =
-        ap (λ o. places_at index.places (fragment (unwrap_or o []))) ((h.graph.numbers.numbered f k).0 e) ∙ h.places (fragment f)
+    kept_places : (f : List ℕ) (k : ℕ) → number_of n f ≡ Some k → fragment_places index k ≡ places_of document (fragment f)
+    kept_places f k e = ap (λ o. option_map_or (numbered_places index.places.fragments.items) o []) (sym e) ∙ h.places (fragment f)
 
     any_places : (k : ℕ) → IsOnce (fragment_places index k)
-    any_places k =
-        let s : ScopeName = fragment (unwrap_or (slice_get (names_of n) k) []) in
-        subst IsOnce (sym (h.places s)) (places_once (is_in s) document)
+    any_places k = elim (cases_lt k (length (names_of n))) [
+      | inl l ↦ let (f, e) = named n h.graph.numbers.numbered k l in subst IsOnce (sym (kept_places f k e)) (places_once (is_in (fragment f)) document)
+      | inr p ↦
+          let lists = h.lists in
+          subst IsOnce (sym (ap (λ o. option_map_or (λ v. v.items) o []) (slice_get_past index.places.fragments.items k (omega (arith, p, lists))))) once_none
+    ]
 
     module _ (order : List ℕ) (marks : List Bool) (m : MarksReached nodes starts marks) (w : WellMarked order marks) where
       listed_name : (k : ℕ) → Contains order k → (f : List ℕ) × (number_of n f ≡ Some k) × Reach document name (fragment f)
@@ -115,7 +120,7 @@ module _ {S : Type 0} (document : List (Definition S)) where
           → (f : List ℕ) × (number_of n f ≡ Some k) × Contains (places_of document (fragment f)) j × Reach document name (fragment f)
       place_name k j c p =
           let (f, e, r) = listed_name k c in
-          (f, e, subst (λ zs. Contains zs j) (numbered_places f k e) p, r)
+          (f, e, subst (λ zs. Contains zs j) (kept_places f k e) p, r)
 
       abbrev places : List ℕ
       places = places_of document (operation name) ++ flat_map (fragment_places index) order
@@ -145,7 +150,7 @@ module _ {S : Type 0} (document : List (Definition S)) where
           let marked = marked_at document index.graph h.graph own marks m called k.0 k.1 (at_scope r k.0 k.1) in
           let i = w.listed k.0 marked in
           let here = contains_get (fragment_places index k.0) j
-          (subst (λ zs. Contains zs j) (sym (numbered_places called k.0 k.1)) (scope_place (fragment called) j (definition.Fragment f) at refl)) in
+          (subst (λ zs. Contains zs j) (sym (kept_places called k.0 k.1)) (scope_place (fragment called) j (definition.Fragment f) at refl)) in
           Contains-append_right (places_of document (operation name)) (flat_map (fragment_places index) order) j
           (contains_flat (fragment_places index) order i.0 k.0 here.0 j i.1 here.1)
 
@@ -174,9 +179,16 @@ module _ {S : Type 0} (document : List (Definition S)) where
         );
       }
 
-    pub in_reach : (order places : List ℕ) (marks : List Bool) → MarksReached nodes (map (resolved n) (flat_map (spreads_at document) (places_at index.places (operation name)))) marks → WellMarked order marks
-        → places ≡ places_at index.places (operation name) ++ flat_map (fragment_places index) order → InReach document name places
+    pub in_reach : (order places : List ℕ) (marks : List Bool) → MarksReached nodes (map (resolved n) (flat_map (spreads_at document) (places_at index.graph.numbers index.places (operation name)))) marks → WellMarked order marks
+        → places ≡ places_at index.graph.numbers index.places (operation name) ++ flat_map (fragment_places index) order → InReach document name places
     in_reach order places marks m w e =
         let kept = h.places (operation name) in
         let all = subst (λ zs. MarksReached nodes (map (resolved n) zs) marks) (ap (flat_map (spreads_at document)) kept ∙ spreads_at_places name) m in
         subst (InReach document name) (sym (e ∙ ap (λ z. z ++ flat_map (fragment_places index) order) kept)) (all_in_reach order marks all w)
+
+    -- there are such places, though no one searches for them
+    pub some_reach : (places : List ℕ) × InReach document name places
+    some_reach =
+        let own = places_at n index.places (operation name) in
+        let (order, marks, m, w) = explored nodes (map (resolved n) (flat_map (spreads_at document) own)) in
+        (own ++ flat_map (fragment_places index) order, in_reach order (own ++ flat_map (fragment_places index) order) marks m w refl)

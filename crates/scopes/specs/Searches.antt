@@ -1,14 +1,13 @@
 -- What a search for the definitions in reach passes on.
 use Rattle.std.specs.Prelude.{ℕ, List, [], length, slice_get}
-use Rattle.std.specs.Option.{option_map_or, unwrap_or}
+use Rattle.std.specs.Option.{option_map_or}
 use Rattle.language.specs.declared.tree.Definition.{Definition}
-use Rattle.fragment_cycles.specs.Numbers.{names_of}
 use Rattle.fragment_cycles.specs.Spreads.{PlacedSpreads}
-use Rattle.reachability.specs.Reach.{fragment, definition_spreads}
+use Rattle.reachability.specs.Reach.{definition_spreads}
 use Rattle.reachability.specs.Search.{IsClear}
 use Rattle.scopes.specs.declared.index.ScopeIndex.{ScopeIndex}
 use Rattle.scopes.specs.declared.reach.Search.{Search}
-use Rattle.scopes.specs.Places.{places_at}
+use Rattle.scopes.specs.Places.{numbered_places}
 
 -- No fragment is noted.
 abbrev pub IsReady : ScopeIndex → Search → Type 0
@@ -22,4 +21,4 @@ abbrev pub spreads_at : {S : Type 0} → List (Definition S) → ℕ → PlacedS
 spreads_at document place = inside definition_spreads document place
 
 abbrev pub fragment_places : ScopeIndex → ℕ → List ℕ
-fragment_places index number = places_at index.places (fragment (unwrap_or (slice_get (names_of index.graph.numbers) number) []))
+fragment_places index number = numbered_places index.places.fragments.items number

@@ -1,12 +1,13 @@
 //! A document's scopes, each with what it spreads and where it is defined.
 ghost use Rattle.std.specs.Prelude.{◌≡◌, ◌-◌, ◌++◌, Some, IfOk, IfSome, IfNone, OnOk, length, map, option_map, slice_get};
 ghost use Rattle.scopes.specs.Scopes.{IsLastOf, IsOperationName, scope_name};
-ghost use Rattle.scopes.specs.Places.{places_at};
-ghost use Rattle.scopes.specs.Index.{AddsDefinition, HasPlaces, IsIndexOf, NoOperationAt, new_name};
+ghost use Rattle.scopes.specs.Places.{operation_places_at};
+ghost use Rattle.scopes.specs.Index.{AddsDefinition, IsIndexOf, NoOperationAt, new_name};
 
-use crate::places::{ScopePlaces, add_place, no_places, places_in, scope_of_definition};
+use crate::places::{ScopePlaces, add_place, no_places, operation_places, scope_of_definition};
 use crate::scope::Scope;
 use fragment_cycles::document_graph::{DocumentGraph, graph_of};
+use fragment_cycles::numbers::name_count;
 use language::position::Spanning;
 use language::tree::{Definition, Document, Operation};
 use std::alloc::{AllocError, Global};
@@ -26,11 +27,11 @@ fn add_name<'a>(
     places: &ScopePlaces<'_>,
     names: &mut Vec<Option<&'a str>>,
 ) -> Result<(), AllocError>
-    ensures { OnOk result (map (option_map (λ n. n.now)) names.new.items ≡ map (option_map (λ n. n.now)) names.old.items ++ new_name (scope_name scope.entry) (places_at places.now (scope_name scope.entry))) }
+    ensures { OnOk result (map (option_map (λ n. n.now)) names.new.items ≡ map (option_map (λ n. n.now)) names.old.items ++ new_name (scope_name scope.entry) (operation_places_at places.now (scope_name scope.entry))) }
 {
     match scope {
         Scope::Operation(name) => {
-            if places_in(places, scope).is_empty() {
+            if operation_places(places, name).is_empty() {
                 names.push(name)?;
             }
             Ok(())
@@ -39,18 +40,19 @@ fn add_name<'a>(
     }
 }
 
-// Adds a definition and its place.
+// Adds a definition, with the number of its name, and its place.
 fn add_definition<'a, S>(
     alloc: Global,
     definition: &Definition<'a, S>,
+    number: Option<usize>,
     place: usize,
     index: &mut ScopeIndex<'a>,
 ) -> Result<(), AllocError>
-    ensures { OnOk result (AddsDefinition definition.now place index.old index.new) }
+    ensures { OnOk result (AddsDefinition definition.now number place index.old index.new) }
 {
     let scope = scope_of_definition(definition);
     add_name(scope, &index.places, &mut index.names)?;
-    add_place(alloc, &mut index.places, scope, place)
+    add_place(alloc, &mut index.places, scope, number, place)
 }
 
 /// The scopes of a document.
@@ -60,13 +62,16 @@ pub fn index_scopes<'a, S>(
 ) -> Result<ScopeIndex<'a>, AllocError>
     ensures { IfOk result (IsIndexOf document.now) }
 {
+    let graph = graph_of(alloc, document)?;
+    let places = no_places(alloc, name_count(&graph.numbers))?;
     let mut index = ScopeIndex {
         names: Vec::new(alloc),
-        places: no_places(alloc),
-        graph: graph_of(alloc, document)?,
+        places,
+        graph,
     };
     for place in 0..document.len() {
-        add_definition(alloc, &document[place], place, &mut index)?;
+        let number = index.graph.defined[place];
+        add_definition(alloc, &document[place], number, place, &mut index)?;
     }
     Ok(index)
 }
@@ -95,14 +100,14 @@ fn operation_at<'d, 't, S>(
 /// The last operation of a name.
 pub fn last_operation<'d, 't, S>(
     document: &'d [Definition<'t, S>],
-    places: &ScopePlaces<'_>,
+    index: &ScopeIndex<'_>,
     name: Option<&str>,
 ) -> Option<&'d Spanning<Operation<'t, S>>>
-    requires { HasPlaces document.now places.now }
+    requires { IsIndexOf document.now index.now }
     ensures some { IfSome result (λ o. IsLastOf document.now (option_map (λ n. n.now) name.entry) o.now) }
     ensures none { IfNone result (IsOperationName document.now (option_map (λ n. n.now) name.entry) → ⊥) }
 {
-    match last_place(places_in(places, Scope::Operation(name))) {
+    match last_place(operation_places(&index.places, name)) {
         Some(place) => operation_at(document, place),
         None => None,
     }

@@ -7,10 +7,9 @@ ghost use Rattle.scopes.specs.Scopes.{InReach};
 ghost use Rattle.scopes.specs.Searches.{IsReady, fragment_places, spreads_at};
 
 use crate::index::ScopeIndex;
-use crate::places::places_in;
-use crate::scope::Scope;
+use crate::places::{fragment_places, operation_places};
 use fragment_cycles::graph::Spread;
-use fragment_cycles::numbers::{Numbers, name};
+use fragment_cycles::numbers::Numbers;
 use language::tree::Definition;
 use reachability::reached::add_operation;
 use reachability::search::{explore, forget};
@@ -72,8 +71,7 @@ fn add_fragment(
 ) -> Result<(), AllocError>
     ensures { OnOk result (places.new.items ≡ places.old.items ++ fragment_places index.now number) }
 {
-    let fragment = Scope::Fragment(name(&index.graph.numbers, number));
-    places.extend_from_slice(places_in(&index.places, fragment))
+    places.extend_from_slice(fragment_places(&index.places, number))
 }
 
 // Adds those of these numbers.
@@ -103,7 +101,7 @@ pub fn reached_definitions<S>(
     ensures reached { IfOk result (λ places. InReach document.now (option_map (λ n. n.now) name.entry) places.items) }
     ensures ready { OnOk result (IsReady index.now search.new) }
 {
-    let own = places_in(&index.places, Scope::Operation(name));
+    let own = operation_places(&index.places, name);
     let starts = spreads_inside(alloc, document, &index.graph.numbers, own)?;
     let nodes = index.graph.nodes.as_slice();
     explore(

@@ -22,7 +22,7 @@ use language::tree::Definition;
 use language::types::BorrowedType;
 use meta::check::CheckedScalar;
 use scopes::index::{ScopeIndex, index_scopes};
-use scopes::places::places_in;
+use scopes::places::operation_places;
 use scopes::reach::{Search, new_search, reached_definitions};
 pub use scopes::scope::Scope;
 use std::alloc::Global;
@@ -43,6 +43,22 @@ pub fn factory<'a>(alloc: Global) -> VariableInAllowedPosition<'a>
     VariableInAllowedPosition {
         alloc,
         uses: Vec::new(alloc),
+    }
+}
+
+impl<'a> VariableInAllowedPosition<'a> {
+    /// Leaves the document of an index.
+    pub fn leave<S: CheckedScalar>(
+        &self,
+        ctx: &mut ValidatorContext<'a, S>,
+        document: &'a [Definition<'a, S>],
+        index: &ScopeIndex<'_>,
+    ) -> Result<(), OutOfMemory>
+        requires { IsIndexOf document.now index.now }
+        ensures ok { IfOk result (λ _. Appended (DocumentGives ctx.old.schema.types document.now (recorded_uses self.now)) ctx.old ctx.new) }
+        ensures err { OnErr result (KeepsPlace ctx.old ctx.new) }
+    {
+        report_document(self.alloc, ctx, document, index, self.uses.as_slice())
     }
 }
 
@@ -79,7 +95,8 @@ impl<'a, S: CheckedScalar> Visitor<'a, S> for VariableInAllowedPosition<'a> {
                 )
             }
             Event::ExitDocument(document) => {
-                report_document(self.alloc, ctx, document, self.uses.as_slice())
+                let index = index_scopes(self.alloc, document)?;
+                self.leave(ctx, document, &index)
             }
             _ => Ok(()),
         }
@@ -190,7 +207,7 @@ fn report_operations<'a, S: CheckedScalar>(
     ensures ready { OnOk result (IsReady index.now search.new) }
     ensures err { OnErr result (KeepsPlace ctx.old ctx.new) }
 {
-    let own = places_in(&index.places, Scope::Operation(name));
+    let own = operation_places(&index.places, name);
     let variables = FirstVariables::at(alloc, document, own)?;
     let places = reached_definitions(alloc, document, index, search, name)?;
     report_places(alloc, ctx, &variables, uses, places.as_slice())
@@ -222,13 +239,14 @@ fn report_document<'a, S: CheckedScalar>(
     alloc: Global,
     ctx: &mut ValidatorContext<'a, S>,
     document: &'a [Definition<'a, S>],
+    index: &ScopeIndex<'_>,
     uses: &[Vec<TypedUse<'_>>],
 ) -> Result<(), OutOfMemory>
+    requires { IsIndexOf document.now index.now }
     ensures ok { IfOk result (λ _. Appended (DocumentGives ctx.old.schema.types document.now (use_values uses.now)) ctx.old ctx.new) }
     ensures err { OnErr result (KeepsPlace ctx.old ctx.new) }
 {
-    let index = index_scopes(alloc, document)?;
-    let mut search = new_search(alloc, &index)?;
+    let mut search = new_search(alloc, index)?;
     let names = index.names.as_slice();
-    report_names(alloc, ctx, document, &index, &mut search, names, uses)
+    report_names(alloc, ctx, document, index, &mut search, names, uses)
 }

@@ -2,3 +2,4 @@ pub mod Settling
 pub mod Telling
 pub mod UseLemmas
 pub mod Variables
+pub mod Skipping

@@ -1,3 +1,4 @@
+pub mod DocumentIndex
 pub mod InReachUses
 pub mod Names
 pub mod Undefined

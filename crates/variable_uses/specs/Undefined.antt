@@ -1,6 +1,7 @@
 -- Variables that are used where they are not defined.
-use Rattle.std.specs.Prelude.{◌≡◌, ℕ, List, [], ◌∷◌, ◌++◌, Bool, Option, option_map, if◌then◌else◌}
+use Rattle.std.specs.Prelude.{◌≡◌, ℕ, List, [], ◌∷◌, ◌++◌, Bool, Option, Vec, option_map, if◌then◌else◌}
 use Rattle.std.specs.List.{flat_map}
+use Rattle.std.specs.declared.alloc.Global.{Global}
 use Rattle.language.specs.declared.position.SourcePosition.{SourcePosition}
 use Rattle.language.specs.declared.position.Span.{Span}
 use Rattle.language.specs.declared.position.Spanning.{Spanning}
@@ -8,7 +9,7 @@ use Rattle.language.specs.declared.tree.Definition.{Definition}
 use Rattle.language.specs.declared.tree.Operation.{Operation}
 use Rattle.scopes.specs.Scopes.{IsLastOf, OperationNames}
 use Rattle.variable_uses.specs.declared.undefined.UndefinedVariable.{UndefinedVariable}
-use Rattle.variable_uses.specs.InReachUses.{InTurn, UsedIn}
+use Rattle.variable_uses.specs.InReachUses.{InTurn, UsedIn, kept_uses}
 use Rattle.variable_uses.specs.Names.{defined_names, is_among}
 use Rattle.variable_uses.specs.Uses.{Use, Uses, use_of}
 use Rattle.variable_uses.specs.declared.uses.VariableUse.{VariableUse}
@@ -32,6 +33,10 @@ told_undefined defined operation start u =
 -- A use was told of, if its variable isn't defined.
 pub record TellsUndefined (defined : List ℕ → Bool) (operation : Option (List ℕ)) (start : SourcePosition) (u : VariableUse) (old new : List Undefined) : Type 0 where
   pub told : new ≡ old ++ told_undefined defined operation start (use_of u)
+
+-- No definition uses a variable.
+abbrev pub UsesNothing : List (Vec VariableUse Global) → Type 0
+UsesNothing all = (k : ℕ) → kept_uses all k ≡ []
 
 module _ {S : Type 0} where
   -- Of the operations of a name: each use in their reach whose variable the last of them doesn't define.

@@ -10,7 +10,7 @@ use Rattle.scopes.specs.Scopes.{IsLastOf, IsOnce, OperationNames}
 use Rattle.variable_uses.specs.declared.unused.UnusedVariable.{UnusedVariable}
 use Rattle.variable_uses.specs.declared.unused.Variable.{Variable}
 use Rattle.variable_uses.specs.InReachUses.{InTurn, UsedIn}
-use Rattle.variable_uses.specs.Names.{NameAndSpan, defined_variables, is_among}
+use Rattle.variable_uses.specs.Names.{NameAndSpan, defined_variables, is_among, variable_list}
 use Rattle.variable_uses.specs.Uses.{Uses}
 
 -- A variable, where it stands in its definition, and the name of the operation that defines it.
@@ -52,6 +52,10 @@ module _ {S : Type 0} where
     pub variables : List NameAndSpan
     pub unused : UnusedAmong (is_among (map (λ u. u.name) uses)) (defined_variables last) variables
     pub told : found ≡ map (unused_by name) variables
+
+  -- The last operation of the name defines no variable.
+  abbrev pub DefinesNone : List (Definition S) → Option (List ℕ) → Type 0
+  DefinesNone document name = (last : Spanning (Operation S) Span) × IsLastOf document name last × (variable_list last ≡ [])
 
   abbrev pub AddsUnused : List (Definition S) → Option (List ℕ) → List Unused → List Unused → Type 0
   AddsUnused document name old new = (found : List Unused) × UnusedIn document name found × (new ≡ old ++ found)

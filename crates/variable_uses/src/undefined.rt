@@ -1,20 +1,22 @@
 //! Variables that are used where they are not defined.
-ghost use Rattle.std.specs.Prelude.{◌≡◌, ◌++◌, ℕ, List, IfOk, OnOk, map, option_map};
+ghost use Rattle.std.specs.Prelude.{◌≡◌, ◌⊎◌, ◌++◌, ℕ, List, IfOk, IsTrue, OnOk, map, option_map};
 ghost use Rattle.std.specs.List.{flat_map};
 ghost use Rattle.scopes.specs.Index.{IsIndexOf};
 ghost use Rattle.scopes.specs.Scopes.{IsOperationName};
 ghost use Rattle.scopes.specs.Searches.{IsReady};
+ghost use Rattle.variable_uses.specs.DocumentIndex.{IsDocumentIndex};
 ghost use Rattle.variable_uses.specs.InReachUses.{AllUses};
 ghost use Rattle.variable_uses.specs.Names.{has_name};
 ghost use Rattle.variable_uses.specs.Uses.{use_of};
-ghost use Rattle.variable_uses.specs.Undefined.{AddsUndefined, TellsUndefined, UndefinedVariables, told_undefined, undefined_of};
+ghost use Rattle.variable_uses.specs.Undefined.{AddsUndefined, TellsUndefined, UndefinedVariables, UsesNothing, told_undefined, undefined_of};
 
+use crate::document_index::{DocumentIndex, index_document};
 use crate::names::{is_named, name_set, variables};
-use crate::uses::{VariableUse, all_uses, reached_uses};
+use crate::uses::{VariableUse, reached_uses};
 use language::error::OutOfMemory;
 use language::position::SourcePosition;
 use language::tree::Document;
-use scopes::index::{ScopeIndex, index_scopes, last_operation};
+use scopes::index::{ScopeIndex, last_operation};
 use scopes::reach::{Search, new_search};
 use std::alloc::Global;
 use std::collections::BTreeSet;
@@ -83,7 +85,7 @@ fn add_undefined<'a, S>(
     ensures told { OnOk result (AddsUndefined document.now (option_map (λ n. n.now) name.entry) (map undefined_of found.old.items) (map undefined_of found.new.items)) }
     ensures ready { OnOk result (IsReady index.now search.new) }
 {
-    match last_operation(document, &index.places, name) {
+    match last_operation(document, index, name) {
         Some(last) => {
             let uses = reached_uses(alloc, document, index, search, all, name)?;
             let defined = name_set(alloc, variables(last))?;
@@ -100,21 +102,41 @@ pub fn undefined_variables<'a, S>(
 ) -> Result<Vec<UndefinedVariable<'a>>, OutOfMemory>
     ensures { IfOk result (λ found. UndefinedVariables document.now (map undefined_of found.items)) }
 {
-    let index = index_scopes(alloc, document)?;
-    let all = all_uses(alloc, document)?;
-    let mut search = new_search(alloc, &index)?;
+    let index = index_document(alloc, document)?;
+    undefined_in(alloc, document, &index)
+}
+
+// Whether some definition uses a variable.
+fn is_any_used(all: &[Vec<VariableUse<'_>>]) -> bool
+    ensures { IsTrue result ⊎ UsesNothing all.now }
+{
+    for uses in all {
+        if !uses.is_empty() {
+            return true;
+        }
+    }
+    false
+}
+
+/// The same, by a document's index. Where the document uses no variable it looks for nothing.
+pub fn undefined_in<'a, S>(
+    alloc: Global,
+    document: Document<'a, S>,
+    index: &DocumentIndex<'a>,
+) -> Result<Vec<UndefinedVariable<'a>>, OutOfMemory>
+    requires { IsDocumentIndex document.now index.now }
+    ensures { IfOk result (λ found. UndefinedVariables document.now (map undefined_of found.items)) }
+{
+    let scopes = &index.scopes;
+    let all = index.uses.as_slice();
     let mut found = Vec::new(alloc);
-    for number in 0..index.names.len() {
-        let name = index.names[number];
-        add_undefined(
-            alloc,
-            document,
-            &index,
-            all.as_slice(),
-            name,
-            &mut search,
-            &mut found,
-        )?;
+    if !is_any_used(all) {
+        return Ok(found);
+    }
+    let mut search = new_search(alloc, scopes)?;
+    for number in 0..scopes.names.len() {
+        let name = scopes.names[number];
+        add_undefined(alloc, document, scopes, all, name, &mut search, &mut found)?;
     }
     Ok(found)
 }

@@ -4,16 +4,18 @@ ghost use Rattle.std.specs.List.{Contains};
 ghost use Rattle.scopes.specs.Index.{IsIndexOf};
 ghost use Rattle.scopes.specs.Scopes.{IsOperationName};
 ghost use Rattle.scopes.specs.Searches.{IsReady};
+ghost use Rattle.variable_uses.specs.DocumentIndex.{IsDocumentIndex};
 ghost use Rattle.variable_uses.specs.InReachUses.{AllUses};
 ghost use Rattle.variable_uses.specs.Names.{has_name};
-ghost use Rattle.variable_uses.specs.Unused.{AddsUnused, AddsVariable, UnusedAmong, UnusedVariables, name_and_span, unused_by, unused_of, variable_at};
+ghost use Rattle.variable_uses.specs.Unused.{AddsUnused, AddsVariable, DefinesNone, UnusedAmong, UnusedVariables, name_and_span, unused_by, unused_of, variable_at};
 
+use crate::document_index::{DocumentIndex, index_document};
 use crate::names::{is_named, used_names, variables};
-use crate::uses::{VariableUse, all_uses, reached_uses};
+use crate::uses::{VariableUse, reached_uses};
 use language::error::OutOfMemory;
 use language::position::{Span, Spanning};
 use language::tree::{Document, VariableDefinition};
-use scopes::index::{ScopeIndex, index_scopes, last_operation};
+use scopes::index::{ScopeIndex, last_operation};
 use scopes::reach::{Search, new_search};
 use std::alloc::Global;
 use std::collections::BTreeSet;
@@ -120,7 +122,7 @@ fn add_unused<'a, S>(
     ensures told { OnOk result (AddsUnused document.now (option_map (λ n. n.now) name.entry) (map unused_of found.old.items) (map unused_of found.new.items)) }
     ensures ready { OnOk result (IsReady index.now search.new) }
 {
-    match last_operation(document, &index.places, name) {
+    match last_operation(document, index, name) {
         Some(last) => {
             let uses = reached_uses(alloc, document, index, search, all, name)?;
             let used = used_names(alloc, uses.as_slice())?;
@@ -131,6 +133,40 @@ fn add_unused<'a, S>(
     }
 }
 
+// Whether the last operation of a name defines no variable.
+fn defines_none<S>(document: Document<'_, S>, index: &ScopeIndex<'_>, name: Option<&str>) -> bool
+    requires { IsIndexOf document.now index.now }
+    ensures { IsTrue result → DefinesNone document.now (option_map (λ n. n.now) name.entry) }
+{
+    match last_operation(document, index, name) {
+        Some(last) => variables(last).is_empty(),
+        None => false,
+    }
+}
+
+// Tells of those variables. Where there are none it asks nothing of what is in reach.
+fn add_if_defined<'a, S>(
+    alloc: Global,
+    document: Document<'a, S>,
+    index: &ScopeIndex<'a>,
+    all: &[Vec<VariableUse<'a>>],
+    name: Option<&'a str>,
+    search: &mut Search,
+    found: &mut Vec<UnusedVariable<'a>>,
+) -> Result<(), OutOfMemory>
+    requires index { IsIndexOf document.now index.now }
+    requires ready { IsReady index.now search.old }
+    requires all { AllUses document.now all.now }
+    requires named { IsOperationName document.now (option_map (λ n. n.now) name) }
+    ensures told { OnOk result (AddsUnused document.now (option_map (λ n. n.now) name.entry) (map unused_of found.old.items) (map unused_of found.new.items)) }
+    ensures ready { OnOk result (IsReady index.now search.new) }
+{
+    if defines_none(document, index, name) {
+        return Ok(());
+    }
+    add_unused(alloc, document, index, all, name, search, found)
+}
+
 /// The variables that the last operation of a name defines and that no use in the reach of the operations of that name has, for
 /// each name (GraphQL October 2021, section 5.8.4).
 pub fn unused_variables<'a, S>(
@@ -139,21 +175,26 @@ pub fn unused_variables<'a, S>(
 ) -> Result<Vec<UnusedVariable<'a>>, OutOfMemory>
     ensures { IfOk result (λ found. UnusedVariables document.now (map unused_of found.items)) }
 {
-    let index = index_scopes(alloc, document)?;
-    let all = all_uses(alloc, document)?;
-    let mut search = new_search(alloc, &index)?;
+    let index = index_document(alloc, document)?;
+    unused_in(alloc, document, &index)
+}
+
+/// The same, by a document's index.
+pub fn unused_in<'a, S>(
+    alloc: Global,
+    document: Document<'a, S>,
+    index: &DocumentIndex<'a>,
+) -> Result<Vec<UnusedVariable<'a>>, OutOfMemory>
+    requires { IsDocumentIndex document.now index.now }
+    ensures { IfOk result (λ found. UnusedVariables document.now (map unused_of found.items)) }
+{
+    let scopes = &index.scopes;
+    let all = index.uses.as_slice();
+    let mut search = new_search(alloc, scopes)?;
     let mut found = Vec::new(alloc);
-    for number in 0..index.names.len() {
-        let name = index.names[number];
-        add_unused(
-            alloc,
-            document,
-            &index,
-            all.as_slice(),
-            name,
-            &mut search,
-            &mut found,
-        )?;
+    for number in 0..scopes.names.len() {
+        let name = scopes.names[number];
+        add_if_defined(alloc, document, scopes, all, name, &mut search, &mut found)?;
     }
     Ok(found)
 }

@@ -1,5 +1,6 @@
-use Rattle.std.proofs.Common.{◌++◌, arith, refl, sym, ap, length, ◌∙◌, map}
+use Rattle.std.proofs.Common.{◌++◌, arith, refl, ap, length, ◌∙◌, map}
 use Rattle.std.proofs.lemmas.Option.{slice_get_read}
+use Rattle.std.proofs.lemmas.Result.{on_ok_weaker}
 use Rattle.fragment_cycles.specs.Spreads.{placed_spreads_of_all}
 use Rattle.fragment_cycles.specs.DocumentGraph.{resolved}
 use Rattle.fragment_cycles.proofs.Numbering.{below}
@@ -8,17 +9,20 @@ use Rattle.fragment_cycles.proofs.document_graph.join_fragment.Goals as goal
 
 pub index_mut-requires : goal.index_mut-requires
 index_mut-requires g c =
-    let l = below c.args.numbers.now c.requires.numbered c.args.fragment.now.item.name.item.now c.in-Some.place (sym c.in-Some.ensures) in
+    let l = below c.args.numbers.now c.requires.numbered c.args.fragment.now.item.name.item.now c.args.place c.requires.has in
     let sized = c.requires.sized in
     let ok = c.args.nodes.now.ok.0 in
     omega (arith, l, sized, ok)
 
-pub returns-in_ok-add_spreads : goal.returns-in_ok-add_spreads
-returns-in_ok-add_spreads g c =
+pub returns : goal.returns
+returns g c =
     let n = c.args.numbers.now in
-    let l = below n c.requires.numbered c.args.fragment.now.item.name.item.now c.in-Some.place (sym c.in-Some.ensures) in
+    let l = below n c.requires.numbered c.args.fragment.now.item.name.item.now c.args.place c.requires.has in
     let sized = c.requires.sized in
-    joined_one n c.args.fragment.now c.args.nodes.now.items c.in-Some.place c.index_mut.result.now (record { spreads = c.add_spreads.new.found })
-    c.requires.numbered (sym c.in-Some.ensures)
-    (slice_get_read c.args.nodes.now.items (length c.args.nodes.now.items) c.in-Some.place c.index_mut.result.now refl (omega (arith, l, sized)) c.index_mut.ensures.value)
-    (c.in_ok-add_spreads.ensures ∙ ap (λ zs. c.index_mut.result.now.spreads.items ++ map (resolved n) (placed_spreads_of_all zs)) c.as_slice.ensures.value)
+    on_ok_weaker c.add_spreads.result
+    (λ e.
+    joined_one n c.args.fragment.now c.args.nodes.now.items c.args.place c.index_mut.result.now (record { spreads = c.add_spreads.new.found })
+    c.requires.numbered c.requires.has
+    (slice_get_read c.args.nodes.now.items (length c.args.nodes.now.items) c.args.place c.index_mut.result.now refl (omega (arith, l, sized)) c.index_mut.ensures.value)
+    (e ∙ ap (λ zs. c.index_mut.result.now.spreads.items ++ map (resolved n) (placed_spreads_of_all zs)) c.as_slice.ensures.value))
+    c.add_spreads.ensures

@@ -1,17 +1,22 @@
-use Rattle.std.proofs.Common.{sym, subst, take}
-use Rattle.fragment_cycles.specs.Numbers.{NumbersOf}
+use Rattle.std.proofs.Common.{◌++◌, ◌∷◌, [], ap, ◌∙◌, sym, subst, take}
+use Rattle.fragment_cycles.specs.Numbers.{NumberedDefinitions}
 use Rattle.fragment_cycles.proofs.Joining.{next_take}
-use Rattle.fragment_cycles.proofs.Naming.{names_start, names_more, names_all}
+use Rattle.fragment_cycles.proofs.Naming.{names_start, names_all, definitions_more}
 use Rattle.fragment_cycles.proofs.numbers.number_names.Goals as goal
 
 pub loop-definition-init : goal.loop-definition-init
-loop-definition-init g c = names_start c.no_numbers-numbers.result c.no_numbers-numbers.ensures.none c.no_numbers-numbers.ensures.names
+loop-definition-init g c = record {
+  numbers = names_start c.no_numbers-numbers.result c.no_numbers-numbers.ensures.none c.no_numbers-numbers.ensures.names;
+  each = c.new-defined.ensures.items;
+}
 
 pub loop-definition-preserved : goal.loop-definition-preserved
 loop-definition-preserved g c =
-    subst (λ zs. NumbersOf zs c.add_definition.new.numbers)
+    subst (λ zs. NumberedDefinitions zs c.add_definition.new.numbers c.push.new.self.items)
     (sym (next_take c.args.document.now c.loop-definition.definition-index c.definition-item.result c.definition-item.is c.loop-definition-test.true))
-    (names_more (take c.loop-definition.definition-index c.args.document.now) c.definition-item.result c.loop-definition.numbers c.add_definition.new.numbers c.in_ok-add_definition.ensures c.loop-definition.invariant)
+    (definitions_more (take c.loop-definition.definition-index c.args.document.now) c.definition-item.result c.loop-definition.numbers c.add_definition.new.numbers
+    c.loop-definition.defined.items c.push.new.self.items c.in_ok-add_definition.field-0 c.in_ok-add_definition.ensures.adds c.in_ok-add_definition.ensures.number
+    c.in_ok-push.ensures.items c.loop-definition.invariant)
 
 pub returns : goal.returns
-returns g c = names_all c.args.document.now c.loop-definition.definition-index c.loop-definition.numbers c.loop-definition-test.false c.loop-definition.invariant
+returns g c = names_all c.args.document.now c.loop-definition.definition-index c.loop-definition.numbers c.loop-definition.defined.items c.loop-definition-test.false c.loop-definition.invariant

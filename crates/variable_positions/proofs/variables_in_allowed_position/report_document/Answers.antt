@@ -12,7 +12,7 @@ returns-clause-ok g c =
     IfOk-weaker c.report_names.result _ _
     (λ _ (es, p, e). (
       es,
-      (operation_names c.in_ok-index.index, c.in_ok-index.ensures.names, subst (λ ns. EachGives gives (map (option_map (λ n. n.now)) ns) es) c.as_slice-names.ensures.value p),
+      (operation_names c.args.index.now, c.requires.names, subst (λ ns. EachGives gives (map (option_map (λ n. n.now)) ns) es) c.as_slice-names.ensures.value p),
       e,
     ))
     c.report_names.ensures.ok

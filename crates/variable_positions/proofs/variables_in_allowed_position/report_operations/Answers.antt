@@ -18,8 +18,8 @@ returns-clause-ok g c =
     let document = c.args.document.now in
     let uses = use_values c.args.uses.now in
     let name = option_map (λ n. n.now) c.args.name in
-    let own : flat_map (variables_at document) c.places_in-own.result.now ≡ variables_of document name =
-    ap (flat_map (variables_at document)) (c.places_in-own.ensures ∙ c.requires.index.places (operation name))
+    let own : flat_map (variables_at document) c.operation_places-own.result.now ≡ variables_of document name =
+    ap (flat_map (variables_at document)) (c.operation_places-own.ensures ∙ c.requires.index.places (operation name))
     ∙ flat_places (λ d. same_scope (scope_of d) (operation name)) variables_in document
     in
     let known : kept_first c.in_ok-variables.variables ≡ first_of (variables_of document name) =
