@@ -1,3 +1,4 @@
+pub mod Cursor
 pub mod EventValue
 pub mod Node
 pub mod Occurrence

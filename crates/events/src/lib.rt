@@ -1,8 +1,10 @@
 //! The events of a document, each with the types at its node, and the places that definitions speak of.
 #![tactic(auto)]
 
+pub mod cursor;
 pub mod event;
 pub mod typed_events;
 
+pub use cursor::{EventCursor, EventCursorOf};
 pub use event::Event;
-pub use typed_events::{PlannedEvent, PlannedEventOf, TypesOf, events_of_definition};
+pub use typed_events::{PlannedEvent, PlannedEventOf, TypesOf};

@@ -1,9 +1,7 @@
 -- Laws of runs.
-use Rattle.std.proofs.Common.{◌≡◌, ℕ, ◌+◌, ◌<◌, get_or, ◌-◌, List, [], ◌∷◌, ◌++◌, length, take, slice_get, Some, refl, ap, sym, ◌∙◌, subst, append_assoc, arith, length-append, Result, Ok, Err, OnErr, OnOk}
-use Rattle.std.proofs.lemmas.List.{append-nil, take_more, map-append}
+use Rattle.std.proofs.Common.{◌≡◌, ◌-◌, List, [], ◌∷◌, ◌++◌, length, take, slice_get, Some, refl, ap, sym, ◌∙◌, subst, append_assoc, arith, length-append, Result, Ok, Err, OnErr, OnOk}
+use Rattle.std.proofs.lemmas.List.{append-nil}
 use Rattle.walk.specs.declared.multi_visitor.MultiVisitorCons.{MultiVisitorCons}
-use Rattle.events.specs.declared.typed_events.PlannedEventOf.{PlannedEventOf}
-use Rattle.events.specs.EventValue.{planned, all_planned}
 use Rattle.walk.specs.Pair.{pair_step}
 use Rattle.walk.specs.ErrorValue.{ErrorValue}
 use Rattle.events.specs.Typing.{Typing}
@@ -84,13 +82,6 @@ module _ {S C V : Type 0} (step : StepOf S C V) where
       let P : ContextState S C → Type 0 = λ z. KeepsPlace z w'' in
       let q : KeepsPlace (with_errors w es) w'' = subst P e k in
       record { allocator = q.allocator; schema = q.schema; known = q.known; typings = q.typings; stays = q.stays }
-
-  -- a run, and a step more at the next of these events
-  pub Ran-planned : (ps : List (PlannedEventOf S C)) (i : ℕ) (p : PlannedEventOf S C) (a b c : V) (w w' w'' : ContextState S C) → i < length ps → p ≡ get_or ps i p → Ran step (all_planned (take i ps)) a b w w' → Stepped step (planned p) b c w' w'' → Ran step (all_planned (take (i + 1) ps)) a c w w''
-  Ran-planned ps i p a b c w w' w'' h e r s =
-      let q : all_planned (take (i + 1) ps) ≡ all_planned (take i ps) ++ planned p ∷ [] =
-      ap all_planned (take_more ps i p h) ∙ map-append planned (take i ps) (get_or ps i p ∷ []) ∙ ap (λ z. all_planned (take i ps) ++ planned z ∷ []) (sym e)
-      in subst (λ z. Ran step z a c w w'') (sym q) (Ran-append (all_planned (take i ps)) (planned p ∷ []) a b c w w' w'' r (Ran-one (planned p) b c w' w'' s))
 
 -- the steps of two visitors
 pub Stepped-pair : {S C V W : Type 0} (newer : StepOf S C V) (other : StepOf S C W) (m : Typing S C → TypedEvent S C) (a b : MultiVisitorCons V W) (w w₁ w₂ : ContextState S C)

@@ -1,12 +1,11 @@
 -- Runs through the events of a document.
-use Rattle.std.proofs.Common.{◌≡◌, ℕ, ◌+◌, ◌<◌, ◌≤◌, List, [], ◌∷◌, ◌++◌, length, get_or, take, ap, sym, ◌∙◌, subst, Result, IfOk}
-use Rattle.std.specs.List.{flat_map}
-use Rattle.std.proofs.lemmas.List.{append-nil, take_all}
+use Rattle.std.proofs.Common.{◌≡◌, List, [], ◌∷◌, ◌++◌, refl, ap, sym, ◌∙◌, subst, append_assoc, Result, IfOk}
+use Rattle.std.proofs.lemmas.List.{append-nil}
 use Rattle.language.specs.declared.tree.Definition.{Definition}
 use Rattle.schema.specs.Catalog.{Catalog}
 use Rattle.events.specs.Typing.{Typing}
 use Rattle.events.specs.Node
-use Rattle.walk.specs.ContextState.{ContextState, DocumentScope, scope_of_context, typing}
+use Rattle.walk.specs.ContextState.{ContextState, DocumentScope, scope_of_context, typing, failing}
 use Rattle.walk.specs.ErrorValue.{ErrorValue}
 use Rattle.walk.specs.Pair.{pair_step, no_step}
 use Rattle.walk.specs.Rule.{Allowance, AllowsFrom, WalksAppend, of_newest}
@@ -14,37 +13,53 @@ use Rattle.walk.specs.declared.multi_visitor.MultiVisitorCons.{MultiVisitorCons}
 use Rattle.walk.specs.declared.multi_visitor.MultiVisitorNil.{MultiVisitorNil}
 use Rattle.events.specs.Outline.{each, outline_of_definition}
 use Rattle.events.specs.TypedEvent.{TypedEvent, entering, leaving, events_of, typed_events}
-use Rattle.walk.specs.Step.{StepOf, Run, Stepped, Ran}
-use Rattle.events.proofs.Events.{events-each}
-use Rattle.events.proofs.Lists.{flat_map_more}
-use Rattle.walk.proofs.Runs.{Ran-append, Ran-one}
+use Rattle.walk.specs.Step.{StepOf, Run, Stepped, Ran, KeepsPlace}
+use Rattle.walk.proofs.Runs.{Ran-append, Ran-none, Ran-one, KeepsPlace-ran}
 
 module _ {S C V : Type 0} (step : StepOf S C V) where
+  -- a run through the first of these events, where those are left
+  abbrev pub RanUpTo : List (TypedEvent S C) → List (TypedEvent S C) → V → V → ContextState S C → ContextState S C → Type 0
+  RanUpTo all left a b w w' = (told : List (TypedEvent S C)) × Ran step told a b w w' × (all ≡ told ++ left)
+
+  pub up_to_none : (all : List (TypedEvent S C)) (a : V) (w : ContextState S C) → RanUpTo all all a a w w
+  up_to_none all a w = ([], Ran-none step a w, refl)
+
+  pub up_to_next : (all left left' : List (TypedEvent S C)) (m : TypedEvent S C) (a b c : V) (w w₁ w₂ w₃ : ContextState S C) → RanUpTo all left a b w w₁ → left ≡ m ∷ left' → w₂ ≡ w₁ → Stepped step m b c w₂ w₃ → RanUpTo all left' a c w w₃
+  up_to_next all left left' m a b c w w₁ w₂ w₃ (told, r, e) q same s =
+      let s' : Stepped step m b c w₁ w₃ = subst (λ z. Stepped step m b c z w₃) same s in
+      (told ++ m ∷ [], Ran-append step told (m ∷ []) a b c w w₁ w₃ r (Ran-one step m b c w₁ w₃ s'), e ∙ ap (λ z. told ++ z) q ∙ sym (append_assoc told (m ∷ []) left'))
+
+  pub up_to_all : (all left : List (TypedEvent S C)) (a b : V) (w w₁ w₂ : ContextState S C) → RanUpTo all left a b w w₁ → left ≡ [] → w₂ ≡ w₁ → Ran step all a b w w₂
+  up_to_all all left a b w w₁ w₂ (told, r, e) q same =
+      subst (λ z. Ran step z a b w w₂) (sym (e ∙ ap (λ z. told ++ z) q ∙ append-nil told)) (subst (λ z. Ran step told a b w z) (sym same) r)
+
+  -- what keeps the place after such a run keeps the place from before it
+  pub up_to_keeps : (all left : List (TypedEvent S C)) (a b : V) (w w₁ w₂ w₃ : ContextState S C) → RanUpTo all left a b w w₁ → w₂ ≡ w₁ → KeepsPlace w₂ w₃ → KeepsPlace w w₃
+  up_to_keeps all left a b w w₁ w₂ w₃ (told, r, e) same k =
+      KeepsPlace-ran step told a b w w₁ w₃ r (subst (λ z. KeepsPlace z w₃) same k)
+
+  pub failing_keeps : (w w' : ContextState S C) → w' ≡ failing w → KeepsPlace w w'
+  failing_keeps w w' e =
+      subst (λ z. KeepsPlace w z) (sym e) (record { allocator = refl; schema = refl; known = refl; typings = refl; stays = λ _. refl })
+
   -- a run through the same events
   pub IfOk-ran : {T E : Type 0} (ms ms' : List (TypedEvent S C)) (a b : V) (w w' : ContextState S C) (r : Result T E) → ms ≡ ms' → IfOk r (λ _. Ran step ms a b w w') → IfOk r (λ _. Ran step ms' a b w w')
   IfOk-ran ms ms' a b w w' r e h = subst (λ z. IfOk r (λ _. Ran step z a b w w')) e h
 
-  -- the events of one item more, by the schema that the context has
-  pub Ran-each : {X : Type 0} (first : TypedEvent S C) (f : Catalog S C → X → List (TypedEvent S C)) (xs : List X) (i : ℕ) (x : X) (a b c : V) (w w' w'' : ContextState S C) → i < length xs → x ≡ get_or xs i x
-      → Ran step (first ∷ flat_map (f w.schema) (take i xs)) a b w w' → Ran step (f w'.schema x) b c w' w'' → Ran step (first ∷ flat_map (f w.schema) (take (i + 1) xs)) a c w w''
-  Ran-each first f xs i x a b c w w' w'' h e r s =
-      let same : w'.schema ≡ w.schema = ap (λ z. z.schema) r.2 in
-      let s' = subst (λ z. Ran step (f z x) b c w' w'') same s in
-      subst (λ z. Ran step (first ∷ z) a c w w'') (sym (flat_map_more (f w.schema) xs i x h e))
-      (Ran-append step (first ∷ flat_map (f w.schema) (take i xs)) (f w.schema x) a b c w w' w'' r s')
-
   -- a document is entered, then come its definitions, and then it is left
-  pub Ran-document : (doc : List (Definition S)) (t t' : Typing S C) (i : ℕ) (a b c : V) (w w' w'' : ContextState S C) → t ≡ t' → length doc ≤ i
-      → Ran step (record { side = entering; node = Node.document doc; types = t } ∷ flat_map (λ d. events_of (outline_of_definition w.schema t d)) (take i doc)) a b w w'
-      → Stepped step (record { side = leaving; node = Node.document doc; types = t }) b c w' w''
-      → Ran step (typed_events w.schema t' doc) a c w w''
-  Ran-document doc t t' i a b c w w' w'' e h r s =
+  pub Ran-document : (doc : List (Definition S)) (t t' : Typing S C) (a b c d : V) (w w₁ w₂ w₃ : ContextState S C) → t ≡ t'
+      → Stepped step (record { side = entering; node = Node.document doc; types = t }) a b w w₁
+      → Ran step (events_of (each (outline_of_definition w₁.schema t) doc)) b c w₁ w₂
+      → Stepped step (record { side = leaving; node = Node.document doc; types = t }) c d w₂ w₃
+      → Ran step (typed_events w.schema t' doc) a d w w₃
+  Ran-document doc t t' a b c d w w₁ w₂ w₃ e s r u =
       let enter : TypedEvent S C = record { side = entering; node = Node.document doc; types = t } in
       let leave : TypedEvent S C = record { side = leaving; node = Node.document doc; types = t } in
-      let all : flat_map (λ d. events_of (outline_of_definition w.schema t d)) (take i doc) ≡ events_of (each (outline_of_definition w.schema t) doc) =
-      ap (flat_map (λ d. events_of (outline_of_definition w.schema t d))) (take_all i doc h) ∙ sym (events-each (outline_of_definition w.schema t) doc) in
-      let q = Ran-append step (enter ∷ flat_map (λ d. events_of (outline_of_definition w.schema t d)) (take i doc)) (leave ∷ []) a b c w w' w'' r (Ran-one step leave b c w' w'' s) in
-      subst (λ z. Ran step (typed_events w.schema z doc) a c w w'') e (subst (λ z. Ran step (enter ∷ (z ++ leave ∷ [])) a c w w'') all q)
+      let inner : Catalog S C → List (TypedEvent S C) = λ k. events_of (each (outline_of_definition k t) doc) in
+      let same : w₁.schema ≡ w.schema = ap (λ z. z.schema) s.2 in
+      let r' = Ran-append step (inner w₁.schema) (leave ∷ []) b c d w₁ w₂ w₃ r (Ran-one step leave c d w₂ w₃ u) in
+      let whole = Ran-append step (enter ∷ []) (inner w₁.schema ++ leave ∷ []) a b d w w₁ w₃ (Ran-one step enter a b w w₁ s) r' in
+      subst (λ z. Ran step (typed_events w.schema z doc) a d w w₃) e (subst (λ k. Ran step (enter ∷ (inner k ++ leave ∷ [])) a d w w₃) same whole)
 
 -- fresh rules append what they are allowed
 pub fresh_append : {S C V : Type 0} (step : StepOf S C V) (fresh : V → Type 0) (allows : V → Allowance S C) → AllowsFrom step fresh allows → WalksAppend step fresh allows

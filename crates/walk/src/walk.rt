@@ -4,8 +4,9 @@ ghost use Rattle.std.specs.Prelude.{◌≡◌, IfOk, OnOk, OnErr, IsErr, true};
 ghost use Rattle.walk.specs.ContextState.{typing, scope_of};
 ghost use Rattle.walk.specs.Names.{fragment_names};
 ghost use Rattle.walk.specs.Rule.{Appended, any_value};
-ghost use Rattle.events.specs.EventValue.{typed_event, typing_of, planned, all_planned};
-ghost use Rattle.events.specs.Outline.{outline_of_definition};
+ghost use Rattle.events.specs.EventValue.{typed_event, typing_of};
+ghost use Rattle.events.specs.Cursor.{events_left};
+ghost use Rattle.events.specs.Outline.{each, outline_of_definition};
 ghost use Rattle.walk.specs.Step.{Ran, Stepped, KeepsPlace};
 ghost use Rattle.events.specs.Node as Node;
 ghost use Rattle.events.specs.TypedEvent.{leaving, events_of, typed_events};
@@ -14,7 +15,7 @@ use crate::ValidatorContext;
 use crate::multi_visitor::MultiVisitorCons;
 use crate::rule::Rule;
 use crate::visitor::{Machine, Visitor};
-use events::{Event, PlannedEvent, TypesOf, events_of_definition};
+use events::{Event, EventCursor, EventCursorOf, TypesOf};
 use language::error::OutOfMemory;
 use language::shorten::shorten;
 use language::tree::Definition;
@@ -41,35 +42,41 @@ fn tell_one<'a, S: CheckedScalar, V: Visitor<'a, S>>(
     done
 }
 
-// Tells a visitor of these events.
+// Tells a visitor of the events that are left.
 fn tell_all<'a, S: CheckedScalar, V: Visitor<'a, S>>(
     v: &mut V,
     ctx: &mut ValidatorContext<'a, S>,
-    events: &[PlannedEvent<'a, S>],
+    cursor: &mut EventCursor<'a, S>,
 ) -> Result<(), OutOfMemory>
-    ensures ran { IfOk result (λ _. Ran V.step (all_planned events.now) v.old v.new ctx.old ctx.new) }
+    ensures ran { IfOk result (λ _. Ran V.step (events_left cursor.old) v.old v.new ctx.old ctx.new) }
     ensures err { OnErr result (KeepsPlace ctx.old ctx.new) }
     ensures failed { OnErr result (ctx.new.failed ≡ true) }
 {
-    for planned in events {
-        tell_one(v, ctx, &planned.event, planned.types)?;
+    'events: loop {
+        match cursor.next() {
+            Ok(Some(planned)) => tell_one(v, ctx, &planned.event, planned.types)?,
+            Ok(None) => return Ok(()),
+            Err(_) => {
+                ctx.fail();
+                return Err(OutOfMemory);
+            }
+        }
     }
-    Ok(())
 }
 
-// Tells a visitor of the events of a definition, which stands at these types.
-fn visit_definition<'a, S: CheckedScalar, V: Visitor<'a, S>>(
+// Tells a visitor of the events of definitions, which stand at these types.
+fn visit_definitions<'a, S: CheckedScalar, V: Visitor<'a, S>>(
     v: &mut V,
     ctx: &mut ValidatorContext<'a, S>,
-    definition: &'a Definition<'a, S>,
+    definitions: &'a [Definition<'a, S>],
     types: TypesOf<'a, S, S::Check>,
 ) -> Result<(), OutOfMemory>
-    ensures ran { IfOk result (λ _. Ran V.step (events_of (outline_of_definition ctx.old.schema (typing_of types.entry) definition.now)) v.old v.new ctx.old ctx.new) }
+    ensures ran { IfOk result (λ _. Ran V.step (events_of (each (outline_of_definition ctx.old.schema (typing_of types.entry)) definitions.now)) v.old v.new ctx.old ctx.new) }
     ensures err { OnErr result (KeepsPlace ctx.old ctx.new) }
     ensures failed { OnErr result (ctx.new.failed ≡ true) }
 {
-    match events_of_definition(ctx.allocator(), ctx.schema, definition, types) {
-        Ok(events) => tell_all(v, ctx, &events),
+    match EventCursorOf::over(ctx.allocator(), ctx.schema, definitions, types) {
+        Ok(mut cursor) => tell_all(v, ctx, &mut cursor),
         Err(_) => {
             ctx.fail();
             Err(OutOfMemory)
@@ -79,7 +86,7 @@ fn visit_definition<'a, S: CheckedScalar, V: Visitor<'a, S>>(
 
 /// Tells a visitor of all events of a document, in their order, each at the types of its node.
 ///
-/// It takes memory for the events of one definition at a time, and stops at the first refusal.
+/// It takes memory for the nodes round the one at hand, and stops at the first refusal.
 pub fn walk_with<'a, S: CheckedScalar, V: Visitor<'a, S>>(
     v: &mut V,
     ctx: &mut ValidatorContext<'a, S>,
@@ -92,9 +99,7 @@ pub fn walk_with<'a, S: CheckedScalar, V: Visitor<'a, S>>(
 {
     let types = ctx.types();
     tell_one(v, ctx, &Event::EnterDocument(document), types)?;
-    for definition in document {
-        visit_definition(v, ctx, definition, types)?;
-    }
+    visit_definitions(v, ctx, document, types)?;
     tell_one(v, ctx, &Event::ExitDocument(document), types)
 }
 

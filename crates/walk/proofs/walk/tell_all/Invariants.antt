@@ -1,8 +1,11 @@
-use Rattle.std.proofs.Common.{take}
-use Rattle.events.specs.EventValue.{all_planned}
-use Rattle.walk.specs.Step.{Ran}
+use Rattle.std.proofs.Common.{length}
+use Rattle.events.specs.Cursor.{events_left}
+use Rattle.walk.proofs.Walks.{RanUpTo}
 use Rattle.walk.proofs.walk.tell_all.Given as goal
 
--- the events so far were run through
-abbrev pub invariant-loop-planned : goal.invariant-loop-planned
-invariant-loop-planned g l = Ran g.V.Machine.step (all_planned (take l.planned-index l.events)) l.fn.v l.v l.fn.ctx l.ctx
+-- the events that are no longer left were run through
+abbrev pub invariant-events : goal.invariant-events
+invariant-events g l = RanUpTo g.V.Machine.step (events_left l.fn.cursor) (events_left l.cursor) l.fn.v l.v l.fn.ctx l.ctx
+
+abbrev pub decreases-events : goal.decreases-events
+decreases-events g l = length (events_left l.cursor)

@@ -1,0 +1,45 @@
+-- What a cursor still has to tell.
+use Rattle.std.specs.Prelude.{◌≡◌, List, [], ◌∷◌, ◌++◌, Option, Some, None}
+use Rattle.std.specs.Option.{option_copied}
+use Rattle.schema.specs.Catalog.{Catalog}
+use Rattle.events.specs.declared.cursor.Part.{Part}
+use Rattle.events.specs.declared.cursor.Part.TheVariants as part
+use Rattle.events.specs.declared.cursor.Frame.{Frame}
+use Rattle.events.specs.declared.cursor.EventCursorOf.{EventCursorOf}
+use Rattle.events.specs.declared.typed_events.PlannedEventOf.{PlannedEventOf}
+use Rattle.events.specs.Typing.{Typing}
+use Rattle.events.specs.Outline.{each, outline_of_value, outline_of_object_field, outline_of_argument, outline_of_directive, outline_of_variable_definition, outline_of_set, outline_of_selection, outline_of_definition}
+use Rattle.events.specs.TypedEvent.{TypedEvent, events_of}
+use Rattle.events.specs.EventValue.{typed_event, typing_of, planned}
+
+module _ {S C : Type 0} (schema : Catalog S C) where
+  -- the events of a part, at the types round it
+  abbrev pub part_events : Part S → Typing S C → List (TypedEvent S C)
+  part_events (part.Told e) t = typed_event e t ∷ []
+  part_events (part.Definitions d ds) t = events_of (each (outline_of_definition schema t) (d.now ∷ ds.now))
+  part_events (part.Variables d ds) t = events_of (each (outline_of_variable_definition schema t) (d.now ∷ ds.now))
+  part_events (part.Directives d ds) t = events_of (each (outline_of_directive schema t) (d.now ∷ ds.now))
+  part_events (part.Arguments known a rest) t = events_of (each (outline_of_argument schema (option_copied known) t) (a.now ∷ rest.now))
+  part_events (part.Set set) t = events_of (outline_of_set schema t set.now)
+  part_events (part.Selections s ss) t = events_of (each (outline_of_selection schema t) (s.now ∷ ss.now))
+  part_events (part.Value v) t = events_of (outline_of_value schema t v.now)
+  part_events (part.Items v vs) t = events_of (each (outline_of_value schema t) (v.now ∷ vs.now))
+  part_events (part.Entries e es) t = events_of (each (outline_of_object_field schema t) (e.now ∷ es.now))
+
+  abbrev pub frame_events : Frame S C → List (TypedEvent S C)
+  frame_events f = part_events f.part (typing_of f.types)
+
+  -- the events of a stack, from its last frame to its first
+  abbrev pub stack_events : List (Frame S C) → List (TypedEvent S C)
+  stack_events [] = []
+  stack_events (f ∷ fs) = stack_events fs ++ frame_events f
+
+module _ {S C : Type 0} where
+  -- what is left of a walk
+  abbrev pub events_left : EventCursorOf S C → List (TypedEvent S C)
+  events_left c = stack_events c.schema.now c.frames.items
+
+  -- nothing where nothing is left, and else the first of what is left, without which it is left then
+  abbrev pub IsNextLeft : Option (PlannedEventOf S C) → EventCursorOf S C → EventCursorOf S C → Type 0
+  IsNextLeft None old new = (events_left old ≡ []) × (events_left new ≡ [])
+  IsNextLeft (Some e) old new = events_left old ≡ planned e ∷ events_left new

@@ -1,0 +1,656 @@
+//! The events of definitions, told one at a time.
+
+ghost use Rattle.std.specs.Prelude.{◌≡◌, [], ◌++◌, ◌∷◌, OnOk, IfOk};
+ghost use Rattle.std.specs.Option.{option_copied};
+ghost use Rattle.schema.specs.Catalog.{Catalog};
+ghost use Rattle.events.specs.Node;
+ghost use Rattle.events.specs.Typing.{at_items};
+ghost use Rattle.events.specs.Outline.{each, node_with, if_there, outline_of_value, outline_of_object_field, outline_of_argument, outline_of_arguments, outline_of_directive, outline_of_directives, outline_of_variable_definition, outline_of_variable_definitions, outline_of_set, outline_of_set_if_there, outline_of_selection, outline_of_spread, outline_of_field, outline_of_inline, outline_of_operation, outline_of_fragment, outline_of_definition};
+ghost use Rattle.events.specs.TypedEvent.{events_of};
+ghost use Rattle.events.specs.EventValue.{typed_event, typing_of, planned};
+ghost use Rattle.events.specs.Cursor.{frame_events, stack_events, events_left, IsNextLeft};
+
+use crate::event::Event;
+use crate::typed_events::{
+    PlannedEventOf, TypesOf, arguments_of_directive, arguments_of_field,
+};
+use language::error::OutOfMemory;
+use language::position::{Span, Spanning};
+use language::tree::{
+    Arguments, Definition, Directive, Field, Fragment, FragmentSpread, InlineFragment, Operation,
+    Selection, VariableDefinition, VariableDefinitions,
+};
+use language::value::InputValue;
+use meta::Argument;
+use meta::check::CheckedScalar;
+use schema::model::SchemaTypeOf;
+use std::alloc::Global;
+
+// A part of a document whose events are left. What is left of a list has a first item, so that each part has an event.
+#[derive(Drop)]
+enum Part<'a, S> {
+    Told(Event<'a, S>),
+    Definitions(&'a Definition<'a, S>, &'a [Definition<'a, S>]),
+    Variables(
+        &'a (Spanning<&'a str>, VariableDefinition<'a, S>),
+        &'a [(Spanning<&'a str>, VariableDefinition<'a, S>)],
+    ),
+    Directives(
+        &'a Spanning<Directive<'a, S>>,
+        &'a [Spanning<Directive<'a, S>>],
+    ),
+    Arguments(
+        Option<&'a [Argument<S>]>,
+        &'a (Spanning<&'a str>, Spanning<InputValue<S>>),
+        &'a [(Spanning<&'a str>, Spanning<InputValue<S>>)],
+    ),
+    Set(&'a [Selection<'a, S>]),
+    Selections(&'a Selection<'a, S>, &'a [Selection<'a, S>]),
+    Value(&'a Spanning<InputValue<S>>),
+    Items(
+        &'a Spanning<InputValue<S>>,
+        &'a [Spanning<InputValue<S>>],
+    ),
+    Entries(
+        &'a (Spanning<String>, Spanning<InputValue<S>>),
+        &'a [(Spanning<String>, Spanning<InputValue<S>>)],
+    ),
+}
+
+// A part with the types round it, and an event with those at its node.
+#[derive(Drop)]
+struct Frame<'a, S, C> {
+    part: Part<'a, S>,
+    types: TypesOf<'a, S, C>,
+}
+
+/// The events of definitions that are left, in the order of a walk, each with the types at its node.
+///
+/// It takes memory for the nodes round the one at hand, and none for those that were left or are still to come.
+#[derive(Drop)]
+pub struct EventCursorOf<'a, S, C> {
+    schema: &'a SchemaTypeOf<S, C>,
+    frames: Vec<Frame<'a, S, C>>,
+}
+
+pub type EventCursor<'a, S> = EventCursorOf<'a, S, <S as CheckedScalar>::Check>;
+
+// One more part, whose events come first.
+fn push_part<'a, S, C>(
+    part: Part<'a, S>,
+    types: TypesOf<'a, S, C>,
+    frames: &mut Vec<Frame<'a, S, C>>,
+) -> Result<(), OutOfMemory>
+    ensures { OnOk result ((schema : Catalog S C) → stack_events schema frames.new.items ≡ frame_events schema (record { part = part.entry; types = types.entry }) ++ stack_events schema frames.old.items) }
+{
+    frames.push(Frame { part, types })?;
+    Ok(())
+}
+
+// A node with nothing in it is entered, and left next.
+fn enter_leaf<'a, S, C>(
+    enter: Event<'a, S>,
+    exit: Event<'a, S>,
+    types: TypesOf<'a, S, C>,
+    frames: &mut Vec<Frame<'a, S, C>>,
+) -> Result<PlannedEventOf<'a, S, C>, OutOfMemory>
+    ensures { IfOk result (λ e. (schema : Catalog S C) → planned e ∷ stack_events schema frames.new.items ≡ typed_event enter.entry (typing_of types.entry) ∷ typed_event exit.entry (typing_of types.entry) ∷ stack_events schema frames.old.items) }
+{
+    push_part(Part::Told(exit), types, frames)?;
+    Ok(PlannedEventOf {
+        event: enter,
+        types,
+    })
+}
+
+// The items of a list, at their types.
+fn push_items<'a, S, C>(
+    items: &'a [Spanning<InputValue<S>>],
+    types: TypesOf<'a, S, C>,
+    frames: &mut Vec<Frame<'a, S, C>>,
+) -> Result<(), OutOfMemory>
+    ensures { OnOk result ((schema : Catalog S C) → stack_events schema frames.new.items ≡ events_of (each (outline_of_value schema (typing_of types.entry)) items.now) ++ stack_events schema frames.old.items) }
+{
+    match items.split_first() {
+        Some((first, rest)) => push_part(Part::Items(first, rest), types, frames),
+        None => Ok(()),
+    }
+}
+
+// The fields of an object.
+fn push_entries<'a, S, C>(
+    items: &'a [(Spanning<String>, Spanning<InputValue<S>>)],
+    types: TypesOf<'a, S, C>,
+    frames: &mut Vec<Frame<'a, S, C>>,
+) -> Result<(), OutOfMemory>
+    ensures { OnOk result ((schema : Catalog S C) → stack_events schema frames.new.items ≡ events_of (each (outline_of_object_field schema (typing_of types.entry)) items.now) ++ stack_events schema frames.old.items) }
+{
+    match items.split_first() {
+        Some((first, rest)) => push_part(Part::Entries(first, rest), types, frames),
+        None => Ok(()),
+    }
+}
+
+// Arguments, whose types are looked up among the known ones.
+fn push_arguments<'a, S, C>(
+    known: Option<&'a [Argument<S>]>,
+    items: &'a [(Spanning<&'a str>, Spanning<InputValue<S>>)],
+    types: TypesOf<'a, S, C>,
+    frames: &mut Vec<Frame<'a, S, C>>,
+) -> Result<(), OutOfMemory>
+    ensures { OnOk result ((schema : Catalog S C) → stack_events schema frames.new.items ≡ events_of (each (outline_of_argument schema (option_copied known.entry) (typing_of types.entry)) items.now) ++ stack_events schema frames.old.items) }
+{
+    match items.split_first() {
+        Some((first, rest)) => push_part(Part::Arguments(known, first, rest), types, frames),
+        None => Ok(()),
+    }
+}
+
+// Directives.
+fn push_directives<'a, S, C>(
+    items: &'a [Spanning<Directive<'a, S>>],
+    types: TypesOf<'a, S, C>,
+    frames: &mut Vec<Frame<'a, S, C>>,
+) -> Result<(), OutOfMemory>
+    ensures { OnOk result ((schema : Catalog S C) → stack_events schema frames.new.items ≡ events_of (each (outline_of_directive schema (typing_of types.entry)) items.now) ++ stack_events schema frames.old.items) }
+{
+    match items.split_first() {
+        Some((first, rest)) => push_part(Part::Directives(first, rest), types, frames),
+        None => Ok(()),
+    }
+}
+
+// Definitions of variables.
+fn push_variables<'a, S, C>(
+    items: &'a [(Spanning<&'a str>, VariableDefinition<'a, S>)],
+    types: TypesOf<'a, S, C>,
+    frames: &mut Vec<Frame<'a, S, C>>,
+) -> Result<(), OutOfMemory>
+    ensures { OnOk result ((schema : Catalog S C) → stack_events schema frames.new.items ≡ events_of (each (outline_of_variable_definition schema (typing_of types.entry)) items.now) ++ stack_events schema frames.old.items) }
+{
+    match items.split_first() {
+        Some((first, rest)) => push_part(Part::Variables(first, rest), types, frames),
+        None => Ok(()),
+    }
+}
+
+// The selections of a set, at its types.
+fn push_selections<'a, S, C>(
+    items: &'a [Selection<'a, S>],
+    types: TypesOf<'a, S, C>,
+    frames: &mut Vec<Frame<'a, S, C>>,
+) -> Result<(), OutOfMemory>
+    ensures { OnOk result ((schema : Catalog S C) → stack_events schema frames.new.items ≡ events_of (each (outline_of_selection schema (typing_of types.entry)) items.now) ++ stack_events schema frames.old.items) }
+{
+    match items.split_first() {
+        Some((first, rest)) => push_part(Part::Selections(first, rest), types, frames),
+        None => Ok(()),
+    }
+}
+
+// Definitions.
+fn push_definitions<'a, S, C>(
+    items: &'a [Definition<'a, S>],
+    types: TypesOf<'a, S, C>,
+    frames: &mut Vec<Frame<'a, S, C>>,
+) -> Result<(), OutOfMemory>
+    ensures { OnOk result ((schema : Catalog S C) → stack_events schema frames.new.items ≡ events_of (each (outline_of_definition schema (typing_of types.entry)) items.now) ++ stack_events schema frames.old.items) }
+{
+    match items.split_first() {
+        Some((first, rest)) => push_part(Part::Definitions(first, rest), types, frames),
+        None => Ok(()),
+    }
+}
+
+// Arguments, where there are some.
+fn push_written_arguments<'a, S, C>(
+    known: Option<&'a [Argument<S>]>,
+    written: &'a Option<Spanning<Arguments<'a, S>>>,
+    types: TypesOf<'a, S, C>,
+    frames: &mut Vec<Frame<'a, S, C>>,
+) -> Result<(), OutOfMemory>
+    ensures { OnOk result ((schema : Catalog S C) → stack_events schema frames.new.items ≡ events_of (outline_of_arguments schema (option_copied known.entry) (typing_of types.entry) written.now) ++ stack_events schema frames.old.items) }
+{
+    match written {
+        Some(list) => push_arguments(known, list.item.items.as_slice(), types, frames),
+        None => Ok(()),
+    }
+}
+
+// Directives, where there are some.
+fn push_written_directives<'a, S, C>(
+    written: &'a Option<Vec<Spanning<Directive<'a, S>>>>,
+    types: TypesOf<'a, S, C>,
+    frames: &mut Vec<Frame<'a, S, C>>,
+) -> Result<(), OutOfMemory>
+    ensures { OnOk result ((schema : Catalog S C) → stack_events schema frames.new.items ≡ events_of (outline_of_directives schema (typing_of types.entry) written.now) ++ stack_events schema frames.old.items) }
+{
+    match written {
+        Some(list) => push_directives(list.as_slice(), types, frames),
+        None => Ok(()),
+    }
+}
+
+// Definitions of variables, where there are some.
+fn push_written_variables<'a, S, C>(
+    written: &'a Option<Spanning<VariableDefinitions<'a, S>>>,
+    types: TypesOf<'a, S, C>,
+    frames: &mut Vec<Frame<'a, S, C>>,
+) -> Result<(), OutOfMemory>
+    ensures { OnOk result ((schema : Catalog S C) → stack_events schema frames.new.items ≡ events_of (outline_of_variable_definitions schema (typing_of types.entry) written.now) ++ stack_events schema frames.old.items) }
+{
+    match written {
+        Some(list) => push_variables(list.item.items.as_slice(), types, frames),
+        None => Ok(()),
+    }
+}
+
+// A default value, where there is one.
+fn push_default_value<'a, S, C>(
+    written: &'a Option<Spanning<InputValue<S>>>,
+    types: TypesOf<'a, S, C>,
+    frames: &mut Vec<Frame<'a, S, C>>,
+) -> Result<(), OutOfMemory>
+    ensures { OnOk result ((schema : Catalog S C) → stack_events schema frames.new.items ≡ events_of (if_there (outline_of_value schema (typing_of types.entry)) written.now) ++ stack_events schema frames.old.items) }
+{
+    match written {
+        Some(value) => push_part(Part::Value(value), types, frames),
+        None => Ok(()),
+    }
+}
+
+// A selection set, where there is one.
+fn push_written_set<'a, S, C>(
+    written: &'a Option<Vec<Selection<'a, S>>>,
+    types: TypesOf<'a, S, C>,
+    frames: &mut Vec<Frame<'a, S, C>>,
+) -> Result<(), OutOfMemory>
+    ensures { OnOk result ((schema : Catalog S C) → stack_events schema frames.new.items ≡ events_of (outline_of_set_if_there schema (typing_of types.entry) written.now) ++ stack_events schema frames.old.items) }
+{
+    match written {
+        Some(set) => push_part(Part::Set(set.as_slice()), types, frames),
+        None => Ok(()),
+    }
+}
+
+// A list is entered.
+fn enter_list<'a, S, C>(
+    items: &'a Vec<Spanning<InputValue<S>>>,
+    span: &'a Span,
+    types: TypesOf<'a, S, C>,
+    frames: &mut Vec<Frame<'a, S, C>>,
+) -> Result<PlannedEventOf<'a, S, C>, OutOfMemory>
+    ensures { IfOk result (λ e. (schema : Catalog S C) → planned e ∷ stack_events schema frames.new.items ≡ events_of (node_with (Node.list_value (record { item = items.now.items; span = span.now })) (typing_of types.entry) (each (outline_of_value schema (at_items (typing_of types.entry))) items.now.items)) ++ stack_events schema frames.old.items) }
+{
+    push_part(Part::Told(Event::ExitListValue(Spanning { item: items, span })), types, frames)?;
+    push_items(items.as_slice(), types.at_items(), frames)?;
+    Ok(PlannedEventOf {
+        event: Event::EnterListValue(Spanning { item: items, span }),
+        types,
+    })
+}
+
+// An object is entered.
+fn enter_object<'a, S, C>(
+    items: &'a Vec<(Spanning<String>, Spanning<InputValue<S>>)>,
+    span: &'a Span,
+    types: TypesOf<'a, S, C>,
+    frames: &mut Vec<Frame<'a, S, C>>,
+) -> Result<PlannedEventOf<'a, S, C>, OutOfMemory>
+    ensures { IfOk result (λ e. (schema : Catalog S C) → planned e ∷ stack_events schema frames.new.items ≡ events_of (node_with (Node.object_value (record { item = items.now.items; span = span.now })) (typing_of types.entry) (each (outline_of_object_field schema (typing_of types.entry)) items.now.items)) ++ stack_events schema frames.old.items) }
+{
+    push_part(Part::Told(Event::ExitObjectValue(Spanning { item: items, span })), types, frames)?;
+    push_entries(items.as_slice(), types, frames)?;
+    Ok(PlannedEventOf {
+        event: Event::EnterObjectValue(Spanning { item: items, span }),
+        types,
+    })
+}
+
+// A value is entered.
+fn enter_value<'a, S, C>(
+    value: &'a Spanning<InputValue<S>>,
+    types: TypesOf<'a, S, C>,
+    frames: &mut Vec<Frame<'a, S, C>>,
+) -> Result<PlannedEventOf<'a, S, C>, OutOfMemory>
+    ensures { IfOk result (λ e. (schema : Catalog S C) → planned e ∷ stack_events schema frames.new.items ≡ events_of (outline_of_value schema (typing_of types.entry) value.now) ++ stack_events schema frames.old.items) }
+{
+    let span = &value.span;
+    match &value.item {
+        InputValue::Null => enter_leaf(
+            Event::EnterNullValue(span),
+            Event::ExitNullValue(span),
+            types,
+            frames,
+        ),
+        InputValue::Scalar(item) => enter_leaf(
+            Event::EnterScalarValue(Spanning { item, span }),
+            Event::ExitScalarValue(Spanning { item, span }),
+            types,
+            frames,
+        ),
+        InputValue::Enum(item) => enter_leaf(
+            Event::EnterEnumValue(Spanning { item, span }),
+            Event::ExitEnumValue(Spanning { item, span }),
+            types,
+            frames,
+        ),
+        InputValue::Variable(item) => enter_leaf(
+            Event::EnterVariableValue(Spanning { item, span }),
+            Event::ExitVariableValue(Spanning { item, span }),
+            types,
+            frames,
+        ),
+        InputValue::List(items) => enter_list(items, span, types, frames),
+        InputValue::Object(entries) => enter_object(entries, span, types, frames),
+    }
+}
+
+// The field of an object is entered.
+fn enter_entry<'a, S, C>(
+    schema: &'a SchemaTypeOf<S, C>,
+    entry: &'a (Spanning<String>, Spanning<InputValue<S>>),
+    types: TypesOf<'a, S, C>,
+    frames: &mut Vec<Frame<'a, S, C>>,
+) -> Result<PlannedEventOf<'a, S, C>, OutOfMemory>
+    ensures { IfOk result (λ e. planned e ∷ stack_events schema.now frames.new.items ≡ events_of (outline_of_object_field schema.now (typing_of types.entry) entry.now) ++ stack_events schema.now frames.old.items) }
+{
+    let (key, value) = entry;
+    let inside = types.at_object_field(schema, key.item.as_str());
+    push_part(Part::Told(Event::ExitObjectField(
+        Spanning {
+            item: &key.item,
+            span: &key.span,
+        },
+        Spanning {
+            item: &value.item,
+            span: &value.span,
+        },
+)), inside, frames)?;
+    push_part(Part::Value(value), inside, frames)?;
+    Ok(PlannedEventOf {
+        event: Event::EnterObjectField(
+        Spanning {
+            item: &key.item,
+            span: &key.span,
+        },
+        Spanning {
+            item: &value.item,
+            span: &value.span,
+        },
+),
+        types: inside,
+    })
+}
+
+// An argument is entered, whose type is looked up among the known ones.
+fn enter_argument<'a, S, C>(
+    known: Option<&'a [Argument<S>]>,
+    argument: &'a (Spanning<&'a str>, Spanning<InputValue<S>>),
+    types: TypesOf<'a, S, C>,
+    frames: &mut Vec<Frame<'a, S, C>>,
+) -> Result<PlannedEventOf<'a, S, C>, OutOfMemory>
+    ensures { IfOk result (λ e. (schema : Catalog S C) → planned e ∷ stack_events schema frames.new.items ≡ events_of (outline_of_argument schema (option_copied known.entry) (typing_of types.entry) argument.now) ++ stack_events schema frames.old.items) }
+{
+    let (name, value) = argument;
+    let inside = types.at_argument(known, name.item);
+    push_part(Part::Told(Event::ExitArgument(argument)), inside, frames)?;
+    push_part(Part::Value(value), inside, frames)?;
+    Ok(PlannedEventOf {
+        event: Event::EnterArgument(argument),
+        types: inside,
+    })
+}
+
+// A directive is entered.
+fn enter_directive<'a, S, C>(
+    schema: &'a SchemaTypeOf<S, C>,
+    directive: &'a Spanning<Directive<'a, S>>,
+    types: TypesOf<'a, S, C>,
+    frames: &mut Vec<Frame<'a, S, C>>,
+) -> Result<PlannedEventOf<'a, S, C>, OutOfMemory>
+    ensures { IfOk result (λ e. planned e ∷ stack_events schema.now frames.new.items ≡ events_of (outline_of_directive schema.now (typing_of types.entry) directive.now) ++ stack_events schema.now frames.old.items) }
+{
+    let known = arguments_of_directive(schema, directive.item.name.item);
+    push_part(Part::Told(Event::ExitDirective(directive)), types, frames)?;
+    push_written_arguments(known, &directive.item.arguments, types, frames)?;
+    Ok(PlannedEventOf {
+        event: Event::EnterDirective(directive),
+        types,
+    })
+}
+
+// The definition of a variable is entered.
+fn enter_variable<'a, S, C>(
+    definition: &'a (Spanning<&'a str>, VariableDefinition<'a, S>),
+    types: TypesOf<'a, S, C>,
+    frames: &mut Vec<Frame<'a, S, C>>,
+) -> Result<PlannedEventOf<'a, S, C>, OutOfMemory>
+    ensures { IfOk result (λ e. (schema : Catalog S C) → planned e ∷ stack_events schema frames.new.items ≡ events_of (outline_of_variable_definition schema (typing_of types.entry) definition.now) ++ stack_events schema frames.old.items) }
+{
+    let (_, variable) = definition;
+    let inside = types.at_variable(variable);
+    push_part(Part::Told(Event::ExitVariableDefinition(definition)), inside, frames)?;
+    push_written_directives(&variable.directives, inside, frames)?;
+    push_default_value(&variable.default_value, inside, frames)?;
+    Ok(PlannedEventOf {
+        event: Event::EnterVariableDefinition(definition),
+        types: inside,
+    })
+}
+
+// A selection set is entered.
+fn enter_set<'a, S, C>(
+    set: &'a [Selection<'a, S>],
+    types: TypesOf<'a, S, C>,
+    frames: &mut Vec<Frame<'a, S, C>>,
+) -> Result<PlannedEventOf<'a, S, C>, OutOfMemory>
+    ensures { IfOk result (λ e. (schema : Catalog S C) → planned e ∷ stack_events schema frames.new.items ≡ events_of (outline_of_set schema (typing_of types.entry) set.now) ++ stack_events schema frames.old.items) }
+{
+    let inside = types.at_set();
+    push_part(Part::Told(Event::ExitSelectionSet(set)), inside, frames)?;
+    push_selections(set, inside, frames)?;
+    Ok(PlannedEventOf {
+        event: Event::EnterSelectionSet(set),
+        types: inside,
+    })
+}
+
+// A field is entered.
+fn enter_field<'a, S, C>(
+    schema: &'a SchemaTypeOf<S, C>,
+    field: &'a Spanning<Field<'a, S>>,
+    types: TypesOf<'a, S, C>,
+    frames: &mut Vec<Frame<'a, S, C>>,
+) -> Result<PlannedEventOf<'a, S, C>, OutOfMemory>
+    ensures { IfOk result (λ e. planned e ∷ stack_events schema.now frames.new.items ≡ events_of (outline_of_field schema.now (typing_of types.entry) field.now) ++ stack_events schema.now frames.old.items) }
+{
+    let inside = types.at_field(schema, field.item.name.item);
+    let known = arguments_of_field(inside.parent, field.item.name.item);
+    push_part(Part::Told(Event::ExitField(field)), inside, frames)?;
+    push_written_set(&field.item.selection_set, inside, frames)?;
+    push_written_directives(&field.item.directives, inside, frames)?;
+    push_written_arguments(known, &field.item.arguments, inside, frames)?;
+    Ok(PlannedEventOf {
+        event: Event::EnterField(field),
+        types: inside,
+    })
+}
+
+// A fragment spread is entered.
+fn enter_spread<'a, S, C>(
+    spread: &'a Spanning<FragmentSpread<'a, S>>,
+    types: TypesOf<'a, S, C>,
+    frames: &mut Vec<Frame<'a, S, C>>,
+) -> Result<PlannedEventOf<'a, S, C>, OutOfMemory>
+    ensures { IfOk result (λ e. (schema : Catalog S C) → planned e ∷ stack_events schema frames.new.items ≡ events_of (outline_of_spread schema (typing_of types.entry) spread.now) ++ stack_events schema frames.old.items) }
+{
+    push_part(Part::Told(Event::ExitFragmentSpread(spread)), types, frames)?;
+    push_written_directives(&spread.item.directives, types, frames)?;
+    Ok(PlannedEventOf {
+        event: Event::EnterFragmentSpread(spread),
+        types,
+    })
+}
+
+// An inline fragment is entered.
+fn enter_inline<'a, S, C>(
+    schema: &'a SchemaTypeOf<S, C>,
+    fragment: &'a Spanning<InlineFragment<'a, S>>,
+    types: TypesOf<'a, S, C>,
+    frames: &mut Vec<Frame<'a, S, C>>,
+) -> Result<PlannedEventOf<'a, S, C>, OutOfMemory>
+    ensures { IfOk result (λ e. planned e ∷ stack_events schema.now frames.new.items ≡ events_of (outline_of_inline schema.now (typing_of types.entry) fragment.now) ++ stack_events schema.now frames.old.items) }
+{
+    let inside = types.at_condition(schema, &fragment.item.type_condition);
+    push_part(Part::Told(Event::ExitInlineFragment(fragment)), inside, frames)?;
+    push_part(Part::Set(fragment.item.selection_set.as_slice()), inside, frames)?;
+    push_written_directives(&fragment.item.directives, inside, frames)?;
+    Ok(PlannedEventOf {
+        event: Event::EnterInlineFragment(fragment),
+        types: inside,
+    })
+}
+
+// A selection is entered.
+fn enter_selection<'a, S, C>(
+    schema: &'a SchemaTypeOf<S, C>,
+    selection: &'a Selection<'a, S>,
+    types: TypesOf<'a, S, C>,
+    frames: &mut Vec<Frame<'a, S, C>>,
+) -> Result<PlannedEventOf<'a, S, C>, OutOfMemory>
+    ensures { IfOk result (λ e. planned e ∷ stack_events schema.now frames.new.items ≡ events_of (outline_of_selection schema.now (typing_of types.entry) selection.now) ++ stack_events schema.now frames.old.items) }
+{
+    match selection {
+        Selection::Field(field) => enter_field(schema, field, types, frames),
+        Selection::FragmentSpread(spread) => enter_spread(spread, types, frames),
+        Selection::InlineFragment(fragment) => enter_inline(schema, fragment, types, frames),
+    }
+}
+
+// An operation is entered.
+fn enter_operation<'a, S, C>(
+    schema: &'a SchemaTypeOf<S, C>,
+    operation: &'a Spanning<Operation<'a, S>>,
+    types: TypesOf<'a, S, C>,
+    frames: &mut Vec<Frame<'a, S, C>>,
+) -> Result<PlannedEventOf<'a, S, C>, OutOfMemory>
+    ensures { IfOk result (λ e. planned e ∷ stack_events schema.now frames.new.items ≡ events_of (outline_of_operation schema.now (typing_of types.entry) operation.now) ++ stack_events schema.now frames.old.items) }
+{
+    let inside = types.at_operation(schema, operation.item.operation_type);
+    push_part(Part::Told(Event::ExitOperationDefinition(operation)), inside, frames)?;
+    push_part(Part::Set(operation.item.selection_set.as_slice()), inside, frames)?;
+    push_written_directives(&operation.item.directives, inside, frames)?;
+    push_written_variables(&operation.item.variable_definitions, inside, frames)?;
+    Ok(PlannedEventOf {
+        event: Event::EnterOperationDefinition(operation),
+        types: inside,
+    })
+}
+
+// The definition of a fragment is entered.
+fn enter_fragment<'a, S, C>(
+    schema: &'a SchemaTypeOf<S, C>,
+    fragment: &'a Spanning<Fragment<'a, S>>,
+    types: TypesOf<'a, S, C>,
+    frames: &mut Vec<Frame<'a, S, C>>,
+) -> Result<PlannedEventOf<'a, S, C>, OutOfMemory>
+    ensures { IfOk result (λ e. planned e ∷ stack_events schema.now frames.new.items ≡ events_of (outline_of_fragment schema.now (typing_of types.entry) fragment.now) ++ stack_events schema.now frames.old.items) }
+{
+    let inside = types.at_named(schema, fragment.item.type_condition.item);
+    push_part(Part::Told(Event::ExitFragmentDefinition(fragment)), inside, frames)?;
+    push_part(Part::Set(fragment.item.selection_set.as_slice()), inside, frames)?;
+    push_written_directives(&fragment.item.directives, inside, frames)?;
+    Ok(PlannedEventOf {
+        event: Event::EnterFragmentDefinition(fragment),
+        types: inside,
+    })
+}
+
+// A definition is entered.
+fn enter_definition<'a, S, C>(
+    schema: &'a SchemaTypeOf<S, C>,
+    definition: &'a Definition<'a, S>,
+    types: TypesOf<'a, S, C>,
+    frames: &mut Vec<Frame<'a, S, C>>,
+) -> Result<PlannedEventOf<'a, S, C>, OutOfMemory>
+    ensures { IfOk result (λ e. planned e ∷ stack_events schema.now frames.new.items ≡ events_of (outline_of_definition schema.now (typing_of types.entry) definition.now) ++ stack_events schema.now frames.old.items) }
+{
+    match definition {
+        Definition::Operation(operation) => enter_operation(schema, operation, types, frames),
+        Definition::Fragment(fragment) => enter_fragment(schema, fragment, types, frames),
+    }
+}
+
+// The first event of a part; the others wait on the stack.
+fn enter_part<'a, S, C>(
+    schema: &'a SchemaTypeOf<S, C>,
+    part: Part<'a, S>,
+    types: TypesOf<'a, S, C>,
+    frames: &mut Vec<Frame<'a, S, C>>,
+) -> Result<PlannedEventOf<'a, S, C>, OutOfMemory>
+    ensures { IfOk result (λ e. planned e ∷ stack_events schema.now frames.new.items ≡ frame_events schema.now (record { part = part.entry; types = types.entry }) ++ stack_events schema.now frames.old.items) }
+{
+    match part {
+        Part::Told(event) => Ok(PlannedEventOf { event, types }),
+        Part::Definitions(first, rest) => {
+            push_definitions(rest, types, frames)?;
+            enter_definition(schema, first, types, frames)
+        }
+        Part::Variables(first, rest) => {
+            push_variables(rest, types, frames)?;
+            enter_variable(first, types, frames)
+        }
+        Part::Directives(first, rest) => {
+            push_directives(rest, types, frames)?;
+            enter_directive(schema, first, types, frames)
+        }
+        Part::Arguments(known, first, rest) => {
+            push_arguments(known, rest, types, frames)?;
+            enter_argument(known, first, types, frames)
+        }
+        Part::Set(set) => enter_set(set, types, frames),
+        Part::Selections(first, rest) => {
+            push_selections(rest, types, frames)?;
+            enter_selection(schema, first, types, frames)
+        }
+        Part::Value(value) => enter_value(value, types, frames),
+        Part::Items(first, rest) => {
+            push_items(rest, types, frames)?;
+            enter_value(first, types, frames)
+        }
+        Part::Entries(first, rest) => {
+            push_entries(rest, types, frames)?;
+            enter_entry(schema, first, types, frames)
+        }
+    }
+}
+
+impl<'a, S, C> EventCursorOf<'a, S, C> {
+    /// All events of these definitions, which stand at these types.
+    pub fn over(
+        alloc: Global,
+        schema: &'a SchemaTypeOf<S, C>,
+        definitions: &'a [Definition<'a, S>],
+        types: TypesOf<'a, S, C>,
+    ) -> Result<Self, OutOfMemory>
+        ensures { IfOk result (λ cursor. events_left cursor ≡ events_of (each (outline_of_definition schema.now (typing_of types.entry)) definitions.now)) }
+    {
+        let mut frames = Vec::new(alloc);
+        push_definitions(definitions, types, &mut frames)?;
+        Ok(EventCursorOf { schema, frames })
+    }
+
+    /// The event that comes next, which is left no more; none where nothing is left.
+    pub fn next(&mut self) -> Result<Option<PlannedEventOf<'a, S, C>>, OutOfMemory>
+        ensures { IfOk result (λ found. IsNextLeft found self.old self.new) }
+    {
+        let Some(frame) = self.frames.pop() else {
+            return Ok(None);
+        };
+        match enter_part(self.schema, frame.part, frame.types, &mut self.frames) {
+            Ok(event) => Ok(Some(event)),
+            Err(refused) => Err(refused),
+        }
+    }
+}
