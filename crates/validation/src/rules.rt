@@ -35,7 +35,7 @@ pub use reach::{
 };
 use stage_one::visit_stage_one;
 pub use variable_positions::variables_in_allowed_position;
-use walk::{MultiVisitorNil, ValidatorContext, visit_rules};
+use walk::{ValidatorContext, leave_document};
 
 /// Tries every rule on a document, in two stages, and appends the errors.
 ///
@@ -64,7 +64,7 @@ pub fn visit_all_rules<'a, 't, S: CheckedScalar>(
     visit_stage_two(ctx, document)
 }
 
-// Tries the rule on fields that can be merged.
+// Tries the rule on fields that can be merged, which acts only where the document is left.
 fn visit_stage_two<'a, 't, S: CheckedScalar>(
     ctx: &mut ValidatorContext<'a, S>,
     document: &'a [Definition<'t, S>],
@@ -74,8 +74,7 @@ fn visit_stage_two<'a, 't, S: CheckedScalar>(
     ensures err { OnErr result (KeepsPlace ctx.old ctx.new) }
     ensures failed { OnErr result (ctx.new.failed ≡ true) }
 {
-    let alloc = ctx.allocator();
-    let mut rule = MultiVisitorNil.with_rule(overlapping_fields_can_be_merged::factory(alloc));
-    visit_rules(&mut rule, ctx, document)?;
-    Ok(rule.newest().compared())
+    let mut rule = overlapping_fields_can_be_merged::factory(ctx.allocator());
+    leave_document(&mut rule, ctx, document)?;
+    Ok(rule.compared())
 }
