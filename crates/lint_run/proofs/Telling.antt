@@ -15,7 +15,7 @@ use Rattle.language.specs.declared.tree.Definition.TheVariants as definition
 use Rattle.language.specs.declared.tree.Fragment.{Fragment}
 use Rattle.language.specs.declared.tree.Operation.{Operation}
 use Rattle.language.specs.ValuesPrinted.{printed_value}
-use Rattle.lint_run.specs.Told.{Adds, AddsIf, AreErrorsOf, AreFaultsOf, AreToldAs, Document, FaultsAt, FaultsIn, FaultsOf, GivenValues, IsErrorFree, IsReadOf, Root, TellsDocument, TellsFaultsAt, TellsFaultsIn, TellsFile, TellsFiles, issues_of}
+use Rattle.lint_run.specs.Told.{Adds, AddsIf, AreErrorsOf, AreFaultsOf, AreToldAs, Document, FaultsAt, FaultsIn, FaultsOf, Files, GivenValues, IsErrorFree, IsFileOf, IsReadOf, Root, TellsDocument, TellsFaultsAt, TellsFaultsIn, TellsFile, TellsFiles, issues_of}
 use Rattle.lint_parts.specs.declared.issues.Issue.{Issue}
 use Rattle.lint_parts.specs.declared.sources.Joined.{Joined}
 use Rattle.lint_parts.specs.declared.sources.Source.{Source}
@@ -197,8 +197,8 @@ some_as P Q f None h = tt
 some_as P Q f (Some x) h = f x h
 
 -- one more path
-pub paths_more : (paths : List (Bor (List ℕ))) (k : ℕ) (d : Bor (List ℕ)) (before new : List Source) (read : Option Source) → k < length paths
-    → IfSome read (λ source. string_bytes source.path ≡ (get_or paths k d).now) → new ≡ before ++ option_to_list read → Done IsReadOf paths k before → Done IsReadOf paths (k + 1) new
-paths_more paths k d before new read here is added h =
+pub paths_more : (files : Files) (paths : List (Bor (List ℕ))) (k : ℕ) (d : Bor (List ℕ)) (before new : List Source) (read : Option Source) → k < length paths
+    → IfSome read (IsFileOf files (get_or paths k d).now) → new ≡ before ++ option_to_list read → Done (IsReadOf files) paths k before → Done (IsReadOf files) paths (k + 1) new
+paths_more files paths k d before new read here is added h =
     let path = get_or paths k d in
-    subst (Done IsReadOf paths (k + 1)) (sym added) (done_more IsReadOf paths k path before (option_to_list read) here (get_or_default paths k d path here) h (read, refl, is))
+    subst (Done (IsReadOf files) paths (k + 1)) (sym added) (done_more (IsReadOf files) paths k path before (option_to_list read) here (get_or_default paths k d path here) h (read, refl, is))

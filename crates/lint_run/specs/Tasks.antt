@@ -3,7 +3,7 @@ use Rattle.std.specs.Prelude.{◌≡◌, ◌-◌, ◌==◌, Bool, true, false, n
 use Rattle.lint_run.specs.declared.documents.Report.{Report}
 use Rattle.lint_run.specs.declared.program.Told.{Told}
 use Rattle.lint_run.specs.declared.words.Task.{Task}
-use Rattle.lint_run.specs.Told.{AreReadOf, GivenValues, IsReport, Root}
+use Rattle.lint_run.specs.Told.{AreReadOf, Files, GivenValues, IsReport, Root}
 use Rattle.lint_parts.specs.declared.issues.Issue.{Issue}
 use Rattle.lint_parts.specs.declared.sources.Source.{Source}
 use Rattle.lint_parts.specs.Json.{json_text}
@@ -27,17 +27,17 @@ pub record IsToldOf (task : Task) (sources : List Source) (report : Report) (tol
 -- Which scalars are the same.
 module _ (same : SourceScalar → SourceScalar → Bool) where
   -- the files of queries were read and judged, and a report on them is told
-  pub record TellsQueries (task : Task) (root : Root) (values : Option GivenValues) (told : Told) : Type 0 where
+  pub record TellsQueries (files : Files) (task : Task) (root : Root) (values : Option GivenValues) (told : Told) : Type 0 where
     pub sources : List Source
-    pub read : AreReadOf task.queries.items sources
+    pub read : AreReadOf files task.queries.items sources
     pub report : Report
     pub reported : IsReport same task.is_together root values sources report
     pub is_told : IsToldOf task sources report told
 
   -- the same with some values, exactly where the words name a file of values
-  abbrev pub TellsBy : Task → Root → Told → Type 0
-  TellsBy task root told = (values : Option GivenValues) × (is_some values ≡ is_some task.variables) × TellsQueries task root values told
+  abbrev pub TellsBy : Files → Task → Root → Told → Type 0
+  TellsBy files task root told = (values : Option GivenValues) × (is_some values ≡ is_some task.variables) × TellsQueries files task root values told
 
   -- the same by some root node, in which introspection is closed exactly where the words ask for that
-  abbrev pub TellsTask : Task → Told → Type 0
-  TellsTask task told = (root : Root) × (root.introspection_disabled ≡ task.is_closed) × TellsBy task root told
+  abbrev pub TellsTask : Files → Task → Told → Type 0
+  TellsTask files task told = (root : Root) × (root.introspection_disabled ≡ task.is_closed) × TellsBy files task root told

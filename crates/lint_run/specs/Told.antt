@@ -55,13 +55,25 @@ pub record AddsIf (is_document : Bool) (P : List Issue → Type 0) (old new : Li
   pub is : is_document ≡ is_some outcome
   pub all : new ≡ old ++ issues_of outcome
 
--- what is read of a path: a file of this name, or nothing
-abbrev pub IsReadOf : ℕ → Bor (List ℕ) → List Source → Type 0
-IsReadOf index path sources = (read : Option Source) × (sources ≡ option_to_list read) × IfSome read (λ source. string_bytes source.path ≡ path.now)
+-- the bytes of the file of a name, where they are known
+abbrev pub Files : Type 0
+Files = List ℕ → Option (List ℕ)
+
+-- a file has this name and these bytes
+abbrev pub HasText : List ℕ → List ℕ → Source → Type 0
+HasText path bytes source = (string_bytes source.path ≡ path) × (string_bytes source.text ≡ bytes)
+
+-- a file has this name, and its bytes where they are known
+abbrev pub IsFileOf : Files → List ℕ → Source → Type 0
+IsFileOf files path source = (string_bytes source.path ≡ path) × IfSome (files path) (λ bytes. string_bytes source.text ≡ bytes)
+
+-- what is read of a path: the file of this name, or nothing
+abbrev pub IsReadOf : Files → ℕ → Bor (List ℕ) → List Source → Type 0
+IsReadOf files index path sources = (read : Option Source) × (sources ≡ option_to_list read) × IfSome read (IsFileOf files path.now)
 
 -- what is read of each path in turn
-abbrev pub AreReadOf : List (Bor (List ℕ)) → List Source → Type 0
-AreReadOf = InTurn IsReadOf 0
+abbrev pub AreReadOf : Files → List (Bor (List ℕ)) → List Source → Type 0
+AreReadOf files = InTurn (IsReadOf files) 0
 
 -- a text with these files behind it, whose numbers count from this
 abbrev pub JoinsFiles : ℕ → List Source → Joined → Joined → Type 0

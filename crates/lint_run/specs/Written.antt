@@ -7,6 +7,7 @@ use Rattle.std.specs.Str.{bytes_eq}
 use Rattle.lint_run.specs.declared.program.Told.{Told}
 use Rattle.lint_run.specs.declared.words.Task.{Task}
 use Rattle.lint_run.specs.Tasks.{TellsTask}
+use Rattle.lint_run.specs.Told.{Files}
 use Rattle.source_scalars.specs.declared.scalar.SourceScalar.{SourceScalar}
 
 -- a word that is answered with help: `--help`, and one that begins with `-h`
@@ -19,13 +20,13 @@ asks_for_help = list_any (λ word. begins_help (string_bytes word))
 -- Which scalars are the same.
 module _ (same : SourceScalar → SourceScalar → Bool) where
   -- what is told of a task's files was written in one piece, every file was judged, and the status says whether there are errors
-  pub record WritesTask (task : Task) (old new : Option (List ℕ)) (status : ℕ) : Type 0 where
+  pub record WritesTask (files : Files) (task : Task) (old new : Option (List ℕ)) (status : ℕ) : Type 0 where
     pub told : Told
-    pub tells : TellsTask same task told
+    pub tells : TellsTask same files task told
     pub whole : told.is_whole ≡ true
     pub status_is : status ≡ (if told.has_errors then 1 else 0)
     pub written : Appends old new (string_bytes told.text)
 
   -- of some task
-  abbrev pub WritesSome : Option (List ℕ) → Option (List ℕ) → ℕ → Type 0
-  WritesSome old new status = (task : Task) × WritesTask task old new status
+  abbrev pub WritesSome : Files → Option (List ℕ) → Option (List ℕ) → ℕ → Type 0
+  WritesSome files old new status = (task : Task) × WritesTask files task old new status

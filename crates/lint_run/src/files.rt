@@ -1,7 +1,7 @@
 //! Files by the words that name them.
 ghost use Rattle.std.specs.Prelude.{◌≡◌, ◌++◌, IfOk, IfSome, OnOk, string_bytes};
 ghost use Rattle.std.specs.Option.{option_to_list};
-ghost use Rattle.lint_run.specs.Told.{AreReadOf, IsJoined};
+ghost use Rattle.lint_run.specs.Told.{AreReadOf, HasText, IsFileOf, IsJoined};
 
 use crate::failure::Failure;
 use lint_parts::sources::{Joined, Source};
@@ -12,8 +12,14 @@ use std::{io, str};
 
 /// Where files come from.
 pub trait Inputs {
+    ghost use Rattle.std.specs.Prelude.{ℕ, List, None, Option};
+
+    // The bytes of the file of a name, where they are known.
+    ghost file: { Self → List ℕ → Option (List ℕ) } = { λ _ _. None };
+
     /// The bytes of the file that a word names.
-    fn read(&self, alloc: Global, path: &str) -> io::Result<Vec<u8>>;
+    fn read(&self, alloc: Global, path: &str) -> io::Result<Vec<u8>>
+        ensures { IfOk result (λ bytes. IfSome (file self.now path.now) (λ known. bytes.items ≡ known)) };
 }
 
 /// The files of these paths that can be read. Of each other one it is told why it can't.
@@ -23,7 +29,7 @@ pub fn read_sources<I: Inputs>(
     paths: &[&str],
     faults: &mut String,
 ) -> Result<Vec<Source>, Failure>
-    ensures { IfOk result (λ sources. AreReadOf paths.now sources.items) }
+    ensures { IfOk result (λ sources. AreReadOf (I.file inputs.now) paths.now sources.items) }
 {
     let mut sources = Vec::new(alloc);
     for path in paths {
@@ -49,7 +55,7 @@ fn read_source<I: Inputs>(
     path: &str,
     faults: &mut String,
 ) -> Result<Option<Source>, Failure>
-    ensures { IfOk result (λ read. IfSome read (λ source. string_bytes source.path ≡ path.now)) }
+    ensures { IfOk result (λ read. IfSome read (IsFileOf (I.file inputs.now) path.now)) }
 {
     match inputs.read(alloc, path) {
         Ok(bytes) => source_of(alloc, path, bytes.as_slice(), faults),
@@ -66,7 +72,7 @@ fn source_of(
     bytes: &[u8],
     faults: &mut String,
 ) -> Result<Option<Source>, Failure>
-    ensures { IfOk result (λ read. IfSome read (λ source. string_bytes source.path ≡ path.now)) }
+    ensures { IfOk result (λ read. IfSome read (HasText path.now bytes.now)) }
 {
     match str::from_utf8(bytes) {
         Ok(text) => Ok(Some(Source {

@@ -42,7 +42,7 @@ pub fn run<I: Inputs, W: Write, E: Write>(
     errors: &mut E,
 ) -> u8
     ensures status { result ≤ 2 }
-    ensures told { asks_for_help words.now ≡ false → result ≤ 1 → WritesSome ⟦<SourceScalar as PartialEq>⟧.eq (W.contents output.old) (W.contents output.new) result }
+    ensures told { asks_for_help words.now ≡ false → result ≤ 1 → WritesSome ⟦<SourceScalar as PartialEq>⟧.eq (I.file inputs.now) (W.contents output.old) (W.contents output.new) result }
     ensures quiet { result ≤ 1 → errors.new ≡ errors.old }
 {
     match Task::of(alloc, words) {
@@ -97,7 +97,7 @@ pub fn run_task<I: Inputs, W: Write, E: Write>(
     errors: &mut E,
 ) -> u8
     ensures status { result ≤ 2 }
-    ensures told { result ≤ 1 → WritesTask ⟦<SourceScalar as PartialEq>⟧.eq task.now (W.contents output.old) (W.contents output.new) result }
+    ensures told { result ≤ 1 → WritesTask ⟦<SourceScalar as PartialEq>⟧.eq (I.file inputs.now) task.now (W.contents output.old) (W.contents output.new) result }
     ensures quiet { result ≤ 1 → errors.new ≡ errors.old }
 {
     let mut faults = String::new(alloc);
@@ -175,7 +175,7 @@ fn judge_all<I: Inputs>(
     inputs: &I,
     faults: &mut String,
 ) -> Result<Told, Failure>
-    ensures { IfOk result (TellsTask ⟦<SourceScalar as PartialEq>⟧.eq task.now) }
+    ensures { IfOk result (TellsTask ⟦<SourceScalar as PartialEq>⟧.eq (I.file inputs.now) task.now) }
 {
     if task.inputs() > 1 {
         faults.push_str("lint: error: the standard input is read once\n")?;
@@ -193,7 +193,7 @@ fn judge_by<I: Inputs>(
     root: &RootNode<SourceScalar>,
     faults: &mut String,
 ) -> Result<Told, Failure>
-    ensures { IfOk result (TellsBy ⟦<SourceScalar as PartialEq>⟧.eq task.now root.now) }
+    ensures { IfOk result (TellsBy ⟦<SourceScalar as PartialEq>⟧.eq (I.file inputs.now) task.now root.now) }
 {
     match task.variables {
         Some(path) => judge_with(alloc, task, inputs, root, path, faults),
@@ -209,7 +209,7 @@ fn judge_with<I: Inputs>(
     path: &str,
     faults: &mut String,
 ) -> Result<Told, Failure>
-    ensures { IfOk result (λ told. (values : GivenValues) × TellsQueries ⟦<SourceScalar as PartialEq>⟧.eq task.now root.now (Some values) told) }
+    ensures { IfOk result (λ told. (values : GivenValues) × TellsQueries ⟦<SourceScalar as PartialEq>⟧.eq (I.file inputs.now) task.now root.now (Some values) told) }
 {
     let values = values_of_file(alloc, inputs, path, faults)?;
     judge_queries(alloc, task, inputs, root, Some(&values), faults)
@@ -223,7 +223,7 @@ fn judge_queries<I: Inputs>(
     values: Option<&Variables<SourceScalar>>,
     faults: &mut String,
 ) -> Result<Told, Failure>
-    ensures { IfOk result (TellsQueries ⟦<SourceScalar as PartialEq>⟧.eq task.now root.now (option_copied values.entry)) }
+    ensures { IfOk result (TellsQueries ⟦<SourceScalar as PartialEq>⟧.eq (I.file inputs.now) task.now root.now (option_copied values.entry)) }
 {
     let read = read_sources(alloc, inputs, task.queries.as_slice(), faults)?;
     let sources = read.as_slice();
