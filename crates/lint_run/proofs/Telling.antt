@@ -1,7 +1,7 @@
 -- What is told of documents, as loops go on.
 use denote.Ref.{Bor}
 use mir.Val.{bool_byte}
-use Rattle.std.proofs.Common.{◌≡◌, ◌↔◌, ◌∙◌, ℕ, ◌+◌, ◌<◌, ◌≤◌, ◌==◌, arith, Bool, true, false, IsPermutation, IsSorted, List, [], ◌∷◌, ◌++◌, Option, Some, None, append_assoc, length, suc, get_or, drop, take, refl, sym, subst, ap, cond, string_bytes}
+use Rattle.std.proofs.Common.{◌≡◌, ◌↔◌, ◌∙◌, ℕ, ◌+◌, ◌<◌, ◌≤◌, ◌==◌, arith, Bool, true, false, IsPermutation, IsSorted, List, [], ◌∷◌, ◌++◌, Option, Some, None, append_assoc, length, suc, get_or, drop, take, refl, sym, subst, ap, cond}
 use Rattle.std.specs.List.{AllZip, flat_map, count_by}
 use Rattle.std.specs.Option.{IfSome, is_some, option_to_list}
 use Rattle.std.proofs.lemmas.List.{append-nil, flat_map_more, get_or_default, take_more}

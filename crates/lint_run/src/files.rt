@@ -1,5 +1,5 @@
 //! Files by the words that name them.
-ghost use Rattle.std.specs.Prelude.{◌≡◌, ◌++◌, IfOk, IfSome, OnOk, string_bytes};
+ghost use Rattle.std.specs.Prelude.{◌≡◌, ◌++◌, IfOk, IfSome, OnOk};
 ghost use Rattle.std.specs.Option.{option_to_list};
 ghost use Rattle.lint_run.specs.Told.{AreReadOf, HasText, IsFileOf, IsJoined};
 
