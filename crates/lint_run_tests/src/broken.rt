@@ -3,7 +3,8 @@ use crate::fakes::{BrokenWriter, Memory, run_broken, words_of};
 use lint_run::program::run;
 use std::alloc::Global;
 
-const LINE: &str = "--schema shop.graphql --schema item.graphql --variables values.json good.graphql bad.graphql";
+const LINE: &str =
+    "--schema shop.graphql --schema item.graphql --variables values.json good.graphql bad.graphql";
 
 const TOLD: &str =
     "bad.graphql:3:3: error: Unknown field \"nme\" on type \"Item\"\n\t\tnme\n\t\t^\n1 error in 1 of 2 files\n";

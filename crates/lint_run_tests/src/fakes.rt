@@ -6,10 +6,19 @@ use std::io::{self, Write};
 
 const FILES: &[(&str, &str)] = &[
     ("shop.graphql", "type Query {\n  item(id: ID!): Item\n}\n"),
-    ("item.graphql", "type Item {\n  name: String\n  price(in: Unit! = EUR): Float\n}\n\nenum Unit {\n  EUR\n}\n"),
-    ("good.graphql", "query Good($id: ID!) {\n  item(id: $id) {\n    name\n  }\n}\n"),
+    (
+        "item.graphql",
+        "type Item {\n  name: String\n  price(in: Unit! = EUR): Float\n}\n\nenum Unit {\n  EUR\n}\n",
+    ),
+    (
+        "good.graphql",
+        "query Good($id: ID!) {\n  item(id: $id) {\n    name\n  }\n}\n",
+    ),
     ("bad.graphql", "{\n\titem(id: 1) {\n\t\tnme\n\t}\n}\n"),
-    ("asks.graphql", "{\n  __schema {\n    queryType {\n      name\n    }\n  }\n}\n"),
+    (
+        "asks.graphql",
+        "{\n  __schema {\n    queryType {\n      name\n    }\n  }\n}\n",
+    ),
     ("use.graphql", "{\n  item(id: 1) {\n    ...Names\n  }\n}\n"),
     ("names.graphql", "fragment Names on Item {\n  name\n}\n"),
     ("cut.graphql", "{ item(id: 1) {\n"),

@@ -67,12 +67,24 @@ const RUNS: &[(&str, u8, &str, &str)] = &[
 
 // Words of runs that only end with a status: errors whose texts stand elsewhere, and faults.
 const STATUSES: &[(&str, u8)] = &[
-    ("--schema shop.graphql --schema item.graphql --no-introspection asks.graphql", 1),
-    ("--schema shop.graphql --schema item.graphql use.graphql names.graphql", 1),
-    ("--schema shop.graphql --schema item.graphql --variables null.json good.graphql", 1),
+    (
+        "--schema shop.graphql --schema item.graphql --no-introspection asks.graphql",
+        1,
+    ),
+    (
+        "--schema shop.graphql --schema item.graphql use.graphql names.graphql",
+        1,
+    ),
+    (
+        "--schema shop.graphql --schema item.graphql --variables null.json good.graphql",
+        1,
+    ),
     ("--schema shop.graphql --schema item.graphql cut.graphql", 2),
     ("--schema shop.graphql good.graphql", 2),
-    ("--schema shop.graphql --schema item.graphql --variables good.graphql good.graphql", 2),
+    (
+        "--schema shop.graphql --schema item.graphql --variables good.graphql good.graphql",
+        2,
+    ),
     ("--help", 0),
     ("-h", 0),
     ("--schema shop.graphql", 2),
