@@ -11,9 +11,7 @@ ghost use Rattle.events.specs.EventValue.{typed_event, typing_of, planned};
 ghost use Rattle.events.specs.Cursor.{frame_events, stack_events, events_left, IsNextLeft};
 
 use crate::event::Event;
-use crate::typed_events::{
-    PlannedEventOf, TypesOf, arguments_of_directive, arguments_of_field,
-};
+use crate::typed_events::{PlannedEventOf, TypesOf, arguments_of_directive, arguments_of_field};
 use language::error::OutOfMemory;
 use language::position::{Span, Spanning};
 use language::tree::{
@@ -35,10 +33,7 @@ enum Part<'a, S> {
         &'a (Spanning<&'a str>, VariableDefinition<'a, S>),
         &'a [(Spanning<&'a str>, VariableDefinition<'a, S>)],
     ),
-    Directives(
-        &'a Spanning<Directive<'a, S>>,
-        &'a [Spanning<Directive<'a, S>>],
-    ),
+    Directives(&'a Spanning<Directive<'a, S>>, &'a [Spanning<Directive<'a, S>>]),
     Arguments(
         Option<&'a [Argument<S>]>,
         &'a (Spanning<&'a str>, Spanning<InputValue<S>>),
@@ -47,10 +42,7 @@ enum Part<'a, S> {
     Set(&'a [Selection<'a, S>]),
     Selections(&'a Selection<'a, S>, &'a [Selection<'a, S>]),
     Value(&'a Spanning<InputValue<S>>),
-    Items(
-        &'a Spanning<InputValue<S>>,
-        &'a [Spanning<InputValue<S>>],
-    ),
+    Items(&'a Spanning<InputValue<S>>, &'a [Spanning<InputValue<S>>]),
     Entries(
         &'a (Spanning<String>, Spanning<InputValue<S>>),
         &'a [(Spanning<String>, Spanning<InputValue<S>>)],
@@ -282,7 +274,11 @@ fn enter_list<'a, S, C>(
 ) -> Result<PlannedEventOf<'a, S, C>, OutOfMemory>
     ensures { IfOk result (λ e. (schema : Catalog S C) → planned e ∷ stack_events schema frames.new.items ≡ events_of (node_with (Node.list_value (record { item = items.now.items; span = span.now })) (typing_of types.entry) (each (outline_of_value schema (at_items (typing_of types.entry))) items.now.items)) ++ stack_events schema frames.old.items) }
 {
-    push_part(Part::Told(Event::ExitListValue(Spanning { item: items, span })), types, frames)?;
+    push_part(
+        Part::Told(Event::ExitListValue(Spanning { item: items, span })),
+        types,
+        frames,
+    )?;
     push_items(items.as_slice(), types.at_items(), frames)?;
     Ok(PlannedEventOf {
         event: Event::EnterListValue(Spanning { item: items, span }),
@@ -299,7 +295,11 @@ fn enter_object<'a, S, C>(
 ) -> Result<PlannedEventOf<'a, S, C>, OutOfMemory>
     ensures { IfOk result (λ e. (schema : Catalog S C) → planned e ∷ stack_events schema frames.new.items ≡ events_of (node_with (Node.object_value (record { item = items.now.items; span = span.now })) (typing_of types.entry) (each (outline_of_object_field schema (typing_of types.entry)) items.now.items)) ++ stack_events schema frames.old.items) }
 {
-    push_part(Part::Told(Event::ExitObjectValue(Spanning { item: items, span })), types, frames)?;
+    push_part(
+        Part::Told(Event::ExitObjectValue(Spanning { item: items, span })),
+        types,
+        frames,
+    )?;
     push_entries(items.as_slice(), types, frames)?;
     Ok(PlannedEventOf {
         event: Event::EnterObjectValue(Spanning { item: items, span }),
@@ -357,28 +357,32 @@ fn enter_entry<'a, S, C>(
 {
     let (key, value) = entry;
     let inside = types.at_object_field(schema, key.item.as_str());
-    push_part(Part::Told(Event::ExitObjectField(
-        Spanning {
-            item: &key.item,
-            span: &key.span,
-        },
-        Spanning {
-            item: &value.item,
-            span: &value.span,
-        },
-)), inside, frames)?;
+    push_part(
+        Part::Told(Event::ExitObjectField(
+            Spanning {
+                item: &key.item,
+                span: &key.span,
+            },
+            Spanning {
+                item: &value.item,
+                span: &value.span,
+            },
+        )),
+        inside,
+        frames,
+    )?;
     push_part(Part::Value(value), inside, frames)?;
     Ok(PlannedEventOf {
         event: Event::EnterObjectField(
-        Spanning {
-            item: &key.item,
-            span: &key.span,
-        },
-        Spanning {
-            item: &value.item,
-            span: &value.span,
-        },
-),
+            Spanning {
+                item: &key.item,
+                span: &key.span,
+            },
+            Spanning {
+                item: &value.item,
+                span: &value.span,
+            },
+        ),
         types: inside,
     })
 }
@@ -430,7 +434,11 @@ fn enter_variable<'a, S, C>(
 {
     let (_, variable) = definition;
     let inside = types.at_variable(variable);
-    push_part(Part::Told(Event::ExitVariableDefinition(definition)), inside, frames)?;
+    push_part(
+        Part::Told(Event::ExitVariableDefinition(definition)),
+        inside,
+        frames,
+    )?;
     push_written_directives(&variable.directives, inside, frames)?;
     push_default_value(&variable.default_value, inside, frames)?;
     Ok(PlannedEventOf {
@@ -503,8 +511,16 @@ fn enter_inline<'a, S, C>(
     ensures { IfOk result (λ e. planned e ∷ stack_events schema.now frames.new.items ≡ events_of (outline_of_inline schema.now (typing_of types.entry) fragment.now) ++ stack_events schema.now frames.old.items) }
 {
     let inside = types.at_condition(schema, &fragment.item.type_condition);
-    push_part(Part::Told(Event::ExitInlineFragment(fragment)), inside, frames)?;
-    push_part(Part::Set(fragment.item.selection_set.as_slice()), inside, frames)?;
+    push_part(
+        Part::Told(Event::ExitInlineFragment(fragment)),
+        inside,
+        frames,
+    )?;
+    push_part(
+        Part::Set(fragment.item.selection_set.as_slice()),
+        inside,
+        frames,
+    )?;
     push_written_directives(&fragment.item.directives, inside, frames)?;
     Ok(PlannedEventOf {
         event: Event::EnterInlineFragment(fragment),
@@ -538,8 +554,16 @@ fn enter_operation<'a, S, C>(
     ensures { IfOk result (λ e. planned e ∷ stack_events schema.now frames.new.items ≡ events_of (outline_of_operation schema.now (typing_of types.entry) operation.now) ++ stack_events schema.now frames.old.items) }
 {
     let inside = types.at_operation(schema, operation.item.operation_type);
-    push_part(Part::Told(Event::ExitOperationDefinition(operation)), inside, frames)?;
-    push_part(Part::Set(operation.item.selection_set.as_slice()), inside, frames)?;
+    push_part(
+        Part::Told(Event::ExitOperationDefinition(operation)),
+        inside,
+        frames,
+    )?;
+    push_part(
+        Part::Set(operation.item.selection_set.as_slice()),
+        inside,
+        frames,
+    )?;
     push_written_directives(&operation.item.directives, inside, frames)?;
     push_written_variables(&operation.item.variable_definitions, inside, frames)?;
     Ok(PlannedEventOf {
@@ -558,8 +582,16 @@ fn enter_fragment<'a, S, C>(
     ensures { IfOk result (λ e. planned e ∷ stack_events schema.now frames.new.items ≡ events_of (outline_of_fragment schema.now (typing_of types.entry) fragment.now) ++ stack_events schema.now frames.old.items) }
 {
     let inside = types.at_named(schema, fragment.item.type_condition.item);
-    push_part(Part::Told(Event::ExitFragmentDefinition(fragment)), inside, frames)?;
-    push_part(Part::Set(fragment.item.selection_set.as_slice()), inside, frames)?;
+    push_part(
+        Part::Told(Event::ExitFragmentDefinition(fragment)),
+        inside,
+        frames,
+    )?;
+    push_part(
+        Part::Set(fragment.item.selection_set.as_slice()),
+        inside,
+        frames,
+    )?;
     push_written_directives(&fragment.item.directives, inside, frames)?;
     Ok(PlannedEventOf {
         event: Event::EnterFragmentDefinition(fragment),

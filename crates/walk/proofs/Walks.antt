@@ -29,19 +29,6 @@ module _ {S C V : Type 0} (step : StepOf S C V) where
       let s' : Stepped step m b c w₁ w₃ = subst (λ z. Stepped step m b c z w₃) same s in
       (told ++ m ∷ [], Ran-append step told (m ∷ []) a b c w w₁ w₃ r (Ran-one step m b c w₁ w₃ s'), e ∙ ap (λ z. told ++ z) q ∙ sym (append_assoc told (m ∷ []) left'))
 
-  pub up_to_all : (all left : List (TypedEvent S C)) (a b : V) (w w₁ w₂ : ContextState S C) → RanUpTo all left a b w w₁ → left ≡ [] → w₂ ≡ w₁ → Ran step all a b w w₂
-  up_to_all all left a b w w₁ w₂ (told, r, e) q same =
-      subst (λ z. Ran step z a b w w₂) (sym (e ∙ ap (λ z. told ++ z) q ∙ append-nil told)) (subst (λ z. Ran step told a b w z) (sym same) r)
-
-  -- what keeps the place after such a run keeps the place from before it
-  pub up_to_keeps : (all left : List (TypedEvent S C)) (a b : V) (w w₁ w₂ w₃ : ContextState S C) → RanUpTo all left a b w w₁ → w₂ ≡ w₁ → KeepsPlace w₂ w₃ → KeepsPlace w w₃
-  up_to_keeps all left a b w w₁ w₂ w₃ (told, r, e) same k =
-      KeepsPlace-ran step told a b w w₁ w₃ r (subst (λ z. KeepsPlace z w₃) same k)
-
-  pub failing_keeps : (w w' : ContextState S C) → w' ≡ failing w → KeepsPlace w w'
-  failing_keeps w w' e =
-      subst (λ z. KeepsPlace w z) (sym e) (record { allocator = refl; schema = refl; known = refl; typings = refl; stays = λ _. refl })
-
   -- a run through the same events
   pub IfOk-ran : {T E : Type 0} (ms ms' : List (TypedEvent S C)) (a b : V) (w w' : ContextState S C) (r : Result T E) → ms ≡ ms' → IfOk r (λ _. Ran step ms a b w w') → IfOk r (λ _. Ran step ms' a b w w')
   IfOk-ran ms ms' a b w w' r e h = subst (λ z. IfOk r (λ _. Ran step z a b w w')) e h
