@@ -1,10 +1,16 @@
 //! The program `lint`: tells whether files of GraphQL queries fit a schema.
 #![tactic(auto)]
 
-use lint_run::machine;
+mod documents;
+mod failure;
+mod files;
+mod program;
+mod schemas;
+mod values;
+mod words;
+
 use std::process::ExitCode;
 
 fn main(rt: HostRuntime) -> ExitCode {
-    let status = machine::run(&rt, &mut rt.stdout(), &mut rt.stderr());
-    ExitCode::from(status)
+    ExitCode::from(program::run(&rt))
 }

@@ -1,4 +1,3 @@
-pub mod Json
 pub mod LineEnds
 pub mod ShownLines
 pub mod Starts

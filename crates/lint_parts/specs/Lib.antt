@@ -1,5 +1,4 @@
 pub mod Issues
-pub mod Json
 pub mod Lines
 pub mod Places
 pub mod ShownLines

@@ -1,3 +1,0 @@
-pub mod Tasks
-pub mod Told
-pub mod Written
