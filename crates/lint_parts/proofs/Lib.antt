@@ -1,3 +1,4 @@
+pub mod Json
 pub mod LineEnds
 pub mod ShownLines
 pub mod Starts

@@ -1,4 +1,5 @@
 pub mod Issues
+pub mod Json
 pub mod Lines
 pub mod Places
 pub mod ShownLines

@@ -1,5 +1,6 @@
 -- The line in which a place stands, and what stands before the place in it.
-use Rattle.std.specs.Prelude.{◌≡◌, ◌==◌, ◌-◌, ◌&&◌, ℕ, Bool, not, List, [], map, drop, take, take_while, if◌then◌else◌}
+use Rattle.std.specs.Prelude.{◌≡◌, ◌==◌, ◌-◌, ◌&&◌, ℕ, Bool, not, List, [], map, drop, reverse, take, take_while, if◌then◌else◌}
+use Rattle.std.specs.List.{prefix_len}
 use Rattle.std.specs.Str.{IsCharBoundary, chars}
 use Rattle.language.specs.declared.position.SourcePosition.{SourcePosition}
 use Rattle.language.specs.Position.{index_of, column_of}
@@ -7,6 +8,10 @@ use Rattle.language.specs.Position.{index_of, column_of}
 -- a byte that ends no line: neither a line feed nor a carriage return
 abbrev pub is_in_line : ℕ → Bool
 is_in_line byte = not (byte == 10) && not (byte == 13)
+
+-- how many bytes stand behind the last byte that ends a line
+abbrev pub column_after : List ℕ → ℕ
+column_after text = prefix_len is_in_line (reverse text)
 
 -- the line of a text from an index on, without its end; none where no character begins there
 pub record IsLineFrom (text : List ℕ) (start : ℕ) (line : List ℕ) : Type 0 where

@@ -3,21 +3,28 @@ ghost use Rattle.std.specs.Prelude.{◌≡◌, ◌+◌, ◌≤◌, if◌then◌e
 ghost use Rattle.std.specs.List.{prefix_len};
 ghost use Rattle.language.specs.Position as position;
 ghost use Rattle.lint_parts.specs.Lines.{line_ends, more_ends};
-ghost use Rattle.lint_parts.specs.ShownLines.{IsLineOf, is_in_line};
+ghost use Rattle.lint_parts.specs.ShownLines.{IsLineOf, column_after, is_in_line};
 
 use language::position::SourcePosition;
 
 /// The place of an index of a text: its line, and the number of bytes before it in that line.
 pub fn position_at(text: &[u8], index: usize) -> SourcePosition
-    ensures { position.line_of result ≡ line_ends (take index text.now) }
+    ensures index { position.index_of result ≡ length (take index text.now) }
+    ensures line { position.line_of result ≡ line_ends (take index text.now) }
+    ensures column { position.column_of result ≡ column_after (take index text.now) }
 {
     let before = text.get(..index).unwrap_or(text);
-    let column = before
-        .iter()
+    SourcePosition::new(before.len(), lines_ended(before).0, last_length(before))
+}
+
+// How many bytes stand behind the last end of a line.
+fn last_length(text: &[u8]) -> usize
+    ensures { result ≡ column_after text.now }
+{
+    text.iter()
         .rev()
         .take_while(|byte| **byte != b'\n' && **byte != b'\r')
-        .count();
-    SourcePosition::new(before.len(), lines_ended(before).0, column)
+        .count()
 }
 
 /// How many lines end in a text that a line feed follows.

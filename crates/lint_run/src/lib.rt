@@ -1,0 +1,16 @@
+//! The work of the program `lint`, over files that come from anywhere and any two writers: whether files of GraphQL queries fit a schema.
+//!
+//! The contracts say which report the output got where it got one, of the trees that were read: an issue for each error that
+//! `RootNode::validate` reports of them, and for each fault of given values where there is no error, in order and led back to the
+//! files, as text or as JSON; and that nothing else was told then. That the trees are those of the texts, and what the words
+//! ask for, is tested.
+#![tactic(auto)]
+
+pub mod documents;
+pub mod failure;
+pub mod files;
+pub mod machine;
+pub mod program;
+pub mod schemas;
+pub mod values;
+pub mod words;
