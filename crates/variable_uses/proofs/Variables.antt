@@ -1,5 +1,5 @@
 -- Sets of names that grow, and variables that aren't used.
-use Rattle.std.proofs.Common.{◌≡◌, ◌⊎◌, inl, inr, ℕ, List, [], ◌∷◌, ◌++◌, map, refl, sym, subst, ap, ◌∙◌, arith, Bool, true, false, cond, ◌||◌}
+use Rattle.std.proofs.Common.{◌≡◌, ◌⊎◌, inl, inr, ℕ, List, [], ◌∷◌, ◌++◌, map, refl, sym, subst, ap, ◌∙◌, arith, ◌≤◌, Bool, true, false, cond, ◌||◌}
 use denote.Ref.{Bor}
 use Rattle.std.specs.BTreeSet.{BTreeSet}
 use Rattle.std.specs.List.{Contains}
@@ -9,13 +9,14 @@ use Rattle.std.proofs.lemmas.List.Elements.{Contains-append_left, Contains-push,
 use Rattle.scopes.proofs.Once.{once_none, once_push}
 use Rattle.std.proofs.lemmas.List.{map-append}
 use Rattle.variable_uses.specs.declared.uses.VariableUse.{VariableUse}
+use Rattle.language.specs.Position.{index_of}
 use Rattle.language.specs.declared.position.Span.{Span}
 use Rattle.language.specs.declared.position.Spanning.{Spanning}
 use Rattle.language.specs.declared.tree.Operation.{Operation}
 use Rattle.language.specs.declared.tree.VariableDefinition.{VariableDefinition}
 use Rattle.variable_uses.specs.Uses.{Uses, use_of}
 use Rattle.variable_uses.specs.Names.{AddsUse, HasNames, NameAndSpan, defined_variables, has_name, is_among, variable_list}
-use Rattle.variable_uses.specs.Unused.{AddsVariable, UnusedAmong}
+use Rattle.variable_uses.specs.Unused.{AddsVariable, StartBy, UnusedAmong}
 
 or_other : (b c : Bool) → cond b true c ≡ (c || (b || false))
 or_other true true = refl
@@ -80,6 +81,16 @@ module _ (used : List ℕ → Bool) where
     pub unused_next : (more new : List NameAndSpan) → more ≡ variables ++ v ∷ [] → AddsVariable used v found new → UnusedAmong used more new
     unused_next more new e (inl (why, same)) = subst (λ vs. UnusedAmong used vs new) (sym e) (subst (UnusedAmong used (variables ++ v ∷ [])) (sym same) (same_on why))
     unused_next more new e (inr (unused, free, is)) = subst (λ vs. UnusedAmong used vs new) (sym e) (subst (UnusedAmong used (variables ++ v ∷ [])) (sym is) (more_on unused free))
+
+-- none starts behind a later place, and with one more none behind the greater
+pub start_later : (a b : ℕ) (found : List NameAndSpan) → a ≤ b → StartBy a found → StartBy b found
+start_later a b found l h v c = let early = h v c in omega (arith, early, l)
+
+pub start_next : (latest : ℕ) (found : List NameAndSpan) (v : NameAndSpan) → StartBy latest found → index_of v.1.start ≤ latest → StartBy latest (found ++ v ∷ [])
+start_next latest found v h l p c = elim (Contains-push_cases found v p c) [
+  | inl before ↦ h p before
+  | inr e ↦ subst (λ z. index_of z.1.start ≤ latest) e l
+]
 
 -- by the test of the names that are used, of the definitions of an operation
 pub unused_in : {S : Type 0} (us : Uses) (o : Spanning (Operation S) Span) (found : List VariableUse) (set : BTreeSet (Bor (List ℕ))) (definitions : List (Spanning (Bor (List ℕ)) Span × VariableDefinition S)) (vs : List NameAndSpan)

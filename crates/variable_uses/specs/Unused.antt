@@ -1,7 +1,8 @@
 -- Variables that are defined and not used.
-use Rattle.std.specs.Prelude.{◌≡◌, ◌↔◌, ◌⊎◌, ℕ, List, [], ◌∷◌, ◌++◌, Bool, true, false, Option, option_map, map}
+use Rattle.std.specs.Prelude.{◌≡◌, ◌≤◌, ◌↔◌, ◌⊎◌, ℕ, List, [], ◌∷◌, ◌++◌, Bool, true, false, Option, option_map, map}
 use Rattle.std.specs.List.{Contains}
 use denote.Ref.{Bor}
+use Rattle.language.specs.Position.{index_of}
 use Rattle.language.specs.declared.position.Span.{Span}
 use Rattle.language.specs.declared.position.Spanning.{Spanning}
 use Rattle.language.specs.declared.tree.Definition.{Definition}
@@ -30,6 +31,10 @@ name_and_span v = (v.name.now, v.span)
 
 abbrev pub variable_at : Spanning (Bor (List ℕ)) Span → NameAndSpan
 variable_at v = (v.item.now, v.span)
+
+-- None of these starts behind a place.
+abbrev pub StartBy : ℕ → List NameAndSpan → Type 0
+StartBy latest found = (v : NameAndSpan) → Contains found v → index_of v.1.start ≤ latest
 
 -- Of these variables each whose name isn't used, once.
 pub record UnusedAmong (used : List ℕ → Bool) (variables found : List NameAndSpan) : Type 0 where

@@ -1,5 +1,5 @@
 //! Variables that are defined and not used.
-ghost use Rattle.std.specs.Prelude.{◌≡◌, ◌++◌, ◌↔◌, IfOk, IsTrue, OnOk, map, option_map};
+ghost use Rattle.std.specs.Prelude.{◌≡◌, ◌≤◌, ◌++◌, ◌↔◌, IfOk, IsTrue, OnOk, map, option_map};
 ghost use Rattle.std.specs.List.{Contains};
 ghost use Rattle.scopes.specs.Index.{IsIndexOf};
 ghost use Rattle.scopes.specs.Scopes.{IsOperationName};
@@ -7,7 +7,7 @@ ghost use Rattle.scopes.specs.Searches.{IsReady};
 ghost use Rattle.variable_uses.specs.DocumentIndex.{IsDocumentIndex};
 ghost use Rattle.variable_uses.specs.InReachUses.{AllUses};
 ghost use Rattle.variable_uses.specs.Names.{has_name};
-ghost use Rattle.variable_uses.specs.Unused.{AddsUnused, AddsVariable, DefinesNone, UnusedAmong, UnusedVariables, name_and_span, unused_by, unused_of, variable_at};
+ghost use Rattle.variable_uses.specs.Unused.{AddsUnused, AddsVariable, DefinesNone, StartBy, UnusedAmong, UnusedVariables, name_and_span, unused_by, unused_of, variable_at};
 
 use crate::document_index::{DocumentIndex, index_document};
 use crate::names::{is_named, used_names, variables};
@@ -54,17 +54,39 @@ fn stands_among(found: &[Variable<'_>], variable: &Spanning<&str>) -> bool
     false
 }
 
+// The same, where each of them starts at this place at the latest: what starts behind it needs no look.
+fn is_found(found: &[Variable<'_>], latest: usize, variable: &Spanning<&str>) -> bool
+    requires { StartBy latest (map name_and_span found.now) }
+    ensures { IsTrue result ↔ Contains (map name_and_span found.now) (variable_at variable.now) }
+{
+    if latest < variable.span.start.index() {
+        return false;
+    }
+    stands_among(found, variable)
+}
+
+fn later(a: usize, b: usize) -> usize
+    ensures first { a ≤ result }
+    ensures second { b ≤ result }
+{
+    if a < b { b } else { a }
+}
+
 // Adds a variable, unless its name is used or it is there.
 fn add_variable<'a>(
     used: &BTreeSet<&str>,
     variable: &Spanning<&'a str>,
+    latest: &mut usize,
     found: &mut Vec<Variable<'a>>,
 ) -> Result<(), OutOfMemory>
-    ensures { OnOk result (AddsVariable (has_name used.now) (variable_at variable.now) (map name_and_span found.old.items) (map name_and_span found.new.items)) }
+    requires { StartBy latest.old (map name_and_span found.old.items) }
+    ensures added { OnOk result (AddsVariable (has_name used.now) (variable_at variable.now) (map name_and_span found.old.items) (map name_and_span found.new.items)) }
+    ensures start { OnOk result (StartBy latest.new (map name_and_span found.new.items)) }
 {
-    if is_named(used, variable.item) || stands_among(found.as_slice(), variable) {
+    if is_named(used, variable.item) || is_found(found.as_slice(), *latest, variable) {
         return Ok(());
     }
+    *latest = later(*latest, variable.span.start.index());
     found.push(Variable {
         name: variable.item,
         span: variable.span,
@@ -80,9 +102,10 @@ fn unused_among<'a, S>(
 ) -> Result<Vec<Variable<'a>>, OutOfMemory>
     ensures { IfOk result (λ found. UnusedAmong (has_name used.now) (map (λ v. (v.0.item.now, v.0.span)) definitions.now) (map name_and_span found.items)) }
 {
+    let mut latest = 0;
     let mut found = Vec::new(alloc);
     for definition in definitions {
-        add_variable(used, &definition.0, &mut found)?;
+        add_variable(used, &definition.0, &mut latest, &mut found)?;
     }
     Ok(found)
 }

@@ -10,6 +10,9 @@ loop-definition-preserved g c =
     let ds = c.args.definitions.now in
     let i = c.loop-definition.definition-index in
     let d = c.definition-item.result in
-    unused_next (has_name c.args.used.now) (map (λ v. (v.0.item.now, v.0.span)) (take i ds)) (map name_and_span c.loop-definition.found.items) (d.0.item.now, d.0.span) c.loop-definition.invariant
-    _ (map name_and_span c.add_variable.new.found.items)
-    (map_next (λ v. (v.0.item.now, v.0.span)) ds i d c.definition-item.is c.loop-definition-test.true) c.in_ok-add_variable.ensures
+    let before = map (λ v. (v.0.item.now, v.0.span)) (take i ds) in (
+      unused_next (has_name c.args.used.now) before (map name_and_span c.loop-definition.found.items) (d.0.item.now, d.0.span) c.loop-definition.invariant.0
+          _ (map name_and_span c.add_variable.new.found.items)
+          (map_next (λ v. (v.0.item.now, v.0.span)) ds i d c.definition-item.is c.loop-definition-test.true) c.in_ok-add_variable.ensures.added,
+      c.in_ok-add_variable.ensures.start,
+    )
