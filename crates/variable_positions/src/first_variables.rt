@@ -1,6 +1,6 @@
 //! The first definition of each variable, where the operations of one name add up.
 
-ghost use Rattle.std.specs.Prelude.{◌≡◌, ◌∷◌, [], IfOk, OnOk, option_copied};
+ghost use Rattle.std.specs.Prelude.{◌≡◌, ◌∷◌, [], IfOk, IsTrue, OnOk, option_copied};
 ghost use Rattle.std.specs.List.{flat_map};
 ghost use Rattle.variable_positions.specs.DefinedVariables.{variables_at, variables_in};
 ghost use Rattle.variable_positions.specs.FirstVariables.{kept_first, KeepsFirst, Notes};
@@ -28,6 +28,13 @@ impl<'a, S> FirstVariables<'a, S> {
         FirstVariables {
             entries: BTreeMap::new(alloc),
         }
+    }
+
+    /// Whether no variable is defined.
+    pub fn is_empty(&self) -> bool
+        ensures { IsTrue result → KeepsFirst [] self.now }
+    {
+        self.entries.is_empty()
     }
 
     /// The first definition of a variable.

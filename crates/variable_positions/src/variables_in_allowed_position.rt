@@ -191,7 +191,7 @@ fn report_places<'a, S: CheckedScalar>(
     Ok(())
 }
 
-// Reports the uses in what the operations of a name reach.
+// Reports the uses in what the operations of a name reach. Where these define no variable it asks nothing of what is in reach.
 fn report_operations<'a, S: CheckedScalar>(
     alloc: Global,
     ctx: &mut ValidatorContext<'a, S>,
@@ -209,6 +209,9 @@ fn report_operations<'a, S: CheckedScalar>(
 {
     let own = operation_places(&index.places, name);
     let variables = FirstVariables::at(alloc, document, own)?;
+    if variables.is_empty() {
+        return Ok(());
+    }
     let places = reached_definitions(alloc, document, index, search, name)?;
     report_places(alloc, ctx, &variables, uses, places.as_slice())
 }

@@ -1,16 +1,28 @@
-use Rattle.std.proofs.Common.{◌≡◌, List, ℕ, ap, option_map, subst, ◌∙◌}
+use Rattle.std.proofs.Common.{◌≡◌, [], List, ℕ, None, append-nil, ap, option_map, subst, sym, ◌∙◌}
 use mathlib.Core.Path.{fun_ext}
 use Rattle.std.proofs.lemmas.Result.{IfOk-weaker}
-use Rattle.std.specs.List.{flat_map}
-use Rattle.reachability.specs.Reach.{operation}
-use Rattle.scopes.proofs.PlaceLists.{flat_places}
-use Rattle.scopes.specs.Scopes.{same_scope, scope_of}
 use Rattle.walk.specs.Entering.{EachGives}
-use Rattle.variable_positions.specs.DefinedVariables.{first_of, variables_at, variables_in, variables_of}
+use Rattle.variable_positions.specs.DefinedVariables.{first_of, variables_of}
 use Rattle.variable_positions.specs.FirstVariables.{kept_first}
 use Rattle.variable_positions.specs.TypedUses.{use_values}
 use Rattle.variable_positions.specs.VariableInAllowedPosition.{UsesGive, uses_in}
+use Rattle.variable_positions.proofs.Skipping.{none_misplaced, own_variables}
 use Rattle.variable_positions.proofs.variables_in_allowed_position.report_operations.Goals as goal
+
+pub returns-then-is_empty-clause-ok : goal.returns-then-is_empty-clause-ok
+returns-then-is_empty-clause-ok g c =
+    let w = c.args.ctx.now in
+    let document = c.args.document.now in
+    let index = c.args.index.now in
+    let name = option_map (λ n. n.now) c.args.name in
+    let own = own_variables document index c.requires.index name c.operation_places-own.result.now c.operation_places-own.ensures in
+    let none : (v : List ℕ) → first_of (variables_of document name) v ≡ None =
+    λ v. ap (λ ds. first_of ds v) (sym own) ∙ sym (c.in_ok-variables.ensures v) ∙ c.is_empty.ensures c.if-is_empty.true v
+    in (
+      [],
+      none_misplaced document index c.requires.index name w.schema.types (use_values c.args.uses.now) none,
+      ap (λ zs. record w { errors = zs }) (sym (append-nil w.errors)),
+    )
 
 pub returns-clause-ok : goal.returns-clause-ok
 returns-clause-ok g c =
@@ -18,10 +30,7 @@ returns-clause-ok g c =
     let document = c.args.document.now in
     let uses = use_values c.args.uses.now in
     let name = option_map (λ n. n.now) c.args.name in
-    let own : flat_map (variables_at document) c.operation_places-own.result.now ≡ variables_of document name =
-    ap (flat_map (variables_at document)) (c.operation_places-own.ensures ∙ c.requires.index.places (operation name))
-    ∙ flat_places (λ d. same_scope (scope_of d) (operation name)) variables_in document
-    in
+    let own = own_variables document c.args.index.now c.requires.index name c.operation_places-own.result.now c.operation_places-own.ensures in
     let known : kept_first c.in_ok-variables.variables ≡ first_of (variables_of document name) =
     fun_ext (λ (v : List ℕ). c.in_ok-variables.ensures v ∙ ap (λ ds. first_of ds v) own)
     in
