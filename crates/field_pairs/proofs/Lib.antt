@@ -4,3 +4,4 @@ pub mod ArgumentLaws
 pub mod DirectLaws
 pub mod OwnFieldLaws
 pub mod NumberedLaws
+pub mod AlikeLaws
