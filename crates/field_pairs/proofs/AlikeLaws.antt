@@ -37,6 +37,7 @@ module _ {S C : Type 0} (E : S → S → Bool) (schema : Catalog S C) where
     where
       names : is_same_name a b ≡ true
       names = subst (λ (n : List ℕ). bytes_eq a.field.item.name.item.now n ≡ true) (sym p.name ∙ q.name) (nat_list_eq_equiv.refl a.field.item.name.item.now)
+
       bare : same_arguments E a.field.item.arguments b.field.item.arguments ≡ true
       bare = ap (λ x. same_arguments E x b.field.item.arguments) p.right_bare ∙ ap (λ x. same_arguments E None x) q.right_bare
 

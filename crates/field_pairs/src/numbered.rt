@@ -84,10 +84,7 @@ fn direct_reason_if_there<S: ScalarValue, C>(
     }
 }
 
-fn are_alike_if_there<S, C>(
-    left: Option<&Entry<'_, S, C>>,
-    right: Option<&Entry<'_, S, C>>,
-) -> bool
+fn are_alike_if_there<S, C>(left: Option<&Entry<'_, S, C>>, right: Option<&Entry<'_, S, C>>) -> bool
     ensures { OnTrue result (AreAlikeBetween (option_map plain (option_copied left.entry)) (option_map plain (option_copied right.entry))) }
 {
     match (left, right) {
