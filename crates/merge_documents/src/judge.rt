@@ -1,12 +1,10 @@
 //! The judgement of a document's fields.
 ghost use Rattle.std.specs.Prelude.{◌≡◌, map};
 ghost use Rattle.std.specs.Bool.{OnTrue};
-ghost use Rattle.std.specs.List.{All};
-ghost use Rattle.field_pairs.specs.Alike.{AreAlikeAt};
 ghost use Rattle.field_pairs.specs.Entries.{plain};
 ghost use Rattle.field_pairs.specs.Numbered.{AreTidy};
 ghost use Rattle.merging.specs.Judgement.{Lawful};
-ghost use Rattle.merge_documents.specs.Judging.{judgement_of};
+ghost use Rattle.merge_documents.specs.Judging.{judgement_of, AreLike};
 
 use field_pairs::entry::Entry;
 use field_pairs::numbered::{are_alike_at, are_exclusive_at, direct_reason_at};
@@ -32,7 +30,8 @@ impl<'a, S: ScalarValue, C> Judge for FieldJudge<'a, S, C> {
     fn are_plainly_alike(&self, left: &[Numbered], right: &[Numbered]) -> bool {
         let fields = self.fields.as_slice();
         match left.first() {
-            Some(first) => are_like(fields, first.field, left) && are_like(fields, first.field, right),
+            Some(first) => are_like(fields, first.field, left)
+                && are_like(fields, first.field, right),
             None => true,
         }
     }
@@ -44,7 +43,7 @@ impl<'a, S: ScalarValue, C> Judge for FieldJudge<'a, S, C> {
 
 // Whether some fields are like one.
 fn are_like<S, C>(fields: &[Entry<'_, S, C>], one: usize, others: &[Numbered]) -> bool
-    ensures { OnTrue result (All (λ a. AreAlikeAt (map plain fields.now) one a.field) others.now) }
+    ensures { OnTrue result (AreLike (map plain fields.now) one others.now) }
 {
     for other in others {
         if !are_alike_at(fields, one, other.field) {
