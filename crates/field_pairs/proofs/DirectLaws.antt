@@ -62,7 +62,7 @@ reason_up x y n r t even h = h
 reason_up x false n r t least h = h
 reason_up x true n r t least h = reason_type n r t h
 
-reason_self : (x : Bool) → reason_of x true true false ≡ None
+pub reason_self : (x : Bool) → reason_of x true true false ≡ None
 reason_self true = refl
 reason_self false = refl
 

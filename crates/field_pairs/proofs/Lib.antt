@@ -4,3 +4,5 @@ pub mod ArgumentLaws
 pub mod DirectLaws
 pub mod OwnFieldLaws
 pub mod NumberedLaws
+pub mod SameTypes
+pub mod AlikeLaws

@@ -5,3 +5,4 @@ pub mod DirectReason
 pub mod Texts
 pub mod OwnFields
 pub mod Numbered
+pub mod Alike

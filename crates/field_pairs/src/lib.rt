@@ -2,6 +2,7 @@
 //! said of it (GraphQL, October 2021, section 5.3.2).
 #![tactic(auto)]
 
+pub mod alike;
 mod arguments;
 pub mod direct;
 pub mod entry;

@@ -1,4 +1,5 @@
 pub mod Adding
+pub mod Clear
 pub mod Core
 pub mod Counting
 pub mod Distinct

@@ -22,7 +22,7 @@ Before (x ∷ xs) a b = ((x ≡ a) × Contains xs b) ⊎ Before xs a b
 some_same : (x a : Entry) → Some x ≡ Some a → x ≡ a
 some_same x a h = cc
 
-at_of : (xs : List Entry) (k : ℕ) (a : Entry) → slice_get xs k ≡ Some a → Contains xs a
+pub at_of : (xs : List Entry) (k : ℕ) (a : Entry) → slice_get xs k ≡ Some a → Contains xs a
 at_of xs k a p = (k, slice_get_within xs k a p, get_or_from_slice_get xs k a a p)
 
 before_from : (xs : List Entry) (k l : ℕ) (a b : Entry) → k < l → slice_get xs k ≡ Some a → slice_get xs l ≡ Some b → Before xs a b

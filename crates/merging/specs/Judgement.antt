@@ -1,5 +1,7 @@
 -- What is asked of two fields, which are numbers here.
-use Rattle.std.specs.Prelude.{ℕ, Bool, true, false, ◌≡◌}
+use Rattle.std.specs.Prelude.{ℕ, List, Bool, true, false, ◌≡◌}
+use Rattle.std.specs.List.{All}
+use Rattle.merging.specs.declared.node.Entry.{Entry}
 
 pub record Judgement : Type 0 where
   -- no object is asked for both: so it is already where they stand, or by their own parents
@@ -14,3 +16,7 @@ pub record Lawful (j : Judgement) : Type 0 where
   pub conflict_kept : (a b : ℕ) → j.conflict true a b ≡ true → j.conflict false a b ≡ true
   pub conflict_flip : (e : Bool) (a b : ℕ) → j.conflict e b a ≡ j.conflict e a b
   pub conflict_self : (e : Bool) (a : ℕ) → j.conflict e a a ≡ false
+
+-- No field of the one list fails with one of the other, whatever the flag.
+abbrev pub NoneConflict : Judgement → List Entry → List Entry → Type 0
+NoneConflict j left right = (e : Bool) → All (λ a. All (λ b. j.conflict e a.field b.field ≡ false) right) left

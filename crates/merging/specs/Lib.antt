@@ -3,6 +3,7 @@ pub mod Names
 pub mod Indexed
 pub mod Graph
 pub mod World
+pub mod Clear
 pub mod Log
 pub mod Opening
 pub mod Work

@@ -15,7 +15,7 @@ use crate::repeats::is_settled;
 use crate::state::{
     Finding, Search, count_list, is_compared, note_conflicts, note_pair, note_search, report,
 };
-use crate::view::{are_exclusive, are_in_conflict, firsts, group, set, spreads};
+use crate::view::{are_exclusive, are_in_conflict, are_plainly_alike, firsts, group, set, spreads};
 use std::alloc::AllocError;
 
 /// Two fields of one response name.
@@ -98,7 +98,7 @@ fn compare_with<J: Judge>(
     Ok(())
 }
 
-/// The own fields of two sets that have one response name.
+/// The own fields of two sets that have one response name. Many that are alike are looked at once, since there is nothing to find.
 #[cycle(search)]
 fn compare_named<J: Judge>(
     graph: &Graph<J>,
@@ -111,7 +111,11 @@ fn compare_named<J: Judge>(
     ensures done { OnOk result (Did (world J.judgement graph.now) (λ M. All (λ a. All (λ b. Done (world J.judgement graph.now) M e a b) (named a.response (own_of (world J.judgement graph.now) j))) (named name (own_of (world J.judgement graph.now) i))) search.old search.new) }
     ensures real { OnOk result (AddsAll (world J.judgement graph.now) e (AtNamed (world J.judgement graph.now) i j name) (AtNamed (world J.judgement graph.now) i j name) search.old.found.items search.new.found.items) }
 {
-    for a in group(graph, i, name) {
+    let left = group(graph, i, name);
+    if left.len() > 1 && are_plainly_alike(graph, left, group(graph, j, name)) {
+        return Ok(());
+    }
+    for a in left {
         compare_with(graph, *a, j, e, search)?;
     }
     Ok(())

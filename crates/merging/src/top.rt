@@ -14,7 +14,7 @@ use crate::node::Entry;
 use crate::opening::opened;
 use crate::search::{compare_fields, compare_fragments, compare_own};
 use crate::state::{Search, count_list, no_search};
-use crate::view::{firsts, group, order, set, spreads};
+use crate::view::{are_plainly_alike, firsts, group, order, set, spreads};
 use std::alloc::{AllocError, Global};
 
 // A field and those after it.
@@ -33,7 +33,7 @@ fn compare_rest<J: Judge>(
     Ok(())
 }
 
-// Some fields, each with those after it.
+// Some fields, each with those after it. Many that are alike are looked at once, since there is nothing to find.
 fn compare_each<J: Judge>(
     graph: &Graph<J>,
     fields: &[Entry],
@@ -42,6 +42,9 @@ fn compare_each<J: Judge>(
     ensures done { OnOk result (Did (world J.judgement graph.now) (λ M. AllBefore (Done (world J.judgement graph.now) M false) fields.now) search.old search.new) }
     ensures real { OnOk result (AddsAll (world J.judgement graph.now) false (AtBefore fields.now) (AtBefore fields.now) search.old.found.items search.new.found.items) }
 {
+    if fields.len() > 2 && are_plainly_alike(graph, fields, fields) {
+        return Ok(());
+    }
     for k in 0..fields.len() {
         compare_rest(graph, fields[k], &fields[k + 1..], search)?;
     }

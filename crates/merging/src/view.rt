@@ -1,6 +1,8 @@
 //! What a search reads of a graph.
 ghost use Rattle.std.specs.Prelude.{◌≡◌};
 ghost use Rattle.merging.specs.Names.{named, AreListed};
+ghost use Rattle.std.specs.Bool.{OnTrue};
+ghost use Rattle.merging.specs.Clear.{AreClear, AreLeaves};
 ghost use Rattle.merging.specs.World.{world, own_of, spreads_of, set_of, exclusive_of, conflict_of};
 
 use crate::graph::Graph;
@@ -77,4 +79,25 @@ pub fn are_in_conflict<J: Judge>(graph: &Graph<J>, e: bool, a: Entry, b: Entry) 
     ensures { result ≡ conflict_of (world J.judgement graph.now) e a b }
 {
     graph.judge.are_in_conflict(e, a.field, b.field)
+}
+
+/// Whether it is plain that no field of the one list fails with one of the other, nor any that stand below them.
+///
+/// Nothing stands below the first, so there is nothing below to compare.
+pub fn are_plainly_alike<J: Judge>(graph: &Graph<J>, left: &[Entry], right: &[Entry]) -> bool
+    ensures { OnTrue result (AreClear (world J.judgement graph.now) left.now right.now) }
+{
+    are_leaves(left) && graph.judge.are_plainly_alike(left, right)
+}
+
+// Whether nothing stands below any of them.
+fn are_leaves(fields: &[Entry]) -> bool
+    ensures { OnTrue result (AreLeaves fields.now) }
+{
+    for field in fields {
+        if field.below.is_some() {
+            return false;
+        }
+    }
+    true
 }

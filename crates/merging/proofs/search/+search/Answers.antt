@@ -8,6 +8,7 @@ use Rattle.merging.specs.World.{world, own_of, spreads_of, set_of}
 use Rattle.merging.specs.Opening.{Opens, Reaches}
 use Rattle.merging.specs.Work.{pair_in, search_in, Searched, Pair, Done, stood, shallow, deep, SetsDone, OwnPairs}
 use Rattle.merging.specs.Reports.{Adds, NestedRoot, AtFields, AtWith, AtNamed, AtOwn, AtFirst, AtSecond}
+use Rattle.merging.proofs.Clear.{named_done, named_tells}
 use Rattle.merging.proofs.Falls.{spread_falls, own_falls, reach_falls}
 use Rattle.merging.proofs.Work.{did_none, did_start, did_then, did_map, did_more, did_all, did_list, did_opened, owes_search, owes_none, owes_start, owes_more, owes_full, did_fragments, did_report, did_kept, no_entry, covers_yes, covers_no}
 use Rattle.merging.proofs.Adding.{adds_none, adds_map, adds_then, adds_from, adds_node, adds_same, all_leaf, all_quiet, all_start, all_more, all_done}
@@ -42,7 +43,7 @@ open_all-open_fragment-requires g t c =
 pub compare_named-compare_with-requires : goal.compare_named-compare_with-requires
 compare_named-compare_with-requires g t c =
     let v = world g.J.Judge.judgement c.args.graph.now in
-    let low = own_falls v c.args.i c.args.name c.group-a-items.result.now c.loop-a.a-index no_entry c.args.graph.now.falling c.loop-a.invariant.0 c.loop-a-test.true in λ κs u. (omega (arith, c.decreases, low), u)
+    let low = own_falls v c.args.i c.args.name c.group-left.result.now c.loop-a.a-index no_entry c.args.graph.now.falling c.loop-a.invariant.0 c.loop-a-test.true in λ κs u. (omega (arith, c.decreases, low), u)
 
 pub compare_with-compare_fields-requires : goal.compare_with-compare_fields-requires
 compare_with-compare_fields-requires g t c =
@@ -186,15 +187,15 @@ compare_with-returns g t c =
 pub compare_named-loop-a-init : goal.compare_named-loop-a-init
 compare_named-loop-a-init g t c =
     let v = world g.J.Judge.judgement c.args.graph.now in
-    (c.group-a-items.ensures, did_start v (λ a M. All (λ b. Done v M c.args.e a b) (named a.response (own_of v c.args.j))) c.group-a-items.result.now c.args.search.now, all_start v c.args.e _ (λ a. AtWith v a c.args.j) c.group-a-items.result.now no_entry _)
+    (c.group-left.ensures, did_start v (λ a M. All (λ b. Done v M c.args.e a b) (named a.response (own_of v c.args.j))) c.group-left.result.now c.args.search.now, all_start v c.args.e _ (λ a. AtWith v a c.args.j) c.group-left.result.now no_entry _)
 
 pub compare_named-loop-a-preserved : goal.compare_named-loop-a-preserved
 compare_named-loop-a-preserved g t c =
     let v = world g.J.Judge.judgement c.args.graph.now in (
       c.loop-a.invariant.0,
       did_more v (λ a M. All (λ b. Done v M c.args.e a b) (named a.response (own_of v c.args.j))) _ c.loop-a.a-index no_entry c.loop-a-test.true c.loop-a.invariant.1 c.in_ok-compare_with.ensures.done,
-      all_more v c.args.e _ _ (λ a. AtWith v a c.args.j) c.group-a-items.result.now c.loop-a.a-index no_entry
-          (λ r z. row_named v (get_or c.group-a-items.result.now c.loop-a.a-index no_entry) c.args.i c.args.j c.args.name r (in_list c.group-a-items.result.now (named c.args.name (own_of v c.args.i)) c.loop-a.a-index no_entry c.loop-a.invariant.0 c.loop-a-test.true) z)
+      all_more v c.args.e _ _ (λ a. AtWith v a c.args.j) c.group-left.result.now c.loop-a.a-index no_entry
+          (λ r z. row_named v (get_or c.group-left.result.now c.loop-a.a-index no_entry) c.args.i c.args.j c.args.name r (in_list c.group-left.result.now (named c.args.name (own_of v c.args.i)) c.loop-a.a-index no_entry c.loop-a.invariant.0 c.loop-a-test.true) z)
           c.loop-a.invariant.2 c.in_ok-compare_with.ensures.real,
     )
 
@@ -203,9 +204,19 @@ compare_named-returns g t c =
     let v = world g.J.Judge.judgement c.args.graph.now in
     record {
       done = did_all v (λ a M. All (λ b. Done v M c.args.e a b) (named a.response (own_of v c.args.j))) _ (named c.args.name (own_of v c.args.i)) c.loop-a.a-index c.loop-a-test.false c.loop-a.invariant.0 c.loop-a.invariant.1;
-      real = all_done v c.args.e _ _ (λ a. AtWith v a c.args.j) c.group-a-items.result.now c.loop-a.a-index no_entry c.loop-a-test.false
+      real = all_done v c.args.e _ _ (λ a. AtWith v a c.args.j) c.group-left.result.now c.loop-a.a-index no_entry c.loop-a-test.false
           (λ r z. let y = tell_named v c.args.i c.args.j c.args.name r z in (y.0, subst (λ zs. Contains zs (y.0)) (sym c.loop-a.invariant.0) y.1, y.2)) c.loop-a.invariant.2;
     }
+
+pub compare_named-returns-then-are_plainly_alike-clause-done : goal.compare_named-returns-then-are_plainly_alike-clause-done
+compare_named-returns-then-are_plainly_alike-clause-done g t c =
+    let v = world g.J.Judge.judgement c.args.graph.now in
+    did_none v _ c.args.search.now (λ M grown. named_done v c.args.e c.args.i c.args.j c.args.name c.group-left.result.now c.group.result.now c.group-left.ensures c.group.ensures c.if-are_plainly_alike.ensures M)
+
+pub compare_named-returns-then-are_plainly_alike-clause-real : goal.compare_named-returns-then-are_plainly_alike-clause-real
+compare_named-returns-then-are_plainly_alike-clause-real g t c =
+    let v = world g.J.Judge.judgement c.args.graph.now in
+    named_tells v c.args.e c.args.i c.args.j c.args.name c.group-left.result.now c.group.result.now c.group-left.ensures c.group.ensures c.if-are_plainly_alike.ensures c.args.search.now.found.items
 
 pub compare_own-loop-first-init : goal.compare_own-loop-first-init
 compare_own-loop-first-init g t c =

@@ -59,9 +59,9 @@ invariant-compare_with-loop-b g l =
 
 abbrev pub invariant-compare_named-loop-a : goal.invariant-compare_named-loop-a
 invariant-compare_named-loop-a g l =
-    (l.a-items ≡ named l.name (own_of (world g.J.Judge.judgement l.graph) l.i))
-    × Did (world g.J.Judge.judgement l.graph) (λ M. All (λ a. All (λ b. Done (world g.J.Judge.judgement l.graph) M l.e a b) (named a.response (own_of (world g.J.Judge.judgement l.graph) l.j))) (take l.a-index l.a-items)) l.fn.search l.search
-    × AddsAll (world g.J.Judge.judgement l.graph) l.e (AtNamed (world g.J.Judge.judgement l.graph) l.i l.j l.name) (Upto l.a-items l.a-index no_entry (λ a. AtWith (world g.J.Judge.judgement l.graph) a l.j)) l.fn.search.found.items l.search.found.items
+    (l.left ≡ named l.name (own_of (world g.J.Judge.judgement l.graph) l.i))
+    × Did (world g.J.Judge.judgement l.graph) (λ M. All (λ a. All (λ b. Done (world g.J.Judge.judgement l.graph) M l.e a b) (named a.response (own_of (world g.J.Judge.judgement l.graph) l.j))) (take l.a-index l.left)) l.fn.search l.search
+    × AddsAll (world g.J.Judge.judgement l.graph) l.e (AtNamed (world g.J.Judge.judgement l.graph) l.i l.j l.name) (Upto l.left l.a-index no_entry (λ a. AtWith (world g.J.Judge.judgement l.graph) a l.j)) l.fn.search.found.items l.search.found.items
 
 abbrev pub invariant-compare_own-loop-first : goal.invariant-compare_own-loop-first
 invariant-compare_own-loop-first g l =

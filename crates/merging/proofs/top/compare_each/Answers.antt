@@ -2,9 +2,10 @@ use Rattle.std.proofs.Common.{◌+◌, drop, get_or, sym, subst, arith, false}
 use Rattle.std.specs.List.{All}
 use Rattle.merging.specs.World.{world}
 use Rattle.merging.specs.Work.{Done}
-use Rattle.merging.specs.Tops.{AtRest}
+use Rattle.merging.specs.Tops.{AtBefore, AtRest}
 use Rattle.merging.proofs.Adding.{all_begin, all_next, all_told, all_change}
-use Rattle.merging.proofs.Order.{rest_is, row_rest, tell_rest, rest_all}
+use Rattle.merging.proofs.Clear.{clear_done, clear_tells}
+use Rattle.merging.proofs.Order.{at_of, rest_is, row_rest, tell_rest, rest_all}
 use Rattle.merging.proofs.Work.{no_entry, did_none, did_map, did_next}
 use Rattle.merging.proofs.top.compare_each.Goals as goal
 
@@ -29,3 +30,15 @@ returns g c =
       done = did_map v _ _ (λ M h. rest_all (Done v M false) c.args.fields.now no_entry c.loop-k.k c.loop-k-test.false h) c.loop-k.invariant.0;
       real = all_told v false _ _ _ (tell_rest c.args.fields.now c.loop-k.k c.loop-k-test.false) c.loop-k.invariant.1;
     }
+
+pub returns-then-are_plainly_alike-clause-done : goal.returns-then-are_plainly_alike-clause-done
+returns-then-are_plainly_alike-clause-done g c =
+    let v = world g.J.Judge.judgement c.args.graph.now in
+    let xs = c.args.fields.now in
+    did_none v _ c.args.search.now (λ M grown k l a b less p q. clear_done v false xs xs c.if-are_plainly_alike.ensures M a b (at_of xs k a p) (at_of xs l b q))
+
+pub returns-then-are_plainly_alike-clause-real : goal.returns-then-are_plainly_alike-clause-real
+returns-then-are_plainly_alike-clause-real g c =
+    let v = world g.J.Judge.judgement c.args.graph.now in
+    let xs = c.args.fields.now in
+    clear_tells v false xs xs c.if-are_plainly_alike.ensures (AtBefore xs) (AtBefore xs) _ (λ r z. (at_of xs z.0 r.left z.3, at_of xs z.1 r.right z.4))
