@@ -13,4 +13,3 @@ pub mod machine;
 pub mod program;
 pub mod schemas;
 pub mod values;
-pub mod words;
