@@ -4,4 +4,5 @@
 #![tactic(auto)]
 
 pub mod command_line;
+pub mod laws;
 pub mod task;
