@@ -3,7 +3,7 @@ ghost use Rattle.std.specs.Prelude.{◌≡◌, ◌≤◌, ◌⊎◌, IfOk, OnOk,
 ghost use Rattle.std.specs.Io.KnownBytes.{Appends};
 ghost use Rattle.std.specs.Option.{option_copied};
 ghost use Rattle.clap.specs.Values.{kind_of};
-ghost use Rattle.lint_words.specs.Asks.{AsksForHelp, word_texts};
+ghost use Rattle.lint_words.specs.Asks.{WantsHelp, word_texts};
 ghost use Rattle.lint_run.specs.Told.{GivenValues, IsReport};
 ghost use Rattle.lint_run.specs.Tasks.{IsTextOf, IsToldOf, TellsBy, TellsQueries, TellsTask};
 ghost use Rattle.lint_run.specs.Written.{WritesAsked, WritesTask, asks_for_help, begins_help};
@@ -46,7 +46,7 @@ pub fn run<I: Inputs, W: Write, E: Write>(
 ) -> u8
     ensures status { result ≤ 2 }
     ensures told { asks_for_help words.now ≡ false → result ≤ 1 → WritesAsked ⟦<SourceScalar as PartialEq>⟧.eq words.now (I.file inputs.now) (W.contents output.old) (W.contents output.new) result }
-    ensures answered { result ≤ 1 → AsksForHelp (word_texts words.now) ⊎ WritesAsked ⟦<SourceScalar as PartialEq>⟧.eq words.now (I.file inputs.now) (W.contents output.old) (W.contents output.new) result }
+    ensures answered { result ≤ 1 → WantsHelp (word_texts words.now) ⊎ WritesAsked ⟦<SourceScalar as PartialEq>⟧.eq words.now (I.file inputs.now) (W.contents output.old) (W.contents output.new) result }
     ensures quiet { result ≤ 1 → errors.new ≡ errors.old }
 {
     match Task::of(alloc, words) {

@@ -46,8 +46,8 @@ pub record AsksFor (words : List Text) (task : Task) : Type 0 where
 abbrev pub HasFault : List Text → ErrorKind → Type 0
 HasFault words kind = (forms : Bor (List (Bor Text))) × HasForms forms × IsAmong kind (fault_of (lint forms) words)
 
-abbrev pub AsksForHelp : List Text → Type 0
-AsksForHelp words = HasFault words DisplayHelp
+abbrev pub WantsHelp : List Text → Type 0
+WantsHelp words = HasFault words DisplayHelp
 
 -- the words have the fault that the error tells of, or memory was refused
 abbrev pub IsRefusal : List Text → Error → Type 0

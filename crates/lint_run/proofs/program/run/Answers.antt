@@ -3,11 +3,11 @@ use Rattle.clap.specs.Values.{kind_of}
 use Rattle.clap.specs.Walk.{Text}
 use Rattle.clap.specs.declared.error.Error.{Error}
 use Rattle.clap.specs.declared.error.kind.ErrorKind.TheVariants.{DisplayHelp, OutOfMemory}
-use Rattle.lint_words.specs.Asks.{AsksForHelp, HasFault, IsRefusal, word_texts}
+use Rattle.lint_words.specs.Asks.{HasFault, IsRefusal, WantsHelp, word_texts}
 use Rattle.lint_run.proofs.program.run.Goals as goal
 
 -- help is shown where the words ask for it
-asked : (words : List Text) (error : Error) → IsRefusal words error → kind_of error ≡ DisplayHelp → AsksForHelp words
+asked : (words : List Text) (error : Error) → IsRefusal words error → kind_of error ≡ DisplayHelp → WantsHelp words
 asked words error (inl memory) help = let bad : OutOfMemory ≡ DisplayHelp = sym memory ∙ help in cc
 asked words error (inr fault) help = subst (HasFault words) help fault
 
