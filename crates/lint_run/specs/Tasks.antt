@@ -2,12 +2,12 @@
 use Rattle.std.specs.Prelude.{◌≡◌, ◌-◌, ◌==◌, Bool, true, false, not, ℕ, List, Option, is_some, string_bytes, vec_len}
 use Rattle.lint_run.specs.declared.documents.Report.{Report}
 use Rattle.lint_run.specs.declared.program.Told.{Told}
-use Rattle.lint_run.specs.declared.words.Task.{Task}
 use Rattle.lint_run.specs.Told.{AreReadOf, Files, GivenValues, IsReport, Root}
 use Rattle.lint_parts.specs.declared.issues.Issue.{Issue}
 use Rattle.lint_parts.specs.declared.sources.Source.{Source}
 use Rattle.lint_parts.specs.Json.{json_text}
 use Rattle.lint_parts.specs.Texts.{IsTextReport}
+use Rattle.lint_words.specs.declared.task.Task.{Task}
 use Rattle.source_scalars.specs.declared.scalar.SourceScalar.{SourceScalar}
 
 -- the text of a report. As JSON it has its issues, and else also how many files were judged and how many weren't

@@ -5,9 +5,10 @@ use Rattle.std.specs.Io.KnownBytes.{Appends}
 use Rattle.std.specs.List.{list_any, starts_with}
 use Rattle.std.specs.Str.{bytes_eq}
 use Rattle.lint_run.specs.declared.program.Told.{Told}
-use Rattle.lint_run.specs.declared.words.Task.{Task}
 use Rattle.lint_run.specs.Tasks.{TellsTask}
 use Rattle.lint_run.specs.Told.{Files}
+use Rattle.lint_words.specs.Asks.{AsksFor, word_texts}
+use Rattle.lint_words.specs.declared.task.Task.{Task}
 use Rattle.source_scalars.specs.declared.scalar.SourceScalar.{SourceScalar}
 
 -- a word that is answered with help: `--help`, and one that begins with `-h`
@@ -27,6 +28,6 @@ module _ (same : SourceScalar → SourceScalar → Bool) where
     pub status_is : status ≡ (if told.has_errors then 1 else 0)
     pub written : Appends old new (string_bytes told.text)
 
-  -- of some task
-  abbrev pub WritesSome : Files → Option (List ℕ) → Option (List ℕ) → ℕ → Type 0
-  WritesSome files old new status = (task : Task) × WritesTask files task old new status
+  -- of the task that the words ask for
+  abbrev pub WritesAsked : List (String Global) → Files → Option (List ℕ) → Option (List ℕ) → ℕ → Type 0
+  WritesAsked words files old new status = (task : Task) × AsksFor (word_texts words) task × WritesTask files task old new status

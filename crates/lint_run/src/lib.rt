@@ -2,8 +2,8 @@
 //!
 //! The contracts say which report the output got where it got one, of the trees that were read: an issue for each error that
 //! `RootNode::validate` reports of them, and for each fault of given values where there is no error, in order and led back to the
-//! files, as text or as JSON; and that nothing else was told then. That the trees are those of the texts, and what the words
-//! ask for, is tested.
+//! files, as text or as JSON; and that nothing else was told then. Which files, options and form those are, the words say, by
+//! the contract of `lint_words`. That the trees and the schema are those of the texts is tested.
 #![tactic(auto)]
 
 pub mod documents;
@@ -13,4 +13,3 @@ pub mod machine;
 pub mod program;
 pub mod schemas;
 pub mod values;
-pub mod words;

@@ -4,7 +4,7 @@ ghost use Rattle.std.specs.Prelude.{◌≡◌, ◌≤◌};
 use crate::failure::Failure;
 use crate::files::Inputs;
 use crate::program::{self, tell_failure};
-use crate::words::INPUT;
+use lint_words::task::INPUT;
 use std::alloc::Global;
 use std::env::{self, Env};
 use std::fs;

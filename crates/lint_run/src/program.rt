@@ -1,22 +1,25 @@
 //! The program's work, over files of anywhere and any writers.
-ghost use Rattle.std.specs.Prelude.{◌≡◌, ◌≤◌, IfOk, OnOk, Some, string_bytes, true, false, if◌then◌else◌};
+ghost use Rattle.std.specs.Prelude.{◌≡◌, ◌≤◌, ◌⊎◌, IfOk, OnOk, Some, string_bytes, true, false, if◌then◌else◌};
 ghost use Rattle.std.specs.Io.KnownBytes.{Appends};
 ghost use Rattle.std.specs.Option.{option_copied};
+ghost use Rattle.clap.specs.Values.{kind_of};
+ghost use Rattle.lint_words.specs.Asks.{WantsHelp, word_texts};
 ghost use Rattle.lint_run.specs.Told.{GivenValues, IsReport};
 ghost use Rattle.lint_run.specs.Tasks.{IsTextOf, IsToldOf, TellsBy, TellsQueries, TellsTask};
-ghost use Rattle.lint_run.specs.Written.{WritesSome, WritesTask, asks_for_help, begins_help};
+ghost use Rattle.lint_run.specs.Written.{WritesAsked, WritesTask, asks_for_help, begins_help};
 
 use crate::documents::{Judge, Report};
 use crate::failure::Failure;
 use crate::files::{Inputs, read_sources};
 use crate::schemas::read_root;
 use crate::values::values_of_file;
-use crate::words::Task;
 use clap::Error;
+use clap::error::ErrorKind;
 use graphql_reader::SourceScalar;
 use lint_parts::json_report::json_report;
 use lint_parts::sources::Source;
 use lint_parts::text_report::text_report;
+use lint_words::task::Task;
 use std::alloc::Global;
 use std::io::{self, Write};
 use validation::{OutOfMemory, RootNode, Variables};
@@ -42,7 +45,8 @@ pub fn run<I: Inputs, W: Write, E: Write>(
     errors: &mut E,
 ) -> u8
     ensures status { result ≤ 2 }
-    ensures told { asks_for_help words.now ≡ false → result ≤ 1 → WritesSome ⟦<SourceScalar as PartialEq>⟧.eq (I.file inputs.now) (W.contents output.old) (W.contents output.new) result }
+    ensures told { asks_for_help words.now ≡ false → result ≤ 1 → WritesAsked ⟦<SourceScalar as PartialEq>⟧.eq words.now (I.file inputs.now) (W.contents output.old) (W.contents output.new) result }
+    ensures answered { result ≤ 1 → WantsHelp (word_texts words.now) ⊎ WritesAsked ⟦<SourceScalar as PartialEq>⟧.eq words.now (I.file inputs.now) (W.contents output.old) (W.contents output.new) result }
     ensures quiet { result ≤ 1 → errors.new ≡ errors.old }
 {
     match Task::of(alloc, words) {
@@ -68,9 +72,10 @@ fn begins_help(word: &str) -> bool
 fn show<W: Write, E: Write>(error: &Error, is_asked: bool, output: &mut W, errors: &mut E) -> u8
     ensures status { result ≤ 2 }
     ensures asked { result ≤ 1 → is_asked ≡ true }
+    ensures help { result ≤ 1 → kind_of error.now ≡ ErrorKind.DisplayHelp }
     ensures quiet { result ≤ 1 → errors.new ≡ errors.old }
 {
-    if error.use_stderr() || !is_asked {
+    if error.kind() != ErrorKind::DisplayHelp || !is_asked {
         // Where it can't be written, the status alone tells of it.
         let _ = write!(errors, "{error}");
         return 2;

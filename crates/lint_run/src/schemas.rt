@@ -3,12 +3,12 @@ ghost use Rattle.std.specs.Prelude.{◌≡◌, IfOk};
 
 use crate::failure::Failure;
 use crate::files::{Inputs, joined_of, read_sources};
-use crate::words::Task;
 use graphql_reader::{ReadError, SourceScalar, read_type_system};
 use introspection::{IntrospectionError, schema_text};
 use lint_parts::json_text::{JsonError, check_syntax, is_object_text, without_mark};
 use lint_parts::sources::{Joined, Place, Source};
 use lint_parts::text_report::write_fault;
+use lint_words::task::Task;
 use schema_reader::{SchemaReadError, read_schema};
 use std::alloc::Global;
 use validation::{RootNode, SchemaType};

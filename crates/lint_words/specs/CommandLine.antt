@@ -1,0 +1,45 @@
+-- The command line of `lint`, as the kit's `clap` reads it.
+use Rattle.std.specs.Prelude.{◌≡◌, ◌∷◌, [], true, List, Some, codes}
+use Rattle.std.specs.Borrow.{Bor}
+use Rattle.clap.specs.Lexer.{usize_max}
+use Rattle.clap.specs.Walk.{Rule, Text, texts}
+use Rattle.clap.specs.Simple.{App, app_of, new_app, new_rule, with_rule}
+use Rattle.clap.specs.declared.builder.action.ArgAction.TheVariants.{Append, SetTrue}
+use Rattle.clap.specs.declared.builder.command.Command.{Command}
+use Rattle.clap.specs.declared.builder.value_parser.ValueParser.TheVariants.{Names}
+
+-- `--schema FILE`, at least once
+abbrev pub schema_rule : Rule
+schema_rule = record (new_rule (codes "schema")) { long = Some (codes "schema"); action = Some Append; value_names = 1; required = true }
+
+-- `--format FORM`, which is `text` where it is left out
+abbrev pub format_rule : Bor (List (Bor Text)) → Rule
+format_rule forms = record (new_rule (codes "format")) { long = Some (codes "format"); value_names = 1; parser = Some (Names forms); defaults = codes "text" ∷ [] }
+
+-- the forms that there are
+abbrev pub HasForms : Bor (List (Bor Text)) → Type 0
+HasForms forms = texts forms.now ≡ codes "text" ∷ codes "json" ∷ []
+
+-- `--no-introspection`
+abbrev pub closed_rule : Rule
+closed_rule = record (new_rule (codes "closed")) { long = Some (codes "no-introspection"); action = Some SetTrue }
+
+-- `--variables FILE`
+abbrev pub variables_rule : Rule
+variables_rule = record (new_rule (codes "variables")) { long = Some (codes "variables"); value_names = 1 }
+
+-- `--together`
+abbrev pub together_rule : Rule
+together_rule = record (new_rule (codes "together")) { long = Some (codes "together"); action = Some SetTrue }
+
+-- each other word, at least one
+abbrev pub query_rule : Rule
+query_rule = record (new_rule (codes "query")) { action = Some Append; range = Some (record { start_inclusive = 1; end_inclusive = usize_max }); value_names = 1; required = true }
+
+-- all of them
+abbrev pub lint : Bor (List (Bor Text)) → App
+lint forms = with_rule (with_rule (with_rule (with_rule (with_rule (with_rule (new_app (codes "lint")) schema_rule) (format_rule forms)) closed_rule) variables_rule) together_rule) query_rule
+
+-- a command has them
+abbrev pub IsLint : Command → Type 0
+IsLint command = (forms : Bor (List (Bor Text))) × HasForms forms × (app_of command ≡ lint forms)

@@ -1,0 +1,3 @@
+pub mod Asks
+pub mod CommandLine
+pub mod Laws
