@@ -1,15 +1,18 @@
 //! No fragment spreads itself, nor leads back to itself through others (GraphQL, section 5.5.2.2).
 
-ghost use Rattle.std.specs.Prelude.{◌≡◌, IfOk, OnErr, map, string_bytes};
+ghost use Rattle.std.specs.Prelude.{◌≡◌, List, IfOk, OnErr, map, string_bytes};
+ghost use Rattle.language.specs.declared.tree.Definition.{Definition};
 ghost use Rattle.walk.specs.ContextState.{with_errors};
-ghost use Rattle.walk.specs.Rule.{any_value};
+ghost use Rattle.walk.specs.Rule.{any_value, Appended};
 ghost use Rattle.walk.specs.Step.{KeepsPlace};
 ghost use Rattle.fragment_cycles.specs.DocumentCycles.{name_and_place};
+ghost use Rattle.fragment_cycles.specs.DocumentGraph.{IsGraphOf};
 ghost use Rattle.reach.specs.AtDocument.{document_step, given_at_end};
-ghost use Rattle.reach.specs.NoFragmentCycles.{cycle_error, cycle_errors, cycle_message};
+ghost use Rattle.reach.specs.NoFragmentCycles.{cycle_error, cycle_errors, cycle_message, CycleErrors};
 ghost use Rattle.reach.specs.AtDocumentLaws.{document_keeps};
 
-use fragment_cycles::cycles::{CycleReport, search_document};
+use fragment_cycles::cycles::{CycleReport, search_named};
+use fragment_cycles::document_graph::{DocumentGraph, graph_of};
 use language::error::OutOfMemory;
 use meta::check::CheckedScalar;
 use std::alloc::{AllocError, Global};
@@ -37,6 +40,21 @@ impl NoFragmentCycles {
     {
         self.looked
     }
+
+    /// Leaves the document of a graph.
+    pub fn leave<'a, S: CheckedScalar>(
+        &mut self,
+        ctx: &mut ValidatorContext<'a, S>,
+        graph: &DocumentGraph<'_>,
+    ) -> Result<(), OutOfMemory>
+        ensures ok { IfOk result (λ _. (document : List (Definition S)) → IsGraphOf document graph.now → Appended (CycleErrors document self.new) ctx.old ctx.new) }
+        ensures err { OnErr result (KeepsPlace ctx.old ctx.new) }
+    {
+        self.looked = 0;
+        let cycles = search_named(self.alloc, graph)?;
+        self.looked = cycles.outcome.looked;
+        report_all(self.alloc, ctx, cycles.reports.as_slice())
+    }
 }
 
 impl Fresh for NoFragmentCycles {
@@ -61,10 +79,8 @@ impl<'a, S: CheckedScalar> Visitor<'a, S> for NoFragmentCycles {
     ) -> Result<(), OutOfMemory> {
         match *event {
             Event::ExitDocument(document) => {
-                self.looked = 0;
-                let cycles = search_document(self.alloc, document)?;
-                self.looked = cycles.outcome.looked;
-                report_all(self.alloc, ctx, cycles.reports.as_slice())
+                let graph = graph_of(self.alloc, document)?;
+                self.leave(ctx, &graph)
             }
             _ => Ok(()),
         }

@@ -4,10 +4,12 @@ ghost use Rattle.std.specs.Prelude.{◌≡◌, ◌∷◌, [], ◌↔◌, ◌⊎�
 ghost use Rattle.walk.specs.ContextState.{with_errors};
 ghost use Rattle.walk.specs.Rule.{any_value};
 ghost use Rattle.walk.specs.Step.{KeepsPlace};
+ghost use Rattle.fragment_cycles.specs.DocumentGraph.{IsGraphOf};
 ghost use Rattle.reach.specs.AtDocument.{document_step, given_at_end};
 ghost use Rattle.reach.specs.AtDocumentLaws.{document_keeps};
 ghost use Rattle.reach.specs.NoUnusedFragments.{name_and_span, unused_error, unused_errors, unused_message, AddsFragment, AddsUnused, IsMet, NameAndSpan, UnusedAmong};
 
+use fragment_cycles::document_graph::{DocumentGraph, graph_of};
 use language::error::OutOfMemory;
 use language::position::{SourcePosition, Spanning};
 use language::tree::{Definition, Document, Fragment};
@@ -51,7 +53,10 @@ impl<'a, S: CheckedScalar> Visitor<'a, S> for NoUnusedFragments {
         event: &Event<'a, S>,
     ) -> Result<(), OutOfMemory> {
         match *event {
-            Event::ExitDocument(document) => report_unused(self.alloc, ctx, document),
+            Event::ExitDocument(document) => {
+                let graph = graph_of(self.alloc, document)?;
+                report_unused(self.alloc, ctx, document, &graph)
+            }
             _ => Ok(()),
         }
     }
@@ -92,7 +97,7 @@ fn report_fragment<'a, S: CheckedScalar>(
 fn report_once<'a, 'd, S: CheckedScalar>(
     alloc: Global,
     ctx: &mut ValidatorContext<'a, S>,
-    reached: &ReachedFragments<'_>,
+    reached: &ReachedFragments<'_, '_>,
     met: &mut MetFragments<'d>,
     fragment: &Spanning<Fragment<'d, S>>,
 ) -> Result<(), OutOfMemory>
@@ -112,7 +117,7 @@ fn report_once<'a, 'd, S: CheckedScalar>(
 fn report_if_unused<'a, 'd, S: CheckedScalar>(
     alloc: Global,
     ctx: &mut ValidatorContext<'a, S>,
-    reached: &ReachedFragments<'_>,
+    reached: &ReachedFragments<'_, '_>,
     met: &mut MetFragments<'d>,
     definition: &Definition<'d, S>,
 ) -> Result<(), OutOfMemory>
@@ -125,16 +130,18 @@ fn report_if_unused<'a, 'd, S: CheckedScalar>(
     }
 }
 
-// Reports each name and span of a fragment that no operation reaches, once.
-fn report_unused<'a, 'd, S: CheckedScalar>(
+/// Reports each name and span of a fragment that no operation reaches, once, by the document's graph.
+pub fn report_unused<'a, 'd, S: CheckedScalar>(
     alloc: Global,
     ctx: &mut ValidatorContext<'a, S>,
     document: Document<'d, S>,
+    graph: &DocumentGraph<'_>,
 ) -> Result<(), OutOfMemory>
+    requires { IsGraphOf document.now graph.now }
     ensures ok { IfOk result (λ _. (fs : List NameAndSpan) × UnusedAmong document.now document.now fs × (ctx.new ≡ with_errors ctx.old (map unused_error fs))) }
     ensures err { OnErr result (KeepsPlace ctx.old ctx.new) }
 {
-    let reached = reached_fragments(alloc, document)?;
+    let reached = reached_fragments(alloc, document, graph)?;
     let mut met = BTreeSet::new(alloc);
     for definition in document {
         report_if_unused(alloc, ctx, &reached, &mut met, definition)?;

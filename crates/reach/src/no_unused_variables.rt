@@ -4,6 +4,7 @@ ghost use Rattle.std.specs.Prelude.{◌≡◌, List, Some, IfOk, OnErr, map, opt
 ghost use Rattle.walk.specs.ContextState.{with_errors};
 ghost use Rattle.walk.specs.Rule.{any_value};
 ghost use Rattle.walk.specs.Step.{KeepsPlace};
+ghost use Rattle.variable_uses.specs.DocumentIndex.{IsDocumentIndex};
 ghost use Rattle.variable_uses.specs.Unused.{Unused, UnusedVariables, unused_of};
 ghost use Rattle.reach.specs.AtDocument.{document_step, given_at_end};
 ghost use Rattle.reach.specs.AtDocumentLaws.{document_keeps};
@@ -15,7 +16,8 @@ use meta::check::CheckedScalar;
 pub use scopes::scope::Scope;
 use std::alloc::{AllocError, Global};
 use std::marker::PhantomData;
-use variable_uses::unused::{UnusedVariable, unused_variables};
+use variable_uses::document_index::{DocumentIndex, index_document};
+use variable_uses::unused::{UnusedVariable, unused_in};
 use walk::{Event, Fresh, Machine, Rule, ValidatorContext, Visitor};
 
 /// Reports, where the document ends, each variable that the last operation of a name defines and that is not used in the reach of
@@ -57,7 +59,10 @@ impl<'a, S: CheckedScalar> Visitor<'a, S> for NoUnusedVariables<'a> {
         event: &Event<'a, S>,
     ) -> Result<(), OutOfMemory> {
         match *event {
-            Event::ExitDocument(document) => report_unused(self.alloc, ctx, document),
+            Event::ExitDocument(document) => {
+                let index = index_document(self.alloc, document)?;
+                report_unused(self.alloc, ctx, document, &index)
+            }
             _ => Ok(()),
         }
     }
@@ -79,16 +84,18 @@ fn report_all<'a, S: CheckedScalar>(
     Ok(())
 }
 
-// Reports the variables that are not used.
-fn report_unused<'a, S: CheckedScalar>(
+/// Reports the variables that are not used, by the document's index.
+pub fn report_unused<'a, 'd, S: CheckedScalar>(
     alloc: Global,
     ctx: &mut ValidatorContext<'a, S>,
-    document: Document<'_, S>,
+    document: Document<'d, S>,
+    index: &DocumentIndex<'d>,
 ) -> Result<(), OutOfMemory>
+    requires { IsDocumentIndex document.now index.now }
     ensures ok { IfOk result (λ _. (found : List Unused) × UnusedVariables document.now found × (ctx.new ≡ with_errors ctx.old (map unused_variable_error found))) }
     ensures err { OnErr result (KeepsPlace ctx.old ctx.new) }
 {
-    let found = unused_variables(alloc, document)?;
+    let found = unused_in(alloc, document, index)?;
     report_all(alloc, ctx, found.as_slice())
 }
 

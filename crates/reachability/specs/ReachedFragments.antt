@@ -8,7 +8,7 @@ use Rattle.reachability.specs.Search.{IsMarked}
 
 -- The name's number has a mark.
 abbrev pub IsNameMarked : ReachedFragments → List ℕ → Type 0
-IsNameMarked r name = (k : ℕ) × (number_of r.graph.numbers name ≡ Some k) × IsMarked r.marks.items k
+IsNameMarked r name = (k : ℕ) × (number_of r.graph.now.numbers name ≡ Some k) × IsMarked r.marks.items k
 
 -- Of the document's fragments just those have marks that some operation reaches.
 abbrev pub ReachedOf : {S : Type 0} → List (Definition S) → ReachedFragments → Type 0

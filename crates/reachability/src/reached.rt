@@ -7,7 +7,7 @@ ghost use Rattle.reachability.specs.ReachedFragments.{IsNameMarked, ReachedOf};
 ghost use Rattle.reachability.specs.Search.{IsMarked};
 
 use crate::search::{is_marked, mark_reached};
-use fragment_cycles::document_graph::{DocumentGraph, add_spreads, graph_of};
+use fragment_cycles::document_graph::{DocumentGraph, add_spreads};
 use fragment_cycles::graph::Spread;
 use fragment_cycles::numbers::{Numbers, number};
 use language::tree::{Definition, Document};
@@ -15,13 +15,13 @@ use std::alloc::{AllocError, Global};
 
 /// A document's graph, and a mark on each fragment that some operation reaches.
 #[derive(Drop)]
-pub struct ReachedFragments<'a> {
-    pub graph: DocumentGraph<'a>,
+pub struct ReachedFragments<'g, 'a> {
+    pub graph: &'g DocumentGraph<'a>,
     pub marks: Vec<bool>,
 }
 
 /// Whether a fragment of the name is marked.
-pub fn is_reached(reached: &ReachedFragments<'_>, name: &str) -> bool
+pub fn is_reached(reached: &ReachedFragments<'_, '_>, name: &str) -> bool
     ensures { IsTrue result ↔ IsNameMarked reached.now name.now }
 {
     match number(&reached.graph.numbers, name) {
@@ -76,14 +76,15 @@ fn mark_reached_fragments<S>(
     mark_reached(alloc, graph.nodes.as_slice(), starts.as_slice())
 }
 
-/// The fragments of a document that some operation reaches by spreads.
-pub fn reached_fragments<'a, S>(
+/// The fragments of a document that some operation reaches by spreads, by the document's graph.
+pub fn reached_fragments<'g, 'a, S>(
     alloc: Global,
-    document: Document<'a, S>,
-) -> Result<ReachedFragments<'a>, AllocError>
+    document: Document<'_, S>,
+    graph: &'g DocumentGraph<'a>,
+) -> Result<ReachedFragments<'g, 'a>, AllocError>
+    requires { IsGraphOf document.now graph.now }
     ensures { IfOk result (ReachedOf document.now) }
 {
-    let graph = graph_of(alloc, document)?;
-    let marks = mark_reached_fragments(alloc, document, &graph)?;
+    let marks = mark_reached_fragments(alloc, document, graph)?;
     Ok(ReachedFragments { graph, marks })
 }

@@ -1,3 +1,4 @@
+pub mod AcrossSteps
 pub mod Clean
 pub mod Distinct
 pub mod Found

@@ -1,3 +1,5 @@
+pub mod Across
+pub mod AcrossLaws
 pub mod CleanStage
 pub mod NothingFound
 pub mod StageOne

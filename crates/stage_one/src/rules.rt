@@ -9,6 +9,7 @@ ghost use Rattle.walk.specs.Step.{KeepsPlace};
 ghost use Rattle.stage_one.specs.NothingFound.{NothingFound};
 ghost use Rattle.stage_one.specs.StageOne.{stage_one};
 
+use crate::across;
 use argument_rules::known_argument_names::KnownArgumentNames;
 use argument_rules::known_directives::KnownDirectives;
 use argument_rules::provided_non_null_arguments::ProvidedNonNullArguments;
@@ -42,14 +43,7 @@ use operation_rules::{
     lone_anonymous_operation, unique_operation_names, unique_variable_names,
     variables_are_input_types,
 };
-use reach::no_fragment_cycles::NoFragmentCycles;
-use reach::no_undefined_variables::NoUndefinedVariables;
-use reach::no_unused_fragments::NoUnusedFragments;
-use reach::no_unused_variables::NoUnusedVariables;
-use reach::{no_fragment_cycles, no_undefined_variables, no_unused_fragments, no_unused_variables};
 use std::alloc::Global;
-use variable_positions::variables_in_allowed_position;
-use variable_positions::variables_in_allowed_position::VariableInAllowedPosition;
 use walk::{Fresh, MultiVisitorCons, MultiVisitorNil, ValidatorContext, visit_rules};
 
 // A list of rules, the newest first. One long list of all rules is dear to prove, so they come in groups.
@@ -97,20 +91,6 @@ type OfFragments<'a> = MultiVisitorCons<
 type OfValues = MultiVisitorCons<
     DefaultValuesOfCorrectType,
     MultiVisitorCons<ArgumentsOfCorrectType, MultiVisitorNil>,
->;
-
-type OfReach<'a> = MultiVisitorCons<
-    VariableInAllowedPosition<'a>,
-    MultiVisitorCons<
-        NoUnusedVariables<'a>,
-        MultiVisitorCons<
-            NoUnusedFragments,
-            MultiVisitorCons<
-                NoUndefinedVariables<'a>,
-                MultiVisitorCons<NoFragmentCycles, MultiVisitorNil>,
-            >,
-        >,
-    >,
 >;
 
 // The rules on operations and their variables.
@@ -165,18 +145,6 @@ fn of_values(alloc: Global) -> OfValues
         .with_rule(default_values_of_correct_type::factory(alloc))
 }
 
-// The rules on what leads across the document.
-fn of_reach<'a>(alloc: Global) -> OfReach<'a>
-    ensures { ⟦<OfReach<'a> as Fresh>⟧.fresh result }
-{
-    MultiVisitorNil
-        .with_rule(no_fragment_cycles::factory(alloc))
-        .with_rule(no_undefined_variables::factory(alloc))
-        .with_rule(no_unused_fragments::factory(alloc))
-        .with_rule(no_unused_variables::factory(alloc))
-        .with_rule(variables_in_allowed_position::factory(alloc))
-}
-
 /// Tries every rule of the first stage on a document, and appends the errors of the rules, in a context that was made for it: none just if every collection of a
 /// rule is empty, no value has a fault, no fragment leads back to itself and none is unused, and each variable is defined, used, and where its type may stand. In any other context it appends errors alone.
 ///
@@ -199,7 +167,7 @@ pub fn visit_stage_one<'a, 't, S: CheckedScalar>(
         .with_rule(of_arguments(alloc))
         .with_rule(of_fragments(alloc))
         .with_rule(of_values(alloc))
-        .with_rule(of_reach(alloc))
+        .with_rule(across::factory(alloc))
         .with_rule(possible_fragment_spreads::factory(alloc));
     visit_rules(&mut rules, ctx, document)?;
     Ok(())

@@ -6,7 +6,7 @@ use Rattle.reachability.proofs.reached.is_reached.Goals as goal
 
 pub returns-in-Some : goal.returns-in-Some
 returns-in-Some c =
-    let n = c.args.reached.now.graph.numbers in
+    let n = c.args.reached.now.graph.now.numbers in
     let k = c.in-Some.found in (
       λ t. (k, sym c.in-Some.ensures, subst (λ (zs : List Bool). IsMarked zs k) c.as_slice.ensures.value (c.is_marked.ensures.0 t)),
       λ h. c.is_marked.ensures.1

@@ -21,8 +21,8 @@ returns-clause-appended g c =
     -- the rules across the document, in the states that they end in
     let across = c.visit_rules.new.rules.1.0 in
     appended_all (scope_of c.args.ctx.now.schema c.args.document.now) (typing c.args.ctx.now) c.args.document.now of_spreads
-    (always misplaced_variables across.0 ∷ given_at_end unused_variable_errors across.1.0 ∷ given_at_end unused_errors across.1.1.0
-    ∷ given_at_end undefined_errors across.1.1.1.0 ∷ given_at_end cycle_errors across.1.1.1.1.0 ∷ []) of_reach
+    (always misplaced_variables across.positions ∷ given_at_end unused_variable_errors across.unused_variables ∷ given_at_end unused_errors across.unused_fragments
+    ∷ given_at_end undefined_errors across.undefined_variables ∷ given_at_end cycle_errors across.cycles ∷ []) of_reach
     (groups g.S.CheckedScalar.may_answer (printed_value g.S.ScalarValue.text g.S.ScalarValue.str_of)) c.args.ctx.now c.visit_rules.new.ctx
     (λ es h. h, (λ es h. h, (λ es h. h, (λ es h. h, (λ es h. (h.reports, h.found, h.told), tt))))) (c.in_ok-visit_rules.ensures.appended known)
 

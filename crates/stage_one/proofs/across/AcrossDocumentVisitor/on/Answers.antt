@@ -1,0 +1,14 @@
+use Rattle.std.proofs.Common.{subst, sym}
+use Rattle.std.proofs.lemmas.Result.{IfOk-weaker}
+use Rattle.events.specs.EventValue.{typed_event}
+use Rattle.walk.specs.ContextState.{typing}
+use Rattle.walk.specs.Step.{Stepped}
+use Rattle.stage_one.specs.Across.{across_step}
+use Rattle.stage_one.proofs.across.AcrossDocumentVisitor.on.Goals as goal
+
+pub returns-in-ExitDocument-clause-stepped : goal.returns-in-ExitDocument-clause-stepped
+returns-in-ExitDocument-clause-stepped g c =
+    let w = c.args.ctx.now in
+    IfOk-weaker c.leave.result _ _
+    (λ _ s. subst (λ v. Stepped across_step (typed_event v (typing w)) c.args.self.now c.leave.new.self w c.leave.new.ctx) (sym c.in-ExitDocument.is) s)
+    c.leave.ensures.stepped

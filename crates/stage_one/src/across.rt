@@ -1,0 +1,93 @@
+//! The rules that look across the document, with one index for all of them.
+
+ghost use Rattle.std.specs.Prelude.{IfOk, OnErr};
+ghost use Rattle.walk.specs.ContextState.{typing};
+ghost use Rattle.walk.specs.Step.{KeepsPlace, Stepped};
+ghost use Rattle.stage_one.specs.Across.{across_allows, across_fresh, across_step, leaving_document};
+ghost use Rattle.stage_one.specs.AcrossLaws.{across_keeps};
+
+use language::error::OutOfMemory;
+use language::tree::Definition;
+use meta::check::CheckedScalar;
+use reach::no_fragment_cycles::NoFragmentCycles;
+use reach::no_undefined_variables::{NoUndefinedVariables, report_undefined};
+use reach::no_unused_fragments::NoUnusedFragments;
+use reach::no_unused_variables::NoUnusedVariables;
+use reach::{no_fragment_cycles, no_undefined_variables, no_unused_fragments, no_unused_variables};
+use std::alloc::Global;
+use variable_positions::variables_in_allowed_position;
+use variable_positions::variables_in_allowed_position::VariableInAllowedPosition;
+use variable_uses::document_index::index_document;
+use walk::{Event, Fresh, Machine, Rule, ValidatorContext, Visitor};
+
+/// The five rules that look at the whole document where it is left. Of the events before, only the rule on positions asks.
+#[derive(Drop)]
+pub struct AcrossDocument<'a> {
+    alloc: Global,
+    positions: VariableInAllowedPosition<'a>,
+    unused_variables: NoUnusedVariables<'a>,
+    unused_fragments: NoUnusedFragments,
+    undefined_variables: NoUndefinedVariables<'a>,
+    cycles: NoFragmentCycles,
+}
+
+/// The rules, made ready for one document.
+pub fn factory<'a>(alloc: Global) -> AcrossDocument<'a>
+    ensures { ⟦<AcrossDocument<'a> as Fresh>⟧.fresh result }
+{
+    AcrossDocument {
+        alloc,
+        positions: variables_in_allowed_position::factory(alloc),
+        unused_variables: no_unused_variables::factory(alloc),
+        unused_fragments: no_unused_fragments::factory(alloc),
+        undefined_variables: no_undefined_variables::factory(alloc),
+        cycles: no_fragment_cycles::factory(alloc),
+    }
+}
+
+impl<'a> AcrossDocument<'a> {
+    // Makes the index of a document, and lets each rule report by it, the newest first.
+    fn leave<S: CheckedScalar>(
+        &mut self,
+        ctx: &mut ValidatorContext<'a, S>,
+        document: &'a [Definition<'a, S>],
+    ) -> Result<(), OutOfMemory>
+        ensures stepped { IfOk result (λ _. Stepped across_step (leaving_document document.now (typing ctx.old)) self.old self.new ctx.old ctx.new) }
+        ensures err { OnErr result (KeepsPlace ctx.old ctx.new) }
+    {
+        let index = index_document(self.alloc, document)?;
+        let graph = &index.scopes.graph;
+        self.positions.leave(ctx, document, &index.scopes)?;
+        no_unused_variables::report_unused(self.alloc, ctx, document, &index)?;
+        no_unused_fragments::report_unused(self.alloc, ctx, document, graph)?;
+        report_undefined(self.alloc, ctx, document, &index)?;
+        self.cycles.leave(ctx, graph)
+    }
+}
+
+impl<'a> Fresh for AcrossDocument<'a> {
+    ghost fresh = { across_fresh };
+}
+
+impl<'a, S, C> Machine<S, C> for AcrossDocument<'a> {
+    ghost step = { across_step };
+}
+
+impl<'a, S, C> Rule<S, C> for AcrossDocument<'a> {
+    ghost allows = { across_allows };
+
+    ghost keeps = { across_keeps };
+}
+
+impl<'a, S: CheckedScalar> Visitor<'a, S> for AcrossDocument<'a> {
+    fn on(
+        &mut self,
+        ctx: &mut ValidatorContext<'a, S>,
+        event: &Event<'a, S>,
+    ) -> Result<(), OutOfMemory> {
+        match *event {
+            Event::ExitDocument(document) => self.leave(ctx, document),
+            _ => self.positions.on(ctx, event),
+        }
+    }
+}
