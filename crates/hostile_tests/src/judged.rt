@@ -12,11 +12,12 @@ const CLASH: &str = "name and iq are different fields";
 
 /// A document, how many pairs of fragments are compared at least and at most, and whether it has errors, each of which tells of the
 /// clash then.
-const ROWS: [(Hostile, (u128, u128), bool); 4] = [
+const ROWS: [(Hostile, (u128, u128), bool); 5] = [
     (Hostile::Towers("name"), (1, 1722), false),
     (Hostile::Towers("name: iq"), (0, 1722), true),
     (Hostile::Crossing, (19, 1482), false),
     (Hostile::Nested, (0, 0), false),
+    (Hostile::Repeated, (1, 2), false),
 ];
 
 /// What all rules say of a document: how many pairs were compared, how many errors there are, and how many of them tell of the clash.

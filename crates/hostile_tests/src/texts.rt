@@ -12,6 +12,8 @@ pub enum Hostile {
     Crossing,
     /// A hundred sets, each inside the last.
     Nested,
+    /// Two fragments, each with one field five thousand times.
+    Repeated,
 }
 
 impl Hostile {
@@ -21,6 +23,7 @@ impl Hostile {
             Hostile::Towers(last) => towers(alloc, last),
             Hostile::Crossing => crossing(alloc),
             Hostile::Nested => nested(alloc),
+            Hostile::Repeated => repeated(alloc),
         }
     }
 }
@@ -73,4 +76,19 @@ fn nested(alloc: Global) -> Result<String, AllocError> {
         text.push_str(" }")?;
     }
     Ok(text)
+}
+
+fn repeated(alloc: Global) -> Result<String, AllocError> {
+    let mut text = String::from_str(alloc, "{ dog { ...A ...B } }")?;
+    push_repeated(&mut text, "A")?;
+    push_repeated(&mut text, "B")?;
+    Ok(text)
+}
+
+fn push_repeated(text: &mut String, name: &str) -> Result<(), AllocError> {
+    write!(text, " fragment {name} on Dog {{")?;
+    for _ in 0..5_000u32 {
+        text.push_str(" name")?;
+    }
+    text.push_str(" }")
 }

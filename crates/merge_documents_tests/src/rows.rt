@@ -9,7 +9,7 @@ use schema::model::SchemaType;
 use std::alloc::Global;
 use std::process::Abort;
 
-const PETS: [(&str, &str); 9] = [
+const PETS: [(&str, &str); 16] = [
     (
         "{ dog { ...A } } fragment A on Dog { ...B } fragment B on Dog { ...A }",
         "cycle",
@@ -47,9 +47,38 @@ const PETS: [(&str, &str); 9] = [
         "{ dog { ...A } } fragment A on Dog { x: name x: barks } fragment A on Dog { x: name }",
         "compared 0\n37 and 45\n",
     ),
+    // Fields that are plainly alike are looked at once, and others one by one.
+    (
+        "{ dog { x: name x: name x: name x: name } }",
+        "compared 0\n",
+    ),
+    (
+        "{ dog { x: name x: name x: name x: barks } }",
+        "compared 0\n8 and 32\n16 and 32\n24 and 32\n",
+    ),
+    (
+        "{ dog { isHousetrained isHousetrained isHousetrained(atOtherHomes: true) } }",
+        "compared 0\n8 and 38\n23 and 38\n",
+    ),
+    (
+        "{ dog { x: name } dog { x: name } dog { x: barks } }",
+        "compared 0\n8 and 40\n2 and 34 for 1\n24 and 40\n18 and 34 for 1\n",
+    ),
+    (
+        "{ dog { ...A ...B } } fragment A on Dog { x: name x: name } fragment B on Dog { x: name x: name }",
+        "compared 1\n",
+    ),
+    (
+        "{ pet { ... on Dog { name name name } ... on Cat { name: nickname name: nickname } } }",
+        "compared 0\n",
+    ),
+    (
+        "{ dog { x: name x: name ...A } } fragment A on Dog { x: name x: nickname }",
+        "compared 0\n8 and 61\n16 and 61\n53 and 61\n",
+    ),
 ];
 
-const BOXES: [(&str, &str); 2] = [
+const BOXES: [(&str, &str); 3] = [
     (
         "{ a: someBox { ... on IntBox { deepBox { ...X } } } a: someBox { ... on StringBox { deepBox { ...Y } } } b: someBox { ...X } b: someBox { ...Y } } fragment X on SomeBox { otherField } fragment Y on SomeBox { otherField: unrelatedField }",
         "compared 2\n171 and 208\n105 and 125 for 1\n",
@@ -57,6 +86,10 @@ const BOXES: [(&str, &str); 2] = [
     (
         "{ someBox { ... on NonNullStringBox1 { scalar } ... on StringBox { scalar } } }",
         "compared 0\n39 and 67\n",
+    ),
+    (
+        "{ someBox { ... on NonNullStringBox1 { scalar scalar } ... on StringBox { scalar } } }",
+        "compared 0\n39 and 74\n46 and 74\n",
     ),
 ];
 
