@@ -24,7 +24,7 @@ use Rattle.variable_uses.specs.Unused.{Unused, UnusedVariables}
 use Rattle.variable_positions.specs.declared.variables_in_allowed_position.VariableInAllowedPosition.{VariableInAllowedPosition}
 use Rattle.variable_positions.specs.VariableInAllowedPosition.{DocumentGives, recorded_uses}
 use Rattle.stage_one.specs.declared.across.AcrossDocument.{AcrossDocument}
-use Rattle.stage_one.specs.Across.{across_step, leaving_document, positions_step, rule_list}
+use Rattle.stage_one.specs.Across.{across_step, last_four_step, last_step, last_three_step, last_two_step, leaving_document, positions_step, rule_list}
 
 module _ {S C : Type 0} where
   same_context : (w : ContextState S C) → w ≡ with_errors w []
@@ -55,10 +55,10 @@ module _ {S C : Type 0} where
         let b : AcrossDocument = record a { positions = positions } in
         let la = rule_list a in
         let lb = rule_list b in
-        Stepped-pair positions_step _ (typed_event e) la lb w w' w' s
-        (Stepped-pair (document_step unused_variable_errors) _ (typed_event e) la.1 lb.1 w' w' w' (idles unused_variable_errors e a.unused_variables w' h)
-        (Stepped-pair (document_step unused_errors) _ (typed_event e) la.1.1 lb.1.1 w' w' w' (idles unused_errors e a.unused_fragments w' h)
-        (Stepped-pair (document_step undefined_errors) _ (typed_event e) la.1.1.1 lb.1.1.1 w' w' w' (idles undefined_errors e a.undefined_variables w' h)
+        Stepped-pair positions_step last_four_step (typed_event e) la lb w w' w' s
+        (Stepped-pair (document_step unused_variable_errors) last_three_step (typed_event e) la.1 lb.1 w' w' w' (idles unused_variable_errors e a.unused_variables w' h)
+        (Stepped-pair (document_step unused_errors) last_two_step (typed_event e) la.1.1 lb.1.1 w' w' w' (idles unused_errors e a.unused_fragments w' h)
+        (Stepped-pair (document_step undefined_errors) last_step (typed_event e) la.1.1.1 lb.1.1.1 w' w' w' (idles undefined_errors e a.undefined_variables w' h)
         (Stepped-pair (document_step cycle_errors) no_step (typed_event e) la.1.1.1.1 lb.1.1.1.1 w' w' w' (idles cycle_errors e a.cycles w' h)
         ([], (refl, refl), same_context w')))))
 
@@ -74,9 +74,9 @@ module _ {S C : Type 0} where
         let b : AcrossDocument = record a { cycles = cycles } in
         let la = rule_list a in
         let lb = rule_list b in
-        Stepped-pair positions_step _ (leaving_document doc) la lb w₀ w₁ w₅ s₁
-        (Stepped-pair (document_step unused_variable_errors) _ (leaving_document doc) la.1 lb.1 w₁ w₂ w₅ (map unused_variable_error vs, (vs, v, refl), e₂)
-        (Stepped-pair (document_step unused_errors) _ (leaving_document doc) la.1.1 lb.1.1 w₂ w₃ w₅ (map unused_error fs, (fs, f, refl), e₃)
-        (Stepped-pair (document_step undefined_errors) _ (leaving_document doc) la.1.1.1 lb.1.1.1 w₃ w₄ w₅ (map undefined_error us, (us, u, refl), e₄)
+        Stepped-pair positions_step last_four_step (leaving_document doc) la lb w₀ w₁ w₅ s₁
+        (Stepped-pair (document_step unused_variable_errors) last_three_step (leaving_document doc) la.1 lb.1 w₁ w₂ w₅ (map unused_variable_error vs, (vs, v, refl), e₂)
+        (Stepped-pair (document_step unused_errors) last_two_step (leaving_document doc) la.1.1 lb.1.1 w₂ w₃ w₅ (map unused_error fs, (fs, f, refl), e₃)
+        (Stepped-pair (document_step undefined_errors) last_step (leaving_document doc) la.1.1.1 lb.1.1.1 w₃ w₄ w₅ (map undefined_error us, (us, u, refl), e₄)
         (Stepped-pair (document_step cycle_errors) no_step (leaving_document doc) la.1.1.1.1 lb.1.1.1.1 w₄ w₅ w₅ s₅
         ([], (refl, refl), same_context w₅)))))
