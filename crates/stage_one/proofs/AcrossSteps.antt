@@ -1,17 +1,15 @@
 -- What the rules that look across the document do at an event, one after the other.
-use Rattle.std.proofs.Common.{◌≡◌, List, [], map, refl, sym, subst, ap, append-nil}
+use Rattle.std.proofs.Common.{◌≡◌, List, [], map, refl, sym, ap, append-nil}
 use denote.Ref.{Bor}
 use Rattle.language.specs.declared.tree.Definition.{Definition}
 use Rattle.events.specs.declared.event.Event.{Event}
 use Rattle.events.specs.declared.event.Event.TheVariants as event
 use Rattle.events.specs.EventValue.{typed_event}
-use Rattle.events.specs.TypedEvent.{TypedEvent}
 use Rattle.events.specs.Typing.{Typing}
 use Rattle.walk.specs.ContextState.{ContextState, DocumentScope, scope_of_context, typing, with_errors}
-use Rattle.walk.specs.ErrorValue.{ErrorValue}
-use Rattle.walk.specs.Pair.{no_step, pair_step}
+use Rattle.walk.specs.Pair.{no_step}
 use Rattle.walk.specs.Rule.{Appended}
-use Rattle.walk.specs.Step.{KeepsPlace, Stepped}
+use Rattle.walk.specs.Step.{Stepped}
 use Rattle.walk.proofs.Runs.{Stepped-pair}
 use Rattle.reach.specs.declared.no_fragment_cycles.NoFragmentCycles.{NoFragmentCycles}
 use Rattle.reach.specs.AtDocument.{Gives, document_step}
@@ -29,12 +27,6 @@ use Rattle.stage_one.specs.Across.{across_step, last_four_step, last_step, last_
 module _ {S C : Type 0} where
   same_context : (w : ContextState S C) → w ≡ with_errors w []
   same_context w = ap (λ es. record w { errors = es }) (sym (append-nil w.errors))
-
-  -- the places are those from before what was appended, too
-  pub keeps_behind : (w w' w'' : ContextState S C) (P : List ErrorValue → Type 0) → Appended P w w' → KeepsPlace w' w'' → KeepsPlace w w''
-  keeps_behind w w' w'' P (es, p, e) k =
-      let q : KeepsPlace (with_errors w es) w'' = subst (λ z. KeepsPlace z w'') e k in
-      record { allocator = q.allocator; schema = q.schema; known = q.known; typings = q.typings; stays = q.stays }
 
   -- where no document is left a rule that looks at it there does nothing
   idle_elsewhere : {V : Type 0} (gives : Gives S C V) (scope : DocumentScope S C) (e : Event S) (t : Typing S C) (a : V)

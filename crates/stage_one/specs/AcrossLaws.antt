@@ -1,5 +1,5 @@
 -- The rules that look across the document report what the list of them reports.
-use Rattle.std.proofs.Common.{◌≡◌, List, [], ◌∷◌, ap}
+use Rattle.std.proofs.Common.{List, [], ◌∷◌, ap}
 use Rattle.events.specs.TypedEvent.{typed_events}
 use Rattle.walk.specs.ContextState.{scope_of}
 use Rattle.walk.specs.Pair.{no_step}
