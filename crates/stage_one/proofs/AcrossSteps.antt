@@ -1,17 +1,15 @@
 -- What the rules that look across the document do at an event, one after the other.
-use Rattle.std.proofs.Common.{◌≡◌, List, [], map, refl, sym, subst, ap, append-nil}
+use Rattle.std.proofs.Common.{◌≡◌, List, [], map, refl, sym, ap, append-nil}
 use denote.Ref.{Bor}
 use Rattle.language.specs.declared.tree.Definition.{Definition}
 use Rattle.events.specs.declared.event.Event.{Event}
 use Rattle.events.specs.declared.event.Event.TheVariants as event
 use Rattle.events.specs.EventValue.{typed_event}
-use Rattle.events.specs.TypedEvent.{TypedEvent}
 use Rattle.events.specs.Typing.{Typing}
 use Rattle.walk.specs.ContextState.{ContextState, DocumentScope, scope_of_context, typing, with_errors}
-use Rattle.walk.specs.ErrorValue.{ErrorValue}
-use Rattle.walk.specs.Pair.{no_step, pair_step}
+use Rattle.walk.specs.Pair.{no_step}
 use Rattle.walk.specs.Rule.{Appended}
-use Rattle.walk.specs.Step.{KeepsPlace, Stepped}
+use Rattle.walk.specs.Step.{Stepped}
 use Rattle.walk.proofs.Runs.{Stepped-pair}
 use Rattle.reach.specs.declared.no_fragment_cycles.NoFragmentCycles.{NoFragmentCycles}
 use Rattle.reach.specs.AtDocument.{Gives, document_step}
@@ -24,17 +22,11 @@ use Rattle.variable_uses.specs.Unused.{Unused, UnusedVariables}
 use Rattle.variable_positions.specs.declared.variables_in_allowed_position.VariableInAllowedPosition.{VariableInAllowedPosition}
 use Rattle.variable_positions.specs.VariableInAllowedPosition.{DocumentGives, recorded_uses}
 use Rattle.stage_one.specs.declared.across.AcrossDocument.{AcrossDocument}
-use Rattle.stage_one.specs.Across.{across_step, leaving_document, positions_step, rule_list}
+use Rattle.stage_one.specs.Across.{across_step, last_four_step, last_step, last_three_step, last_two_step, leaving_document, positions_step, rule_list}
 
 module _ {S C : Type 0} where
   same_context : (w : ContextState S C) → w ≡ with_errors w []
   same_context w = ap (λ es. record w { errors = es }) (sym (append-nil w.errors))
-
-  -- the places are those from before what was appended, too
-  pub keeps_behind : (w w' w'' : ContextState S C) (P : List ErrorValue → Type 0) → Appended P w w' → KeepsPlace w' w'' → KeepsPlace w w''
-  keeps_behind w w' w'' P (es, p, e) k =
-      let q : KeepsPlace (with_errors w es) w'' = subst (λ z. KeepsPlace z w'') e k in
-      record { allocator = q.allocator; schema = q.schema; known = q.known; typings = q.typings; stays = q.stays }
 
   -- where no document is left a rule that looks at it there does nothing
   idle_elsewhere : {V : Type 0} (gives : Gives S C V) (scope : DocumentScope S C) (e : Event S) (t : Typing S C) (a : V)
@@ -55,10 +47,10 @@ module _ {S C : Type 0} where
         let b : AcrossDocument = record a { positions = positions } in
         let la = rule_list a in
         let lb = rule_list b in
-        Stepped-pair positions_step _ (typed_event e) la lb w w' w' s
-        (Stepped-pair (document_step unused_variable_errors) _ (typed_event e) la.1 lb.1 w' w' w' (idles unused_variable_errors e a.unused_variables w' h)
-        (Stepped-pair (document_step unused_errors) _ (typed_event e) la.1.1 lb.1.1 w' w' w' (idles unused_errors e a.unused_fragments w' h)
-        (Stepped-pair (document_step undefined_errors) _ (typed_event e) la.1.1.1 lb.1.1.1 w' w' w' (idles undefined_errors e a.undefined_variables w' h)
+        Stepped-pair positions_step last_four_step (typed_event e) la lb w w' w' s
+        (Stepped-pair (document_step unused_variable_errors) last_three_step (typed_event e) la.1 lb.1 w' w' w' (idles unused_variable_errors e a.unused_variables w' h)
+        (Stepped-pair (document_step unused_errors) last_two_step (typed_event e) la.1.1 lb.1.1 w' w' w' (idles unused_errors e a.unused_fragments w' h)
+        (Stepped-pair (document_step undefined_errors) last_step (typed_event e) la.1.1.1 lb.1.1.1 w' w' w' (idles undefined_errors e a.undefined_variables w' h)
         (Stepped-pair (document_step cycle_errors) no_step (typed_event e) la.1.1.1.1 lb.1.1.1.1 w' w' w' (idles cycle_errors e a.cycles w' h)
         ([], (refl, refl), same_context w')))))
 
@@ -74,9 +66,9 @@ module _ {S C : Type 0} where
         let b : AcrossDocument = record a { cycles = cycles } in
         let la = rule_list a in
         let lb = rule_list b in
-        Stepped-pair positions_step _ (leaving_document doc) la lb w₀ w₁ w₅ s₁
-        (Stepped-pair (document_step unused_variable_errors) _ (leaving_document doc) la.1 lb.1 w₁ w₂ w₅ (map unused_variable_error vs, (vs, v, refl), e₂)
-        (Stepped-pair (document_step unused_errors) _ (leaving_document doc) la.1.1 lb.1.1 w₂ w₃ w₅ (map unused_error fs, (fs, f, refl), e₃)
-        (Stepped-pair (document_step undefined_errors) _ (leaving_document doc) la.1.1.1 lb.1.1.1 w₃ w₄ w₅ (map undefined_error us, (us, u, refl), e₄)
+        Stepped-pair positions_step last_four_step (leaving_document doc) la lb w₀ w₁ w₅ s₁
+        (Stepped-pair (document_step unused_variable_errors) last_three_step (leaving_document doc) la.1 lb.1 w₁ w₂ w₅ (map unused_variable_error vs, (vs, v, refl), e₂)
+        (Stepped-pair (document_step unused_errors) last_two_step (leaving_document doc) la.1.1 lb.1.1 w₂ w₃ w₅ (map unused_error fs, (fs, f, refl), e₃)
+        (Stepped-pair (document_step undefined_errors) last_step (leaving_document doc) la.1.1.1 lb.1.1.1 w₃ w₄ w₅ (map undefined_error us, (us, u, refl), e₄)
         (Stepped-pair (document_step cycle_errors) no_step (leaving_document doc) la.1.1.1.1 lb.1.1.1.1 w₄ w₅ w₅ s₅
         ([], (refl, refl), same_context w₅)))))
