@@ -26,6 +26,8 @@ pub const DOCUMENT_EXAMPLES: &[RightRow] = &[
         "{\n  user(id: 4) {\n    id\n    name\n    profilePic(width: 100, height: 50)\n  }\n}",
         1,
     ),
+    ("{\n  picture(width: 200, height: 100)\n}", 1),
+    ("{\n  picture(height: 100, width: 200)\n}", 1),
     (
         "{\n  user(id: 4) {\n    id\n    name\n    smallPic: profilePic(size: 64)\n    bigPic: profilePic(size: 1024)\n  }\n}",
         1,
@@ -38,6 +40,10 @@ pub const DOCUMENT_EXAMPLES: &[RightRow] = &[
     (
         "query withFragments {\n  user(id: 4) {\n    friends(first: 10) {\n      ...friendFields\n    }\n    mutualFriends(first: 10) {\n      ...friendFields\n    }\n  }\n}\n\nfragment friendFields on User {\n  id\n  name\n  profilePic(size: 50)\n}",
         2,
+    ),
+    (
+        "query withNestedFragments {\n  user(id: 4) {\n    friends(first: 10) {\n      ...friendFields\n    }\n    mutualFriends(first: 10) {\n      ...friendFields\n    }\n  }\n}\n\nfragment friendFields on User {\n  id\n  name\n  ...standardProfilePic\n}\n\nfragment standardProfilePic on User {\n  profilePic(size: 50)\n}",
+        3,
     ),
     (
         "query FragmentTyping {\n  profiles(handles: [\"zuck\", \"coca-cola\"]) {\n    handle\n    ...userFragment\n    ...pageFragment\n  }\n}\n\nfragment userFragment on User {\n  friends {\n    count\n  }\n}\n\nfragment pageFragment on Page {\n  likers {\n    count\n  }\n}",
@@ -71,6 +77,42 @@ pub const DOCUMENT_EXAMPLES: &[RightRow] = &[
     ),
     (
         "mutation {\n  sendEmail(message: \"Hello,\\n  World!\\n\\nYours,\\n  GraphQL.\")\n}",
+        1,
+    ),
+    // Queries of section 3, which tell what types mean (sections 3.6 to 3.8).
+    ("{\n  name\n  age\n  picture\n}", 1),
+    ("{\n  age\n  name\n}", 1),
+    ("{\n  name\n  relationship {\n    name\n  }\n}", 1),
+    (
+        "{\n  foo\n  ...Frag\n  qux\n}\n\nfragment Frag on Query {\n  bar\n  baz\n}",
+        2,
+    ),
+    (
+        "{\n  foo\n  ...Ignored\n  ...Matching\n  bar\n}\n\nfragment Ignored on UnknownType {\n  qux\n  baz\n}\n\nfragment Matching on Query {\n  bar\n  qux\n  foo\n}",
+        3,
+    ),
+    ("{\n  foo @skip(if: true)\n  bar\n  foo\n}", 1),
+    ("{\n  name\n  picture(size: 600)\n}", 1),
+    ("{\n  entity {\n    name\n  }\n  phoneNumber\n}", 1),
+    (
+        "{\n  entity {\n    name\n    ... on Person {\n      age\n    }\n  }\n  phoneNumber\n}",
+        1,
+    ),
+    (
+        "{\n  firstSearchResult {\n    ... on Person {\n      name\n    }\n    ... on Photo {\n      height\n    }\n  }\n}",
+        1,
+    ),
+    // Directives in use (section 3.13).
+    (
+        "fragment SomeFragment on SomeType {\n  field @example\n}",
+        1,
+    ),
+    (
+        "query myQuery($someTest: Boolean!) {\n  experimentalField @skip(if: $someTest)\n}",
+        1,
+    ),
+    (
+        "query myQuery($someTest: Boolean!) {\n  experimentalField @include(if: $someTest)\n}",
         1,
     ),
 ];
@@ -117,14 +159,26 @@ pub const TYPE_SYSTEM_EXAMPLES: &[RightRow] = &[
         4,
     ),
     (
+        "type Contact {\n  entity: NamedEntity\n  phoneNumber: String\n  address: String\n}",
+        1,
+    ),
+    (
         "interface Node {\n  id: ID!\n}\n\ninterface Resource implements Node {\n  id: ID!\n  url: String\n}\n\ninterface Image implements Resource & Node {\n  id: ID!\n  url: String\n  thumbnail: String\n}",
         3,
+    ),
+    (
+        "interface Node implements Named & Node {\n  id: ID!\n  name: String\n}\n\ninterface Named implements Node & Named {\n  id: ID!\n  name: String\n}",
+        2,
     ),
     (
         "extend interface NamedEntity {\n  nickname: String\n}\n\nextend type Person {\n  nickname: String\n}\n\nextend type Business {\n  nickname: String\n}",
         3,
     ),
     // Unions, enums and input objects (sections 3.8 to 3.10).
+    (
+        "union SearchResult = Photo | Person\n\ntype Person {\n  name: String\n  age: Int\n}\n\ntype Photo {\n  height: Int\n  width: Int\n}\n\ntype SearchQuery {\n  firstSearchResult: SearchResult\n}",
+        4,
+    ),
     ("union SearchResult = Photo | Person", 1),
     ("union SearchResult =\n  | Photo\n  | Person", 1),
     ("enum Direction {\n  NORTH\n  EAST\n  SOUTH\n  WEST\n}", 1),
@@ -132,6 +186,12 @@ pub const TYPE_SYSTEM_EXAMPLES: &[RightRow] = &[
     (
         "input Example {\n  self: [Example!]!\n  value: String\n}",
         1,
+    ),
+    ("input Example {\n  self: Example\n  value: String\n}", 1),
+    ("input Example {\n  self: Example!\n  value: String\n}", 1),
+    (
+        "input First {\n  second: Second!\n  value: String\n}\n\ninput Second {\n  first: First!\n  value: String\n}",
+        2,
     ),
     ("input ExampleInputObject {\n  a: String\n  b: Int!\n}", 1),
     // Directives (section 3.13).
@@ -155,6 +215,11 @@ pub const TYPE_SYSTEM_EXAMPLES: &[RightRow] = &[
         "directive @skip(if: Boolean!) on FIELD | FRAGMENT_SPREAD | INLINE_FRAGMENT",
         1,
     ),
+    (
+        "directive @include(if: Boolean!) on FIELD | FRAGMENT_SPREAD | INLINE_FRAGMENT",
+        1,
+    ),
+    ("directive @example on FIELD", 1),
     (
         "directive @deprecated(\n  reason: String = \"No longer supported\"\n) on FIELD_DEFINITION | ENUM_VALUE",
         1,
