@@ -5,13 +5,17 @@ use crate::readers::{kind_named, time_reader};
 use crate::schemas::{root_fields, wide_input};
 use crate::values::{first_operation, judge, time_values, values_of};
 use document_reader::read_document;
-use samples::build::{common, object, scalar};
-use samples::checks::checks;
+use samples::build::{Checks, common, object, scalar};
+use samples::checks::{
+    check_boolean, check_complex_input, check_dog_command, check_id, check_int, check_pair_input,
+    check_string, refuse_token,
+};
 use samples::pets;
 use std::alloc::Global;
 use std::env::{self, Env};
 use std::io::{self, Read};
 use std::rt::CpuClock;
+use validation::meta::default_check::DefaultCheck;
 use validation::{DefaultScalarValue, Definition, SchemaType, ValidatorContext, visit_all_rules};
 
 /// How often each phase is to be done.
@@ -83,7 +87,15 @@ fn measure_against<R: CpuClock + AllocGlobal + Print>(
     times: Times,
 ) -> Result<(), Failure> {
     tell(rt, "read", time_reading(rt, rt.alloc(), text, times.reads)?)?;
-    let checks = checks();
+    let checks = Checks {
+        int: DefaultCheck::with_token(check_int, refuse_token),
+        string: DefaultCheck::with_token(check_string, refuse_token),
+        boolean: DefaultCheck::with_token(check_boolean, refuse_token),
+        id: DefaultCheck::with_token(check_id, refuse_token),
+        dog_command: DefaultCheck::new(check_dog_command),
+        complex_input: DefaultCheck::new(check_complex_input),
+        pair_input: DefaultCheck::new(check_pair_input),
+    };
     let alloc = rt.alloc();
     let types = if word == "pets" {
         pets::types(alloc, checks)?

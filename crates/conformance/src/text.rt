@@ -4,9 +4,14 @@ use crate::judge::judge;
 use crate::lines::Lines;
 use crate::report::Report;
 use crate::vectors::{Header, Mode, Sample, next_header, take_vector};
-use samples::checks::checks;
+use samples::build::Checks;
+use samples::checks::{
+    check_boolean, check_complex_input, check_dog_command, check_id, check_int, check_pair_input,
+    check_string, refuse_token,
+};
 use samples::{boxes, pets};
 use std::alloc::Global;
+use validation::meta::default_check::DefaultCheck;
 use validation::{DefaultScalarValue, RootNode, SchemaType};
 
 /// Judges the vectors of a text, and counts each.
@@ -28,7 +33,15 @@ fn judge_all_like(
     lines: &mut Lines<'_>,
     report: &mut Report,
 ) -> Result<(), Failure> {
-    let checks = checks();
+    let checks = Checks {
+        int: DefaultCheck::with_token(check_int, refuse_token),
+        string: DefaultCheck::with_token(check_string, refuse_token),
+        boolean: DefaultCheck::with_token(check_boolean, refuse_token),
+        id: DefaultCheck::with_token(check_id, refuse_token),
+        dog_command: DefaultCheck::new(check_dog_command),
+        complex_input: DefaultCheck::new(check_complex_input),
+        pair_input: DefaultCheck::new(check_pair_input),
+    };
     let types = match header.sample {
         Sample::Pets => pets::types(alloc, checks)?,
         Sample::Boxes => boxes::types(alloc, checks)?,

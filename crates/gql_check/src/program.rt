@@ -10,11 +10,16 @@ ghost use Rattle.gql_check.specs.Words.{is_read, is_usage, mode_named, other_tas
 use crate::failure::Failure;
 use crate::report::Report;
 use document_reader::read_document;
-use samples::checks::checks;
+use samples::build::Checks;
+use samples::checks::{
+    check_boolean, check_complex_input, check_dog_command, check_id, check_int, check_pair_input,
+    check_string, refuse_token,
+};
 use samples::{boxes, demo, pets};
 use std::alloc::Global;
 use std::io::{self, Read, Write};
 use validation::ast::Definition;
+use validation::meta::default_check::DefaultCheck;
 use validation::{DefaultScalarValue, SchemaType};
 
 /// A sample schema.
@@ -205,7 +210,15 @@ fn check(alloc: Global, task: Task, text: Vec<u8>) -> Result<Report, Failure>
     ensures report { IfOk result IsReport }
     ensures other { IfErr result (λ e. is_usage e ≡ false) }
 {
-    let checks = checks();
+    let checks = Checks {
+        int: DefaultCheck::with_token(check_int, refuse_token),
+        string: DefaultCheck::with_token(check_string, refuse_token),
+        boolean: DefaultCheck::with_token(check_boolean, refuse_token),
+        id: DefaultCheck::with_token(check_id, refuse_token),
+        dog_command: DefaultCheck::new(check_dog_command),
+        complex_input: DefaultCheck::new(check_complex_input),
+        pair_input: DefaultCheck::new(check_pair_input),
+    };
     let types = match task.sample {
         Sample::Demo => demo::types(alloc, checks)?,
         Sample::Pets => pets::types(alloc, checks)?,

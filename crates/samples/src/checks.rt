@@ -6,10 +6,9 @@ ghost use Rattle.meta.specs.Answers.{AnswersBy};
 ghost use Rattle.samples.specs.Checks.{is_int, is_string, is_boolean, is_id, is_command, is_dog_command, is_object};
 ghost use Rattle.samples.specs.Tokens.{RefusesToken};
 
-use crate::build::Checks;
 use language::error::{CheckError, ParseError};
 use language::value::{DefaultScalarValue, InputValue};
-use meta::default_check::{DefaultCheck, ScalarTokenKind};
+use meta::default_check::ScalarTokenKind;
 use std::alloc::Global;
 
 /// Accepts an integer.
@@ -109,17 +108,4 @@ pub fn refuse_token(
     ensures { RefusesToken (codes "no tokens are read") result }
 {
     Err(ParseError::Refused(String::from_str(alloc, "no tokens are read")?))
-}
-
-/// The check of each type that has one.
-pub fn checks() -> Checks {
-    Checks {
-        int: DefaultCheck::with_token(check_int, refuse_token),
-        string: DefaultCheck::with_token(check_string, refuse_token),
-        boolean: DefaultCheck::with_token(check_boolean, refuse_token),
-        id: DefaultCheck::with_token(check_id, refuse_token),
-        dog_command: DefaultCheck::new(check_dog_command),
-        complex_input: DefaultCheck::new(check_complex_input),
-        pair_input: DefaultCheck::new(check_pair_input),
-    }
 }
