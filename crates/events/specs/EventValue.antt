@@ -1,5 +1,5 @@
 -- An event as a value.
-use Rattle.std.specs.Prelude.{List, map, string_bytes}
+use Rattle.std.specs.Prelude.{string_bytes}
 use Rattle.std.specs.Option.{option_copied, option_map}
 use Rattle.language.specs.Types.{borrowed_shape}
 use Rattle.events.specs.declared.event.Event.{Event}
@@ -57,6 +57,3 @@ module _ {S C : Type 0} where
 
   abbrev pub planned : PlannedEventOf S C → TypedEvent S C
   planned p = typed_event p.event (typing_of p.types)
-
-  abbrev pub all_planned : List (PlannedEventOf S C) → List (TypedEvent S C)
-  all_planned ps = map planned ps

@@ -22,8 +22,8 @@ modifier m.NonNull (m.List k) = (λ h. cc, λ h. cc)
 modifier (m.List j) m.NonNull = (λ h. cc, λ h. cc)
 modifier (m.List j) (m.List k) = Decides-like (option_eq nat_eq j k) (λ h. ap (λ (n : Option ℕ). m.List n) h) (λ h. cc) (sizes j k)
 
-pub modifiers : (xs ys : List TypeModifier) (r : Bool) → r ≡ pointwise eq-value.it xs ys → r ≡ true → xs ≡ ys
-modifiers xs ys r h holds = (slice_eq-Decides modifier xs ys r h).0 holds
+pub modifiers : (xs ys : List TypeModifier) (r : Bool) → r ≡ pointwise eq-value.it xs ys → Decides r (xs ≡ ys)
+modifiers xs ys r h = slice_eq-Decides modifier xs ys r h
 
 pub one_shape : (t u : TypeShape) → t.name ≡ u.name → t.modifiers ≡ u.modifiers → t ≡ u
 one_shape t u n ms = ap (λ (x : List ℕ). record { name = x; modifiers = t.modifiers }) n ∙ ap (λ (x : List TypeModifier). record { name = u.name; modifiers = x }) ms

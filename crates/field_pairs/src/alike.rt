@@ -1,6 +1,6 @@
 //! Fields that are plainly alike, so that none of them is in conflict with another, wherever they stand.
 ghost use Rattle.std.specs.Prelude.{◌≡◌, option_map, option_copied};
-ghost use Rattle.std.specs.Bool.{OnTrue};
+ghost use Rattle.std.specs.Bool.{Decides};
 ghost use Rattle.language.specs.Types.{shape};
 ghost use Rattle.field_pairs.specs.Entries.{plain};
 ghost use Rattle.field_pairs.specs.Alike.{AreAlike, known_type};
@@ -11,7 +11,7 @@ use meta::Field as FieldMeta;
 
 /// Whether two fields have one name, no arguments, and one type or none that is known.
 pub fn are_alike<S, C>(left: &Entry<'_, S, C>, right: &Entry<'_, S, C>) -> bool
-    ensures { OnTrue result (AreAlike (plain left.now) (plain right.now)) }
+    ensures { Decides result (AreAlike (plain left.now) (plain right.now)) }
 {
     let (l, r) = (left.field, right.field);
     l.item.name.item == r.item.name.item
@@ -21,7 +21,7 @@ pub fn are_alike<S, C>(left: &Entry<'_, S, C>, right: &Entry<'_, S, C>) -> bool
 }
 
 fn have_one_type<S>(left: Option<&FieldMeta<S>>, right: Option<&FieldMeta<S>>) -> bool
-    ensures { OnTrue result (known_type (option_copied left.entry) ≡ known_type (option_copied right.entry)) }
+    ensures { Decides result (known_type (option_copied left.entry) ≡ known_type (option_copied right.entry)) }
 {
     match (left, right) {
         (Some(l), Some(r)) => are_one_type(&l.field_type, &r.field_type),
@@ -31,7 +31,7 @@ fn have_one_type<S>(left: Option<&FieldMeta<S>>, right: Option<&FieldMeta<S>>) -
 }
 
 fn are_one_type(left: &Type, right: &Type) -> bool
-    ensures { OnTrue result (shape left.now ≡ shape right.now) }
+    ensures { Decides result (shape left.now ≡ shape right.now) }
 {
     left.innermost_name() == right.innermost_name() && left.modifiers() == right.modifiers()
 }

@@ -1,6 +1,6 @@
 //! Fields by number: what stands between two of them.
 ghost use Rattle.std.specs.Prelude.{◌≡◌, map, option_copied, option_map, slice_get};
-ghost use Rattle.std.specs.Bool.{OnTrue};
+ghost use Rattle.std.specs.Bool.{Decides};
 ghost use Rattle.field_pairs.specs.Alike.{AreAlikeBetween, AreAlikeAt};
 ghost use Rattle.field_pairs.specs.Entries.{plain};
 ghost use Rattle.field_pairs.specs.Numbered.{exclusive_between, exclusive_at, direct_between, direct_at};
@@ -43,7 +43,7 @@ pub fn direct_reason_at<S: ScalarValue, C>(
 
 /// Whether two fields are plainly alike. A number past the last is no field's, and like no other.
 pub fn are_alike_at<S, C>(fields: &[Entry<'_, S, C>], left: usize, right: usize) -> bool
-    ensures { OnTrue result (AreAlikeAt (map plain fields.now) left right) }
+    ensures { Decides result (AreAlikeAt (map plain fields.now) left right) }
 {
     are_alike_if_there(field_at(fields, left), field_at(fields, right))
 }
@@ -85,7 +85,7 @@ fn direct_reason_if_there<S: ScalarValue, C>(
 }
 
 fn are_alike_if_there<S, C>(left: Option<&Entry<'_, S, C>>, right: Option<&Entry<'_, S, C>>) -> bool
-    ensures { OnTrue result (AreAlikeBetween (option_map plain (option_copied left.entry)) (option_map plain (option_copied right.entry))) }
+    ensures { Decides result (AreAlikeBetween (option_map plain (option_copied left.entry)) (option_map plain (option_copied right.entry))) }
 {
     match (left, right) {
         (Some(l), Some(r)) => are_alike(l, r),

@@ -1,5 +1,6 @@
 //! Examples of the specification (GraphQL, October 2021, sections 2 and 3).
-use crate::production_rows::RightRow;
+use crate::production_rows::{RightRow, WrongRow};
+use crate::words::{DEFINITION, EXECUTABLE};
 
 /// Executable documents.
 pub const DOCUMENT_EXAMPLES: &[RightRow] = &[
@@ -79,9 +80,16 @@ pub const DOCUMENT_EXAMPLES: &[RightRow] = &[
         "mutation {\n  sendEmail(message: \"Hello,\\n  World!\\n\\nYours,\\n  GraphQL.\")\n}",
         1,
     ),
-    // Queries of section 3, which tell what types mean (sections 3.6 to 3.8).
+    // Root types (section 3.3.1).
+    ("query {\n  myName\n}", 1),
+    (
+        "mutation {\n  setName(name: \"Zuck\") {\n    newName\n  }\n}",
+        1,
+    ),
+    // Operations that tell what types mean (sections 3.6 to 3.8), counter-examples among them, which are no fault of the grammar.
     ("{\n  name\n  age\n  picture\n}", 1),
     ("{\n  age\n  name\n}", 1),
+    ("{\n  name\n  relationship\n}", 1),
     ("{\n  name\n  relationship {\n    name\n  }\n}", 1),
     (
         "{\n  foo\n  ...Frag\n  qux\n}\n\nfragment Frag on Query {\n  bar\n  baz\n}",
@@ -95,14 +103,19 @@ pub const DOCUMENT_EXAMPLES: &[RightRow] = &[
     ("{\n  name\n  picture(size: 600)\n}", 1),
     ("{\n  entity {\n    name\n  }\n  phoneNumber\n}", 1),
     (
+        "{\n  entity {\n    name\n    age\n  }\n  phoneNumber\n}",
+        1,
+    ),
+    (
         "{\n  entity {\n    name\n    ... on Person {\n      age\n    }\n  }\n  phoneNumber\n}",
         1,
     ),
+    ("{\n  firstSearchResult {\n    name\n    height\n  }\n}", 1),
     (
         "{\n  firstSearchResult {\n    ... on Person {\n      name\n    }\n    ... on Photo {\n      height\n    }\n  }\n}",
         1,
     ),
-    // Directives in use (section 3.13).
+    // Directives in use (section 3.13); the first is the half of an example that is an executable document.
     (
         "fragment SomeFragment on SomeType {\n  field @example\n}",
         1,
@@ -132,6 +145,7 @@ pub const TYPE_SYSTEM_EXAMPLES: &[RightRow] = &[
         "\"\"\"\nA simple GraphQL schema which is well described.\n\"\"\"\nschema {\n  query: Query\n}\n\n\"\"\"\nRoot type for all your query operations\n\"\"\"\ntype Query {\n  \"\"\"\n  Translates a string from a given language into a different language.\n  \"\"\"\n  translate(\n    \"The original language that `text` is provided in.\"\n    fromLanguage: Language\n\n    \"The translated language to be returned.\"\n    toLanguage: Language\n\n    \"The text to be translated.\"\n    text: String\n  ): String\n}\n\n\"\"\"\nThe set of languages supported by `translate`.\n\"\"\"\nenum Language {\n  \"English\"\n  EN\n\n  \"French\"\n  FR\n\n  \"Chinese\"\n  CH\n}",
         3,
     ),
+    ("type Query {\n  myName: String\n}", 1),
     ("type Query {\n  someField: String\n}", 1),
     (
         "schema {\n  query: MyQueryRootType\n  mutation: MyMutationRootType\n}\n\ntype MyQueryRootType {\n  someField: String\n}\n\ntype MyMutationRootType {\n  setSomeField(to: String): String\n}",
@@ -141,6 +155,10 @@ pub const TYPE_SYSTEM_EXAMPLES: &[RightRow] = &[
     (
         "scalar UUID @specifiedBy(url: \"https://tools.ietf.org/html/rfc4122\")\nscalar URL @specifiedBy(url: \"https://tools.ietf.org/html/rfc3986\")",
         2,
+    ),
+    (
+        "type Person {\n  name: String\n  age: Int\n  picture: Url\n}",
+        1,
     ),
     (
         "type Person {\n  name: String\n  age: Int\n  picture: Url\n  relationship: Person\n}",
@@ -163,6 +181,10 @@ pub const TYPE_SYSTEM_EXAMPLES: &[RightRow] = &[
         1,
     ),
     (
+        "interface Node {\n  id: ID!\n}\n\ninterface Resource implements Node {\n  id: ID!\n  url: String\n}",
+        2,
+    ),
+    (
         "interface Node {\n  id: ID!\n}\n\ninterface Resource implements Node {\n  id: ID!\n  url: String\n}\n\ninterface Image implements Resource & Node {\n  id: ID!\n  url: String\n  thumbnail: String\n}",
         3,
     ),
@@ -174,27 +196,28 @@ pub const TYPE_SYSTEM_EXAMPLES: &[RightRow] = &[
         "extend interface NamedEntity {\n  nickname: String\n}\n\nextend type Person {\n  nickname: String\n}\n\nextend type Business {\n  nickname: String\n}",
         3,
     ),
+    ("extend interface NamedEntity @addedDirective", 1),
     // Unions, enums and input objects (sections 3.8 to 3.10).
     (
         "union SearchResult = Photo | Person\n\ntype Person {\n  name: String\n  age: Int\n}\n\ntype Photo {\n  height: Int\n  width: Int\n}\n\ntype SearchQuery {\n  firstSearchResult: SearchResult\n}",
         4,
     ),
-    ("union SearchResult = Photo | Person", 1),
     ("union SearchResult =\n  | Photo\n  | Person", 1),
     ("enum Direction {\n  NORTH\n  EAST\n  SOUTH\n  WEST\n}", 1),
     ("input Point2D {\n  x: Float\n  y: Float\n}", 1),
+    ("input Example {\n  self: Example\n  value: String\n}", 1),
     (
         "input Example {\n  self: [Example!]!\n  value: String\n}",
         1,
     ),
-    ("input Example {\n  self: Example\n  value: String\n}", 1),
-    ("input Example {\n  self: Example!\n  value: String\n}", 1),
+    ("input Example {\n  value: String\n  self: Example!\n}", 1),
     (
         "input First {\n  second: Second!\n  value: String\n}\n\ninput Second {\n  first: First!\n  value: String\n}",
         2,
     ),
     ("input ExampleInputObject {\n  a: String\n  b: Int!\n}", 1),
-    // Directives (section 3.13).
+    // Directives (section 3.13); the first is the half of an example that is a type system document.
+    ("directive @example on FIELD", 1),
     (
         "directive @example on FIELD_DEFINITION | ARGUMENT_DEFINITION\n\ntype SomeType {\n  field(arg: Int @example): String @example\n}",
         2,
@@ -219,7 +242,6 @@ pub const TYPE_SYSTEM_EXAMPLES: &[RightRow] = &[
         "directive @include(if: Boolean!) on FIELD | FRAGMENT_SPREAD | INLINE_FRAGMENT",
         1,
     ),
-    ("directive @example on FIELD", 1),
     (
         "directive @deprecated(\n  reason: String = \"No longer supported\"\n) on FIELD_DEFINITION | ENUM_VALUE",
         1,
@@ -229,4 +251,19 @@ pub const TYPE_SYSTEM_EXAMPLES: &[RightRow] = &[
         1,
     ),
     ("directive @specifiedBy(url: String!) on SCALAR", 1),
+    (
+        "scalar UUID @specifiedBy(url: \"https://tools.ietf.org/html/rfc4122\")",
+        1,
+    ),
 ];
+
+// A directive and its use in one text (section 3.13): a document has one or the other, as each is read by a reader of its own.
+const BOTH: &str = "directive @example on FIELD\n\nfragment SomeFragment on SomeType {\n  field @example\n}";
+
+/// The example that is no executable document.
+pub const NO_DOCUMENT_EXAMPLES: &[WrongRow] =
+    &[(BOTH, 0, 0, 0, EXECUTABLE, "\"directive\"")];
+
+/// The example that is no type system document.
+pub const NO_TYPE_SYSTEM_EXAMPLES: &[WrongRow] =
+    &[(BOTH, 29, 2, 0, DEFINITION, "\"fragment\"")];

@@ -1,6 +1,8 @@
 //! The rows of the tables, each read and compared with what is wanted. A test tells all rows that are told otherwise.
 use crate::documents::repeated;
-use crate::example_rows::{DOCUMENT_EXAMPLES, TYPE_SYSTEM_EXAMPLES};
+use crate::example_rows::{
+    DOCUMENT_EXAMPLES, NO_DOCUMENT_EXAMPLES, NO_TYPE_SYSTEM_EXAMPLES, TYPE_SYSTEM_EXAMPLES,
+};
 use crate::production_rows::{
     DOCUMENTS, NESTED_DOCUMENTS, NO_DOCUMENTS, NestedRow, RightRow, WrongRow,
 };
@@ -165,6 +167,19 @@ fn examples_are_type_systems(rt: HostRuntime) {
     is_empty(
         &rt,
         right_otherwise(rt.alloc(), Reader::TypeSystem, TYPE_SYSTEM_EXAMPLES),
+    );
+}
+
+#[test]
+fn an_example_of_both_is_neither(rt: HostRuntime) {
+    let alloc = rt.alloc();
+    is_empty(
+        &rt,
+        wrong_otherwise(alloc, Reader::Document, NO_DOCUMENT_EXAMPLES),
+    );
+    is_empty(
+        &rt,
+        wrong_otherwise(alloc, Reader::TypeSystem, NO_TYPE_SYSTEM_EXAMPLES),
     );
 }
 

@@ -199,6 +199,7 @@ pub const NO_TOKENS: &[WrongRow] = &[
     ("{ a(x: 1_0) }", 8, 0, 8, NUMBER_END, "'_'"),
     ("{ a(x: 0x1) }", 8, 0, 8, NUMBER_END, "'x'"),
     ("{ a(x: 0xF1) }", 8, 0, 8, NUMBER_END, "'x'"),
+    ("{ a(x: 0b10) }", 8, 0, 8, NUMBER_END, "'b'"),
     ("{ a(x: 0x1.2p3) }", 8, 0, 8, NUMBER_END, "'x'"),
     ("{ a(x: 123L) }", 10, 0, 10, NUMBER_END, "'L'"),
     ("{ a(x: 1.5x) }", 10, 0, 10, NUMBER_END, "'x'"),

@@ -1,12 +1,13 @@
 -- Operations that define no variable, of which nothing is reported.
-use Rattle.std.proofs.Common.{◌≡◌, ℕ, List, [], ◌∷◌, Option, None, option_copied, length, refl, ap, sym, ◌∙◌, subst}
+use Rattle.std.proofs.Common.{◌≡◌, ℕ, List, [], ◌∷◌, Option, Some, None, option_copied, length, true, cond, refl, ap, sym, ◌∙◌, subst}
 use denote.Ref.{Bor}
 use Rattle.std.specs.BTreeMap.{BTreeMap, btree_map_len, is_at}
-use Rattle.std.specs.Cmp.Lexicographic.{slice_cmp}
+use Rattle.std.specs.Cmp.Lexicographic.{slice_cmp, nat_list_eq_equiv}
 use Rattle.std.specs.List.{flat_map}
 use Rattle.std.specs.Map.{lookup}
 use Rattle.std.specs.Ordering.{nat_cmp}
 use Rattle.std.proofs.lemmas.List.{nil_from_length}
+use Rattle.std.proofs.lemmas.Map.Text.{is_eq-slice_cmp}
 use Rattle.language.specs.declared.tree.Definition.{Definition}
 use Rattle.meta.specs.declared.kinds.MetaTypeOf.{MetaTypeOf}
 use Rattle.reachability.specs.Reach.{operation}
@@ -27,6 +28,18 @@ use Rattle.variable_positions.specs.declared.first_variables.FirstVariables.{Fir
 -- a map without entries keeps no definition
 pub keeps_none : {S : Type 0} (f : FirstVariables S) → btree_map_len f.entries ≡ 0 → KeepsFirst [] f
 keeps_none f e variable = ap (λ es. option_copied (lookup (is_at (λ k. slice_cmp nat_cmp variable k.now)) es)) (nil_from_length f.entries.entries e)
+
+-- where no name has a definition there is no entry, since each entry's own name has one
+no_entries : {S : Type 0} (entries : List (Bor (List ℕ) × Bor (VariableEntry S))) → ((variable : List ℕ) → option_copied (lookup (is_at (λ k. slice_cmp nat_cmp variable k.now)) entries) ≡ None) → length entries ≡ 0
+no_entries [] none = refl
+no_entries ((k, v) ∷ entries) none =
+    let found : is_at (λ (n : Bor (List ℕ)). slice_cmp nat_cmp k.now n.now) k ≡ true = is_eq-slice_cmp k.now k.now ∙ nat_list_eq_equiv.refl k.now in
+    let kept = ap (λ b. option_copied (cond b (Some v) (lookup (is_at (λ n. slice_cmp nat_cmp k.now n.now)) entries))) found in
+    let missing = none k.now in
+    cc
+
+pub kept_none : {S : Type 0} (f : FirstVariables S) → KeepsFirst [] f → btree_map_len f.entries ≡ 0
+kept_none f none = no_entries f.entries.entries none
 
 -- where each gives nothing all of them do
 each_nothing : {O R : Type 0} (gives : O → List R → Type 0) (os : List O) → ((o : O) → gives o []) → EachGives gives os []

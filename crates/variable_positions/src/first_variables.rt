@@ -1,6 +1,7 @@
 //! The first definition of each variable, where the operations of one name add up.
 
-ghost use Rattle.std.specs.Prelude.{◌≡◌, ◌∷◌, [], IfOk, IsTrue, OnOk, option_copied};
+ghost use Rattle.std.specs.Prelude.{◌≡◌, ◌∷◌, [], IfOk, OnOk, option_copied};
+ghost use Rattle.std.specs.Bool.{Decides};
 ghost use Rattle.std.specs.List.{flat_map};
 ghost use Rattle.variable_positions.specs.DefinedVariables.{variables_at, variables_in};
 ghost use Rattle.variable_positions.specs.FirstVariables.{kept_first, KeepsFirst, Notes};
@@ -32,7 +33,7 @@ impl<'a, S> FirstVariables<'a, S> {
 
     /// Whether no variable is defined.
     pub fn is_empty(&self) -> bool
-        ensures { IsTrue result → KeepsFirst [] self.now }
+        ensures { Decides result (KeepsFirst [] self.now) }
     {
         self.entries.is_empty()
     }

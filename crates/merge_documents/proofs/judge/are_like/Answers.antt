@@ -1,4 +1,4 @@
-use Rattle.std.proofs.Common.{map, subst, take}
+use Rattle.std.proofs.Common.{map, refl, subst, take}
 use Rattle.std.proofs.lemmas.List.{take_all}
 use Rattle.std.proofs.lemmas.List.Elements.{All-more}
 use Rattle.merging.specs.declared.node.Entry.{Entry}
@@ -10,7 +10,7 @@ use Rattle.merge_documents.proofs.judge.are_like.Goals as goal
 
 pub loop-other-preserved : goal.loop-other-preserved
 loop-other-preserved g c =
-    All-more (λ (a : Entry). AreAlikeAt (map plain c.args.fields.now) c.args.one a.field) c.args.others.now c.loop-other.other-index no_entry c.loop-other-test.true c.loop-other.invariant c.if-not-are_alike_at.ensures
+    All-more (λ (a : Entry). AreAlikeAt (map plain c.args.fields.now) c.args.one a.field) c.args.others.now c.loop-other.other-index no_entry c.loop-other-test.true c.loop-other.invariant (c.if-not-are_alike_at.ensures.0 refl)
 
 pub returns : goal.returns
 returns g c =

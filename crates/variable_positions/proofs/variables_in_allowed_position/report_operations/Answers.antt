@@ -17,7 +17,7 @@ returns-then-is_empty-clause-ok g c =
     let name = option_map (λ n. n.now) c.args.name in
     let own = own_variables document index c.requires.index name c.operation_places-own.result.now c.operation_places-own.ensures in
     let none : (v : List ℕ) → first_of (variables_of document name) v ≡ None =
-    λ v. ap (λ ds. first_of ds v) (sym own) ∙ sym (c.in_ok-variables.ensures v) ∙ c.is_empty.ensures c.if-is_empty.true v
+    λ v. ap (λ ds. first_of ds v) (sym own) ∙ sym (c.in_ok-variables.ensures v) ∙ c.is_empty.ensures.0 c.if-is_empty.true v
     in (
       [],
       none_misplaced document index c.requires.index name w.schema.types (use_values c.args.uses.now) none,
