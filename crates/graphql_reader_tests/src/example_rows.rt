@@ -102,10 +102,7 @@ pub const DOCUMENT_EXAMPLES: &[RightRow] = &[
     ("{\n  foo @skip(if: true)\n  bar\n  foo\n}", 1),
     ("{\n  name\n  picture(size: 600)\n}", 1),
     ("{\n  entity {\n    name\n  }\n  phoneNumber\n}", 1),
-    (
-        "{\n  entity {\n    name\n    age\n  }\n  phoneNumber\n}",
-        1,
-    ),
+    ("{\n  entity {\n    name\n    age\n  }\n  phoneNumber\n}", 1),
     (
         "{\n  entity {\n    name\n    ... on Person {\n      age\n    }\n  }\n  phoneNumber\n}",
         1,
@@ -258,12 +255,11 @@ pub const TYPE_SYSTEM_EXAMPLES: &[RightRow] = &[
 ];
 
 // A directive and its use in one text (section 3.13): a document has one or the other, as each is read by a reader of its own.
-const BOTH: &str = "directive @example on FIELD\n\nfragment SomeFragment on SomeType {\n  field @example\n}";
+const BOTH: &str =
+    "directive @example on FIELD\n\nfragment SomeFragment on SomeType {\n  field @example\n}";
 
 /// The example that is no executable document.
-pub const NO_DOCUMENT_EXAMPLES: &[WrongRow] =
-    &[(BOTH, 0, 0, 0, EXECUTABLE, "\"directive\"")];
+pub const NO_DOCUMENT_EXAMPLES: &[WrongRow] = &[(BOTH, 0, 0, 0, EXECUTABLE, "\"directive\"")];
 
 /// The example that is no type system document.
-pub const NO_TYPE_SYSTEM_EXAMPLES: &[WrongRow] =
-    &[(BOTH, 29, 2, 0, DEFINITION, "\"fragment\"")];
+pub const NO_TYPE_SYSTEM_EXAMPLES: &[WrongRow] = &[(BOTH, 29, 2, 0, DEFINITION, "\"fragment\"")];
