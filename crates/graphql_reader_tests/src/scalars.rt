@@ -67,8 +67,8 @@ const STRINGS: &[(&str, &str)] = &[
         "Hello,\n  World!\n\nYours,\n  GraphQL.",
     ),
     (
-        "\"\"\"\nThis starts with and ends with an empty new line,\nwhich makes it easier to read.\n\"\"\"",
-        "This starts with and ends with an empty new line,\nwhich makes it easier to read.",
+        "\"\"\"\nThis starts with and ends with an empty line,\nwhich makes it easier to read.\n\"\"\"",
+        "This starts with and ends with an empty line,\nwhich makes it easier to read.",
     ),
     (
         "\"\"\"This does not start with or end with any empty lines,\nwhich makes it a little harder to read.\"\"\"",
