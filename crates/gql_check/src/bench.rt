@@ -1,5 +1,5 @@
 //! The bench: what the program writes for words and an input, over memory.
-use crate::program::run;
+use check_run::program::run;
 use std::alloc::Global;
 use std::test::Fail;
 

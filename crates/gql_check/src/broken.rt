@@ -1,6 +1,6 @@
 //! Runs in which memory, a read or a write is refused.
-use crate::program::{run, tell};
 use crate::words_failure;
+use check_run::program::{run, tell};
 use std::alloc::{AllocError, Global};
 use std::io::{self, Read, Write};
 use std::test::Fail;

@@ -5,13 +5,11 @@
 mod bench;
 #[cfg(test)]
 mod broken;
-mod failure;
 #[cfg(test)]
 mod merge_bench;
-mod program;
-mod report;
 
-use crate::failure::Failure;
+use check_run::failure::Failure;
+use check_run::program;
 use std::alloc::Global;
 use std::env::{self, Env};
 use std::io;

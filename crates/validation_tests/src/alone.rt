@@ -1,7 +1,6 @@
 //! Rules that are tried alone on a text.
 
 use crate::pets::schema;
-use crate::told::told_by_one;
 use document_reader::read_document;
 use std::alloc::Global;
 use validation::ast::Definition;
@@ -10,6 +9,7 @@ use validation::rules::{
     variables_are_input_types,
 };
 use validation::{DefaultScalarValue, OutOfMemory, SchemaType};
+use validation_examples::told::told_by_one;
 
 /// A rule.
 #[derive(Clone, Copy)]

@@ -3,10 +3,8 @@
 
 #[cfg(test)]
 mod alone;
-pub mod linter;
 #[cfg(test)]
 mod looked;
-pub mod made_types;
 #[cfg(test)]
 mod pets;
 #[cfg(test)]
@@ -15,7 +13,5 @@ mod roots;
 mod rows;
 #[cfg(test)]
 mod sized_types;
-pub mod told;
-pub mod values_after;
 #[cfg(test)]
 mod values_rows;

@@ -1,12 +1,12 @@
 //! A root node allows introspection or forbids it.
 
 use crate::pets::schema;
-use crate::told::lines;
 use document_reader::read_document;
 use std::alloc::Global;
 use std::process::Abort;
 use validation::ast::Definition;
 use validation::{DefaultScalarValue, OutOfMemory, RootNode};
+use validation_examples::told::lines;
 
 const TEXT: &str = "{ __schema { queryType { name } } dog { ...A } }";
 

@@ -1,12 +1,12 @@
 //! What each document is told by all rules, and by those that a linter chose.
 
-use crate::linter::{try_spreads, try_spreads_and_operations};
 use crate::pets::schema;
-use crate::told::told_by_all;
 use document_reader::{ReadError, read_document};
 use std::alloc::Global;
 use validation::ast::Definition;
 use validation::{CheckedScalar, OutOfMemory, SchemaType, ValidatorContext};
+use validation_examples::linter::{try_spreads, try_spreads_and_operations};
+use validation_examples::told::told_by_all;
 
 /// A text, what it is told by all rules, and how many errors two walks of a linter append: with one rule, and with two.
 const ROWS: [(&str, &str, (usize, usize)); 5] = [

@@ -1,10 +1,10 @@
 //! Values against types with an expected size, which no document writes.
 
-use crate::made_types::fault_of;
 use crate::pets;
 use std::alloc::Global;
 use validation::parser::{SourcePosition, Span, Spanning};
 use validation::{DefaultScalarValue, InputValue, OutOfMemory, SchemaType, Type};
+use validation_examples::made_types::fault_of;
 
 type Value = InputValue<DefaultScalarValue>;
 

@@ -1,12 +1,12 @@
 //! Values for the variables of documents that a validation passes, and of one that it does not.
 
 use crate::pets::schema;
-use crate::told::lines;
-use crate::values_after::values_after;
 use document_reader::read_document;
 use language::value::Variables;
 use std::alloc::Global;
 use validation::{CheckedScalar, Definition, OutOfMemory, SchemaType};
+use validation_examples::told::lines;
+use validation_examples::values_after::values_after;
 
 /// A document, and what is said of its first operation where no value is given for its variable.
 const ROWS: [(&str, &str); 3] = [

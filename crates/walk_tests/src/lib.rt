@@ -1,10 +1,8 @@
-//! Tests of the crate `walk`: errors, walks over every kind of node, a rule that keeps nodes, and a linter.
+//! Tests of the crate `walk`: errors, walks over every kind of node, and a rule that keeps nodes.
 #![tactic(auto)]
 
 #[cfg(test)]
 mod errors;
-pub mod kept_fields;
-pub mod linter;
 #[cfg(test)]
 mod recorder;
 #[cfg(test)]

@@ -1,6 +1,5 @@
 //! A walk over every kind of node, and the calls of a context.
 
-use crate::kept_fields::count_and_free;
 use crate::recorder::{Recorder, show_types};
 use crate::sample::{DOCUMENT, sample_schema};
 use document_reader::read_document;
@@ -13,6 +12,7 @@ use schema::model::SchemaType;
 use std::alloc::Global;
 use std::process::Abort;
 use walk::{MultiVisitorCons, MultiVisitorNil, RuleError, ValidatorContext, visit, visit_rules};
+use walk_examples::kept_fields::count_and_free;
 
 /// The walk over the sample. An event of a node is followed by the type at the node, that type as it is written, the parent
 /// type, and the type of the input as it is written; a stroke stands for none.

@@ -1,0 +1,7 @@
+//! What users of `validation` write over it: a linter, a list of the errors as texts, values that are judged after a validation, and values against types with sizes.
+#![tactic(auto)]
+
+pub mod linter;
+pub mod made_types;
+pub mod told;
+pub mod values_after;
