@@ -5,7 +5,7 @@ ghost use Rattle.walk.specs.ContextState.{typing, scope_of};
 ghost use Rattle.walk.specs.Entering.{keeping_step, kept_to, nothing_on_the_way};
 ghost use Rattle.walk.specs.Names.{fragment_names};
 ghost use Rattle.walk.proofs.Entering.{keeping_keeps_to};
-ghost use Rattle.walk_examples.specs.KeptFields.{fields_kept, fields_of, next_fields};
+ghost use Rattle.walk_examples.specs.KeptFields.{field_count, fields_kept, fields_of, next_fields};
 
 use language::error::OutOfMemory;
 use language::position::Spanning;
@@ -75,7 +75,9 @@ fn count_lent<'a, S: CheckedScalar>(
     alloc: Global,
     schema: &'a SchemaType<S>,
     document: &'a [Definition<'_, S>],
-) -> Result<usize, OutOfMemory> {
+) -> Result<usize, OutOfMemory>
+    ensures { IfOk result (λ count. count ≡ field_count schema.now document.now) }
+{
     let mut ctx = ValidatorContext::new(alloc, schema, document)?;
     count_fields(&mut ctx, document)
 }
@@ -85,7 +87,9 @@ pub fn count_and_free<S: CheckedScalar>(
     alloc: Global,
     schema: &SchemaType<S>,
     document: Vec<Definition<'_, S>>,
-) -> Result<usize, OutOfMemory> {
+) -> Result<usize, OutOfMemory>
+    ensures { IfOk result (λ count. count ≡ field_count schema.now document.entry.items) }
+{
     let count = count_lent(alloc, schema, document.as_slice())?;
     drop(document);
     Ok(count)
