@@ -1,8 +1,15 @@
 //! Values against types that a schema makes.
 
+ghost use Rattle.std.specs.Prelude.{IfOk, string_bytes};
+ghost use Rattle.language.specs.Types.{shape};
+ghost use Rattle.language.specs.ValuesPrinted.{printed_value};
+ghost use Rattle.literals.specs.Judged.{written_type};
+ghost use Rattle.validation_examples.specs.MadeTypes.{SaysFault};
+
 use std::alloc::Global;
 use validation::{
-    DefaultScalarValue, InputValue, OutOfMemory, SchemaType, Type, validate_literal_value,
+    CheckedScalar, DefaultScalarValue, InputValue, OutOfMemory, ScalarValue, SchemaType, Type,
+    validate_literal_value,
 };
 
 /// The fault of a value against a type of the schema that is written so, as a text.
@@ -11,7 +18,9 @@ pub fn fault_of(
     schema: &SchemaType<DefaultScalarValue>,
     wanted: &Type,
     value: &InputValue<DefaultScalarValue>,
-) -> Result<String, OutOfMemory> {
+) -> Result<String, OutOfMemory>
+    ensures { IfOk result (λ said. SaysFault ⟦<DefaultScalarValue as CheckedScalar>⟧.may_answer (printed_value ⟦<DefaultScalarValue as ScalarValue>⟧.text ⟦<DefaultScalarValue as ScalarValue>⟧.str_of) schema.now value.now (written_type schema.now (shape wanted.now)) (string_bytes said)) }
+{
     let named = wanted.as_borrowed();
     if !schema.is_known(named.innermost_name()) {
         return Ok(String::from_str(alloc, "unknown type")?);

@@ -1,5 +1,9 @@
 //! What is told of documents, as texts.
 
+ghost use Rattle.std.specs.Prelude.{◌≡◌, IfOk, string_bytes};
+ghost use Rattle.language.specs.ValuesPrinted.{printed_value};
+ghost use Rattle.validation_examples.specs.Told.{TellsAll, TellsVisit, error_lines};
+
 use language::error::OutOfMemory;
 use language::tree::Definition;
 use meta::check::CheckedScalar;
@@ -9,7 +13,9 @@ use validation::rules::visit_all_rules;
 use validation::{MultiVisitorNil, RuleError, ValidatorContext, Visitor, visit};
 
 /// The errors, a line each.
-pub fn lines(alloc: Global, errors: Vec<RuleError>) -> Result<String, OutOfMemory> {
+pub fn lines(alloc: Global, errors: Vec<RuleError>) -> Result<String, OutOfMemory>
+    ensures { IfOk result (λ told. string_bytes told ≡ error_lines errors.items) }
+{
     let mut told = String::new(alloc);
     for error in errors {
         writeln!(told, "{error}")?;
@@ -22,7 +28,9 @@ pub fn told_by_all<'a, S: CheckedScalar>(
     alloc: Global,
     schema: &'a SchemaType<S>,
     document: &'a [Definition<'_, S>],
-) -> Result<String, OutOfMemory> {
+) -> Result<String, OutOfMemory>
+    ensures { IfOk result (λ told. TellsAll S.may_answer (printed_value S.text S.str_of) S.eq schema.now document.now (string_bytes told)) }
+{
     let mut ctx = ValidatorContext::new(alloc, schema, document)?;
     let compared = visit_all_rules(&mut ctx, document)?;
     let mut told = lines(alloc, ctx.into_errors()?)?;
@@ -36,7 +44,9 @@ pub fn told_by_one<'a, S: CheckedScalar, V: Visitor<'a, S> + Drop>(
     schema: &'a SchemaType<S>,
     rule: V,
     document: &'a [Definition<'_, S>],
-) -> Result<String, OutOfMemory> {
+) -> Result<String, OutOfMemory>
+    ensures { IfOk result (λ told. TellsVisit V.step rule schema.now document.now (string_bytes told)) }
+{
     let mut ctx = ValidatorContext::new(alloc, schema, document)?;
     let mut rules = MultiVisitorNil.with(rule);
     visit(&mut rules, &mut ctx, document)?;

@@ -1,7 +1,11 @@
 //! Values of variables, judged after a validation that reported nothing, with no other check of the operation.
 
+ghost use Rattle.std.specs.Prelude.{◌≡◌, IfNone, IfOk, IfSome, option_copied};
+ghost use Rattle.validation_examples.specs.ValuesAfter.{FaultsAfter, NothingToJudge, first_operation};
+
 use language::error::OutOfMemory;
-use language::tree::Definition;
+use language::position::Spanning;
+use language::tree::{Definition, Operation};
 use language::value::Variables;
 use meta::check::CheckedScalar;
 use schema::model::SchemaType;
@@ -15,16 +19,29 @@ pub fn values_after<'a, 't, S: CheckedScalar>(
     schema: &'a SchemaType<S>,
     document: &'a [Definition<'t, S>],
     values: &Variables<S>,
-) -> Result<Option<Vec<RuleError>>, OutOfMemory> {
+) -> Result<Option<Vec<RuleError>>, OutOfMemory>
+    ensures judged { IfOk result (λ answer. IfSome answer (λ errors. FaultsAfter S.may_answer S.text S.str_of S.eq schema.now document.now values.now errors.items)) }
+    ensures nothing { IfOk result (λ answer. IfNone answer (NothingToJudge S.may_answer S.text S.str_of S.eq schema.now document.now)) }
+{
     let mut ctx = ValidatorContext::new(alloc, schema, document)?;
     visit_all_rules(&mut ctx, document)?;
     if ctx.has_errors() {
         return Ok(None);
     }
+    match first_operation(document) {
+        Some(operation) => { Ok(Some(validate_input_values(alloc, values, operation, schema)?)) }
+        None => Ok(None),
+    }
+}
+
+// The operation that a document begins with.
+fn first_operation<'d, 't, S>(
+    document: &'d [Definition<'t, S>],
+) -> Option<&'d Spanning<Operation<'t, S>>>
+    ensures { option_copied result ≡ first_operation document.now }
+{
     match document.first() {
-        Some(Definition::Operation(operation)) => {
-            Ok(Some(validate_input_values(alloc, values, operation, schema)?))
-        }
-        _ => Ok(None),
+        Some(Definition::Operation(operation)) => Some(operation),
+        Some(Definition::Fragment(_)) | None => None,
     }
 }

@@ -1,0 +1,3 @@
+pub mod MadeTypes
+pub mod Told
+pub mod ValuesAfter
