@@ -1,5 +1,5 @@
 -- Which task the words ask for.
-use Rattle.std.specs.Prelude.{◌≡◌, ◌⊎◌, [], Bool, false, List, String, codes, map, option_map, string_bytes, unwrap_or}
+use Rattle.std.specs.Prelude.{◌≡◌, ◌+◌, ◌⊎◌, ℕ, [], Bool, false, List, String, codes, cond, count_by, map, option_map, string_bytes, unwrap_or}
 use Rattle.std.specs.declared.alloc.Global.{Global}
 use Rattle.std.specs.Borrow.{Bor}
 use Rattle.std.specs.Option.{option_map_or}
@@ -34,6 +34,19 @@ pub record IsOfRows (rows : List Row) (task : Task) : Type 0 where
   pub json : task.is_json ≡ is_value (codes "format") (codes "json") rows
   pub closed : task.is_closed ≡ is_value (codes "closed") (codes "true") rows
   pub together : task.is_together ≡ is_value (codes "together") (codes "true") rows
+
+-- a path that stands for the standard input
+abbrev pub is_input : Text → Bool
+is_input path = bytes_eq path (codes "-")
+
+-- how many of some paths do
+abbrev pub inputs_among : List (Bor Text) → ℕ
+inputs_among = count_by (λ path. is_input path.now)
+
+-- how often a task names it
+abbrev pub input_count : Task → ℕ
+input_count task =
+    (inputs_among task.schemas.items + inputs_among task.queries.items) + option_map_or (λ path. cond (is_input path.now) 1 0) task.variables 0
 
 -- the words have no fault, and the task has what they match
 pub record AsksFor (words : List Text) (task : Task) : Type 0 where

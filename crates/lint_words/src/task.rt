@@ -1,8 +1,8 @@
 //! What the words ask for.
-ghost use Rattle.std.specs.Prelude.{◌≡◌, IfErr, IfOk};
+ghost use Rattle.std.specs.Prelude.{◌≡◌, ◌+◌, ◌-◌, ◌^◌, IfErr, IfOk, cond, min};
 ghost use Rattle.clap.specs.Walk.{texts};
 ghost use Rattle.clap.specs.Words.{found_of, rows_of};
-ghost use Rattle.lint_words.specs.Asks.{AsksFor, IsRefusal, files_of, is_value, word_texts};
+ghost use Rattle.lint_words.specs.Asks.{AsksFor, IsRefusal, files_of, input_count, inputs_among, is_input, is_value, word_texts};
 
 use crate::command_line::command_line;
 use clap::{ArgMatches, Error};
@@ -45,12 +45,16 @@ impl<'w> Task<'w> {
         })
     }
 
-    /// How often the words name the standard input.
-    pub fn inputs(&self) -> usize {
-        let schemas = inputs_of(self.schemas.as_slice());
-        let queries = inputs_of(self.queries.as_slice());
-        let variables: usize = if self.variables == Some(INPUT) { 1 } else { 0 };
-        schemas.saturating_add(queries).saturating_add(variables)
+    /// How often the words name the standard input, or the largest number where that is more.
+    pub fn inputs(&self) -> usize
+        ensures { result ≡ min (input_count self.now) (2 ^ 64 - 1) }
+    {
+        let files = inputs_among(self.schemas.as_slice(), 0);
+        let files = inputs_among(self.queries.as_slice(), files);
+        match self.variables {
+            Some(path) => inputs_with(path, files),
+            None => files,
+        }
     }
 }
 
@@ -74,6 +78,24 @@ fn is_value(matches: &ArgMatches<'_>, id: &str, value: &str) -> bool
     matches.get_str(id) == Some(value)
 }
 
-fn inputs_of(paths: &[&str]) -> usize {
-    paths.iter().filter(|path| **path == INPUT).count()
+// One more where the path stands for the standard input.
+fn inputs_with(path: &str, before: usize) -> usize
+    ensures { result ≡ min (before + cond (is_input path.now) 1 0) (2 ^ 64 - 1) }
+{
+    if path == INPUT {
+        before.saturating_add(1)
+    } else {
+        before
+    }
+}
+
+// As many more as paths stand for the standard input.
+fn inputs_among(paths: &[&str], before: usize) -> usize
+    ensures { result ≡ min (before + inputs_among paths.now) (2 ^ 64 - 1) }
+{
+    let mut found = before;
+    for path in paths {
+        found = inputs_with(*path, found);
+    }
+    found
 }
