@@ -37,7 +37,8 @@ impl<'a> FirstPlaces<'a> {
         }
     }
 
-    /// Notes a name at a place, and answers the place where it was noted first, if it was noted before.
+    /// Notes a name at a place, and answers the place where it was noted first, if it was noted before. Mostly it is new, and
+    /// then one look at the map does.
     pub fn note(
         &mut self,
         name: &'a str,
@@ -46,12 +47,12 @@ impl<'a> FirstPlaces<'a> {
         ensures first { IfOk result (λ first. first ≡ places_of self.old name.now) }
         ensures kept { IfOk result (λ _. places_of self.new ≡ noted (places_of self.old) (name.now, place)) }
     {
-        match self.places.get(name) {
-            Some(first) => Ok(Some(*first)),
-            None => {
-                self.places.insert(name, place)?;
-                Ok(None)
+        match self.places.insert(name, place)? {
+            Some(first) => {
+                self.places.insert(name, first)?;
+                Ok(Some(first))
             }
+            None => Ok(None),
         }
     }
 }
