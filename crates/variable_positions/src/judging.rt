@@ -1,7 +1,8 @@
 //! Whether variables may stand where they are used.
 
-ghost use Rattle.std.specs.Prelude.{◌≡◌, IfOk, OnErr, string_bytes};
+ghost use Rattle.std.specs.Prelude.{◌≡◌, ◌↔◌, IfOk, IsTrue, OnErr, string_bytes};
 ghost use Rattle.language.specs.Types.{borrowed_shape, printed, shape};
+ghost use Rattle.schema.specs.Subtype.{IsSubtype};
 ghost use Rattle.walk.specs.Rule.{Appended};
 ghost use Rattle.walk.specs.Step.{KeepsPlace};
 ghost use Rattle.variable_positions.specs.TypedUses.{use_value};
@@ -13,6 +14,7 @@ use language::error::OutOfMemory;
 use language::tree::VariableDefinition;
 use language::types::{BorrowedType, Type};
 use meta::check::CheckedScalar;
+use schema::model::SchemaTypeOf;
 use std::alloc::{AllocError, Global};
 use walk::ValidatorContext;
 
@@ -28,6 +30,23 @@ fn type_in_use<S>(definition: &VariableDefinition<'_, S>) -> Result<Type, OutOfM
     }
 }
 
+// Whether the type that a variable has where it is used is below the one that is expected. Without a default value it is the
+// type as it is written, which needs no copy.
+fn is_below<S, C>(
+    schema: &SchemaTypeOf<S, C>,
+    definition: &VariableDefinition<'_, S>,
+    expected: BorrowedType<'_>,
+) -> Result<bool, OutOfMemory>
+    ensures { IfOk result (λ below. IsTrue below ↔ IsSubtype schema.now.types (type_in_use definition.now) (borrowed_shape expected.entry)) }
+{
+    if definition.default_value.is_none() {
+        let written = definition.var_type.item.as_borrowed();
+        return Ok(schema.is_subtype(written, expected));
+    }
+    let t = type_in_use(definition)?;
+    Ok(schema.is_subtype(t.as_borrowed(), expected))
+}
+
 /// Reports a use of a variable whose type is not below the one that is expected.
 pub fn judge<'a, S: CheckedScalar>(
     alloc: Global,
@@ -38,10 +57,11 @@ pub fn judge<'a, S: CheckedScalar>(
     ensures ok { IfOk result (λ _. Appended (Judged ctx.old.schema.types entry.now (use_value found.now)) ctx.old ctx.new) }
     ensures err { OnErr result (KeepsPlace ctx.old ctx.new) }
 {
-    let t = type_in_use(&entry.1)?;
-    if ctx.schema.is_subtype(t.as_borrowed(), found.expected) {
+    let below = is_below(ctx.schema, &entry.1, found.expected)?;
+    if below {
         return Ok(());
     }
+    let t = type_in_use(&entry.1)?;
     let message = error_message(alloc, found.variable, &t, found.expected)?;
     ctx.report_error(message.as_str(), &[entry.0.span.start, found.place])
 }

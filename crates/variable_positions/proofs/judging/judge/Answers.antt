@@ -8,14 +8,12 @@ use Rattle.variable_positions.specs.VariableInAllowedPosition.{position_error, p
 use Rattle.variable_positions.proofs.Giving.{false_true}
 use Rattle.variable_positions.proofs.judging.judge.Goals as goal
 
-pub returns-then-is_subtype-clause-ok : goal.returns-then-is_subtype-clause-ok
-returns-then-is_subtype-clause-ok g c =
+pub returns-then-below-clause-ok : goal.returns-then-below-clause-ok
+returns-then-below-clause-ok g c =
     let w = c.args.ctx.now in
-    let types = w.schema.types in
     let expected = borrowed_shape c.args.found.now.expected in
-    let same : borrowed_shape c.as_borrowed.result ≡ type_in_use c.args.entry.now.1 = c.as_borrowed.ensures ∙ c.in_ok-t.ensures in
-    let below = subst (λ z. IsSubtype z.types (borrowed_shape c.as_borrowed.result) expected) (ap (λ k. k.schema) c.ctx.view_is) (c.is_subtype.ensures.subtype.0 c.if-is_subtype.true) in
-    ([], inl (subst (λ z. IsSubtype types z expected) same below, refl), ap (λ zs. record w { errors = zs }) (sym (append-nil w.errors)))
+    let stands = subst (λ z. IsSubtype z.types (type_in_use c.args.entry.now.1) expected) (ap (λ k. k.schema) c.ctx.view_is) (c.in_ok-below.ensures.0 c.if-below.true) in
+    ([], inl (stands, refl), ap (λ zs. record w { errors = zs }) (sym (append-nil w.errors)))
 
 pub returns-clause-ok : goal.returns-clause-ok
 returns-clause-ok g c =
@@ -23,12 +21,11 @@ returns-clause-ok g c =
     let types = w.schema.types in
     let u = use_value c.args.found.now in
     let t = type_in_use c.args.entry.now.1 in
-    let same : borrowed_shape c.as_borrowed.result ≡ t = c.as_borrowed.ensures ∙ c.in_ok-t.ensures in
     let said : c.as_str.result.now ≡ position_message u.variable (printed t) (printed u.expected) =
     c.as_str.ensures.value ∙ c.in_ok-message.ensures ∙ ap (λ z. position_message u.variable (printed z) (printed u.expected)) c.in_ok-t.ensures
     in
-    let not_below : IsSubtype types t u.expected → ⊥ = λ below.
-    false_true (sym c.if-is_subtype.false ∙ c.is_subtype.ensures.subtype.1 (subst (λ z. IsSubtype z.types (borrowed_shape c.as_borrowed.result) u.expected) (sym (ap (λ k. k.schema) c.ctx.view_is)) (subst (λ z. IsSubtype types z u.expected) (sym same) below)))
+    let not_below : IsSubtype types t u.expected → ⊥ = λ stands.
+    false_true (sym c.if-below.false ∙ c.in_ok-below.ensures.1 (subst (λ z. IsSubtype z.types t u.expected) (sym (ap (λ k. k.schema) c.ctx.view_is)) stands))
     in
     IfOk-weaker c.report_error.result _ _
     (λ _ e. (
