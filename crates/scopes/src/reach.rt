@@ -15,11 +15,14 @@ use reachability::reached::add_operation;
 use reachability::search::{explore, forget};
 use std::alloc::{AllocError, Global};
 
-/// What a search notes, kept so that many may be made: no fragment is noted between two of them.
+/// What a search notes, kept so that many may be made: no fragment is noted between two of them. Its lists keep their memory for
+/// the next.
 #[derive(Drop)]
 pub struct Search {
     order: Vec<usize>,
     marks: Vec<bool>,
+    starts: Vec<Spread>,
+    found: Vec<usize>,
 }
 
 /// A search of a document's scopes.
@@ -29,7 +32,16 @@ pub fn new_search(alloc: Global, index: &ScopeIndex<'_>) -> Result<Search, Alloc
     Ok(Search {
         order: Vec::new(alloc),
         marks: vec![in alloc; false; index.graph.nodes.len()]?,
+        starts: Vec::new(alloc),
+        found: Vec::new(alloc),
     })
+}
+
+/// The places that were found last.
+pub fn found_places(search: &Search) -> &[usize]
+    ensures { result.now ≡ search.now.found.items }
+{
+    search.found.as_slice()
 }
 
 // Adds the spreads inside the operation at a place.
@@ -47,20 +59,20 @@ fn add_spreads_at<S>(
     }
 }
 
-// The spreads inside the operations at these places.
-fn spreads_inside<S>(
-    alloc: Global,
+// Lists the spreads inside the operations at these places, and no others.
+fn list_spreads<S>(
     document: &[Definition<'_, S>],
     numbers: &Numbers<'_>,
     places: &[usize],
-) -> Result<Vec<Spread>, AllocError>
-    ensures { IfOk result (λ v. v.items ≡ map (resolved numbers.now) (flat_map (spreads_at document.now) places.now)) }
+    found: &mut Vec<Spread>,
+) -> Result<(), AllocError>
+    ensures { OnOk result (found.new.items ≡ map (resolved numbers.now) (flat_map (spreads_at document.now) places.now)) }
 {
-    let mut found = Vec::new(alloc);
+    found.clear();
     for place in places {
-        add_spreads_at(document, numbers, *place, &mut found)?;
+        add_spreads_at(document, numbers, *place, found)?;
     }
-    Ok(found)
+    Ok(())
 }
 
 // Adds the places of the fragment of a number.
@@ -88,30 +100,42 @@ fn add_fragments(
     Ok(())
 }
 
-/// The places of the definitions that the operations of a name reach, each once. Each scope that is reached is looked at once.
+// Lists these places and those of the fragments of these numbers, and no others.
+fn list_places(
+    index: &ScopeIndex<'_>,
+    own: &[usize],
+    order: &[usize],
+    places: &mut Vec<usize>,
+) -> Result<(), AllocError>
+    ensures { OnOk result (places.new.items ≡ own.now ++ flat_map (fragment_places index.now) order.now) }
+{
+    places.clear();
+    places.extend_from_slice(own)?;
+    add_fragments(index, order, places)
+}
+
+/// Finds the places of the definitions that the operations of a name reach, each once. Each scope that is reached is looked at once.
 pub fn reached_definitions<S>(
-    alloc: Global,
     document: &[Definition<'_, S>],
     index: &ScopeIndex<'_>,
     search: &mut Search,
     name: Option<&str>,
-) -> Result<Vec<usize>, AllocError>
+) -> Result<(), AllocError>
     requires index { IsIndexOf document.now index.now }
     requires ready { IsReady index.now search.old }
-    ensures reached { IfOk result (λ places. InReach document.now (option_map (λ n. n.now) name.entry) places.items) }
+    ensures reached { OnOk result (InReach document.now (option_map (λ n. n.now) name.entry) search.new.found.items) }
     ensures ready { OnOk result (IsReady index.now search.new) }
 {
     let own = operation_places(&index.places, name);
-    let starts = spreads_inside(alloc, document, &index.graph.numbers, own)?;
+    list_spreads(document, &index.graph.numbers, own, &mut search.starts)?;
     let nodes = index.graph.nodes.as_slice();
     explore(
         nodes,
-        starts.as_slice(),
+        search.starts.as_slice(),
         &mut search.order,
         &mut search.marks,
     )?;
-    let mut places = own.to_vec(alloc)?;
-    add_fragments(index, search.order.as_slice(), &mut places)?;
+    list_places(index, own, search.order.as_slice(), &mut search.found)?;
     forget(&mut search.order, &mut search.marks);
-    Ok(places)
+    Ok(())
 }

@@ -23,7 +23,7 @@ use language::types::BorrowedType;
 use meta::check::CheckedScalar;
 use scopes::index::{ScopeIndex, index_scopes};
 use scopes::places::operation_places;
-use scopes::reach::{Search, new_search, reached_definitions};
+use scopes::reach::{Search, found_places, new_search, reached_definitions};
 pub use scopes::scope::Scope;
 use std::alloc::Global;
 use walk::{Event, Fresh, Machine, Rule, ValidatorContext, Visitor};
@@ -212,8 +212,8 @@ fn report_operations<'a, S: CheckedScalar>(
     if variables.is_empty() {
         return Ok(());
     }
-    let places = reached_definitions(alloc, document, index, search, name)?;
-    report_places(alloc, ctx, &variables, uses, places.as_slice())
+    reached_definitions(document, index, search, name)?;
+    report_places(alloc, ctx, &variables, uses, found_places(search))
 }
 
 // Reports the uses in what the operations of each of these names reach.

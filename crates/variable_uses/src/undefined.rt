@@ -12,12 +12,11 @@ ghost use Rattle.variable_uses.specs.Undefined.{AddsUndefined, TellsUndefined, U
 
 use crate::document_index::{DocumentIndex, index_document};
 use crate::names::{is_named, name_set, variables};
-use crate::uses::{VariableUse, reached_uses};
+use crate::uses::{UseSearch, VariableUse, new_use_search, reached_uses};
 use language::error::OutOfMemory;
 use language::position::SourcePosition;
 use language::tree::Document;
 use scopes::index::{ScopeIndex, last_operation};
-use scopes::reach::{Search, new_search};
 use std::alloc::Global;
 use std::collections::BTreeSet;
 
@@ -75,21 +74,27 @@ fn add_undefined<'a, S>(
     index: &ScopeIndex<'a>,
     all: &[Vec<VariableUse<'a>>],
     name: Option<&'a str>,
-    search: &mut Search,
+    search: &mut UseSearch<'a>,
     found: &mut Vec<UndefinedVariable<'a>>,
 ) -> Result<(), OutOfMemory>
     requires index { IsIndexOf document.now index.now }
-    requires ready { IsReady index.now search.old }
+    requires ready { IsReady index.now search.old.search }
     requires all { AllUses document.now all.now }
     requires named { IsOperationName document.now (option_map (λ n. n.now) name) }
     ensures told { OnOk result (AddsUndefined document.now (option_map (λ n. n.now) name.entry) (map undefined_of found.old.items) (map undefined_of found.new.items)) }
-    ensures ready { OnOk result (IsReady index.now search.new) }
+    ensures ready { OnOk result (IsReady index.now search.new.search) }
 {
     match last_operation(document, index, name) {
         Some(last) => {
-            let uses = reached_uses(alloc, document, index, search, all, name)?;
+            reached_uses(document, index, search, all, name)?;
             let defined = name_set(alloc, variables(last))?;
-            tell_all(&defined, name, last.span.start, uses.as_slice(), found)
+            tell_all(
+                &defined,
+                name,
+                last.span.start,
+                search.uses.as_slice(),
+                found,
+            )
         }
         None => Ok(()),
     }
@@ -133,7 +138,7 @@ pub fn undefined_in<'a, S>(
     if !is_any_used(all) {
         return Ok(found);
     }
-    let mut search = new_search(alloc, scopes)?;
+    let mut search = new_use_search(alloc, scopes)?;
     for number in 0..scopes.names.len() {
         let name = scopes.names[number];
         add_undefined(alloc, document, scopes, all, name, &mut search, &mut found)?;

@@ -11,12 +11,11 @@ ghost use Rattle.variable_uses.specs.Unused.{AddsUnused, AddsVariable, DefinesNo
 
 use crate::document_index::{DocumentIndex, index_document};
 use crate::names::{is_named, used_names, variables};
-use crate::uses::{VariableUse, reached_uses};
+use crate::uses::{UseSearch, VariableUse, new_use_search, reached_uses};
 use language::error::OutOfMemory;
 use language::position::{Span, Spanning};
 use language::tree::{Document, VariableDefinition};
 use scopes::index::{ScopeIndex, last_operation};
-use scopes::reach::{Search, new_search};
 use std::alloc::Global;
 use std::collections::BTreeSet;
 
@@ -135,20 +134,20 @@ fn add_unused<'a, S>(
     index: &ScopeIndex<'a>,
     all: &[Vec<VariableUse<'a>>],
     name: Option<&'a str>,
-    search: &mut Search,
+    search: &mut UseSearch<'a>,
     found: &mut Vec<UnusedVariable<'a>>,
 ) -> Result<(), OutOfMemory>
     requires index { IsIndexOf document.now index.now }
-    requires ready { IsReady index.now search.old }
+    requires ready { IsReady index.now search.old.search }
     requires all { AllUses document.now all.now }
     requires named { IsOperationName document.now (option_map (λ n. n.now) name) }
     ensures told { OnOk result (AddsUnused document.now (option_map (λ n. n.now) name.entry) (map unused_of found.old.items) (map unused_of found.new.items)) }
-    ensures ready { OnOk result (IsReady index.now search.new) }
+    ensures ready { OnOk result (IsReady index.now search.new.search) }
 {
     match last_operation(document, index, name) {
         Some(last) => {
-            let uses = reached_uses(alloc, document, index, search, all, name)?;
-            let used = used_names(alloc, uses.as_slice())?;
+            reached_uses(document, index, search, all, name)?;
+            let used = used_names(alloc, search.uses.as_slice())?;
             let unused = unused_among(alloc, &used, variables(last))?;
             tell_all(unused.as_slice(), name, found)
         }
@@ -174,15 +173,15 @@ fn add_if_defined<'a, S>(
     index: &ScopeIndex<'a>,
     all: &[Vec<VariableUse<'a>>],
     name: Option<&'a str>,
-    search: &mut Search,
+    search: &mut UseSearch<'a>,
     found: &mut Vec<UnusedVariable<'a>>,
 ) -> Result<(), OutOfMemory>
     requires index { IsIndexOf document.now index.now }
-    requires ready { IsReady index.now search.old }
+    requires ready { IsReady index.now search.old.search }
     requires all { AllUses document.now all.now }
     requires named { IsOperationName document.now (option_map (λ n. n.now) name) }
     ensures told { OnOk result (AddsUnused document.now (option_map (λ n. n.now) name.entry) (map unused_of found.old.items) (map unused_of found.new.items)) }
-    ensures ready { OnOk result (IsReady index.now search.new) }
+    ensures ready { OnOk result (IsReady index.now search.new.search) }
 {
     if defines_none(document, index, name) {
         return Ok(());
@@ -213,7 +212,7 @@ pub fn unused_in<'a, S>(
 {
     let scopes = &index.scopes;
     let all = index.uses.as_slice();
-    let mut search = new_search(alloc, scopes)?;
+    let mut search = new_use_search(alloc, scopes)?;
     let mut found = Vec::new(alloc);
     for number in 0..scopes.names.len() {
         let name = scopes.names[number];

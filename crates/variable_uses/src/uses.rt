@@ -13,7 +13,7 @@ use language::tree::{
 };
 use language::value::InputValue;
 use scopes::index::ScopeIndex;
-use scopes::reach::{Search, reached_definitions};
+use scopes::reach::{Search, found_places, new_search, reached_definitions};
 use std::alloc::Global;
 
 /// A variable inside an argument's value, and where that value starts.
@@ -225,36 +225,55 @@ fn add_uses_at<'a>(
     }
 }
 
-// Those at these places.
-fn uses_at<'a>(
-    alloc: Global,
+// Lists those at these places, and no others.
+fn list_uses<'a>(
     all: &[Vec<VariableUse<'a>>],
     places: &[usize],
-) -> Result<Vec<VariableUse<'a>>, OutOfMemory>
-    ensures { IfOk result (λ v. map use_of v.items ≡ flat_map (kept_uses all.now) places.now) }
+    found: &mut Vec<VariableUse<'a>>,
+) -> Result<(), OutOfMemory>
+    ensures { OnOk result (map use_of found.new.items ≡ flat_map (kept_uses all.now) places.now) }
 {
-    let mut found = Vec::new(alloc);
+    found.clear();
     for place in places {
-        add_uses_at(all, *place, &mut found)?;
+        add_uses_at(all, *place, found)?;
     }
-    Ok(found)
+    Ok(())
 }
 
-/// The uses that the operations of a name reach.
-pub fn reached_uses<'a, S>(
+/// A search of a document's scopes, with the uses in what it found last. It keeps its memory for the next.
+#[derive(Drop)]
+pub struct UseSearch<'a> {
+    search: Search,
+    pub uses: Vec<VariableUse<'a>>,
+}
+
+/// A search that has found nothing.
+pub fn new_use_search<'a>(
     alloc: Global,
+    index: &ScopeIndex<'_>,
+) -> Result<UseSearch<'a>, OutOfMemory>
+    ensures { IfOk result (λ s. IsReady index.now s.search) }
+{
+    Ok(UseSearch {
+        search: new_search(alloc, index)?,
+        uses: Vec::new(alloc),
+    })
+}
+
+/// Finds the uses that the operations of a name reach.
+pub fn reached_uses<'a, S>(
     document: Document<'a, S>,
     index: &ScopeIndex<'a>,
-    search: &mut Search,
+    search: &mut UseSearch<'a>,
     all: &[Vec<VariableUse<'a>>],
     name: Option<&'a str>,
-) -> Result<Vec<VariableUse<'a>>, OutOfMemory>
+) -> Result<(), OutOfMemory>
     requires index { IsIndexOf document.now index.now }
-    requires ready { IsReady index.now search.old }
+    requires ready { IsReady index.now search.old.search }
     requires all { AllUses document.now all.now }
-    ensures used { IfOk result (λ v. UsedIn document.now (option_map (λ n. n.now) name.entry) (map use_of v.items)) }
-    ensures ready { OnOk result (IsReady index.now search.new) }
+    ensures used { OnOk result (UsedIn document.now (option_map (λ n. n.now) name.entry) (map use_of search.new.uses.items)) }
+    ensures ready { OnOk result (IsReady index.now search.new.search) }
 {
-    let places = reached_definitions(alloc, document, index, search, name)?;
-    uses_at(alloc, all, places.as_slice())
+    reached_definitions(document, index, &mut search.search, name)?;
+    list_uses(all, found_places(&search.search), &mut search.uses)
 }

@@ -13,11 +13,11 @@ returns-clause-reached g c =
     let doc = c.args.document.now in
     let index = c.args.index.now in
     let marks = c.explore.new.marks.items in
-    let starts = c.as_slice.ensures.value ∙ c.in_ok-starts.ensures ∙ ap (λ zs. map (resolved index.graph.numbers) (flat_map (spreads_at doc) zs)) c.operation_places-own.ensures in
-    in_reach doc index c.requires.index (option_map (λ n. n.now) c.args.name) c.explore.new.order.items c.add_fragments.new.places.items marks
+    let starts = c.as_slice.ensures.value ∙ c.in_ok-list_spreads.ensures ∙ ap (λ zs. map (resolved index.graph.numbers) (flat_map (spreads_at doc) zs)) c.operation_places-own.ensures in
+    in_reach doc index c.requires.index (option_map (λ n. n.now) c.args.name) c.explore.new.order.items c.list_places.new.places.items marks
     (subst (λ zs. MarksReached index.graph.nodes.items zs marks) starts
     (subst (λ zs. MarksReached zs c.as_slice.result.now marks) c.as_slice-nodes.ensures.value c.in_ok-explore.ensures.reached))
     c.in_ok-explore.ensures.listed
-    (c.in_ok-add_fragments.ensures
-    ∙ ap (λ zs. zs ++ flat_map (fragment_places index) c.as_slice-2.result.now) (c.in_ok-places.ensures.items_if_clones_equal (λ x y h. h) ∙ c.operation_places-own.ensures)
+    (c.in_ok-list_places.ensures
+    ∙ ap (λ zs. zs ++ flat_map (fragment_places index) c.as_slice-2.result.now) c.operation_places-own.ensures
     ∙ ap (λ zs. places_at index.graph.numbers index.places (operation (option_map (λ n. n.now) c.args.name)) ++ flat_map (fragment_places index) zs) c.as_slice-2.ensures.value)

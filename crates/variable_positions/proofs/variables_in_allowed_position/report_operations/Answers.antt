@@ -38,10 +38,10 @@ returns-clause-ok g c =
     (λ _ (es, p, e). (
       es,
       (
-        c.in_ok-places.places.items,
-        c.in_ok-places.ensures.reached,
-        subst (λ k. EachGives (λ place fs. UsesGive types k (uses_in uses place) fs) c.in_ok-places.places.items es) known
-            (subst (λ ps. EachGives (λ place fs. UsesGive types (kept_first c.in_ok-variables.variables) (uses_in uses place) fs) ps es) c.as_slice.ensures.value p),
+        c.reached_definitions.new.search.found.items,
+        c.in_ok-reached_definitions.ensures.reached,
+        subst (λ k. EachGives (λ place fs. UsesGive types k (uses_in uses place) fs) c.reached_definitions.new.search.found.items es) known
+            (subst (λ ps. EachGives (λ place fs. UsesGive types (kept_first c.in_ok-variables.variables) (uses_in uses place) fs) ps es) c.found_places.ensures p),
       ),
       e,
     ))

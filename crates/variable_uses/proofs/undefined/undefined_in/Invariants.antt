@@ -7,4 +7,4 @@ use Rattle.variable_uses.proofs.undefined.undefined_in.Given as goal
 
 -- the names that were seen are told of
 abbrev pub invariant-loop-number : goal.invariant-loop-number
-invariant-loop-number g l = InTurn (UndefinedIn l.document) (take l.number (operation_names l.index.scopes)) (map undefined_of l.found.items) × IsReady l.index.scopes l.search
+invariant-loop-number g l = InTurn (UndefinedIn l.document) (take l.number (operation_names l.index.scopes)) (map undefined_of l.found.items) × IsReady l.index.scopes l.search.search

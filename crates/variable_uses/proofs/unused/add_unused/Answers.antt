@@ -9,7 +9,7 @@ pub returns-in_ok-unused-in-Some-clause-told : goal.returns-in_ok-unused-in-Some
 returns-in_ok-unused-in-Some-clause-told g c =
     let last = c.in-Some.last.now in
     let name = option_map (λ n. n.now) c.args.name in
-    let us = map use_of c.in_ok-uses-in-Some.uses.items in
+    let us = map use_of c.reached_uses.new.search.uses.items in
     let vs = map name_and_span c.in_ok-unused-in-Some.unused.items in
     on_ok_weaker c.tell_all.result
     (λ e. (
@@ -18,7 +18,7 @@ returns-in_ok-unused-in-Some-clause-told g c =
         last = last;
         is_last = c.in-Some.ensures.some;
         uses = us;
-        used = c.in_ok-uses-in-Some.ensures.used;
+        used = c.in_ok-reached_uses-in-Some.ensures.used;
         variables = vs;
         unused = unused_in us last c.as_slice.result.now c.in_ok-used-in-Some.used c.variables.result.now vs c.variables.ensures (ap (map use_of) c.as_slice.ensures.value) c.in_ok-used-in-Some.ensures c.in_ok-unused-in-Some.ensures;
         told = refl;
@@ -31,4 +31,4 @@ pub returns-in-None-clause-told : goal.returns-in-None-clause-told
 returns-in-None-clause-told g c = absurd (c.in-None.ensures.none c.requires.named)
 
 pub returns-in_ok-unused-in-Some-clause-ready : goal.returns-in_ok-unused-in-Some-clause-ready
-returns-in_ok-unused-in-Some-clause-ready g c = on_ok_weaker c.tell_all.result (λ e. c.in_ok-uses-in-Some.ensures.ready) c.tell_all.ensures
+returns-in_ok-unused-in-Some-clause-ready g c = on_ok_weaker c.tell_all.result (λ e. c.in_ok-reached_uses-in-Some.ensures.ready) c.tell_all.ensures

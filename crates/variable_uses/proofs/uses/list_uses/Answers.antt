@@ -3,7 +3,7 @@ use Rattle.std.proofs.lemmas.Option.{slice_get-get_or, get_or_from_slice_get}
 use Rattle.variable_uses.specs.InReachUses.{kept_uses}
 use Rattle.variable_uses.specs.Uses.{use_of}
 use Rattle.variable_uses.proofs.UseLemmas.{more_uses}
-use Rattle.variable_uses.proofs.uses.uses_at.Goals as goal
+use Rattle.variable_uses.proofs.uses.list_uses.Goals as goal
 
 pub loop-place-preserved : goal.loop-place-preserved
 loop-place-preserved c =
