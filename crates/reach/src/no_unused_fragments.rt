@@ -4,17 +4,20 @@ ghost use Rattle.std.specs.Prelude.{◌≡◌, ◌∷◌, [], ◌↔◌, ◌⊎�
 ghost use Rattle.walk.specs.ContextState.{with_errors};
 ghost use Rattle.walk.specs.Rule.{any_value};
 ghost use Rattle.walk.specs.Step.{KeepsPlace};
-ghost use Rattle.fragment_cycles.specs.DocumentGraph.{IsGraphOf};
+ghost use Rattle.fragment_cycles.specs.DocumentGraph.{IsGraphOf, resolved};
+ghost use Rattle.fragment_cycles.specs.Numbers.{defined_number, number_of};
+ghost use Rattle.reachability.specs.Reach.{operation_spreads};
 ghost use Rattle.reach.specs.AtDocument.{document_step, given_at_end};
 ghost use Rattle.reach.specs.AtDocumentLaws.{document_keeps};
 ghost use Rattle.reach.specs.NoUnusedFragments.{name_and_span, unused_error, unused_errors, unused_message, AddsFragment, AddsUnused, IsMet, NameAndSpan, UnusedAmong};
 
 use fragment_cycles::document_graph::{DocumentGraph, graph_of};
+use fragment_cycles::graph::Spread;
 use language::error::OutOfMemory;
 use language::position::{SourcePosition, Spanning};
 use language::tree::{Definition, Document, Fragment};
 use meta::check::CheckedScalar;
-use reachability::reached::{ReachedFragments, is_reached, reached_fragments};
+use reachability::reached::{ReachedFragments, is_reached, operation_spreads, reached_fragments};
 use std::alloc::{AllocError, Global};
 use std::collections::BTreeSet;
 use walk::{Event, Fresh, Machine, Rule, ValidatorContext, Visitor};
@@ -55,7 +58,8 @@ impl<'a, S: CheckedScalar> Visitor<'a, S> for NoUnusedFragments {
         match *event {
             Event::ExitDocument(document) => {
                 let graph = graph_of(self.alloc, document)?;
-                report_unused(self.alloc, ctx, document, &graph)
+                let starts = operation_spreads(self.alloc, &graph.numbers, document)?;
+                report_unused(self.alloc, ctx, document, &graph, starts.items.as_slice())
             }
             _ => Ok(()),
         }
@@ -93,18 +97,20 @@ fn report_fragment<'a, S: CheckedScalar>(
     ctx.report_error(message.as_str(), &[fragment.span.start])
 }
 
-// Reports a fragment that is not reached, the first time that its name and span are met.
+// Reports a fragment that is not reached, by the number of its name, the first time that its name and span are met.
 fn report_once<'a, 'd, S: CheckedScalar>(
     alloc: Global,
     ctx: &mut ValidatorContext<'a, S>,
     reached: &ReachedFragments<'_, '_>,
     met: &mut MetFragments<'d>,
     fragment: &Spanning<Fragment<'d, S>>,
+    number: Option<usize>,
 ) -> Result<(), OutOfMemory>
+    requires { number ≡ number_of reached.now.graph.now.numbers fragment.now.item.name.item.now }
     ensures ok { IfOk result (λ _. (fs : List NameAndSpan) × AddsFragment reached.now met.old met.new (name_and_span fragment.now) fs × (ctx.new ≡ with_errors ctx.old (map unused_error fs))) }
     ensures err { OnErr result (KeepsPlace ctx.old ctx.new) }
 {
-    if is_reached(reached, fragment.item.name.item) {
+    if is_reached(reached, number) {
         return Ok(());
     }
     if meet(met, fragment)? {
@@ -120,31 +126,37 @@ fn report_if_unused<'a, 'd, S: CheckedScalar>(
     reached: &ReachedFragments<'_, '_>,
     met: &mut MetFragments<'d>,
     definition: &Definition<'d, S>,
+    number: Option<usize>,
 ) -> Result<(), OutOfMemory>
+    requires { number ≡ defined_number reached.now.graph.now.numbers definition.now }
     ensures ok { IfOk result (λ _. (fs : List NameAndSpan) × AddsUnused reached.now met.old met.new definition.now fs × (ctx.new ≡ with_errors ctx.old (map unused_error fs))) }
     ensures err { OnErr result (KeepsPlace ctx.old ctx.new) }
 {
     match definition {
-        Definition::Fragment(fragment) => report_once(alloc, ctx, reached, met, fragment),
+        Definition::Fragment(fragment) => report_once(alloc, ctx, reached, met, fragment, number),
         Definition::Operation(_) => Ok(()),
     }
 }
 
-/// Reports each name and span of a fragment that no operation reaches, once, by the document's graph.
+/// Reports each name and span of a fragment that no operation reaches, once, by the document's graph and the spreads inside all
+/// operations.
 pub fn report_unused<'a, 'd, S: CheckedScalar>(
     alloc: Global,
     ctx: &mut ValidatorContext<'a, S>,
     document: Document<'d, S>,
     graph: &DocumentGraph<'_>,
+    starts: &[Spread],
 ) -> Result<(), OutOfMemory>
-    requires { IsGraphOf document.now graph.now }
+    requires graph { IsGraphOf document.now graph.now }
+    requires starts { starts.now ≡ map (resolved graph.now.numbers) (operation_spreads document.now) }
     ensures ok { IfOk result (λ _. (fs : List NameAndSpan) × UnusedAmong document.now document.now fs × (ctx.new ≡ with_errors ctx.old (map unused_error fs))) }
     ensures err { OnErr result (KeepsPlace ctx.old ctx.new) }
 {
-    let reached = reached_fragments(alloc, document, graph)?;
+    let reached = reached_fragments(alloc, document, graph, starts)?;
     let mut met = BTreeSet::new(alloc);
-    for definition in document {
-        report_if_unused(alloc, ctx, &reached, &mut met, definition)?;
+    for place in 0..document.len() {
+        let number = graph.defined[place];
+        report_if_unused(alloc, ctx, &reached, &mut met, &document[place], number)?;
     }
     Ok(())
 }

@@ -1,4 +1,5 @@
+pub mod Existence
 pub mod Marking
 pub mod Reaching
 pub mod Searches
-pub mod Existence
+pub mod Spreads

@@ -1,3 +1,4 @@
+pub mod OperationSpreads
 pub mod Reach
 pub mod ReachedFragments
 pub mod Search

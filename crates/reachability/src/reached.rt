@@ -1,15 +1,18 @@
 //! The fragments that operations reach.
-ghost use Rattle.std.specs.Prelude.{◌≡◌, ◌++◌, ◌↔◌, OnOk, IfOk, IsTrue, map, Some, List, ℕ};
+ghost use Rattle.std.specs.Prelude.{◌≡◌, [], ◌++◌, ◌↔◌, OnOk, IfOk, IsTrue, map, Some, List, ℕ};
 ghost use Rattle.fragment_cycles.specs.Numbers.{number_of};
 ghost use Rattle.fragment_cycles.specs.DocumentGraph.{resolved, IsGraphOf};
+ghost use Rattle.flat_lists.specs.Lists.{Holds};
+ghost use Rattle.reachability.specs.OperationSpreads.{resolved_lists};
 ghost use Rattle.reachability.specs.Reach.{definition_spreads, operation_spreads, IsReached};
 ghost use Rattle.reachability.specs.ReachedFragments.{IsNameMarked, ReachedOf};
 ghost use Rattle.reachability.specs.Search.{IsMarked};
 
 use crate::search::{is_marked, mark_reached};
+use flat_lists::lists::FlatLists;
 use fragment_cycles::document_graph::{DocumentGraph, add_spreads};
 use fragment_cycles::graph::Spread;
-use fragment_cycles::numbers::{Numbers, number};
+use fragment_cycles::numbers::Numbers;
 use language::tree::{Definition, Document};
 use std::alloc::{AllocError, Global};
 
@@ -20,11 +23,11 @@ pub struct ReachedFragments<'g, 'a> {
     pub marks: Vec<bool>,
 }
 
-/// Whether a fragment of the name is marked.
-pub fn is_reached(reached: &ReachedFragments<'_, '_>, name: &str) -> bool
-    ensures { IsTrue result ↔ IsNameMarked reached.now name.now }
+/// Whether the fragment of a number is marked, if there is one.
+pub fn is_reached(reached: &ReachedFragments<'_, '_>, number: Option<usize>) -> bool
+    ensures { (name : List ℕ) → number ≡ number_of reached.now.graph.now.numbers name → IsTrue result ↔ IsNameMarked reached.now name }
 {
-    match number(&reached.graph.numbers, name) {
+    match number {
         Some(found) => is_marked(reached.marks.as_slice(), found),
         None => false,
     }
@@ -48,43 +51,49 @@ pub fn add_operation<S>(
     }
 }
 
-// The spreads of all operations.
-fn all_operation_spreads<S>(
+/// The spreads inside the operations of a document: a list for each definition, which is empty for a fragment.
+pub fn operation_spreads<S>(
     alloc: Global,
     numbers: &Numbers<'_>,
     document: Document<'_, S>,
-) -> Result<Vec<Spread>, AllocError>
-    ensures { IfOk result (λ v. v.items ≡ map (resolved numbers.now) (operation_spreads document.now)) }
+) -> Result<FlatLists<Spread>, AllocError>
+    ensures lists { IfOk result (Holds (resolved_lists numbers.now document.now) []) }
+    ensures all { IfOk result (λ s. s.items.items ≡ map (resolved numbers.now) (operation_spreads document.now)) }
 {
-    let mut found = Vec::new(alloc);
+    let mut found = FlatLists::new(alloc);
     for definition in document {
-        add_operation(numbers, definition, &mut found)?;
+        add_operation(numbers, definition, &mut found.items)?;
+        found.end_list()?;
     }
     Ok(found)
 }
 
-// Marks the fragments, by their numbers in the document's graph, that some operation reaches.
+// Marks the fragments, by their numbers in the document's graph, that some operation reaches by these spreads inside all of them.
 fn mark_reached_fragments<S>(
     alloc: Global,
     document: Document<'_, S>,
     graph: &DocumentGraph<'_>,
+    starts: &[Spread],
 ) -> Result<Vec<bool>, AllocError>
-    requires { IsGraphOf document.now graph.now }
+    requires graph { IsGraphOf document.now graph.now }
+    requires starts { starts.now ≡ map (resolved graph.now.numbers) (operation_spreads document.now) }
     ensures { IfOk result (λ marks. (name : List ℕ) (k : ℕ) → number_of graph.now.numbers name ≡ Some k → IsMarked marks.items k ↔ IsReached document.now name) }
 {
-    let starts = all_operation_spreads(alloc, &graph.numbers, document)?;
-    mark_reached(alloc, graph.nodes.as_slice(), starts.as_slice())
+    mark_reached(alloc, graph.nodes.as_slice(), starts)
 }
 
-/// The fragments of a document that some operation reaches by spreads, by the document's graph.
+/// The fragments of a document that some operation reaches by spreads, by the document's graph and the spreads inside all operations.
 pub fn reached_fragments<'g, 'a, S>(
     alloc: Global,
     document: Document<'_, S>,
     graph: &'g DocumentGraph<'a>,
+    starts: &[Spread],
 ) -> Result<ReachedFragments<'g, 'a>, AllocError>
-    requires { IsGraphOf document.now graph.now }
-    ensures { IfOk result (ReachedOf document.now) }
+    requires graph { IsGraphOf document.now graph.now }
+    requires starts { starts.now ≡ map (resolved graph.now.numbers) (operation_spreads document.now) }
+    ensures reached { IfOk result (ReachedOf document.now) }
+    ensures graph { IfOk result (λ r. r.graph.now ≡ graph.now) }
 {
-    let marks = mark_reached_fragments(alloc, document, graph)?;
+    let marks = mark_reached_fragments(alloc, document, graph, starts)?;
     Ok(ReachedFragments { graph, marks })
 }

@@ -6,3 +6,4 @@ pub mod Numbered
 pub mod Once
 pub mod PlaceLists
 pub mod ScopeTests
+pub mod Spreading

@@ -1,11 +1,9 @@
 -- Places that are kept at numbers, and how those of a scope grow.
 use Rattle.std.proofs.Common.{◌≡◌, ℕ, ◌<◌, List, [], ◌∷◌, ◌++◌, length, refl, sym, subst, ap, arith, zero, suc, Bool, true, false, cond, Option, Some, None, ◌∙◌, append-nil, Vec}
-use Rattle.std.specs.BTreeMap.{BTreeMap}
 use Rattle.std.specs.Option.{option_map_or}
 use Rattle.std.specs.Str.{bytes_eq}
 use Rattle.std.specs.declared.alloc.Global.{Global}
 use Rattle.std.proofs.lemmas.Slice.Eq.{bytes_eq-Decides}
-use denote.Ref.{Bor}
 use Rattle.fragment_cycles.specs.declared.numbers.Numbers.{Numbers}
 use Rattle.fragment_cycles.specs.Numbers.{number_of, WellNumbered}
 use Rattle.fragment_cycles.proofs.Lists.{none_some, same_item, same_some}

@@ -6,19 +6,24 @@ ghost use Rattle.scopes.specs.Index.{AddsDefinition, IsIndexOf, NoOperationAt, n
 
 use crate::places::{ScopePlaces, add_place, no_places, operation_places, scope_of_definition};
 use crate::scope::Scope;
+use flat_lists::lists::FlatLists;
 use fragment_cycles::document_graph::{DocumentGraph, graph_of};
+use fragment_cycles::graph::Spread;
 use fragment_cycles::numbers::name_count;
 use language::position::Spanning;
 use language::tree::{Definition, Document, Operation};
+use reachability::reached::operation_spreads;
 use std::alloc::{AllocError, Global};
 
 /// A document's scopes: the names of its operations, each once; the places of its definitions, by scope; what its fragments
-/// spread.
+/// spread, and what its operations do.
 #[derive(Drop)]
 pub struct ScopeIndex<'a> {
     pub names: Vec<Option<&'a str>>,
     pub places: ScopePlaces<'a>,
     pub graph: DocumentGraph<'a>,
+    /// The spreads inside each definition, if it is an operation.
+    pub spreads: FlatLists<Spread>,
 }
 
 // Lists the name of operations that have no place yet.
@@ -64,10 +69,12 @@ pub fn index_scopes<'a, S>(
 {
     let graph = graph_of(alloc, document)?;
     let places = no_places(alloc, name_count(&graph.numbers))?;
+    let spreads = operation_spreads(alloc, &graph.numbers, document)?;
     let mut index = ScopeIndex {
         names: Vec::new(alloc),
         places,
         graph,
+        spreads,
     };
     for place in 0..document.len() {
         let number = index.graph.defined[place];

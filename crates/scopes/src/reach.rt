@@ -1,17 +1,16 @@
 //! The definitions that an operation reaches.
-ghost use Rattle.std.specs.Prelude.{◌≡◌, ◌++◌, IfOk, OnOk, map, option_map};
+ghost use Rattle.std.specs.Prelude.{◌≡◌, ◌++◌, [], List, IfOk, OnOk, option_map};
 ghost use Rattle.std.specs.List.{flat_map};
-ghost use Rattle.fragment_cycles.specs.DocumentGraph.{resolved};
+ghost use Rattle.flat_lists.specs.Lists.{Holds, list_at};
+ghost use Rattle.fragment_cycles.specs.declared.graph.Spread.{Spread};
 ghost use Rattle.scopes.specs.Index.{IsIndexOf};
 ghost use Rattle.scopes.specs.Scopes.{InReach};
-ghost use Rattle.scopes.specs.Searches.{IsReady, fragment_places, spreads_at};
+ghost use Rattle.scopes.specs.Searches.{IsReady, fragment_places};
 
 use crate::index::ScopeIndex;
 use crate::places::{fragment_places, operation_places};
 use fragment_cycles::graph::Spread;
-use fragment_cycles::numbers::Numbers;
 use language::tree::Definition;
-use reachability::reached::add_operation;
 use reachability::search::{explore, forget};
 use std::alloc::{AllocError, Global};
 
@@ -45,32 +44,27 @@ pub fn found_places(search: &Search) -> &[usize]
 }
 
 // Adds the spreads inside the operation at a place.
-fn add_spreads_at<S>(
-    document: &[Definition<'_, S>],
-    numbers: &Numbers<'_>,
+fn add_spreads_at(
+    index: &ScopeIndex<'_>,
     place: usize,
     found: &mut Vec<Spread>,
 ) -> Result<(), AllocError>
-    ensures { OnOk result (found.new.items ≡ found.old.items ++ map (resolved numbers.now) (spreads_at document.now place)) }
+    ensures { OnOk result ((ls : List (List Spread)) → Holds ls [] index.now.spreads → found.new.items ≡ found.old.items ++ list_at ls place) }
 {
-    match document.get(place) {
-        Some(definition) => add_operation(numbers, definition, found),
-        None => Ok(()),
-    }
+    found.extend_from_slice(index.spreads.list(place))
 }
 
 // Lists the spreads inside the operations at these places, and no others.
-fn list_spreads<S>(
-    document: &[Definition<'_, S>],
-    numbers: &Numbers<'_>,
+fn list_spreads(
+    index: &ScopeIndex<'_>,
     places: &[usize],
     found: &mut Vec<Spread>,
 ) -> Result<(), AllocError>
-    ensures { OnOk result (found.new.items ≡ map (resolved numbers.now) (flat_map (spreads_at document.now) places.now)) }
+    ensures { OnOk result ((ls : List (List Spread)) → Holds ls [] index.now.spreads → found.new.items ≡ flat_map (list_at ls) places.now) }
 {
     found.clear();
     for place in places {
-        add_spreads_at(document, numbers, *place, found)?;
+        add_spreads_at(index, *place, found)?;
     }
     Ok(())
 }
@@ -127,7 +121,7 @@ pub fn reached_definitions<S>(
     ensures ready { OnOk result (IsReady index.now search.new) }
 {
     let own = operation_places(&index.places, name);
-    list_spreads(document, &index.graph.numbers, own, &mut search.starts)?;
+    list_spreads(index, own, &mut search.starts)?;
     let nodes = index.graph.nodes.as_slice();
     explore(
         nodes,

@@ -59,7 +59,13 @@ impl<'a> AcrossDocument<'a> {
         let graph = &index.scopes.graph;
         self.positions.leave(ctx, document, &index.scopes)?;
         no_unused_variables::report_unused(self.alloc, ctx, document, &index)?;
-        no_unused_fragments::report_unused(self.alloc, ctx, document, graph)?;
+        no_unused_fragments::report_unused(
+            self.alloc,
+            ctx,
+            document,
+            graph,
+            index.scopes.spreads.items.as_slice(),
+        )?;
         report_undefined(self.alloc, ctx, document, &index)?;
         self.cycles.leave(ctx, graph)
     }

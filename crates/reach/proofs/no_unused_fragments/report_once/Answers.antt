@@ -8,7 +8,7 @@ use Rattle.reach.proofs.no_unused_fragments.report_once.Goals as goal
 pub returns-then-is_reached-clause-ok : goal.returns-then-is_reached-clause-ok
 returns-then-is_reached-clause-ok g c =
     let met = c.args.met.now in
-    ([], adds_marked c.args.reached.now met met (name_and_span c.args.fragment.now) (c.is_reached.ensures.0 c.if-is_reached.true), told_nothing c.args.ctx.now)
+    ([], adds_marked c.args.reached.now met met (name_and_span c.args.fragment.now) ((c.is_reached.ensures _ c.requires).0 c.if-is_reached.true), told_nothing c.args.ctx.now)
 
 pub returns-then-branch-clause-ok : goal.returns-then-branch-clause-ok
 returns-then-branch-clause-ok g c =
@@ -17,7 +17,7 @@ returns-then-branch-clause-ok g c =
     (λ x e. (
       p ∷ [],
       adds_one c.args.reached.now c.args.met.now c.meet.new.met p c.in_ok-meet.ensures.met
-          (λ m. both c.is_reached.result (c.is_reached.ensures.1 m) c.if-is_reached.false)
+          (λ m. both c.is_reached.result ((c.is_reached.ensures _ c.requires).1 m) c.if-is_reached.false)
           (c.in_ok-meet.ensures.first.0 c.if-branch.true),
       e,
     ))

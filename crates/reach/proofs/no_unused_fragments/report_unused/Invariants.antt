@@ -5,7 +5,7 @@ use Rattle.reach.specs.NoUnusedFragments.{IsMet, NameAndSpan, UnusedAmong, unuse
 use Rattle.reach.proofs.no_unused_fragments.report_unused.Given as goal
 
 -- those of the definitions that were seen are reported, and met
-abbrev pub invariant-loop-definition : goal.invariant-loop-definition
-invariant-loop-definition g l =
-    (fs : List NameAndSpan) × UnusedAmong l.document (take l.definition-index l.document) fs
+abbrev pub invariant-loop-place : goal.invariant-loop-place
+invariant-loop-place g l =
+    (fs : List NameAndSpan) × UnusedAmong l.document (take l.place l.document) fs
     × ((p : NameAndSpan) → IsMet l.met p ↔ Contains fs p) × (l.ctx ≡ with_errors l.fn.ctx (map unused_error fs))

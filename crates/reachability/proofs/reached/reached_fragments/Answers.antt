@@ -4,9 +4,9 @@ use Rattle.fragment_cycles.proofs.Lists.{same_item}
 use Rattle.reachability.specs.Search.{IsMarked}
 use Rattle.reachability.proofs.reached.reached_fragments.Goals as goal
 
-pub returns : goal.returns
-returns g c = λ name d.
-    let k = (c.requires.numbers.defined name).1 d in
+pub returns-clause-reached : goal.returns-clause-reached
+returns-clause-reached g c = λ name d.
+    let k = (c.requires.graph.numbers.defined name).1 d in
     let m = c.in_ok-marks.ensures name k.0 k.1 in (
       λ h. m.0 (subst (λ (i : ℕ). IsMarked c.in_ok-marks.marks.items i) (same_item h.0 k.0 (number_of c.args.graph.now.numbers name) h.1 k.1) h.2),
       λ r. (k.0, k.1, m.1 r),

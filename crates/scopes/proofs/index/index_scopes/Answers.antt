@@ -1,11 +1,11 @@
-use Rattle.std.proofs.Common.{◌+◌, arith, length, map, refl, subst, sym, take, ap, ◌∙◌}
+use Rattle.std.proofs.Common.{◌+◌, arith, length, refl, subst, sym, take, ap, ◌∙◌}
 use Rattle.std.proofs.lemmas.List.{length-map}
 use Rattle.std.proofs.lemmas.Option.{slice_get_read}
 use Rattle.fragment_cycles.specs.DocumentGraph.{IsGraphOf}
 use Rattle.fragment_cycles.specs.Numbers.{defined_number}
 use Rattle.fragment_cycles.proofs.Joining.{next_take}
 use Rattle.fragment_cycles.proofs.Lists.{contains_at}
-use Rattle.scopes.specs.Index.{HasPlaces, operation_names}
+use Rattle.scopes.specs.Index.{HasPlaces, HasSpreads, operation_names}
 use Rattle.scopes.specs.Places.{HasLists}
 use Rattle.scopes.specs.Scopes.{OperationNames}
 use Rattle.scopes.proofs.Indexing.{names_more, number_at, places_more, is_number, length_taken}
@@ -16,7 +16,7 @@ loop-place-preserved g c =
     let doc = c.args.document.now in
     let i = c.loop-place.place in
     let d = c.index-document-place.result in
-    let (names, places, lists, graph) = c.loop-place.invariant in
+    let (names, places, lists, graph, spreads) = c.loop-place.invariant in
     let adds = c.in_ok-add_definition.ensures in
     let old = c.loop-place.index in
     let new = c.add_definition.new.index in
@@ -36,4 +36,5 @@ loop-place-preserved g c =
           (places_more n (take i doc) d number i old.places new.places (length_taken doc i low) graph.numbers.numbered lists is places adds.places)),
       subst (λ z. HasLists z.numbers new.places) (sym adds.graph) (adds.places.sized ∙ lists),
       subst (λ z. IsGraphOf doc z) (sym adds.graph) graph,
+      subst (λ z. HasSpreads doc z.numbers new.spreads) (sym adds.graph) (subst (λ z. HasSpreads doc n z) (sym adds.spreads) spreads),
     )

@@ -1,4 +1,4 @@
-use Rattle.std.proofs.Common.{Some, subst, sym}
+use Rattle.std.proofs.Common.{subst, sym}
 use Rattle.reachability.specs.Reach.{fragment}
 use Rattle.scopes.specs.Places.{AddsPlace}
 use Rattle.scopes.specs.Scopes.{scope_name}
