@@ -44,6 +44,13 @@ impl BitSet {
         Ok(word & bit == 0)
     }
 
+    /// Takes all numbers out. The room stays, for those that are added next.
+    pub fn clear(&mut self)
+        ensures { (n : ℕ) → has self.new n ≡ false }
+    {
+        self.words.clear();
+    }
+
     // Gives the set the word of this index, and zeros before it.
     fn grow(&mut self, index: usize) -> Result<(), AllocError>
         requires { index < 2 ^ 58 }

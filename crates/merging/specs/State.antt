@@ -45,7 +45,7 @@ pub record CountsList (n : ℕ) (old new : Search) : Type 0 where
   pub found : new.found.items ≡ old.found.items
   pub compared : new.compared ≡ old.compared
 
--- Nothing changed but which searches may be made once more.
+-- Nothing changed but which searches may be made once more, and which room is used again.
 pub record Keeps (old new : Search) : Type 0 where
   pub pairs : new.pairs ≡ old.pairs
   pub searched : new.searched ≡ old.searched

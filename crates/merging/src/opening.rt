@@ -4,9 +4,11 @@ ghost use Rattle.bit_rows.specs.Set.{has};
 ghost use Rattle.merging.specs.World.{world, set_of, spreads_of};
 ghost use Rattle.merging.specs.Opening.{Opens};
 ghost use Rattle.merging.specs.Sound.{Gains};
+ghost use Rattle.merging.specs.State.{CountsList};
 
 use crate::graph::Graph;
 use crate::judge::Judge;
+use crate::state::{Search, count_list, take_opening};
 use crate::view::{set, spreads};
 use bit_rows::set::BitSet;
 use std::alloc::{AllocError, Global};
@@ -19,8 +21,8 @@ pub struct Opening {
     pub waiting: Vec<usize>,
 }
 
-// No fragment is open.
-fn no_opening(alloc: Global) -> Opening
+/// No fragment is open.
+pub(crate) fn no_opening(alloc: Global) -> Opening
     ensures seen { (h : ℕ) → has result.seen h ≡ false }
     ensures order { result.order.items ≡ [] }
     ensures waiting { result.waiting.items ≡ [] }
@@ -53,17 +55,44 @@ fn follow<J: Judge>(graph: &Graph<J>, f: usize, opening: &mut Opening) -> Result
     Ok(())
 }
 
-/// The fragments that `g` reaches, in the order in which a search opens them.
+// Closes all that is open. The room stays, for the next search.
+fn close_all(opening: &mut Opening)
+    ensures seen { (h : ℕ) → has opening.new.seen h ≡ false }
+    ensures order { opening.new.order.items ≡ [] }
+    ensures waiting { opening.new.waiting.items ≡ [] }
+{
+    opening.seen.clear();
+    opening.order.clear();
+    opening.waiting.clear();
+}
+
+// Opens what `g` reaches, and nothing else.
+fn open_from<J: Judge>(graph: &Graph<J>, g: usize, opening: &mut Opening) -> Result<(), AllocError>
+    requires { g < length graph.now.fragments.items }
+    ensures { OnOk result (Opens (world J.judgement graph.now) g opening.new.order.items) }
+{
+    close_all(opening);
+    open(opening, g)?;
+    while let Some(f) = opening.waiting.pop() {
+        follow(graph, f, opening)?;
+    }
+    Ok(())
+}
+
+/// The fragments that `g` reaches, in the order in which a search opens them. They are counted.
 ///
 /// All that one spreads are opened in turn, and the search goes on with the one that it opened last.
-pub fn opened<J: Judge>(alloc: Global, graph: &Graph<J>, g: usize) -> Result<Vec<usize>, AllocError>
+pub fn opened<J: Judge>(
+    graph: &Graph<J>,
+    g: usize,
+    search: &mut Search,
+) -> Result<Opening, AllocError>
     requires { g < length graph.now.fragments.items }
-    ensures { IfOk result (λ v. Opens (world J.judgement graph.now) g v.items) }
+    ensures opens { IfOk result (λ o. Opens (world J.judgement graph.now) g o.order.items) }
+    ensures counted { IfOk result (λ o. CountsList (length o.order.items) search.old search.new) }
 {
-    let mut opening = no_opening(alloc);
-    open(&mut opening, g)?;
-    while let Some(f) = opening.waiting.pop() {
-        follow(graph, f, &mut opening)?;
-    }
-    Ok(opening.order)
+    let mut opening = take_opening(search);
+    open_from(graph, g, &mut opening)?;
+    count_list(search, opening.order.len());
+    Ok(opening)
 }

@@ -13,7 +13,7 @@ use crate::node::Entry;
 use crate::opening::opened;
 use crate::repeats::is_settled;
 use crate::state::{
-    Finding, Search, count_list, is_compared, note_conflicts, note_pair, note_search, report,
+    Finding, Search, is_compared, note_conflicts, note_pair, note_search, put_opening, report,
 };
 use crate::view::{are_exclusive, are_in_conflict, are_plainly_alike, firsts, group, set, spreads};
 use std::alloc::AllocError;
@@ -196,9 +196,9 @@ fn own_against<J: Judge>(
     if is_settled(graph, search, i, g, e) {
         return Ok(());
     }
-    let opening = opened(search.alloc, graph, g)?;
-    count_list(search, opening.len());
-    open_all(graph, i, g, opening.as_slice(), e, search)
+    let opening = opened(graph, g, search)?;
+    open_all(graph, i, g, opening.order.as_slice(), e, search)?;
+    put_opening(search, opening)
 }
 
 /// The own fields of `i`, and each fragment that `j` spreads.

@@ -6,6 +6,7 @@ ghost use Rattle.merging.specs.State.{Begins, NotesPair, NotesSearch, Reports, C
 
 use crate::log::{Log, is_in, no_questions, note};
 use crate::node::Entry;
+use crate::opening::{Opening, no_opening};
 use crate::repeats::REPEATS;
 use bit_rows::set::BitSet;
 use std::alloc::{AllocError, Global};
@@ -38,6 +39,8 @@ pub struct Search {
     pub opened: u128,
     /// How many searches there were.
     pub lists: u128,
+    /// Openings of searches that ended, whose room is used again.
+    pub openings: Vec<Opening>,
 }
 
 /// A search that has found nothing.
@@ -54,7 +57,26 @@ pub fn no_search(alloc: Global) -> Search
         compared: 0,
         opened: 0,
         lists: 0,
+        openings: Vec::new(alloc),
     }
+}
+
+/// An opening to write over: that of a search that ended, if there is one.
+pub fn take_opening(search: &mut Search) -> Opening
+    ensures { Keeps search.old search.new }
+{
+    match search.openings.pop() {
+        Some(opening) => opening,
+        None => no_opening(search.alloc),
+    }
+}
+
+/// Keeps the opening of a search that has ended, for the next.
+pub fn put_opening(search: &mut Search, opening: Opening) -> Result<(), AllocError>
+    ensures { OnOk result (Keeps search.old search.new) }
+{
+    search.openings.push(opening)?;
+    Ok(())
 }
 
 /// Whether two fragments were compared under the flag, or without one.

@@ -13,7 +13,7 @@ use crate::judge::Judge;
 use crate::node::Entry;
 use crate::opening::opened;
 use crate::search::{compare_fields, compare_fragments, compare_own};
-use crate::state::{Search, count_list, no_search};
+use crate::state::{Search, no_search, put_opening};
 use crate::view::{are_plainly_alike, firsts, group, order, set, spreads};
 use std::alloc::{AllocError, Global};
 
@@ -95,9 +95,9 @@ fn write_out<J: Judge>(
     ensures done { OnOk result (Did (world J.judgement graph.now) (λ M. OwnWritten (world J.judgement graph.now) M s g) search.old search.new) }
     ensures real { OnOk result (AddsAll (world J.judgement graph.now) false (AtWritten (world J.judgement graph.now) s g) (AtWritten (world J.judgement graph.now) s g) search.old.found.items search.new.found.items) }
 {
-    let opening = opened(search.alloc, graph, g)?;
-    count_list(search, opening.len());
-    write_all(graph, s, g, opening.as_slice(), search)
+    let opening = opened(graph, g, search)?;
+    write_all(graph, s, g, opening.order.as_slice(), search)?;
+    put_opening(search, opening)
 }
 
 // The same, where the set has fields of its own: without them there is nothing to hold against the fragment.

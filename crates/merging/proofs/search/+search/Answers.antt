@@ -7,7 +7,7 @@ use Rattle.merging.specs.Names.{named}
 use Rattle.merging.specs.World.{world, own_of, spreads_of, set_of}
 use Rattle.merging.specs.Opening.{Opens, Reaches}
 use Rattle.merging.specs.Work.{pair_in, search_in, Searched, Pair, Done, stood, shallow, deep, SetsDone, OwnPairs}
-use Rattle.merging.specs.Reports.{Adds, NestedRoot, AtFields, AtWith, AtNamed, AtOwn, AtFirst, AtSecond}
+use Rattle.merging.specs.Reports.{Adds, NestedRoot, AtFields, AtWith, AtNamed, AtOwn, AtSearch, AtFirst, AtSecond}
 use Rattle.merging.proofs.Clear.{named_done, named_tells}
 use Rattle.merging.proofs.Falls.{spread_falls, own_falls, reach_falls}
 use Rattle.merging.proofs.Work.{did_none, did_start, did_then, did_map, did_more, did_all, did_list, did_opened, owes_search, owes_none, owes_start, owes_more, owes_full, did_fragments, did_report, did_kept, no_entry, covers_yes, covers_no}
@@ -53,7 +53,7 @@ compare_with-compare_fields-requires g t c =
 pub own_against-open_all-requires : goal.own_against-open_all-requires
 own_against-open_all-requires g t c =
     let v = world g.J.Judge.judgement c.args.graph.now in
-    λ κs u. (omega (arith, c.decreases), (u, subst (λ zs. Opens v c.args.g zs) (sym c.as_slice.ensures.value) c.in_ok-opening.ensures))
+    λ κs u. (omega (arith, c.decreases), (u, subst (λ zs. Opens v c.args.g zs) (sym c.as_slice.ensures.value) c.in_ok-opening.ensures.opens))
 
 pub all_against_all-loop-g-init : goal.all_against_all-loop-g-init
 all_against_all-loop-g-init g t c =
@@ -290,9 +290,14 @@ pub own_against-returns : goal.own_against-returns
 own_against-returns g t c =
     let v = world g.J.Judge.judgement c.args.graph.now in
     record {
-      done = on_ok_weaker c.open_all.result (λ d. did_map v _ _ (λ M z. All-contains (λ h. Searched M c.args.e c.args.i h) c.as_slice.result.now c.args.g z (subst (λ zs. Contains zs c.args.g) (sym c.as_slice.ensures.value) c.in_ok-opening.ensures.first))
-          (did_opened v (λ h M. Searched M c.args.e c.args.i h) c.as_slice.result.now (did_list v c.count_list.ensures (omega (arith, c.in_ok-opening.ensures.few)) (omega (arith, c.requires))) d)) c.open_all.ensures.done;
-      real = on_ok_weaker c.open_all.result (λ d. adds_from v c.args.e _ c.count_list.ensures.found d) c.open_all.ensures.real;
+      done = on_ok_weaker c.put_opening.result
+          (λ k. did_kept v _ k (did_map v _ _ (λ M z. All-contains (λ h. Searched M c.args.e c.args.i h) c.as_slice.result.now c.args.g z (subst (λ zs. Contains zs c.args.g) (sym c.as_slice.ensures.value) c.in_ok-opening.ensures.opens.first))
+          (did_opened v (λ h M. Searched M c.args.e c.args.i h) c.as_slice.result.now (did_list v c.in_ok-opening.ensures.counted (omega (arith, c.in_ok-opening.ensures.opens.few)) (omega (arith, c.requires))) c.in_ok-open_all.ensures.done)))
+          c.put_opening.ensures;
+      real = on_ok_weaker c.put_opening.result
+          (λ k. subst (λ zs. Adds v c.args.e (AtSearch v c.args.i c.args.g) c.args.search.now.found.items zs) (sym k.found)
+          (adds_from v c.args.e _ c.in_ok-opening.ensures.counted.found c.in_ok-open_all.ensures.real))
+          c.put_opening.ensures;
     }
 
 pub compare_fragments-returns-then-f-g : goal.compare_fragments-returns-then-f-g

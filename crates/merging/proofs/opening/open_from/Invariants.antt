@@ -1,7 +1,7 @@
 use Rattle.std.proofs.Common.{◌+◌, ◌-◌, ◌*◌, length}
 use Rattle.merging.specs.World.{world}
 use Rattle.merging.specs.Sound.{Sound}
-use Rattle.merging.proofs.opening.opened.Given as goal
+use Rattle.merging.proofs.opening.open_from.Given as goal
 
 abbrev pub invariant-loop-f : goal.invariant-loop-f
 invariant-loop-f g l = Sound (world g.J.Judge.judgement l.graph) l.g l.opening

@@ -3,10 +3,10 @@ use Rattle.std.proofs.lemmas.Grind.{common_steps}
 use Rattle.merging.specs.World.{world}
 use Rattle.merging.specs.declared.opening.Opening.{Opening}
 use Rattle.merging.proofs.Opened.{sound_start, sound_next, opens_end, few_open, less_left}
-use Rattle.merging.proofs.opening.opened.Goals as goal
+use Rattle.merging.proofs.opening.open_from.Goals as goal
 
 pub loop-f-init : goal.loop-f-init
-loop-f-init g c = sound_start (world g.J.Judge.judgement c.args.graph.now) c.args.g c.no_opening-opening.result _ c.requires c.no_opening-opening.ensures.seen c.no_opening-opening.ensures.order c.no_opening-opening.ensures.waiting c.in_ok-open.ensures
+loop-f-init g c = sound_start (world g.J.Judge.judgement c.args.graph.now) c.args.g c.close_all.new.opening _ c.requires c.close_all.ensures.seen c.close_all.ensures.order c.close_all.ensures.waiting c.in_ok-open.ensures
 
 pub loop-f-preserved : goal.loop-f-preserved
 loop-f-preserved g c =
