@@ -6,11 +6,11 @@ use Rattle.events.specs.declared.cursor.Part.{Part}
 use Rattle.events.specs.declared.cursor.Part.TheVariants as part
 use Rattle.events.specs.declared.cursor.Frame.{Frame}
 use Rattle.events.specs.declared.cursor.EventCursorOf.{EventCursorOf}
-use Rattle.events.specs.declared.typed_events.PlannedEventOf.{PlannedEventOf}
+use Rattle.events.specs.declared.event.Event.{Event}
 use Rattle.events.specs.Typing.{Typing}
 use Rattle.events.specs.Outline.{each, outline_of_value, outline_of_object_field, outline_of_argument, outline_of_directive, outline_of_variable_definition, outline_of_set, outline_of_selection, outline_of_definition}
 use Rattle.events.specs.TypedEvent.{TypedEvent, events_of}
-use Rattle.events.specs.EventValue.{typed_event, typing_of, planned}
+use Rattle.events.specs.EventValue.{typed_event, typing_of}
 
 module _ {S C : Type 0} (schema : Catalog S C) where
   -- the events of a part, at the types round it
@@ -39,7 +39,7 @@ module _ {S C : Type 0} where
   abbrev pub events_left : EventCursorOf S C → List (TypedEvent S C)
   events_left c = stack_events c.schema.now c.frames.items
 
-  -- nothing where nothing is left, and else the first of what is left, without which it is left then
-  abbrev pub IsNextLeft : Option (PlannedEventOf S C) → EventCursorOf S C → EventCursorOf S C → Type 0
-  IsNextLeft None old new = (events_left old ≡ []) × (events_left new ≡ [])
-  IsNextLeft (Some e) old new = events_left old ≡ planned e ∷ events_left new
+  -- nothing where nothing is left, and else the first of what is left, at these types, without which it is left then
+  abbrev pub IsNextLeft : Option (Event S) → Typing S C → EventCursorOf S C → EventCursorOf S C → Type 0
+  IsNextLeft None t old new = (events_left old ≡ []) × (events_left new ≡ [])
+  IsNextLeft (Some e) t old new = events_left old ≡ typed_event e t ∷ events_left new

@@ -5,7 +5,6 @@ use Rattle.language.specs.Types.{borrowed_shape}
 use Rattle.events.specs.declared.event.Event.{Event}
 use Rattle.events.specs.declared.event.Event.TheVariants as event
 use Rattle.events.specs.declared.typed_events.TypesOf.{TypesOf}
-use Rattle.events.specs.declared.typed_events.PlannedEventOf.{PlannedEventOf}
 use Rattle.events.specs.Node
 use Rattle.events.specs.Typing.{Typing}
 use Rattle.events.specs.TypedEvent.{entering, leaving, TypedEvent}
@@ -54,6 +53,3 @@ module _ {S C : Type 0} where
   abbrev pub typing_of : TypesOf S C → Typing S C
   typing_of t =
       record { current = option_copied t.current; literal = option_map borrowed_shape t.literal; parent = option_copied t.parent; input = option_map borrowed_shape t.input }
-
-  abbrev pub planned : PlannedEventOf S C → TypedEvent S C
-  planned p = typed_event p.event (typing_of p.types)

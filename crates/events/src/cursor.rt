@@ -7,11 +7,11 @@ ghost use Rattle.events.specs.Node;
 ghost use Rattle.events.specs.Typing.{at_items};
 ghost use Rattle.events.specs.Outline.{each, node_with, if_there, outline_of_value, outline_of_object_field, outline_of_argument, outline_of_arguments, outline_of_directive, outline_of_directives, outline_of_variable_definition, outline_of_variable_definitions, outline_of_set, outline_of_set_if_there, outline_of_selection, outline_of_spread, outline_of_field, outline_of_inline, outline_of_operation, outline_of_fragment, outline_of_definition};
 ghost use Rattle.events.specs.TypedEvent.{events_of};
-ghost use Rattle.events.specs.EventValue.{typed_event, typing_of, planned};
+ghost use Rattle.events.specs.EventValue.{typed_event, typing_of};
 ghost use Rattle.events.specs.Cursor.{frame_events, stack_events, events_left, IsNextLeft};
 
 use crate::event::Event;
-use crate::typed_events::{PlannedEventOf, TypesOf, arguments_of_directive, arguments_of_field};
+use crate::typed_events::{TypesOf, arguments_of_directive, arguments_of_field};
 use language::error::OutOfMemory;
 use language::position::{Span, Spanning};
 use language::tree::{
@@ -80,19 +80,20 @@ fn push_part<'a, S, C>(
 }
 
 // A node with nothing in it is entered, and left next.
+//
+// Whatever enters a node leaves the types at the node in `at`.
 fn enter_leaf<'a, S, C>(
     enter: Event<'a, S>,
     exit: Event<'a, S>,
     types: TypesOf<'a, S, C>,
+    at: &mut TypesOf<'a, S, C>,
     frames: &mut Vec<Frame<'a, S, C>>,
-) -> Result<PlannedEventOf<'a, S, C>, OutOfMemory>
-    ensures { IfOk result (λ e. (schema : Catalog S C) → planned e ∷ stack_events schema frames.new.items ≡ typed_event enter.entry (typing_of types.entry) ∷ typed_event exit.entry (typing_of types.entry) ∷ stack_events schema frames.old.items) }
+) -> Result<Event<'a, S>, OutOfMemory>
+    ensures { IfOk result (λ e. (schema : Catalog S C) → typed_event e (typing_of at.new) ∷ stack_events schema frames.new.items ≡ typed_event enter.entry (typing_of types.entry) ∷ typed_event exit.entry (typing_of types.entry) ∷ stack_events schema frames.old.items) }
 {
     push_part(Part::Told(exit), types, frames)?;
-    Ok(PlannedEventOf {
-        event: enter,
-        types,
-    })
+    *at = types;
+    Ok(enter)
 }
 
 // The items of a list, at their types.
@@ -270,9 +271,10 @@ fn enter_list<'a, S, C>(
     items: &'a Vec<Spanning<InputValue<S>>>,
     span: &'a Span,
     types: TypesOf<'a, S, C>,
+    at: &mut TypesOf<'a, S, C>,
     frames: &mut Vec<Frame<'a, S, C>>,
-) -> Result<PlannedEventOf<'a, S, C>, OutOfMemory>
-    ensures { IfOk result (λ e. (schema : Catalog S C) → planned e ∷ stack_events schema frames.new.items ≡ events_of (node_with (Node.list_value (record { item = items.now.items; span = span.now })) (typing_of types.entry) (each (outline_of_value schema (at_items (typing_of types.entry))) items.now.items)) ++ stack_events schema frames.old.items) }
+) -> Result<Event<'a, S>, OutOfMemory>
+    ensures { IfOk result (λ e. (schema : Catalog S C) → typed_event e (typing_of at.new) ∷ stack_events schema frames.new.items ≡ events_of (node_with (Node.list_value (record { item = items.now.items; span = span.now })) (typing_of types.entry) (each (outline_of_value schema (at_items (typing_of types.entry))) items.now.items)) ++ stack_events schema frames.old.items) }
 {
     push_part(
         Part::Told(Event::ExitListValue(Spanning { item: items, span })),
@@ -280,10 +282,8 @@ fn enter_list<'a, S, C>(
         frames,
     )?;
     push_items(items.as_slice(), types.at_items(), frames)?;
-    Ok(PlannedEventOf {
-        event: Event::EnterListValue(Spanning { item: items, span }),
-        types,
-    })
+    *at = types;
+    Ok(Event::EnterListValue(Spanning { item: items, span }))
 }
 
 // An object is entered.
@@ -291,9 +291,10 @@ fn enter_object<'a, S, C>(
     items: &'a Vec<(Spanning<String>, Spanning<InputValue<S>>)>,
     span: &'a Span,
     types: TypesOf<'a, S, C>,
+    at: &mut TypesOf<'a, S, C>,
     frames: &mut Vec<Frame<'a, S, C>>,
-) -> Result<PlannedEventOf<'a, S, C>, OutOfMemory>
-    ensures { IfOk result (λ e. (schema : Catalog S C) → planned e ∷ stack_events schema frames.new.items ≡ events_of (node_with (Node.object_value (record { item = items.now.items; span = span.now })) (typing_of types.entry) (each (outline_of_object_field schema (typing_of types.entry)) items.now.items)) ++ stack_events schema frames.old.items) }
+) -> Result<Event<'a, S>, OutOfMemory>
+    ensures { IfOk result (λ e. (schema : Catalog S C) → typed_event e (typing_of at.new) ∷ stack_events schema frames.new.items ≡ events_of (node_with (Node.object_value (record { item = items.now.items; span = span.now })) (typing_of types.entry) (each (outline_of_object_field schema (typing_of types.entry)) items.now.items)) ++ stack_events schema frames.old.items) }
 {
     push_part(
         Part::Told(Event::ExitObjectValue(Spanning { item: items, span })),
@@ -301,19 +302,18 @@ fn enter_object<'a, S, C>(
         frames,
     )?;
     push_entries(items.as_slice(), types, frames)?;
-    Ok(PlannedEventOf {
-        event: Event::EnterObjectValue(Spanning { item: items, span }),
-        types,
-    })
+    *at = types;
+    Ok(Event::EnterObjectValue(Spanning { item: items, span }))
 }
 
 // A value is entered.
 fn enter_value<'a, S, C>(
     value: &'a Spanning<InputValue<S>>,
     types: TypesOf<'a, S, C>,
+    at: &mut TypesOf<'a, S, C>,
     frames: &mut Vec<Frame<'a, S, C>>,
-) -> Result<PlannedEventOf<'a, S, C>, OutOfMemory>
-    ensures { IfOk result (λ e. (schema : Catalog S C) → planned e ∷ stack_events schema frames.new.items ≡ events_of (outline_of_value schema (typing_of types.entry) value.now) ++ stack_events schema frames.old.items) }
+) -> Result<Event<'a, S>, OutOfMemory>
+    ensures { IfOk result (λ e. (schema : Catalog S C) → typed_event e (typing_of at.new) ∷ stack_events schema frames.new.items ≡ events_of (outline_of_value schema (typing_of types.entry) value.now) ++ stack_events schema frames.old.items) }
 {
     let span = &value.span;
     match &value.item {
@@ -321,28 +321,32 @@ fn enter_value<'a, S, C>(
             Event::EnterNullValue(span),
             Event::ExitNullValue(span),
             types,
+            at,
             frames,
         ),
         InputValue::Scalar(item) => enter_leaf(
             Event::EnterScalarValue(Spanning { item, span }),
             Event::ExitScalarValue(Spanning { item, span }),
             types,
+            at,
             frames,
         ),
         InputValue::Enum(item) => enter_leaf(
             Event::EnterEnumValue(Spanning { item, span }),
             Event::ExitEnumValue(Spanning { item, span }),
             types,
+            at,
             frames,
         ),
         InputValue::Variable(item) => enter_leaf(
             Event::EnterVariableValue(Spanning { item, span }),
             Event::ExitVariableValue(Spanning { item, span }),
             types,
+            at,
             frames,
         ),
-        InputValue::List(items) => enter_list(items, span, types, frames),
-        InputValue::Object(entries) => enter_object(entries, span, types, frames),
+        InputValue::List(items) => enter_list(items, span, types, at, frames),
+        InputValue::Object(entries) => enter_object(entries, span, types, at, frames),
     }
 }
 
@@ -351,9 +355,10 @@ fn enter_entry<'a, S, C>(
     schema: &'a SchemaTypeOf<S, C>,
     entry: &'a (Spanning<String>, Spanning<InputValue<S>>),
     types: TypesOf<'a, S, C>,
+    at: &mut TypesOf<'a, S, C>,
     frames: &mut Vec<Frame<'a, S, C>>,
-) -> Result<PlannedEventOf<'a, S, C>, OutOfMemory>
-    ensures { IfOk result (λ e. planned e ∷ stack_events schema.now frames.new.items ≡ events_of (outline_of_object_field schema.now (typing_of types.entry) entry.now) ++ stack_events schema.now frames.old.items) }
+) -> Result<Event<'a, S>, OutOfMemory>
+    ensures { IfOk result (λ e. typed_event e (typing_of at.new) ∷ stack_events schema.now frames.new.items ≡ events_of (outline_of_object_field schema.now (typing_of types.entry) entry.now) ++ stack_events schema.now frames.old.items) }
 {
     let (key, value) = entry;
     let inside = types.at_object_field(schema, key.item.as_str());
@@ -372,19 +377,17 @@ fn enter_entry<'a, S, C>(
         frames,
     )?;
     push_part(Part::Value(value), inside, frames)?;
-    Ok(PlannedEventOf {
-        event: Event::EnterObjectField(
-            Spanning {
-                item: &key.item,
-                span: &key.span,
-            },
-            Spanning {
-                item: &value.item,
-                span: &value.span,
-            },
-        ),
-        types: inside,
-    })
+    *at = inside;
+    Ok(Event::EnterObjectField(
+        Spanning {
+            item: &key.item,
+            span: &key.span,
+        },
+        Spanning {
+            item: &value.item,
+            span: &value.span,
+        },
+    ))
 }
 
 // An argument is entered, whose type is looked up among the known ones.
@@ -392,18 +395,17 @@ fn enter_argument<'a, S, C>(
     known: Option<&'a [Argument<S>]>,
     argument: &'a (Spanning<&'a str>, Spanning<InputValue<S>>),
     types: TypesOf<'a, S, C>,
+    at: &mut TypesOf<'a, S, C>,
     frames: &mut Vec<Frame<'a, S, C>>,
-) -> Result<PlannedEventOf<'a, S, C>, OutOfMemory>
-    ensures { IfOk result (λ e. (schema : Catalog S C) → planned e ∷ stack_events schema frames.new.items ≡ events_of (outline_of_argument schema (option_copied known.entry) (typing_of types.entry) argument.now) ++ stack_events schema frames.old.items) }
+) -> Result<Event<'a, S>, OutOfMemory>
+    ensures { IfOk result (λ e. (schema : Catalog S C) → typed_event e (typing_of at.new) ∷ stack_events schema frames.new.items ≡ events_of (outline_of_argument schema (option_copied known.entry) (typing_of types.entry) argument.now) ++ stack_events schema frames.old.items) }
 {
     let (name, value) = argument;
     let inside = types.at_argument(known, name.item);
     push_part(Part::Told(Event::ExitArgument(argument)), inside, frames)?;
     push_part(Part::Value(value), inside, frames)?;
-    Ok(PlannedEventOf {
-        event: Event::EnterArgument(argument),
-        types: inside,
-    })
+    *at = inside;
+    Ok(Event::EnterArgument(argument))
 }
 
 // A directive is entered.
@@ -411,26 +413,26 @@ fn enter_directive<'a, S, C>(
     schema: &'a SchemaTypeOf<S, C>,
     directive: &'a Spanning<Directive<'a, S>>,
     types: TypesOf<'a, S, C>,
+    at: &mut TypesOf<'a, S, C>,
     frames: &mut Vec<Frame<'a, S, C>>,
-) -> Result<PlannedEventOf<'a, S, C>, OutOfMemory>
-    ensures { IfOk result (λ e. planned e ∷ stack_events schema.now frames.new.items ≡ events_of (outline_of_directive schema.now (typing_of types.entry) directive.now) ++ stack_events schema.now frames.old.items) }
+) -> Result<Event<'a, S>, OutOfMemory>
+    ensures { IfOk result (λ e. typed_event e (typing_of at.new) ∷ stack_events schema.now frames.new.items ≡ events_of (outline_of_directive schema.now (typing_of types.entry) directive.now) ++ stack_events schema.now frames.old.items) }
 {
     let known = arguments_of_directive(schema, directive.item.name.item);
     push_part(Part::Told(Event::ExitDirective(directive)), types, frames)?;
     push_written_arguments(known, &directive.item.arguments, types, frames)?;
-    Ok(PlannedEventOf {
-        event: Event::EnterDirective(directive),
-        types,
-    })
+    *at = types;
+    Ok(Event::EnterDirective(directive))
 }
 
 // The definition of a variable is entered.
 fn enter_variable<'a, S, C>(
     definition: &'a (Spanning<&'a str>, VariableDefinition<'a, S>),
     types: TypesOf<'a, S, C>,
+    at: &mut TypesOf<'a, S, C>,
     frames: &mut Vec<Frame<'a, S, C>>,
-) -> Result<PlannedEventOf<'a, S, C>, OutOfMemory>
-    ensures { IfOk result (λ e. (schema : Catalog S C) → planned e ∷ stack_events schema frames.new.items ≡ events_of (outline_of_variable_definition schema (typing_of types.entry) definition.now) ++ stack_events schema frames.old.items) }
+) -> Result<Event<'a, S>, OutOfMemory>
+    ensures { IfOk result (λ e. (schema : Catalog S C) → typed_event e (typing_of at.new) ∷ stack_events schema frames.new.items ≡ events_of (outline_of_variable_definition schema (typing_of types.entry) definition.now) ++ stack_events schema frames.old.items) }
 {
     let (_, variable) = definition;
     let inside = types.at_variable(variable);
@@ -441,27 +443,24 @@ fn enter_variable<'a, S, C>(
     )?;
     push_written_directives(&variable.directives, inside, frames)?;
     push_default_value(&variable.default_value, inside, frames)?;
-    Ok(PlannedEventOf {
-        event: Event::EnterVariableDefinition(definition),
-        types: inside,
-    })
+    *at = inside;
+    Ok(Event::EnterVariableDefinition(definition))
 }
 
 // A selection set is entered.
 fn enter_set<'a, S, C>(
     set: &'a [Selection<'a, S>],
     types: TypesOf<'a, S, C>,
+    at: &mut TypesOf<'a, S, C>,
     frames: &mut Vec<Frame<'a, S, C>>,
-) -> Result<PlannedEventOf<'a, S, C>, OutOfMemory>
-    ensures { IfOk result (λ e. (schema : Catalog S C) → planned e ∷ stack_events schema frames.new.items ≡ events_of (outline_of_set schema (typing_of types.entry) set.now) ++ stack_events schema frames.old.items) }
+) -> Result<Event<'a, S>, OutOfMemory>
+    ensures { IfOk result (λ e. (schema : Catalog S C) → typed_event e (typing_of at.new) ∷ stack_events schema frames.new.items ≡ events_of (outline_of_set schema (typing_of types.entry) set.now) ++ stack_events schema frames.old.items) }
 {
     let inside = types.at_set();
     push_part(Part::Told(Event::ExitSelectionSet(set)), inside, frames)?;
     push_selections(set, inside, frames)?;
-    Ok(PlannedEventOf {
-        event: Event::EnterSelectionSet(set),
-        types: inside,
-    })
+    *at = inside;
+    Ok(Event::EnterSelectionSet(set))
 }
 
 // A field is entered.
@@ -469,9 +468,10 @@ fn enter_field<'a, S, C>(
     schema: &'a SchemaTypeOf<S, C>,
     field: &'a Spanning<Field<'a, S>>,
     types: TypesOf<'a, S, C>,
+    at: &mut TypesOf<'a, S, C>,
     frames: &mut Vec<Frame<'a, S, C>>,
-) -> Result<PlannedEventOf<'a, S, C>, OutOfMemory>
-    ensures { IfOk result (λ e. planned e ∷ stack_events schema.now frames.new.items ≡ events_of (outline_of_field schema.now (typing_of types.entry) field.now) ++ stack_events schema.now frames.old.items) }
+) -> Result<Event<'a, S>, OutOfMemory>
+    ensures { IfOk result (λ e. typed_event e (typing_of at.new) ∷ stack_events schema.now frames.new.items ≡ events_of (outline_of_field schema.now (typing_of types.entry) field.now) ++ stack_events schema.now frames.old.items) }
 {
     let inside = types.at_field(schema, field.item.name.item);
     let known = arguments_of_field(inside.parent, field.item.name.item);
@@ -479,26 +479,23 @@ fn enter_field<'a, S, C>(
     push_written_set(&field.item.selection_set, inside, frames)?;
     push_written_directives(&field.item.directives, inside, frames)?;
     push_written_arguments(known, &field.item.arguments, inside, frames)?;
-    Ok(PlannedEventOf {
-        event: Event::EnterField(field),
-        types: inside,
-    })
+    *at = inside;
+    Ok(Event::EnterField(field))
 }
 
 // A fragment spread is entered.
 fn enter_spread<'a, S, C>(
     spread: &'a Spanning<FragmentSpread<'a, S>>,
     types: TypesOf<'a, S, C>,
+    at: &mut TypesOf<'a, S, C>,
     frames: &mut Vec<Frame<'a, S, C>>,
-) -> Result<PlannedEventOf<'a, S, C>, OutOfMemory>
-    ensures { IfOk result (λ e. (schema : Catalog S C) → planned e ∷ stack_events schema frames.new.items ≡ events_of (outline_of_spread schema (typing_of types.entry) spread.now) ++ stack_events schema frames.old.items) }
+) -> Result<Event<'a, S>, OutOfMemory>
+    ensures { IfOk result (λ e. (schema : Catalog S C) → typed_event e (typing_of at.new) ∷ stack_events schema frames.new.items ≡ events_of (outline_of_spread schema (typing_of types.entry) spread.now) ++ stack_events schema frames.old.items) }
 {
     push_part(Part::Told(Event::ExitFragmentSpread(spread)), types, frames)?;
     push_written_directives(&spread.item.directives, types, frames)?;
-    Ok(PlannedEventOf {
-        event: Event::EnterFragmentSpread(spread),
-        types,
-    })
+    *at = types;
+    Ok(Event::EnterFragmentSpread(spread))
 }
 
 // An inline fragment is entered.
@@ -506,9 +503,10 @@ fn enter_inline<'a, S, C>(
     schema: &'a SchemaTypeOf<S, C>,
     fragment: &'a Spanning<InlineFragment<'a, S>>,
     types: TypesOf<'a, S, C>,
+    at: &mut TypesOf<'a, S, C>,
     frames: &mut Vec<Frame<'a, S, C>>,
-) -> Result<PlannedEventOf<'a, S, C>, OutOfMemory>
-    ensures { IfOk result (λ e. planned e ∷ stack_events schema.now frames.new.items ≡ events_of (outline_of_inline schema.now (typing_of types.entry) fragment.now) ++ stack_events schema.now frames.old.items) }
+) -> Result<Event<'a, S>, OutOfMemory>
+    ensures { IfOk result (λ e. typed_event e (typing_of at.new) ∷ stack_events schema.now frames.new.items ≡ events_of (outline_of_inline schema.now (typing_of types.entry) fragment.now) ++ stack_events schema.now frames.old.items) }
 {
     let inside = types.at_condition(schema, &fragment.item.type_condition);
     push_part(
@@ -522,10 +520,8 @@ fn enter_inline<'a, S, C>(
         frames,
     )?;
     push_written_directives(&fragment.item.directives, inside, frames)?;
-    Ok(PlannedEventOf {
-        event: Event::EnterInlineFragment(fragment),
-        types: inside,
-    })
+    *at = inside;
+    Ok(Event::EnterInlineFragment(fragment))
 }
 
 // A selection is entered.
@@ -533,14 +529,15 @@ fn enter_selection<'a, S, C>(
     schema: &'a SchemaTypeOf<S, C>,
     selection: &'a Selection<'a, S>,
     types: TypesOf<'a, S, C>,
+    at: &mut TypesOf<'a, S, C>,
     frames: &mut Vec<Frame<'a, S, C>>,
-) -> Result<PlannedEventOf<'a, S, C>, OutOfMemory>
-    ensures { IfOk result (λ e. planned e ∷ stack_events schema.now frames.new.items ≡ events_of (outline_of_selection schema.now (typing_of types.entry) selection.now) ++ stack_events schema.now frames.old.items) }
+) -> Result<Event<'a, S>, OutOfMemory>
+    ensures { IfOk result (λ e. typed_event e (typing_of at.new) ∷ stack_events schema.now frames.new.items ≡ events_of (outline_of_selection schema.now (typing_of types.entry) selection.now) ++ stack_events schema.now frames.old.items) }
 {
     match selection {
-        Selection::Field(field) => enter_field(schema, field, types, frames),
-        Selection::FragmentSpread(spread) => enter_spread(spread, types, frames),
-        Selection::InlineFragment(fragment) => enter_inline(schema, fragment, types, frames),
+        Selection::Field(field) => enter_field(schema, field, types, at, frames),
+        Selection::FragmentSpread(spread) => enter_spread(spread, types, at, frames),
+        Selection::InlineFragment(fragment) => enter_inline(schema, fragment, types, at, frames),
     }
 }
 
@@ -549,9 +546,10 @@ fn enter_operation<'a, S, C>(
     schema: &'a SchemaTypeOf<S, C>,
     operation: &'a Spanning<Operation<'a, S>>,
     types: TypesOf<'a, S, C>,
+    at: &mut TypesOf<'a, S, C>,
     frames: &mut Vec<Frame<'a, S, C>>,
-) -> Result<PlannedEventOf<'a, S, C>, OutOfMemory>
-    ensures { IfOk result (λ e. planned e ∷ stack_events schema.now frames.new.items ≡ events_of (outline_of_operation schema.now (typing_of types.entry) operation.now) ++ stack_events schema.now frames.old.items) }
+) -> Result<Event<'a, S>, OutOfMemory>
+    ensures { IfOk result (λ e. typed_event e (typing_of at.new) ∷ stack_events schema.now frames.new.items ≡ events_of (outline_of_operation schema.now (typing_of types.entry) operation.now) ++ stack_events schema.now frames.old.items) }
 {
     let inside = types.at_operation(schema, operation.item.operation_type);
     push_part(
@@ -566,10 +564,8 @@ fn enter_operation<'a, S, C>(
     )?;
     push_written_directives(&operation.item.directives, inside, frames)?;
     push_written_variables(&operation.item.variable_definitions, inside, frames)?;
-    Ok(PlannedEventOf {
-        event: Event::EnterOperationDefinition(operation),
-        types: inside,
-    })
+    *at = inside;
+    Ok(Event::EnterOperationDefinition(operation))
 }
 
 // The definition of a fragment is entered.
@@ -577,9 +573,10 @@ fn enter_fragment<'a, S, C>(
     schema: &'a SchemaTypeOf<S, C>,
     fragment: &'a Spanning<Fragment<'a, S>>,
     types: TypesOf<'a, S, C>,
+    at: &mut TypesOf<'a, S, C>,
     frames: &mut Vec<Frame<'a, S, C>>,
-) -> Result<PlannedEventOf<'a, S, C>, OutOfMemory>
-    ensures { IfOk result (λ e. planned e ∷ stack_events schema.now frames.new.items ≡ events_of (outline_of_fragment schema.now (typing_of types.entry) fragment.now) ++ stack_events schema.now frames.old.items) }
+) -> Result<Event<'a, S>, OutOfMemory>
+    ensures { IfOk result (λ e. typed_event e (typing_of at.new) ∷ stack_events schema.now frames.new.items ≡ events_of (outline_of_fragment schema.now (typing_of types.entry) fragment.now) ++ stack_events schema.now frames.old.items) }
 {
     let inside = types.at_named(schema, fragment.item.type_condition.item);
     push_part(
@@ -593,10 +590,8 @@ fn enter_fragment<'a, S, C>(
         frames,
     )?;
     push_written_directives(&fragment.item.directives, inside, frames)?;
-    Ok(PlannedEventOf {
-        event: Event::EnterFragmentDefinition(fragment),
-        types: inside,
-    })
+    *at = inside;
+    Ok(Event::EnterFragmentDefinition(fragment))
 }
 
 // A definition is entered.
@@ -604,13 +599,14 @@ fn enter_definition<'a, S, C>(
     schema: &'a SchemaTypeOf<S, C>,
     definition: &'a Definition<'a, S>,
     types: TypesOf<'a, S, C>,
+    at: &mut TypesOf<'a, S, C>,
     frames: &mut Vec<Frame<'a, S, C>>,
-) -> Result<PlannedEventOf<'a, S, C>, OutOfMemory>
-    ensures { IfOk result (λ e. planned e ∷ stack_events schema.now frames.new.items ≡ events_of (outline_of_definition schema.now (typing_of types.entry) definition.now) ++ stack_events schema.now frames.old.items) }
+) -> Result<Event<'a, S>, OutOfMemory>
+    ensures { IfOk result (λ e. typed_event e (typing_of at.new) ∷ stack_events schema.now frames.new.items ≡ events_of (outline_of_definition schema.now (typing_of types.entry) definition.now) ++ stack_events schema.now frames.old.items) }
 {
     match definition {
-        Definition::Operation(operation) => enter_operation(schema, operation, types, frames),
-        Definition::Fragment(fragment) => enter_fragment(schema, fragment, types, frames),
+        Definition::Operation(operation) => enter_operation(schema, operation, types, at, frames),
+        Definition::Fragment(fragment) => enter_fragment(schema, fragment, types, at, frames),
     }
 }
 
@@ -619,41 +615,45 @@ fn enter_part<'a, S, C>(
     schema: &'a SchemaTypeOf<S, C>,
     part: Part<'a, S>,
     types: TypesOf<'a, S, C>,
+    at: &mut TypesOf<'a, S, C>,
     frames: &mut Vec<Frame<'a, S, C>>,
-) -> Result<PlannedEventOf<'a, S, C>, OutOfMemory>
-    ensures { IfOk result (λ e. planned e ∷ stack_events schema.now frames.new.items ≡ frame_events schema.now (record { part = part.entry; types = types.entry }) ++ stack_events schema.now frames.old.items) }
+) -> Result<Event<'a, S>, OutOfMemory>
+    ensures { IfOk result (λ e. typed_event e (typing_of at.new) ∷ stack_events schema.now frames.new.items ≡ frame_events schema.now (record { part = part.entry; types = types.entry }) ++ stack_events schema.now frames.old.items) }
 {
     match part {
-        Part::Told(event) => Ok(PlannedEventOf { event, types }),
+        Part::Told(event) => {
+            *at = types;
+            Ok(event)
+        }
         Part::Definitions(first, rest) => {
             push_definitions(rest, types, frames)?;
-            enter_definition(schema, first, types, frames)
+            enter_definition(schema, first, types, at, frames)
         }
         Part::Variables(first, rest) => {
             push_variables(rest, types, frames)?;
-            enter_variable(first, types, frames)
+            enter_variable(first, types, at, frames)
         }
         Part::Directives(first, rest) => {
             push_directives(rest, types, frames)?;
-            enter_directive(schema, first, types, frames)
+            enter_directive(schema, first, types, at, frames)
         }
         Part::Arguments(known, first, rest) => {
             push_arguments(known, rest, types, frames)?;
-            enter_argument(known, first, types, frames)
+            enter_argument(known, first, types, at, frames)
         }
-        Part::Set(set) => enter_set(set, types, frames),
+        Part::Set(set) => enter_set(set, types, at, frames),
         Part::Selections(first, rest) => {
             push_selections(rest, types, frames)?;
-            enter_selection(schema, first, types, frames)
+            enter_selection(schema, first, types, at, frames)
         }
-        Part::Value(value) => enter_value(value, types, frames),
+        Part::Value(value) => enter_value(value, types, at, frames),
         Part::Items(first, rest) => {
             push_items(rest, types, frames)?;
-            enter_value(first, types, frames)
+            enter_value(first, types, at, frames)
         }
         Part::Entries(first, rest) => {
             push_entries(rest, types, frames)?;
-            enter_entry(schema, first, types, frames)
+            enter_entry(schema, first, types, at, frames)
         }
     }
 }
@@ -674,13 +674,15 @@ impl<'a, S, C> EventCursorOf<'a, S, C> {
     }
 
     /// The event that comes next, which is left no more; none where nothing is left.
-    pub fn next(&mut self) -> Result<Option<PlannedEventOf<'a, S, C>>, OutOfMemory>
-        ensures { IfOk result (λ found. IsNextLeft found self.old self.new) }
+    ///
+    /// The types at its node are written to `at`, so that no event is copied along with its types.
+    pub fn next(&mut self, at: &mut TypesOf<'a, S, C>) -> Result<Option<Event<'a, S>>, OutOfMemory>
+        ensures { IfOk result (λ found. IsNextLeft found (typing_of at.new) self.old self.new) }
     {
         let Some(frame) = self.frames.pop() else {
             return Ok(None);
         };
-        match enter_part(self.schema, frame.part, frame.types, &mut self.frames) {
+        match enter_part(self.schema, frame.part, frame.types, at, &mut self.frames) {
             Ok(event) => Ok(Some(event)),
             Err(refused) => Err(refused),
         }

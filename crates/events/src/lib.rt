@@ -7,4 +7,4 @@ pub mod typed_events;
 
 pub use cursor::{EventCursor, EventCursorOf};
 pub use event::Event;
-pub use typed_events::{PlannedEvent, PlannedEventOf, TypesOf};
+pub use typed_events::TypesOf;

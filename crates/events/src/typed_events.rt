@@ -8,11 +8,9 @@ ghost use Rattle.events.specs.SchemaView.{field_arguments, directive_arguments, 
 ghost use Rattle.events.specs.Typing.{at_type, at_input, at_set, at_variable, at_argument, at_items, at_object_field, at_condition};
 ghost use Rattle.events.specs.EventValue.{typing_of};
 
-use crate::event::Event;
 use language::position::Spanning;
 use language::tree::{OperationType, VariableDefinition};
 use language::types::BorrowedType;
-use meta::check::CheckedScalar;
 use meta::{Argument, MetaTypeOf};
 use schema::model::SchemaTypeOf;
 
@@ -24,15 +22,6 @@ pub struct TypesOf<'a, S, C> {
     pub parent: Option<&'a MetaTypeOf<S, C>>,
     pub input: Option<BorrowedType<'a>>,
 }
-
-/// An event that a visitor is to be told of, with the types at its node.
-#[derive(Drop)]
-pub struct PlannedEventOf<'a, S, C> {
-    pub event: Event<'a, S>,
-    pub types: TypesOf<'a, S, C>,
-}
-
-pub type PlannedEvent<'a, S> = PlannedEventOf<'a, S, <S as CheckedScalar>::Check>;
 
 impl<'a, S, C> TypesOf<'a, S, C> {
     /// The types at a node where a type is written.

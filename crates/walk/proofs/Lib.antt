@@ -1,6 +1,7 @@
 pub mod Entering
 pub mod NameSets
 pub mod Orders
+pub mod Replaced
 pub mod Runs
 pub mod Sums
 pub mod Walks

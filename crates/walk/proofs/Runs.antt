@@ -76,6 +76,15 @@ module _ {S C V : Type 0} (step : StepOf S C V) where
       let (es, st, e₂) = subst (λ z. Stepped step (m (typing z)) a b z w₂) e₁ s in
       (es, subst (λ z. step (scope_of_context w) (m z) a b es) (typing-pushed w t) st, e₃ ∙ ap popped e₂ ∙ popped-reported w t es)
 
+  -- a step below the types at hand
+  pub Stepped-below : (m : TypedEvent S C) (a b : V) (w w' : ContextState S C) → Stepped step m a b w w' → Stepped step m a b (popped w) (popped w')
+  Stepped-below m a b w w' (es, s, e) = (es, s, ap popped e)
+
+  -- a run below types that were pushed for it
+  pub Ran-pushed : (ms : List (TypedEvent S C)) (t : Typing S C) (a b : V) (w w₁ w₂ w₃ : ContextState S C) → w₁ ≡ pushed w t → Ran step ms a b (popped w₁) (popped w₂) → w₃ ≡ popped w₂ → Ran step ms a b w w₃
+  Ran-pushed ms t a b w w₁ w₂ w₃ e₁ r e₃ =
+      subst (λ z. Ran step ms a b w z) (sym e₃) (subst (λ z. Ran step ms a b z (popped w₂)) (ap popped e₁ ∙ popped-pushed w t) r)
+
   -- after a run the place is the one from before it
   pub KeepsPlace-ran : (ms : List (TypedEvent S C)) (a b : V) (w w' w'' : ContextState S C) → Ran step ms a b w w' → KeepsPlace w' w'' → KeepsPlace w w''
   KeepsPlace-ran ms a b w w' w'' (es, r, e) k =

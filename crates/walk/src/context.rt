@@ -7,12 +7,13 @@ ghost use Rattle.walk.specs.Calls.{CalledAt};
 ghost use Rattle.walk.specs.ContextState.{typing, pushed, popped, with_errors, failing, fresh_context, has_some};
 ghost use Rattle.walk.specs.ErrorValue.{error_cmp};
 ghost use Rattle.events.specs.EventValue.{typing_of};
+ghost use Rattle.events.specs.Cursor.{IsNextLeft};
 ghost use Rattle.walk.specs.Names.{is_among};
 ghost use Rattle.events.specs.Typing.{at_type, at_input, at_set};
 
 use crate::RuleError;
 use crate::fragment_names::FragmentNames;
-use events::TypesOf;
+use events::{Event, EventCursorOf, TypesOf};
 use language::error::OutOfMemory;
 use language::position::SourcePosition;
 use language::tree::Definition;
@@ -223,6 +224,26 @@ impl<'a, S, C> ValidatorContextOf<'a, S, C> {
         ensures { self.new ≡ popped self.old }
     {
         let _ = self.types.pop();
+    }
+
+    // Goes to the node of the next event of a cursor: its types take the place of those that were pushed last.
+    pub(crate) fn next_event(
+        &mut self,
+        cursor: &mut EventCursorOf<'a, S, C>,
+    ) -> Result<Option<Event<'a, S>>, OutOfMemory>
+        ensures next { IfOk result (λ found. IsNextLeft found (typing self.new) cursor.old cursor.new) }
+        ensures ok { OnOk result (popped self.new ≡ popped self.old) }
+        ensures err { OnErr result (popped self.new ≡ failing (popped self.old)) }
+    {
+        let Some(at) = self.types.last_mut() else {
+            self.failed = true;
+            return Err(OutOfMemory);
+        };
+        let found = cursor.next(at);
+        if found.is_err() {
+            self.failed = true;
+        }
+        found
     }
 
     // Refuses each later call.

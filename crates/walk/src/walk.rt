@@ -1,7 +1,7 @@
 //! The walk over a document.
 
 ghost use Rattle.std.specs.Prelude.{◌≡◌, IfOk, OnOk, OnErr, IsErr, true};
-ghost use Rattle.walk.specs.ContextState.{typing, scope_of};
+ghost use Rattle.walk.specs.ContextState.{typing, popped, scope_of};
 ghost use Rattle.walk.specs.Names.{fragment_names};
 ghost use Rattle.walk.specs.Rule.{Appended, any_value};
 ghost use Rattle.events.specs.EventValue.{typed_event, typing_of};
@@ -21,6 +21,23 @@ use language::shorten::shorten;
 use language::tree::Definition;
 use meta::check::CheckedScalar;
 
+// Tells a visitor of one event, at the types at hand.
+fn tell_here<'a, S: CheckedScalar, V: Visitor<'a, S>>(
+    v: &mut V,
+    ctx: &mut ValidatorContext<'a, S>,
+    event: &Event<'a, S>,
+) -> Result<(), OutOfMemory>
+    ensures stepped { IfOk result (λ _. Stepped V.step (typed_event event.now (typing ctx.old)) v.old v.new ctx.old ctx.new) }
+    ensures err { OnErr result (KeepsPlace ctx.old ctx.new) }
+    ensures failed { OnErr result (ctx.new.failed ≡ true) }
+{
+    let done = v.on(ctx, event);
+    if done.is_err() {
+        ctx.fail();
+    }
+    done
+}
+
 // Tells a visitor of one event, at these types.
 fn tell_one<'a, S: CheckedScalar, V: Visitor<'a, S>>(
     v: &mut V,
@@ -34,34 +51,44 @@ fn tell_one<'a, S: CheckedScalar, V: Visitor<'a, S>>(
     ensures stays { ctx.old.failed ≡ true → IsErr result }
 {
     ctx.push_types(types)?;
-    let done = v.on(ctx, event);
+    let done = tell_here(v, ctx, event);
     ctx.pop_types();
-    if done.is_err() {
-        ctx.fail();
-    }
     done
 }
 
-// Tells a visitor of the events that are left.
+// Tells a visitor of the events that are left, each at types that take the place of those at hand.
 fn tell_all<'a, S: CheckedScalar, V: Visitor<'a, S>>(
     v: &mut V,
     ctx: &mut ValidatorContext<'a, S>,
     cursor: &mut EventCursor<'a, S>,
 ) -> Result<(), OutOfMemory>
+    ensures ran { IfOk result (λ _. Ran V.step (events_left cursor.old) v.old v.new (popped ctx.old) (popped ctx.new)) }
+    ensures err { OnErr result (KeepsPlace (popped ctx.old) (popped ctx.new)) }
+    ensures failed { OnErr result (ctx.new.failed ≡ true) }
+{
+    'events: loop {
+        match ctx.next_event(cursor)? {
+            Some(event) => tell_here(v, ctx, &event)?,
+            None => return Ok(()),
+        }
+    }
+}
+
+// The same at types that are pushed for it, and taken off again.
+fn tell_pushed<'a, S: CheckedScalar, V: Visitor<'a, S>>(
+    v: &mut V,
+    ctx: &mut ValidatorContext<'a, S>,
+    cursor: &mut EventCursor<'a, S>,
+    types: TypesOf<'a, S, S::Check>,
+) -> Result<(), OutOfMemory>
     ensures ran { IfOk result (λ _. Ran V.step (events_left cursor.old) v.old v.new ctx.old ctx.new) }
     ensures err { OnErr result (KeepsPlace ctx.old ctx.new) }
     ensures failed { OnErr result (ctx.new.failed ≡ true) }
 {
-    'events: loop {
-        match cursor.next() {
-            Ok(Some(planned)) => tell_one(v, ctx, &planned.event, planned.types)?,
-            Ok(None) => return Ok(()),
-            Err(_) => {
-                ctx.fail();
-                return Err(OutOfMemory);
-            }
-        }
-    }
+    ctx.push_types(types)?;
+    let done = tell_all(v, ctx, cursor);
+    ctx.pop_types();
+    done
 }
 
 // Tells a visitor of the events of definitions, which stand at these types.
@@ -76,7 +103,7 @@ fn visit_definitions<'a, S: CheckedScalar, V: Visitor<'a, S>>(
     ensures failed { OnErr result (ctx.new.failed ≡ true) }
 {
     match EventCursorOf::over(ctx.allocator(), ctx.schema, definitions, types) {
-        Ok(mut cursor) => tell_all(v, ctx, &mut cursor),
+        Ok(mut cursor) => tell_pushed(v, ctx, &mut cursor, types),
         Err(_) => {
             ctx.fail();
             Err(OutOfMemory)

@@ -12,4 +12,4 @@ returns-in-Ok-clause-ran g c =
     let e : events_left c.in-Ok.cursor ≡ events_of (each (outline_of_definition c.args.ctx.now.schema (typing_of c.args.types)) c.args.definitions.now) =
     c.in-Ok.ensures
     ∙ ap (λ w. events_of (each (outline_of_definition w.schema (typing_of c.args.types)) c.args.definitions.now)) c.ctx.view_is in
-    IfOk-ran g.V.Machine.step _ _ c.args.v.now c.tell_all.new.v c.args.ctx.now c.tell_all.new.ctx c.tell_all.result e c.tell_all.ensures.ran
+    IfOk-ran g.V.Machine.step _ _ c.args.v.now c.tell_pushed.new.v c.args.ctx.now c.tell_pushed.new.ctx c.tell_pushed.result e c.tell_pushed.ensures.ran
