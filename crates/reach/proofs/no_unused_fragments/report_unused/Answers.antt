@@ -12,14 +12,14 @@ pub loop-place-preserved : goal.loop-place-preserved
 loop-place-preserved g c =
     let doc = c.args.document.now in
     let i = c.loop-place.place in
-    let d = c.index.result.now in
+    let d = c.index-document-place.result in
     let (fs, u, met, told) = c.loop-place.invariant in
     let (gs, adds, more) = c.in_ok-report_if_unused.ensures.ok in
     let r = c.in_ok-reached.reached in
-    let m = c.in_ok-reached.ensures in (
+    let m = c.in_ok-reached.ensures.reached in (
       fs ++ gs,
-      subst (λ zs. UnusedAmong doc zs (fs ++ gs)) (sym (next_take doc i d c.definition-item.is c.loop-place-test.true))
-          (unused_next doc (take i doc) fs u r m c.loop-place.met c.report_if_unused.new.met met d gs (i, c.loop-place-test.true, sym c.definition-item.is) adds),
+      subst (λ zs. UnusedAmong doc zs (fs ++ gs)) (sym (next_take doc i d c.index-document-place.is c.loop-place-test.true))
+          (unused_next doc (take i doc) fs u r m c.loop-place.met c.report_if_unused.new.met met d gs (i, c.loop-place-test.true, sym c.index-document-place.is) adds),
       met_next doc (take i doc) fs u r m c.loop-place.met c.report_if_unused.new.met met d gs adds,
       told_more fs gs c.args.ctx.now c.loop-place.ctx c.report_if_unused.new.ctx told more,
     )
