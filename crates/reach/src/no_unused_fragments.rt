@@ -4,20 +4,18 @@ ghost use Rattle.std.specs.Prelude.{◌≡◌, ◌∷◌, [], ◌↔◌, ◌⊎�
 ghost use Rattle.walk.specs.ContextState.{with_errors};
 ghost use Rattle.walk.specs.Rule.{any_value};
 ghost use Rattle.walk.specs.Step.{KeepsPlace};
-ghost use Rattle.fragment_cycles.specs.DocumentGraph.{IsGraphOf, resolved};
 ghost use Rattle.fragment_cycles.specs.Numbers.{defined_number, number_of};
-ghost use Rattle.reachability.specs.Reach.{operation_spreads};
+ghost use Rattle.scopes.specs.Index.{IsIndexOf};
 ghost use Rattle.reach.specs.AtDocument.{document_step, given_at_end};
 ghost use Rattle.reach.specs.AtDocumentLaws.{document_keeps};
 ghost use Rattle.reach.specs.NoUnusedFragments.{name_and_span, unused_error, unused_errors, unused_message, AddsFragment, AddsUnused, IsMet, NameAndSpan, UnusedAmong};
 
-use fragment_cycles::document_graph::{DocumentGraph, graph_of};
-use fragment_cycles::graph::Spread;
 use language::error::OutOfMemory;
 use language::position::{SourcePosition, Spanning};
 use language::tree::{Definition, Document, Fragment};
 use meta::check::CheckedScalar;
-use reachability::reached::{ReachedFragments, is_reached, operation_spreads, reached_fragments};
+use reachability::reached::{ReachedFragments, is_reached, reached_fragments};
+use scopes::index::{ScopeIndex, index_scopes};
 use std::alloc::{AllocError, Global};
 use std::collections::BTreeSet;
 use walk::{Event, Fresh, Machine, Rule, ValidatorContext, Visitor};
@@ -57,9 +55,8 @@ impl<'a, S: CheckedScalar> Visitor<'a, S> for NoUnusedFragments {
     ) -> Result<(), OutOfMemory> {
         match *event {
             Event::ExitDocument(document) => {
-                let graph = graph_of(self.alloc, document)?;
-                let starts = operation_spreads(self.alloc, &graph.numbers, document)?;
-                report_unused(self.alloc, ctx, document, &graph, starts.items.as_slice())
+                let index = index_scopes(self.alloc, document)?;
+                report_unused(self.alloc, ctx, document, &index)
             }
             _ => Ok(()),
         }
@@ -138,24 +135,22 @@ fn report_if_unused<'a, 'd, S: CheckedScalar>(
     }
 }
 
-/// Reports each name and span of a fragment that no operation reaches, once, by the document's graph and the spreads inside all
-/// operations.
+/// Reports each name and span of a fragment that no operation reaches, once, by the document's index.
 pub fn report_unused<'a, 'd, S: CheckedScalar>(
     alloc: Global,
     ctx: &mut ValidatorContext<'a, S>,
     document: Document<'d, S>,
-    graph: &DocumentGraph<'_>,
-    starts: &[Spread],
+    index: &ScopeIndex<'_>,
 ) -> Result<(), OutOfMemory>
-    requires graph { IsGraphOf document.now graph.now }
-    requires starts { starts.now ≡ map (resolved graph.now.numbers) (operation_spreads document.now) }
+    requires { IsIndexOf document.now index.now }
     ensures ok { IfOk result (λ _. (fs : List NameAndSpan) × UnusedAmong document.now document.now fs × (ctx.new ≡ with_errors ctx.old (map unused_error fs))) }
     ensures err { OnErr result (KeepsPlace ctx.old ctx.new) }
 {
-    let reached = reached_fragments(alloc, document, graph, starts)?;
+    let starts = index.spreads.items.as_slice();
+    let reached = reached_fragments(alloc, document, &index.graph, starts)?;
     let mut met = BTreeSet::new(alloc);
     for place in 0..document.len() {
-        let number = graph.defined[place];
+        let number = index.graph.defined[place];
         report_if_unused(alloc, ctx, &reached, &mut met, &document[place], number)?;
     }
     Ok(())

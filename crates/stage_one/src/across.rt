@@ -59,13 +59,7 @@ impl<'a> AcrossDocument<'a> {
         let graph = &index.scopes.graph;
         self.positions.leave(ctx, document, &index.scopes)?;
         no_unused_variables::report_unused(self.alloc, ctx, document, &index)?;
-        no_unused_fragments::report_unused(
-            self.alloc,
-            ctx,
-            document,
-            graph,
-            index.scopes.spreads.items.as_slice(),
-        )?;
+        no_unused_fragments::report_unused(self.alloc, ctx, document, &index.scopes)?;
         report_undefined(self.alloc, ctx, document, &index)?;
         self.cycles.leave(ctx, graph)
     }
