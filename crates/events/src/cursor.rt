@@ -81,18 +81,16 @@ fn push_part<'a, S, C>(
 
 // A node with nothing in it is entered, and left next.
 //
-// Whatever enters a node leaves the types at the node in `at`.
+// Whatever enters a node finds the types round it in `at`, and leaves there those at the node.
 fn enter_leaf<'a, S, C>(
     enter: Event<'a, S>,
     exit: Event<'a, S>,
-    types: TypesOf<'a, S, C>,
     at: &mut TypesOf<'a, S, C>,
     frames: &mut Vec<Frame<'a, S, C>>,
 ) -> Result<Event<'a, S>, OutOfMemory>
-    ensures { IfOk result (λ e. (schema : Catalog S C) → typed_event e (typing_of at.new) ∷ stack_events schema frames.new.items ≡ typed_event enter.entry (typing_of types.entry) ∷ typed_event exit.entry (typing_of types.entry) ∷ stack_events schema frames.old.items) }
+    ensures { IfOk result (λ e. (schema : Catalog S C) → typed_event e (typing_of at.new) ∷ stack_events schema frames.new.items ≡ typed_event enter.entry (typing_of at.old) ∷ typed_event exit.entry (typing_of at.old) ∷ stack_events schema frames.old.items) }
 {
-    push_part(Part::Told(exit), types, frames)?;
-    *at = types;
+    push_part(Part::Told(exit), *at, frames)?;
     Ok(enter)
 }
 
@@ -270,19 +268,17 @@ fn push_written_set<'a, S, C>(
 fn enter_list<'a, S, C>(
     items: &'a Vec<Spanning<InputValue<S>>>,
     span: &'a Span,
-    types: TypesOf<'a, S, C>,
     at: &mut TypesOf<'a, S, C>,
     frames: &mut Vec<Frame<'a, S, C>>,
 ) -> Result<Event<'a, S>, OutOfMemory>
-    ensures { IfOk result (λ e. (schema : Catalog S C) → typed_event e (typing_of at.new) ∷ stack_events schema frames.new.items ≡ events_of (node_with (Node.list_value (record { item = items.now.items; span = span.now })) (typing_of types.entry) (each (outline_of_value schema (at_items (typing_of types.entry))) items.now.items)) ++ stack_events schema frames.old.items) }
+    ensures { IfOk result (λ e. (schema : Catalog S C) → typed_event e (typing_of at.new) ∷ stack_events schema frames.new.items ≡ events_of (node_with (Node.list_value (record { item = items.now.items; span = span.now })) (typing_of at.old) (each (outline_of_value schema (at_items (typing_of at.old))) items.now.items)) ++ stack_events schema frames.old.items) }
 {
     push_part(
         Part::Told(Event::ExitListValue(Spanning { item: items, span })),
-        types,
+        *at,
         frames,
     )?;
-    push_items(items.as_slice(), types.at_items(), frames)?;
-    *at = types;
+    push_items(items.as_slice(), at.at_items(), frames)?;
     Ok(Event::EnterListValue(Spanning { item: items, span }))
 }
 
@@ -290,63 +286,56 @@ fn enter_list<'a, S, C>(
 fn enter_object<'a, S, C>(
     items: &'a Vec<(Spanning<String>, Spanning<InputValue<S>>)>,
     span: &'a Span,
-    types: TypesOf<'a, S, C>,
     at: &mut TypesOf<'a, S, C>,
     frames: &mut Vec<Frame<'a, S, C>>,
 ) -> Result<Event<'a, S>, OutOfMemory>
-    ensures { IfOk result (λ e. (schema : Catalog S C) → typed_event e (typing_of at.new) ∷ stack_events schema frames.new.items ≡ events_of (node_with (Node.object_value (record { item = items.now.items; span = span.now })) (typing_of types.entry) (each (outline_of_object_field schema (typing_of types.entry)) items.now.items)) ++ stack_events schema frames.old.items) }
+    ensures { IfOk result (λ e. (schema : Catalog S C) → typed_event e (typing_of at.new) ∷ stack_events schema frames.new.items ≡ events_of (node_with (Node.object_value (record { item = items.now.items; span = span.now })) (typing_of at.old) (each (outline_of_object_field schema (typing_of at.old)) items.now.items)) ++ stack_events schema frames.old.items) }
 {
     push_part(
         Part::Told(Event::ExitObjectValue(Spanning { item: items, span })),
-        types,
+        *at,
         frames,
     )?;
-    push_entries(items.as_slice(), types, frames)?;
-    *at = types;
+    push_entries(items.as_slice(), *at, frames)?;
     Ok(Event::EnterObjectValue(Spanning { item: items, span }))
 }
 
 // A value is entered.
 fn enter_value<'a, S, C>(
     value: &'a Spanning<InputValue<S>>,
-    types: TypesOf<'a, S, C>,
     at: &mut TypesOf<'a, S, C>,
     frames: &mut Vec<Frame<'a, S, C>>,
 ) -> Result<Event<'a, S>, OutOfMemory>
-    ensures { IfOk result (λ e. (schema : Catalog S C) → typed_event e (typing_of at.new) ∷ stack_events schema frames.new.items ≡ events_of (outline_of_value schema (typing_of types.entry) value.now) ++ stack_events schema frames.old.items) }
+    ensures { IfOk result (λ e. (schema : Catalog S C) → typed_event e (typing_of at.new) ∷ stack_events schema frames.new.items ≡ events_of (outline_of_value schema (typing_of at.old) value.now) ++ stack_events schema frames.old.items) }
 {
     let span = &value.span;
     match &value.item {
         InputValue::Null => enter_leaf(
             Event::EnterNullValue(span),
             Event::ExitNullValue(span),
-            types,
             at,
             frames,
         ),
         InputValue::Scalar(item) => enter_leaf(
             Event::EnterScalarValue(Spanning { item, span }),
             Event::ExitScalarValue(Spanning { item, span }),
-            types,
             at,
             frames,
         ),
         InputValue::Enum(item) => enter_leaf(
             Event::EnterEnumValue(Spanning { item, span }),
             Event::ExitEnumValue(Spanning { item, span }),
-            types,
             at,
             frames,
         ),
         InputValue::Variable(item) => enter_leaf(
             Event::EnterVariableValue(Spanning { item, span }),
             Event::ExitVariableValue(Spanning { item, span }),
-            types,
             at,
             frames,
         ),
-        InputValue::List(items) => enter_list(items, span, types, at, frames),
-        InputValue::Object(entries) => enter_object(entries, span, types, at, frames),
+        InputValue::List(items) => enter_list(items, span, at, frames),
+        InputValue::Object(entries) => enter_object(entries, span, at, frames),
     }
 }
 
@@ -354,14 +343,13 @@ fn enter_value<'a, S, C>(
 fn enter_entry<'a, S, C>(
     schema: &'a SchemaTypeOf<S, C>,
     entry: &'a (Spanning<String>, Spanning<InputValue<S>>),
-    types: TypesOf<'a, S, C>,
     at: &mut TypesOf<'a, S, C>,
     frames: &mut Vec<Frame<'a, S, C>>,
 ) -> Result<Event<'a, S>, OutOfMemory>
-    ensures { IfOk result (λ e. typed_event e (typing_of at.new) ∷ stack_events schema.now frames.new.items ≡ events_of (outline_of_object_field schema.now (typing_of types.entry) entry.now) ++ stack_events schema.now frames.old.items) }
+    ensures { IfOk result (λ e. typed_event e (typing_of at.new) ∷ stack_events schema.now frames.new.items ≡ events_of (outline_of_object_field schema.now (typing_of at.old) entry.now) ++ stack_events schema.now frames.old.items) }
 {
     let (key, value) = entry;
-    let inside = types.at_object_field(schema, key.item.as_str());
+    let inside = at.at_object_field(schema, key.item.as_str());
     push_part(
         Part::Told(Event::ExitObjectField(
             Spanning {
@@ -394,14 +382,13 @@ fn enter_entry<'a, S, C>(
 fn enter_argument<'a, S, C>(
     known: Option<&'a [Argument<S>]>,
     argument: &'a (Spanning<&'a str>, Spanning<InputValue<S>>),
-    types: TypesOf<'a, S, C>,
     at: &mut TypesOf<'a, S, C>,
     frames: &mut Vec<Frame<'a, S, C>>,
 ) -> Result<Event<'a, S>, OutOfMemory>
-    ensures { IfOk result (λ e. (schema : Catalog S C) → typed_event e (typing_of at.new) ∷ stack_events schema frames.new.items ≡ events_of (outline_of_argument schema (option_copied known.entry) (typing_of types.entry) argument.now) ++ stack_events schema frames.old.items) }
+    ensures { IfOk result (λ e. (schema : Catalog S C) → typed_event e (typing_of at.new) ∷ stack_events schema frames.new.items ≡ events_of (outline_of_argument schema (option_copied known.entry) (typing_of at.old) argument.now) ++ stack_events schema frames.old.items) }
 {
     let (name, value) = argument;
-    let inside = types.at_argument(known, name.item);
+    let inside = at.at_argument(known, name.item);
     push_part(Part::Told(Event::ExitArgument(argument)), inside, frames)?;
     push_part(Part::Value(value), inside, frames)?;
     *at = inside;
@@ -412,30 +399,27 @@ fn enter_argument<'a, S, C>(
 fn enter_directive<'a, S, C>(
     schema: &'a SchemaTypeOf<S, C>,
     directive: &'a Spanning<Directive<'a, S>>,
-    types: TypesOf<'a, S, C>,
     at: &mut TypesOf<'a, S, C>,
     frames: &mut Vec<Frame<'a, S, C>>,
 ) -> Result<Event<'a, S>, OutOfMemory>
-    ensures { IfOk result (λ e. typed_event e (typing_of at.new) ∷ stack_events schema.now frames.new.items ≡ events_of (outline_of_directive schema.now (typing_of types.entry) directive.now) ++ stack_events schema.now frames.old.items) }
+    ensures { IfOk result (λ e. typed_event e (typing_of at.new) ∷ stack_events schema.now frames.new.items ≡ events_of (outline_of_directive schema.now (typing_of at.old) directive.now) ++ stack_events schema.now frames.old.items) }
 {
     let known = arguments_of_directive(schema, directive.item.name.item);
-    push_part(Part::Told(Event::ExitDirective(directive)), types, frames)?;
-    push_written_arguments(known, &directive.item.arguments, types, frames)?;
-    *at = types;
+    push_part(Part::Told(Event::ExitDirective(directive)), *at, frames)?;
+    push_written_arguments(known, &directive.item.arguments, *at, frames)?;
     Ok(Event::EnterDirective(directive))
 }
 
 // The definition of a variable is entered.
 fn enter_variable<'a, S, C>(
     definition: &'a (Spanning<&'a str>, VariableDefinition<'a, S>),
-    types: TypesOf<'a, S, C>,
     at: &mut TypesOf<'a, S, C>,
     frames: &mut Vec<Frame<'a, S, C>>,
 ) -> Result<Event<'a, S>, OutOfMemory>
-    ensures { IfOk result (λ e. (schema : Catalog S C) → typed_event e (typing_of at.new) ∷ stack_events schema frames.new.items ≡ events_of (outline_of_variable_definition schema (typing_of types.entry) definition.now) ++ stack_events schema frames.old.items) }
+    ensures { IfOk result (λ e. (schema : Catalog S C) → typed_event e (typing_of at.new) ∷ stack_events schema frames.new.items ≡ events_of (outline_of_variable_definition schema (typing_of at.old) definition.now) ++ stack_events schema frames.old.items) }
 {
     let (_, variable) = definition;
-    let inside = types.at_variable(variable);
+    let inside = at.at_variable(variable);
     push_part(
         Part::Told(Event::ExitVariableDefinition(definition)),
         inside,
@@ -450,13 +434,12 @@ fn enter_variable<'a, S, C>(
 // A selection set is entered.
 fn enter_set<'a, S, C>(
     set: &'a [Selection<'a, S>],
-    types: TypesOf<'a, S, C>,
     at: &mut TypesOf<'a, S, C>,
     frames: &mut Vec<Frame<'a, S, C>>,
 ) -> Result<Event<'a, S>, OutOfMemory>
-    ensures { IfOk result (λ e. (schema : Catalog S C) → typed_event e (typing_of at.new) ∷ stack_events schema frames.new.items ≡ events_of (outline_of_set schema (typing_of types.entry) set.now) ++ stack_events schema frames.old.items) }
+    ensures { IfOk result (λ e. (schema : Catalog S C) → typed_event e (typing_of at.new) ∷ stack_events schema frames.new.items ≡ events_of (outline_of_set schema (typing_of at.old) set.now) ++ stack_events schema frames.old.items) }
 {
-    let inside = types.at_set();
+    let inside = at.at_set();
     push_part(Part::Told(Event::ExitSelectionSet(set)), inside, frames)?;
     push_selections(set, inside, frames)?;
     *at = inside;
@@ -467,13 +450,12 @@ fn enter_set<'a, S, C>(
 fn enter_field<'a, S, C>(
     schema: &'a SchemaTypeOf<S, C>,
     field: &'a Spanning<Field<'a, S>>,
-    types: TypesOf<'a, S, C>,
     at: &mut TypesOf<'a, S, C>,
     frames: &mut Vec<Frame<'a, S, C>>,
 ) -> Result<Event<'a, S>, OutOfMemory>
-    ensures { IfOk result (λ e. typed_event e (typing_of at.new) ∷ stack_events schema.now frames.new.items ≡ events_of (outline_of_field schema.now (typing_of types.entry) field.now) ++ stack_events schema.now frames.old.items) }
+    ensures { IfOk result (λ e. typed_event e (typing_of at.new) ∷ stack_events schema.now frames.new.items ≡ events_of (outline_of_field schema.now (typing_of at.old) field.now) ++ stack_events schema.now frames.old.items) }
 {
-    let inside = types.at_field(schema, field.item.name.item);
+    let inside = at.at_field(schema, field.item.name.item);
     let known = arguments_of_field(inside.parent, field.item.name.item);
     push_part(Part::Told(Event::ExitField(field)), inside, frames)?;
     push_written_set(&field.item.selection_set, inside, frames)?;
@@ -486,15 +468,13 @@ fn enter_field<'a, S, C>(
 // A fragment spread is entered.
 fn enter_spread<'a, S, C>(
     spread: &'a Spanning<FragmentSpread<'a, S>>,
-    types: TypesOf<'a, S, C>,
     at: &mut TypesOf<'a, S, C>,
     frames: &mut Vec<Frame<'a, S, C>>,
 ) -> Result<Event<'a, S>, OutOfMemory>
-    ensures { IfOk result (λ e. (schema : Catalog S C) → typed_event e (typing_of at.new) ∷ stack_events schema frames.new.items ≡ events_of (outline_of_spread schema (typing_of types.entry) spread.now) ++ stack_events schema frames.old.items) }
+    ensures { IfOk result (λ e. (schema : Catalog S C) → typed_event e (typing_of at.new) ∷ stack_events schema frames.new.items ≡ events_of (outline_of_spread schema (typing_of at.old) spread.now) ++ stack_events schema frames.old.items) }
 {
-    push_part(Part::Told(Event::ExitFragmentSpread(spread)), types, frames)?;
-    push_written_directives(&spread.item.directives, types, frames)?;
-    *at = types;
+    push_part(Part::Told(Event::ExitFragmentSpread(spread)), *at, frames)?;
+    push_written_directives(&spread.item.directives, *at, frames)?;
     Ok(Event::EnterFragmentSpread(spread))
 }
 
@@ -502,13 +482,12 @@ fn enter_spread<'a, S, C>(
 fn enter_inline<'a, S, C>(
     schema: &'a SchemaTypeOf<S, C>,
     fragment: &'a Spanning<InlineFragment<'a, S>>,
-    types: TypesOf<'a, S, C>,
     at: &mut TypesOf<'a, S, C>,
     frames: &mut Vec<Frame<'a, S, C>>,
 ) -> Result<Event<'a, S>, OutOfMemory>
-    ensures { IfOk result (λ e. typed_event e (typing_of at.new) ∷ stack_events schema.now frames.new.items ≡ events_of (outline_of_inline schema.now (typing_of types.entry) fragment.now) ++ stack_events schema.now frames.old.items) }
+    ensures { IfOk result (λ e. typed_event e (typing_of at.new) ∷ stack_events schema.now frames.new.items ≡ events_of (outline_of_inline schema.now (typing_of at.old) fragment.now) ++ stack_events schema.now frames.old.items) }
 {
-    let inside = types.at_condition(schema, &fragment.item.type_condition);
+    let inside = at.at_condition(schema, &fragment.item.type_condition);
     push_part(
         Part::Told(Event::ExitInlineFragment(fragment)),
         inside,
@@ -528,16 +507,15 @@ fn enter_inline<'a, S, C>(
 fn enter_selection<'a, S, C>(
     schema: &'a SchemaTypeOf<S, C>,
     selection: &'a Selection<'a, S>,
-    types: TypesOf<'a, S, C>,
     at: &mut TypesOf<'a, S, C>,
     frames: &mut Vec<Frame<'a, S, C>>,
 ) -> Result<Event<'a, S>, OutOfMemory>
-    ensures { IfOk result (λ e. typed_event e (typing_of at.new) ∷ stack_events schema.now frames.new.items ≡ events_of (outline_of_selection schema.now (typing_of types.entry) selection.now) ++ stack_events schema.now frames.old.items) }
+    ensures { IfOk result (λ e. typed_event e (typing_of at.new) ∷ stack_events schema.now frames.new.items ≡ events_of (outline_of_selection schema.now (typing_of at.old) selection.now) ++ stack_events schema.now frames.old.items) }
 {
     match selection {
-        Selection::Field(field) => enter_field(schema, field, types, at, frames),
-        Selection::FragmentSpread(spread) => enter_spread(spread, types, at, frames),
-        Selection::InlineFragment(fragment) => enter_inline(schema, fragment, types, at, frames),
+        Selection::Field(field) => enter_field(schema, field, at, frames),
+        Selection::FragmentSpread(spread) => enter_spread(spread, at, frames),
+        Selection::InlineFragment(fragment) => enter_inline(schema, fragment, at, frames),
     }
 }
 
@@ -545,13 +523,12 @@ fn enter_selection<'a, S, C>(
 fn enter_operation<'a, S, C>(
     schema: &'a SchemaTypeOf<S, C>,
     operation: &'a Spanning<Operation<'a, S>>,
-    types: TypesOf<'a, S, C>,
     at: &mut TypesOf<'a, S, C>,
     frames: &mut Vec<Frame<'a, S, C>>,
 ) -> Result<Event<'a, S>, OutOfMemory>
-    ensures { IfOk result (λ e. typed_event e (typing_of at.new) ∷ stack_events schema.now frames.new.items ≡ events_of (outline_of_operation schema.now (typing_of types.entry) operation.now) ++ stack_events schema.now frames.old.items) }
+    ensures { IfOk result (λ e. typed_event e (typing_of at.new) ∷ stack_events schema.now frames.new.items ≡ events_of (outline_of_operation schema.now (typing_of at.old) operation.now) ++ stack_events schema.now frames.old.items) }
 {
-    let inside = types.at_operation(schema, operation.item.operation_type);
+    let inside = at.at_operation(schema, operation.item.operation_type);
     push_part(
         Part::Told(Event::ExitOperationDefinition(operation)),
         inside,
@@ -572,13 +549,12 @@ fn enter_operation<'a, S, C>(
 fn enter_fragment<'a, S, C>(
     schema: &'a SchemaTypeOf<S, C>,
     fragment: &'a Spanning<Fragment<'a, S>>,
-    types: TypesOf<'a, S, C>,
     at: &mut TypesOf<'a, S, C>,
     frames: &mut Vec<Frame<'a, S, C>>,
 ) -> Result<Event<'a, S>, OutOfMemory>
-    ensures { IfOk result (λ e. typed_event e (typing_of at.new) ∷ stack_events schema.now frames.new.items ≡ events_of (outline_of_fragment schema.now (typing_of types.entry) fragment.now) ++ stack_events schema.now frames.old.items) }
+    ensures { IfOk result (λ e. typed_event e (typing_of at.new) ∷ stack_events schema.now frames.new.items ≡ events_of (outline_of_fragment schema.now (typing_of at.old) fragment.now) ++ stack_events schema.now frames.old.items) }
 {
-    let inside = types.at_named(schema, fragment.item.type_condition.item);
+    let inside = at.at_named(schema, fragment.item.type_condition.item);
     push_part(
         Part::Told(Event::ExitFragmentDefinition(fragment)),
         inside,
@@ -598,15 +574,14 @@ fn enter_fragment<'a, S, C>(
 fn enter_definition<'a, S, C>(
     schema: &'a SchemaTypeOf<S, C>,
     definition: &'a Definition<'a, S>,
-    types: TypesOf<'a, S, C>,
     at: &mut TypesOf<'a, S, C>,
     frames: &mut Vec<Frame<'a, S, C>>,
 ) -> Result<Event<'a, S>, OutOfMemory>
-    ensures { IfOk result (λ e. typed_event e (typing_of at.new) ∷ stack_events schema.now frames.new.items ≡ events_of (outline_of_definition schema.now (typing_of types.entry) definition.now) ++ stack_events schema.now frames.old.items) }
+    ensures { IfOk result (λ e. typed_event e (typing_of at.new) ∷ stack_events schema.now frames.new.items ≡ events_of (outline_of_definition schema.now (typing_of at.old) definition.now) ++ stack_events schema.now frames.old.items) }
 {
     match definition {
-        Definition::Operation(operation) => enter_operation(schema, operation, types, at, frames),
-        Definition::Fragment(fragment) => enter_fragment(schema, fragment, types, at, frames),
+        Definition::Operation(operation) => enter_operation(schema, operation, at, frames),
+        Definition::Fragment(fragment) => enter_fragment(schema, fragment, at, frames),
     }
 }
 
@@ -614,46 +589,42 @@ fn enter_definition<'a, S, C>(
 fn enter_part<'a, S, C>(
     schema: &'a SchemaTypeOf<S, C>,
     part: Part<'a, S>,
-    types: TypesOf<'a, S, C>,
     at: &mut TypesOf<'a, S, C>,
     frames: &mut Vec<Frame<'a, S, C>>,
 ) -> Result<Event<'a, S>, OutOfMemory>
-    ensures { IfOk result (λ e. typed_event e (typing_of at.new) ∷ stack_events schema.now frames.new.items ≡ frame_events schema.now (record { part = part.entry; types = types.entry }) ++ stack_events schema.now frames.old.items) }
+    ensures { IfOk result (λ e. typed_event e (typing_of at.new) ∷ stack_events schema.now frames.new.items ≡ frame_events schema.now (record { part = part.entry; types = at.old }) ++ stack_events schema.now frames.old.items) }
 {
     match part {
-        Part::Told(event) => {
-            *at = types;
-            Ok(event)
-        }
+        Part::Told(event) => Ok(event),
         Part::Definitions(first, rest) => {
-            push_definitions(rest, types, frames)?;
-            enter_definition(schema, first, types, at, frames)
+            push_definitions(rest, *at, frames)?;
+            enter_definition(schema, first, at, frames)
         }
         Part::Variables(first, rest) => {
-            push_variables(rest, types, frames)?;
-            enter_variable(first, types, at, frames)
+            push_variables(rest, *at, frames)?;
+            enter_variable(first, at, frames)
         }
         Part::Directives(first, rest) => {
-            push_directives(rest, types, frames)?;
-            enter_directive(schema, first, types, at, frames)
+            push_directives(rest, *at, frames)?;
+            enter_directive(schema, first, at, frames)
         }
         Part::Arguments(known, first, rest) => {
-            push_arguments(known, rest, types, frames)?;
-            enter_argument(known, first, types, at, frames)
+            push_arguments(known, rest, *at, frames)?;
+            enter_argument(known, first, at, frames)
         }
-        Part::Set(set) => enter_set(set, types, at, frames),
+        Part::Set(set) => enter_set(set, at, frames),
         Part::Selections(first, rest) => {
-            push_selections(rest, types, frames)?;
-            enter_selection(schema, first, types, at, frames)
+            push_selections(rest, *at, frames)?;
+            enter_selection(schema, first, at, frames)
         }
-        Part::Value(value) => enter_value(value, types, at, frames),
+        Part::Value(value) => enter_value(value, at, frames),
         Part::Items(first, rest) => {
-            push_items(rest, types, frames)?;
-            enter_value(first, types, at, frames)
+            push_items(rest, *at, frames)?;
+            enter_value(first, at, frames)
         }
         Part::Entries(first, rest) => {
-            push_entries(rest, types, frames)?;
-            enter_entry(schema, first, types, at, frames)
+            push_entries(rest, *at, frames)?;
+            enter_entry(schema, first, at, frames)
         }
     }
 }
@@ -682,7 +653,8 @@ impl<'a, S, C> EventCursorOf<'a, S, C> {
         let Some(frame) = self.frames.pop() else {
             return Ok(None);
         };
-        match enter_part(self.schema, frame.part, frame.types, at, &mut self.frames) {
+        *at = frame.types;
+        match enter_part(self.schema, frame.part, at, &mut self.frames) {
             Ok(event) => Ok(Some(event)),
             Err(refused) => Err(refused),
         }

@@ -11,7 +11,7 @@ use Rattle.events.proofs.cursor.enter_directive.Goals as goal
 pub returns : goal.returns
 returns g c =
     let schema = c.args.schema.now in
-    let types = typing_of c.args.types in
+    let types = typing_of c.args.at.now in
     let d = c.args.directive.now in
     around (Node.directive d) types (outline_of_arguments schema (directive_arguments schema d.item.name.item.now) types d.item.arguments) _ _ _ (c.in_ok-push_part.ensures schema)
     (c.in_ok-push_written_arguments.ensures schema ∙ ap (λ a. events_of (outline_of_arguments schema a types d.item.arguments) ++ stack_events schema c.push_part.new.frames.items) c.arguments_of_directive-known.ensures)

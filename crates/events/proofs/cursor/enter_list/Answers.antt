@@ -10,7 +10,7 @@ use Rattle.events.proofs.cursor.enter_list.Goals as goal
 
 pub returns : goal.returns
 returns g c =
-    λ schema. around (Node.list_value (record { item = c.args.items.now.items; span = c.args.span.now })) (typing_of c.args.types) (each (outline_of_value schema (at_items (typing_of c.args.types))) c.args.items.now.items) _ _ _ (c.in_ok-push_part.ensures schema)
+    λ schema. around (Node.list_value (record { item = c.args.items.now.items; span = c.args.span.now })) (typing_of c.args.at.now) (each (outline_of_value schema (at_items (typing_of c.args.at.now))) c.args.items.now.items) _ _ _ (c.in_ok-push_part.ensures schema)
     (c.in_ok-push_items.ensures schema
     ∙ ap (λ u. events_of (each (outline_of_value schema u) c.as_slice.result.now) ++ stack_events schema c.push_part.new.frames.items) c.at_items.ensures
-    ∙ ap (λ xs. events_of (each (outline_of_value schema (at_items (typing_of c.args.types))) xs) ++ stack_events schema c.push_part.new.frames.items) c.as_slice.ensures.value)
+    ∙ ap (λ xs. events_of (each (outline_of_value schema (at_items (typing_of c.args.at.now))) xs) ++ stack_events schema c.push_part.new.frames.items) c.as_slice.ensures.value)

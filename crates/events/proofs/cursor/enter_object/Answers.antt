@@ -9,6 +9,6 @@ use Rattle.events.proofs.cursor.enter_object.Goals as goal
 
 pub returns : goal.returns
 returns g c =
-    λ schema. around (Node.object_value (record { item = c.args.items.now.items; span = c.args.span.now })) (typing_of c.args.types) (each (outline_of_object_field schema (typing_of c.args.types)) c.args.items.now.items) _ _ _ (c.in_ok-push_part.ensures schema)
+    λ schema. around (Node.object_value (record { item = c.args.items.now.items; span = c.args.span.now })) (typing_of c.args.at.now) (each (outline_of_object_field schema (typing_of c.args.at.now)) c.args.items.now.items) _ _ _ (c.in_ok-push_part.ensures schema)
     (c.in_ok-push_entries.ensures schema
-    ∙ ap (λ xs. events_of (each (outline_of_object_field schema (typing_of c.args.types)) xs) ++ stack_events schema c.push_part.new.frames.items) c.as_slice.ensures.value)
+    ∙ ap (λ xs. events_of (each (outline_of_object_field schema (typing_of c.args.at.now)) xs) ++ stack_events schema c.push_part.new.frames.items) c.as_slice.ensures.value)

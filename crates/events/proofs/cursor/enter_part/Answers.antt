@@ -8,7 +8,7 @@ use Rattle.events.proofs.cursor.enter_part.Goals as goal
 pub returns-in_ok-push_definitions-in-Definitions : goal.returns-in_ok-push_definitions-in-Definitions
 returns-in_ok-push_definitions-in-Definitions g c =
     let schema = c.args.schema.now in
-    let types = typing_of c.args.types in
+    let types = typing_of c.args.at.now in
     rw c.in-Definitions.is
     (IfOk-weaker c.enter_definition.result _ _
     (λ e h. first_of_each (outline_of_definition schema types) c.in-Definitions.first.now c.in-Definitions.rest.now _ _ _ (c.in_ok-push_definitions-in-Definitions.ensures schema) (h))
@@ -17,7 +17,7 @@ returns-in_ok-push_definitions-in-Definitions g c =
 pub returns-in_ok-push_variables-in-Variables : goal.returns-in_ok-push_variables-in-Variables
 returns-in_ok-push_variables-in-Variables g c =
     let schema = c.args.schema.now in
-    let types = typing_of c.args.types in
+    let types = typing_of c.args.at.now in
     rw c.in-Variables.is
     (IfOk-weaker c.enter_variable.result _ _
     (λ e h. first_of_each (outline_of_variable_definition schema types) c.in-Variables.first.now c.in-Variables.rest.now _ _ _ (c.in_ok-push_variables-in-Variables.ensures schema) (h schema))
@@ -26,7 +26,7 @@ returns-in_ok-push_variables-in-Variables g c =
 pub returns-in_ok-push_directives-in-Directives : goal.returns-in_ok-push_directives-in-Directives
 returns-in_ok-push_directives-in-Directives g c =
     let schema = c.args.schema.now in
-    let types = typing_of c.args.types in
+    let types = typing_of c.args.at.now in
     rw c.in-Directives.is
     (IfOk-weaker c.enter_directive.result _ _
     (λ e h. first_of_each (outline_of_directive schema types) c.in-Directives.first.now c.in-Directives.rest.now _ _ _ (c.in_ok-push_directives-in-Directives.ensures schema) (h))
@@ -35,7 +35,7 @@ returns-in_ok-push_directives-in-Directives g c =
 pub returns-in_ok-push_arguments-in-Arguments : goal.returns-in_ok-push_arguments-in-Arguments
 returns-in_ok-push_arguments-in-Arguments g c =
     let schema = c.args.schema.now in
-    let types = typing_of c.args.types in
+    let types = typing_of c.args.at.now in
     rw c.in-Arguments.is
     (IfOk-weaker c.enter_argument.result _ _
     (λ e h. first_of_each (outline_of_argument schema (option_copied c.in-Arguments.known) types) c.in-Arguments.first.now c.in-Arguments.rest.now _ _ _ (c.in_ok-push_arguments-in-Arguments.ensures schema) (h schema))
@@ -49,7 +49,7 @@ returns-in-Set g c =
 pub returns-in_ok-push_selections-in-Selections : goal.returns-in_ok-push_selections-in-Selections
 returns-in_ok-push_selections-in-Selections g c =
     let schema = c.args.schema.now in
-    let types = typing_of c.args.types in
+    let types = typing_of c.args.at.now in
     rw c.in-Selections.is
     (IfOk-weaker c.enter_selection.result _ _
     (λ e h. first_of_each (outline_of_selection schema types) c.in-Selections.first.now c.in-Selections.rest.now _ _ _ (c.in_ok-push_selections-in-Selections.ensures schema) (h))
@@ -63,7 +63,7 @@ returns-in-Value g c =
 pub returns-in_ok-push_items-in-Items : goal.returns-in_ok-push_items-in-Items
 returns-in_ok-push_items-in-Items g c =
     let schema = c.args.schema.now in
-    let types = typing_of c.args.types in
+    let types = typing_of c.args.at.now in
     rw c.in-Items.is
     (IfOk-weaker c.enter_value-in-Items.result _ _
     (λ e h. first_of_each (outline_of_value schema types) c.in-Items.first.now c.in-Items.rest.now _ _ _ (c.in_ok-push_items-in-Items.ensures schema) (h schema))
@@ -72,7 +72,7 @@ returns-in_ok-push_items-in-Items g c =
 pub returns-in_ok-push_entries-in-Entries : goal.returns-in_ok-push_entries-in-Entries
 returns-in_ok-push_entries-in-Entries g c =
     let schema = c.args.schema.now in
-    let types = typing_of c.args.types in
+    let types = typing_of c.args.at.now in
     rw c.in-Entries.is
     (IfOk-weaker c.enter_entry.result _ _
     (λ e h. first_of_each (outline_of_object_field schema types) c.in-Entries.first.now c.in-Entries.rest.now _ _ _ (c.in_ok-push_entries-in-Entries.ensures schema) (h))

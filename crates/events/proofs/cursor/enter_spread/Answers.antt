@@ -6,4 +6,4 @@ use Rattle.events.proofs.cursor.enter_spread.Goals as goal
 
 pub returns : goal.returns
 returns g c =
-    λ schema. around (Node.fragment_spread c.args.spread.now) (typing_of c.args.types) (outline_of_directives schema (typing_of c.args.types) c.args.spread.now.item.directives) _ _ _ (c.in_ok-push_part.ensures schema) (c.in_ok-push_written_directives.ensures schema)
+    λ schema. around (Node.fragment_spread c.args.spread.now) (typing_of c.args.at.now) (outline_of_directives schema (typing_of c.args.at.now) c.args.spread.now.item.directives) _ _ _ (c.in_ok-push_part.ensures schema) (c.in_ok-push_written_directives.ensures schema)

@@ -9,7 +9,7 @@ use Rattle.events.proofs.cursor.enter_value.Goals as goal
 
 pub returns-in-Null : goal.returns-in-Null
 returns-in-Null g c =
-    let types = typing_of c.args.types in
+    let types = typing_of c.args.at.now in
     let v = c.args.value.now in
     IfOk-weaker c.enter_leaf.result _ _
     (λ e h schema. h schema ∙ ap (λ z. events_of z ++ stack_events schema c.args.frames.now.items) (sym (ap (λ w. outline_of_bare_value schema w v.span types) c.in-Null.is ∙ of_null schema v.span types)))
@@ -17,7 +17,7 @@ returns-in-Null g c =
 
 pub returns-in-Scalar : goal.returns-in-Scalar
 returns-in-Scalar g c =
-    let types = typing_of c.args.types in
+    let types = typing_of c.args.at.now in
     let v = c.args.value.now in
     IfOk-weaker c.enter_leaf-in-Scalar.result _ _
     (λ e h schema. h schema ∙ ap (λ z. events_of z ++ stack_events schema c.args.frames.now.items) (sym (ap (λ w. outline_of_bare_value schema w v.span types) c.in-Scalar.is ∙ of_scalar schema c.in-Scalar.item v.span types)))
@@ -25,7 +25,7 @@ returns-in-Scalar g c =
 
 pub returns-in-Enum : goal.returns-in-Enum
 returns-in-Enum g c =
-    let types = typing_of c.args.types in
+    let types = typing_of c.args.at.now in
     let v = c.args.value.now in
     IfOk-weaker c.enter_leaf-in-Enum.result _ _
     (λ e h schema. h schema ∙ ap (λ z. events_of z ++ stack_events schema c.args.frames.now.items) (sym (ap (λ w. outline_of_bare_value schema w v.span types) c.in-Enum.is ∙ of_enum schema c.in-Enum.item v.span types)))
@@ -33,7 +33,7 @@ returns-in-Enum g c =
 
 pub returns-in-Variable : goal.returns-in-Variable
 returns-in-Variable g c =
-    let types = typing_of c.args.types in
+    let types = typing_of c.args.at.now in
     let v = c.args.value.now in
     IfOk-weaker c.enter_leaf-in-Variable.result _ _
     (λ e h schema. h schema ∙ ap (λ z. events_of z ++ stack_events schema c.args.frames.now.items) (sym (ap (λ w. outline_of_bare_value schema w v.span types) c.in-Variable.is ∙ of_variable schema c.in-Variable.item v.span types)))
@@ -41,7 +41,7 @@ returns-in-Variable g c =
 
 pub returns-in-List : goal.returns-in-List
 returns-in-List g c =
-    let types = typing_of c.args.types in
+    let types = typing_of c.args.at.now in
     let v = c.args.value.now in
     IfOk-weaker c.enter_list.result _ _
     (λ e h schema. h schema ∙ ap (λ z. events_of z ++ stack_events schema c.args.frames.now.items) (sym (ap (λ w. outline_of_bare_value schema w v.span types) c.in-List.is ∙ of_list schema c.in-List.items v.span types)))
@@ -49,7 +49,7 @@ returns-in-List g c =
 
 pub returns-in-Object : goal.returns-in-Object
 returns-in-Object g c =
-    let types = typing_of c.args.types in
+    let types = typing_of c.args.at.now in
     let v = c.args.value.now in
     IfOk-weaker c.enter_object.result _ _
     (λ e h schema. h schema ∙ ap (λ z. events_of z ++ stack_events schema c.args.frames.now.items) (sym (ap (λ w. outline_of_bare_value schema w v.span types) c.in-Object.is ∙ of_object schema c.in-Object.entries v.span types)))
