@@ -11,7 +11,6 @@ use Rattle.field_pairs.specs.DirectReason.{direct_of}
 use Rattle.field_pairs.specs.Numbered.{exclusive_between, direct_between}
 use Rattle.merging.specs.declared.node.Entry.{Entry}
 use Rattle.merging.specs.Judgement.{Judgement}
-use Rattle.numbered_sets.specs.declared.table.OwnField.{OwnField}
 use Rattle.numbered_sets.specs.Names.{number_in, AreApart}
 use Rattle.numbered_sets.specs.Table.{Numbered, IsOwnField}
 use Rattle.numbered_sets.specs.Represents.{IsSetOf}
@@ -19,29 +18,26 @@ use Rattle.numbered_sets.specs.OwnParts.{IsFieldOf, without_set, with_set, AreFi
 use Rattle.merge_documents.specs.Judging.{judgement_by}
 use Rattle.fragment_cycles.proofs.Lists.{same_some, none_some, same_item}
 
-abbrev pub as_own : Entry → OwnField
-as_own a = record { response = a.response; field = a.field; below = a.below }
-
 module _ {S C : Type 0} (schema : Catalog S C) (numbers : List ℕ → Option ℕ) (m : Numbered S C) where
   -- the numbers are those of the field
   abbrev pub IsEntryOf : PlainEntry S C → Entry → Type 0
-  IsEntryOf x a = IsFieldOf schema numbers m x (as_own a)
+  IsEntryOf x a = IsFieldOf schema numbers m x a
 
-  pub own_field : {x : PlainEntry S C} {o : OwnField} → IsFieldOf schema numbers m x o → IsOwnField m x o
+  pub own_field : {x : PlainEntry S C} {o : Entry} → IsFieldOf schema numbers m x o → IsOwnField m x o
   own_field (without_set is none bare) = is
   own_field (with_set w n is some at set) = is
 
   pub one_field : {x y : PlainEntry S C} {a : Entry} → slice_get m.fields a.field ≡ Some x → IsEntryOf y a → y ≡ x
   one_field {x} {y} {a} at f = same_item y x (slice_get m.fields a.field) (own_field f).field at
 
-  pub field_got : {os : List (PlainEntry S C)} {own : List OwnField} → AreFieldsOf schema numbers m os own → (k : ℕ) (o : OwnField) → slice_get own k ≡ Some o
+  pub field_got : {os : List (PlainEntry S C)} {own : List Entry} → AreFieldsOf schema numbers m os own → (k : ℕ) (o : Entry) → slice_get own k ≡ Some o
       → (x : PlainEntry S C) × (slice_get os k ≡ Some x) × IsFieldOf schema numbers m x o
   field_got no_fields k o h = absurd (none_some o h)
-  field_got (more_fields {o = x} {a = a} f r) zero o h = (x, refl, subst (λ (z : OwnField). IsFieldOf schema numbers m x z) (same_some a o h) f)
+  field_got (more_fields {o = x} {a = a} f r) zero o h = (x, refl, subst (λ (z : Entry). IsFieldOf schema numbers m x z) (same_some a o h) f)
   field_got (more_fields f r) (suc k) o h = field_got r k o h
 
-  pub number_got : {os : List (PlainEntry S C)} {own : List OwnField} → AreFieldsOf schema numbers m os own → (k : ℕ) (x : PlainEntry S C) → slice_get os k ≡ Some x
-      → (o : OwnField) × (slice_get own k ≡ Some o) × IsFieldOf schema numbers m x o
+  pub number_got : {os : List (PlainEntry S C)} {own : List Entry} → AreFieldsOf schema numbers m os own → (k : ℕ) (x : PlainEntry S C) → slice_get os k ≡ Some x
+      → (o : Entry) × (slice_get own k ≡ Some o) × IsFieldOf schema numbers m x o
   number_got no_fields k x h = absurd (none_some x h)
   number_got (more_fields {o = y} {a = a} f r) zero x h = (a, refl, subst (λ (z : PlainEntry S C). IsFieldOf schema numbers m z a) (same_some y x h) f)
   number_got (more_fields f r) (suc k) x h = number_got r k x h

@@ -1,5 +1,5 @@
 -- What a search found says of its document: real conflicts, and none is missed.
-use Rattle.std.proofs.Common.{◌≡◌, ◌<◌, ℕ, List, [], ◌∷◌, Bool, false, Option, Some, None, map, length, get_or, slice_get, refl, sym, ap, subst, ◌∙◌, inl, inr, ◌⊎◌, arith}
+use Rattle.std.proofs.Common.{◌≡◌, ◌<◌, ℕ, List, [], ◌∷◌, Bool, false, Option, Some, None, length, get_or, slice_get, refl, sym, ap, subst, ◌∙◌, inl, inr, ◌⊎◌, arith}
 use Rattle.std.specs.List.{Contains}
 use Rattle.std.specs.Option.{is_some}
 use Rattle.std.proofs.lemmas.List.Elements.{All-weaker, All-contains, Contains-append_cases, Contains-get_or}
@@ -24,7 +24,6 @@ use Rattle.merging.specs.declared.state.Finding.TheVariants.{Direct}
 use Rattle.merging.specs.World.{World, own_of, spreads_of}
 use Rattle.merging.specs.Merging as graph
 use Rattle.merging.specs.Reports.{Root, AtPlaces, Real, Complete}
-use Rattle.numbered_sets.specs.declared.table.OwnField.{OwnField}
 use Rattle.numbered_sets.specs.declared.table.NumberedSet.{NumberedSet}
 use Rattle.numbered_sets.specs.Inside.{IsInside, itself, below_field, of_inline}
 use Rattle.numbered_sets.specs.Table.{Numbered}
@@ -32,7 +31,6 @@ use Rattle.numbered_sets.specs.Represents.{Represents, nothing, join, leaf, fiel
 use Rattle.merge_documents.specs.Building.{IsSetOfDefinition}
 use Rattle.merge_documents.specs.DocumentGraph.{AreOrigins}
 use Rattle.merge_documents.specs.SetsIn.{IsSetIn}
-use Rattle.merge_documents.specs.Sets.{entry_of}
 use Rattle.conflict_reports.specs.Reports.{Reports, none, roots, postfix, IsFieldAt, AreReportsOf}
 use Rattle.document_merging.specs.WrittenOut.{Apart}
 use Rattle.document_merging.specs.Merging.{Same, below, DocumentMerges, Way, here, down}
@@ -73,7 +71,7 @@ module _ {S C : Type 0} (schema : Catalog S C) (numbers : List ℕ → Option �
   only s t c = contains_one s t c
 
   -- the set below a field of a represented set is stored
-  pub stored_below : {p : Option (MetaTypeOf S C)} {xs : List (Selection S)} {own : List OwnField} {to : List ℕ} → Represents schema numbers m p xs own to
+  pub stored_below : {p : Option (MetaTypeOf S C)} {xs : List (Selection S)} {own : List Entry} {to : List ℕ} → Represents schema numbers m p xs own to
       → (f : Placed (Field S)) (w : Vec (Selection S) Global) → Contains xs (selection.Field f) → f.item.selection_set ≡ Some w
       → (n : ℕ) × IsSetOf schema numbers m n (type_below schema (entry_under p f)) w.items
   stored_below nothing f w c e = absurd (contains_none (selection.Field f) c)
@@ -112,7 +110,7 @@ module _ {S C : Type 0} (schema : Catalog S C) (numbers : List ℕ → Option �
       clash same = cc
 
   -- and so is that of an inline fragment
-  pub stored_inline : {p : Option (MetaTypeOf S C)} {xs : List (Selection S)} {own : List OwnField} {to : List ℕ} → Represents schema numbers m p xs own to
+  pub stored_inline : {p : Option (MetaTypeOf S C)} {xs : List (Selection S)} {own : List Entry} {to : List ℕ} → Represents schema numbers m p xs own to
       → (i : Placed (InlineFragment S)) → Contains xs (selection.InlineFragment i)
       → (n : ℕ) × IsSetOf schema numbers m n (type_inside schema p i.item.type_condition) i.item.selection_set.items
   stored_inline nothing i c = absurd (contains_none (selection.InlineFragment i) c)
@@ -175,7 +173,7 @@ module _ {S C : Type 0} (E : S → S → Bool) (schema : Catalog S C) (document 
       by (Some r) e = inl (Rattle.std.proofs.lemmas.Option.slice_get_within m.sets s r e)
 
   no_own : (s : ℕ) (a : Entry) → slice_get m.sets s ≡ None → Contains (own_of w s) a → ⊥
-  no_own s a e c = contains_none a (subst (λ (z : List Entry). Contains z a) (is.own s ∙ ap (λ (o : Option NumberedSet). map entry_of (Rattle.std.specs.Option.option_map_or (λ n. n.own.items) o [])) e) c)
+  no_own s a e c = contains_none a (subst (λ (z : List Entry). Contains z a) (is.own s ∙ ap (λ (o : Option NumberedSet). Rattle.std.specs.Option.option_map_or (λ n. n.own.items) o []) e) c)
 
   no_spread : (s f : ℕ) → slice_get m.sets s ≡ None → Contains (spreads_of w s) f → ⊥
   no_spread s f e c = contains_none f (subst (λ (z : List ℕ). Contains z f) (is.spreads s ∙ ap (λ (o : Option NumberedSet). Rattle.std.specs.Option.option_map_or (λ n. n.spreads.items) o []) e) c)

@@ -1,7 +1,6 @@
 -- Sets of a document, and their numbers in the graph of a search.
-use Rattle.std.proofs.Common.{◌≡◌, ◌==◌, ℕ, List, [], Bool, true, Option, Some, None, map, option_map, slice_get, refl, sym, ap, subst, ◌∙◌, arith}
+use Rattle.std.proofs.Common.{◌≡◌, ◌==◌, ℕ, List, [], Bool, true, Option, Some, slice_get, refl, sym, ap, subst, ◌∙◌, arith}
 use Rattle.std.specs.List.{Contains}
-use Rattle.std.proofs.lemmas.Option.{slice_get-map}
 use Rattle.std.proofs.lemmas.Bool.{eqb-true}
 use Rattle.std.proofs.lemmas.Map.Views.{Contains-from_any}
 use Rattle.language.specs.declared.tree.Selection.{Selection}
@@ -14,7 +13,6 @@ use Rattle.field_pairs.specs.Entries.{PlainEntry}
 use Rattle.field_pairs.specs.OwnFields.{own_fields, own_spreads}
 use Rattle.merging.specs.World.{World, own_of, spreads_of, set_of}
 use Rattle.merging.specs.declared.node.Entry.{Entry}
-use Rattle.numbered_sets.specs.declared.table.OwnField.{OwnField}
 use Rattle.numbered_sets.specs.declared.table.NumberedSet.{NumberedSet}
 use Rattle.numbered_sets.specs.Names.{AreApart}
 use Rattle.numbered_sets.specs.Once.{is_among}
@@ -25,14 +23,13 @@ use Rattle.numbered_sets.proofs.OwnParts.{represented_fields, represented_spread
 use Rattle.merge_documents.specs.Definitions.{type_round, selections_of, IsLast}
 use Rattle.merge_documents.specs.Building as building
 use Rattle.merge_documents.specs.Judging.{judgement_by}
-use Rattle.merge_documents.specs.Sets.{entry_of}
 use Rattle.document_merging.specs.WrittenOut.{IsFragment}
-use Rattle.document_merging.proofs.Fields.{as_own, IsEntryOf, field_got, number_got}
+use Rattle.document_merging.proofs.Fields.{IsEntryOf, field_got, number_got}
 
 -- A search's world is that of a document's sets by number.
 pub record IsWorldOf {S C : Type 0} (E : S → S → Bool) (schema : Catalog S C) (document : List (Definition S)) (numbers : List ℕ → Option ℕ) (m : Numbered S C) (w : World) : Type 0 where
   pub judges : w.judgement ≡ judgement_by E schema m.fields
-  pub own : (s : ℕ) → own_of w s ≡ map entry_of (own_at m.sets s)
+  pub own : (s : ℕ) → own_of w s ≡ own_at m.sets s
   pub spreads : (s : ℕ) → spreads_of w s ≡ spreads_at m.sets s
   pub apart : AreApart m.responses
   pub defined : (name : List ℕ) → Defines document name → (f : ℕ) × (numbers name ≡ Some f)
@@ -44,16 +41,6 @@ among_contains xs x h = Contains-from_any {eq = λ x y. y == x} (λ x y h. sym (
 
 contains_among : (xs : List ℕ) (x : ℕ) → Contains xs x → is_among xs x ≡ true
 contains_among xs x c = let g = contains_get xs x c in among_from_get xs g.0 x g.1
-
-mapped_at : (xs : List OwnField) (k : ℕ) (a : Entry) → slice_get (map entry_of xs) k ≡ Some a → slice_get xs k ≡ Some (as_own a)
-mapped_at xs k a h = back (slice_get xs k) (sym (slice_get-map entry_of xs k) ∙ h)
-  where
-    back : (o : Option OwnField) → option_map entry_of o ≡ Some a → o ≡ Some (as_own a)
-    back None e = absurd (none_some a e)
-    back (Some o) e = ap (λ (z : Entry). Some (as_own z)) (same_some (entry_of o) a e)
-
-at_mapped : (xs : List OwnField) (k : ℕ) (o : OwnField) → slice_get xs k ≡ Some o → slice_get (map entry_of xs) k ≡ Some (entry_of o)
-at_mapped xs k o h = slice_get-map entry_of xs k ∙ ap (option_map entry_of) h
 
 module _ {S : Type 0} where
   -- a name has one last definition
@@ -70,8 +57,8 @@ module _ {S C : Type 0} (E : S → S → Bool) (schema : Catalog S C) (document 
   abbrev pub IsSet : ℕ → Option (MetaTypeOf S C) → List (Selection S) → Type 0
   IsSet s p set = IsSetOf schema numbers m s p set
 
-  own_row : {s : ℕ} {p : Option (MetaTypeOf S C)} {set : List (Selection S)} (at : IsSet s p set) → own_of w s ≡ map entry_of at.row.own.items
-  own_row {s} at = is.own s ∙ ap (λ (o : Option NumberedSet). map entry_of (Rattle.std.specs.Option.option_map_or (λ n. n.own.items) o [])) at.stored
+  own_row : {s : ℕ} {p : Option (MetaTypeOf S C)} {set : List (Selection S)} (at : IsSet s p set) → own_of w s ≡ at.row.own.items
+  own_row {s} at = is.own s ∙ ap (λ (o : Option NumberedSet). Rattle.std.specs.Option.option_map_or (λ n. n.own.items) o []) at.stored
 
   spreads_row : {s : ℕ} {p : Option (MetaTypeOf S C)} {set : List (Selection S)} (at : IsSet s p set) → spreads_of w s ≡ at.row.spreads.items
   spreads_row {s} at = is.spreads s ∙ ap (λ (o : Option NumberedSet). Rattle.std.specs.Option.option_map_or (λ n. n.spreads.items) o []) at.stored
@@ -80,13 +67,13 @@ module _ {S C : Type 0} (E : S → S → Bool) (schema : Catalog S C) (document 
   pub own_out : {s : ℕ} (k : ℕ) {p : Option (MetaTypeOf S C)} {set : List (Selection S)} {a : Entry} → IsSet s p set → slice_get (own_of w s) k ≡ Some a
       → (x : PlainEntry S C) × (slice_get (own_fields schema p set) k ≡ Some x) × IsEntryOf schema numbers m x a
   own_out {s} k {a = a} at h =
-      field_got schema numbers m (represented_fields schema numbers m at.represents) k (as_own a) (mapped_at at.row.own.items k a (ap (λ (z : List Entry). slice_get z k) (sym (own_row at)) ∙ h))
+      field_got schema numbers m (represented_fields schema numbers m at.represents) k a (ap (λ (z : List Entry). slice_get z k) (sym (own_row at)) ∙ h)
 
   pub own_in : {s : ℕ} (k : ℕ) {p : Option (MetaTypeOf S C)} {set : List (Selection S)} {x : PlainEntry S C} → IsSet s p set → slice_get (own_fields schema p set) k ≡ Some x
       → (a : Entry) × (slice_get (own_of w s) k ≡ Some a) × IsEntryOf schema numbers m x a
   own_in {s} k {x = x} at h =
       let o = number_got schema numbers m (represented_fields schema numbers m at.represents) k x h in
-      (entry_of o.0, ap (λ (z : List Entry). slice_get z k) (own_row at) ∙ at_mapped at.row.own.items k o.0 o.1, o.2)
+      (o.0, ap (λ (z : List Entry). slice_get z k) (own_row at) ∙ o.1, o.2)
 
   pub member_out : {s : ℕ} {p : Option (MetaTypeOf S C)} {set : List (Selection S)} {a : Entry} → IsSet s p set → Contains (own_of w s) a
       → (x : PlainEntry S C) × Contains (own_fields schema p set) x × IsEntryOf schema numbers m x a

@@ -9,3 +9,4 @@ pub mod Numbering
 pub mod Naming
 pub mod NamePaths
 pub mod GraphGrowth
+pub mod Keeping

@@ -1,6 +1,8 @@
 pub mod DocumentCycles
 pub mod DocumentGraph
 pub mod Graph
+pub mod Kept
+pub mod KeptNames
 pub mod Numbers
 pub mod Searched
 pub mod Sound

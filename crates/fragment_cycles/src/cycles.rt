@@ -1,10 +1,11 @@
 //! The cycles of a document's fragments.
 ghost use Rattle.std.specs.Prelude.{◌≡◌, IfOk, map};
 ghost use Rattle.fragment_cycles.specs.DocumentCycles.{SearchedDocument, name_and_place, told};
+ghost use Rattle.fragment_cycles.specs.Numbers.{NumberedDefinitions};
 ghost use Rattle.fragment_cycles.specs.Searched.{Searched};
 
 use crate::document_graph::{DocumentGraph, graph_of};
-use crate::numbers::{Numbers, name};
+use crate::numbers::{NumberedNames, Numbers, name};
 use crate::search::{Outcome, Report, search_graph};
 use language::position::SourcePosition;
 use language::tree::Document;
@@ -70,14 +71,16 @@ pub fn search_named<'a>(
     Ok(GraphCycles { outcome, reports })
 }
 
-/// Searches the spreads inside a document's fragments, looking at each once (GraphQL October 2021, section 5.5.2.2).
+/// Searches the spreads inside a document's fragments, whose names are numbered, looking at each once (GraphQL October 2021, section 5.5.2.2).
 pub fn search_document<'a, S>(
     alloc: Global,
     document: Document<'a, S>,
+    names: NumberedNames<'a>,
 ) -> Result<DocumentCycles<'a>, AllocError>
+    requires { NumberedDefinitions document.now names.numbers names.defined.items }
     ensures { IfOk result (SearchedDocument document.now) }
 {
-    let graph = graph_of(alloc, document)?;
+    let graph = graph_of(alloc, document, names)?;
     let GraphCycles { outcome, reports } = search_named(alloc, &graph)?;
     Ok(DocumentCycles {
         graph,

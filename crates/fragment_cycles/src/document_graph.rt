@@ -6,7 +6,7 @@ ghost use Rattle.fragment_cycles.specs.Numbers.{defined_number, names_of, number
 ghost use Rattle.fragment_cycles.specs.DocumentGraph.{resolved, IsNumbered, JoinsDefinition, Joined, IsGraphOf};
 
 use crate::graph::{Node, Spread};
-use crate::numbers::{NumberedNames, Numbers, name_count, number, number_names};
+use crate::numbers::{NumberedNames, Numbers, name_count, number};
 use language::position::Spanning;
 use language::tree::{Definition, Document, Fragment, FragmentSpread, Selection};
 use std::alloc::{AllocError, Global};
@@ -141,14 +141,16 @@ fn join_all<S>(
     Ok(nodes)
 }
 
-/// The graph of a document.
+/// The graph of a document, whose names are numbered.
 pub fn graph_of<'a, S>(
     alloc: Global,
     document: Document<'a, S>,
+    names: NumberedNames<'a>,
 ) -> Result<DocumentGraph<'a>, AllocError>
+    requires { NumberedDefinitions document.now names.numbers names.defined.items }
     ensures { IfOk result (IsGraphOf document.now) }
 {
-    let NumberedNames { numbers, defined } = number_names(alloc, document)?;
+    let NumberedNames { numbers, defined } = names;
     let nodes = join_all(alloc, &numbers, document, defined.as_slice())?;
     Ok(DocumentGraph {
         numbers,

@@ -4,5 +4,6 @@
 pub mod cycles;
 pub mod document_graph;
 pub mod graph;
+pub mod kept;
 pub mod numbers;
 pub mod search;

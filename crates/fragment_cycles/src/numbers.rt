@@ -3,7 +3,7 @@ ghost use Rattle.std.specs.Prelude.{◌≡◌, [], length, OnOk, IfOk, List, ℕ
 ghost use Rattle.std.specs.Option.{unwrap_or};
 ghost use Rattle.fragment_cycles.specs.Numbers.{number_of, names_of, defined_number, AddsName, AddsDefinition, NumberedDefinitions};
 
-use language::tree::{Definition, Document};
+use language::tree::Definition;
 use std::alloc::{AllocError, Global};
 use std::collections::BTreeMap;
 
@@ -70,7 +70,7 @@ fn add_name<'a>(numbers: &mut Numbers<'a>, name: &'a str) -> Result<usize, Alloc
 // Numbers the name of a definition, if it is a fragment's; the number.
 fn add_definition<'a, S>(
     numbers: &mut Numbers<'a>,
-    definition: &Definition<'a, S>,
+    definition: &'a Definition<'_, S>,
 ) -> Result<Option<usize>, AllocError>
     ensures adds { OnOk result (AddsDefinition definition.now numbers.old numbers.new) }
     ensures number { IfOk result (λ o. o ≡ defined_number numbers.new definition.now) }
@@ -95,7 +95,7 @@ pub struct NumberedNames<'a> {
 /// The names of a document's fragments, numbered.
 pub fn number_names<'a, S>(
     alloc: Global,
-    document: Document<'a, S>,
+    document: &'a [Definition<'_, S>],
 ) -> Result<NumberedNames<'a>, AllocError>
     ensures { IfOk result (λ n. NumberedDefinitions document.now n.numbers n.defined.items) }
 {

@@ -1,12 +1,21 @@
 -- The types of fragments, definition by definition.
-use Rattle.std.proofs.Common.{◌≡◌, ℕ, ◌+◌, ◌<◌, get_or, List, [], ◌∷◌, ◌++◌, Option, Some, Bool, true, false, cond, take, length, refl, ap, sym, ◌∙◌}
+use Rattle.std.proofs.Common.{◌≡◌, ℕ, ◌+◌, ◌<◌, get_or, List, [], ◌∷◌, ◌++◌, slice_set, option_and_then, subst, Option, Some, None, Bool, true, false, cond, take, length, refl, ap, sym, ◌∙◌}
 use mathlib.Core.Path.{fun_ext}
 use denote.Ref.{Bor}
 use Rattle.std.proofs.lemmas.List.{take_more}
+use Rattle.std.proofs.lemmas.Slice.Eq.{bytes_eq-Decides}
+use Rattle.std.specs.List.{Contains}
 use Rattle.std.specs.Map.{update}
 use Rattle.std.specs.Option.{option_copied}
 use Rattle.std.specs.Str.{bytes_eq}
 use Rattle.language.specs.declared.tree.Definition.{Definition}
+use Rattle.language.specs.declared.tree.Definition.TheVariants as definition
+use Rattle.fragment_cycles.specs.declared.numbers.Numbers.{Numbers}
+use Rattle.fragment_cycles.specs.DocumentGraph.{IsNumbered}
+use Rattle.fragment_cycles.specs.Numbers.{number_of, NumberedDefinitions, WellNumbered}
+use Rattle.fragment_cycles.proofs.Lists.{none_some, same_item, get_some, set_same, set_other}
+use Rattle.fragment_cycles.proofs.Numbering.{single}
+use Rattle.fragment_rules.specs.ConditionsKept.{kept_at}
 use Rattle.meta.specs.declared.kinds.MetaTypeOf.{MetaTypeOf}
 use Rattle.schema.specs.Catalog.{Catalog}
 use Rattle.fragment_rules.specs.PossibleFragmentSpreads.{TypesByName, conditions_in, with_definition, with_type}
@@ -32,3 +41,27 @@ copied_by false x o = refl
 pub inserted : {S C : Type 0} (p q : List ℕ → Option (Bor (MetaTypeOf S C))) (name : List ℕ) (t : Bor (MetaTypeOf S C)) → ((n : List ℕ) → q n ≡ update bytes_eq p name (Some t) n)
     → (λ n. option_copied (q n)) ≡ with_type (λ n. option_copied (p n)) name (Some t.now)
 inserted p q name t u = fun_ext (λ n. ap option_copied (u n) ∙ copied_by (bytes_eq name n) t (p n))
+
+clash : (b : Bool) → b ≡ false → b ≡ true → ⊥
+clash b p q = cc
+
+-- what is kept at the number of a name is kept for that name, and for no other
+module _ {X : Type 0} (n : Numbers) (w : WellNumbered n) (f name : List ℕ) (k : ℕ) (x : X) (xs : List (Option X)) (at : number_of n f ≡ Some k) (low : k < length xs) where
+  kept_by : (o : Option ℕ) → number_of n name ≡ o → (b : Bool) → bytes_eq f name ≡ b → kept_at (slice_set xs k (Some x)) o ≡ cond b (Some x) (kept_at xs o)
+  kept_by None h true e = absurd (none_some k (sym h ∙ ap (number_of n) (sym ((bytes_eq-Decides f name).0 e)) ∙ at))
+  kept_by None h false e = refl
+  kept_by (Some j) h true e =
+      let is : k ≡ j = same_item k j (number_of n name) (ap (number_of n) (sym ((bytes_eq-Decides f name).0 e)) ∙ at) h in
+      let (was, stands) = get_some xs k low in
+      subst (λ i. kept_at (slice_set xs k (Some x)) (Some i) ≡ Some x) is (ap (option_and_then (λ p. p)) (set_same xs k was (Some x) stands))
+  kept_by (Some j) h false e =
+      ap (option_and_then (λ p. p)) (set_other xs k j (Some x) (λ q. clash (bytes_eq f name) e ((bytes_eq-Decides f name).1 (single n w f name k at (h ∙ ap Some q)))))
+
+  pub kept_now : kept_at (slice_set xs k (Some x)) (number_of n name) ≡ update bytes_eq (λ q. kept_at xs (number_of n q)) f (Some x) name
+  kept_now = kept_by (number_of n name) refl (bytes_eq f name) refl
+
+-- a definition of the document has a number, if it is a fragment's
+module _ {S : Type 0} (document : List (Definition S)) (n : Numbers) (defined : List (Option ℕ)) (h : NumberedDefinitions document n defined) where
+  pub has_number : (d : Definition S) → Contains document d → IsNumbered n d
+  has_number (definition.Operation o) c = tt
+  has_number (definition.Fragment f) c = (h.numbers.defined f.item.name.item.now).1 (definition.Fragment f, c, refl)

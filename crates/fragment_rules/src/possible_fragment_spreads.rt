@@ -65,7 +65,8 @@ impl<'a, S: CheckedScalar> Visitor<'a, S> for PossibleFragmentSpreads<'a, S> {
     ) -> Result<(), OutOfMemory> {
         match *event {
             Event::EnterDocument(document) => {
-                self.conditions = Conditions::of(self.alloc, ctx.schema, document)?;
+                let names = ctx.numbered_names(document)?;
+                self.conditions = Conditions::of(self.alloc, ctx.schema, document, names)?;
             }
             Event::EnterFragmentSpread(spread) => {
                 let name = spread.item.name.item;

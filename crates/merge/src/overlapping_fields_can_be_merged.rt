@@ -77,7 +77,8 @@ impl OverlappingFieldsCanBeMerged {
         ensures ok { IfOk result (λ _. (es : List ErrorValue) × MergeErrors S.eq ctx.old.schema document.now self.new es × (ctx.new ≡ with_errors ctx.old es)) }
         ensures err { OnErr result (KeepsPlace ctx.old ctx.new) }
     {
-        match search_fields(self.alloc, ctx.schema, document)? {
+        let names = ctx.numbered_names(document)?;
+        match search_fields(self.alloc, ctx.schema, document, names)? {
             Some(found) => {
                 self.compared = found.compared;
                 self.opened = found.opened;

@@ -4,7 +4,7 @@ use Rattle.std.specs.List.{Contains, flat_map}
 use Rattle.std.specs.declared.vec.Vec.{Vec}
 use Rattle.std.specs.declared.alloc.Global.{Global}
 use Rattle.std.proofs.lemmas.Bool.{cases_order}
-use Rattle.std.proofs.lemmas.List.Elements.{All-nil, Contains-append_left, Contains-append_right}
+use Rattle.std.proofs.lemmas.List.Elements.{All-nil}
 use Rattle.std.proofs.lemmas.Slice.Eq.{bytes_eq-Decides}
 use Rattle.std.proofs.lemmas.Option.{slice_get_within, slice_get-get_or}
 use Rattle.language.specs.declared.tree.Definition.{Definition}
@@ -17,14 +17,13 @@ use Rattle.fragment_cycles.specs.Numbers.{IsNamed}
 use Rattle.fragment_cycles.specs.Spreads.{PlacedSpread, PlacedSpreads, placed_spreads_of_all, spreads_named}
 use Rattle.fragment_cycles.proofs.Lists.{same_some, none_some, contains_get}
 use Rattle.merging.specs.declared.graph.Graph.{Graph}
-use Rattle.numbered_sets.specs.Names.{number_in}
 use Rattle.numbered_sets.specs.Once.{is_among}
 use Rattle.numbered_sets.specs.Table.{numbered, height, IsWithin, Falling}
 use Rattle.numbered_sets.proofs.Representing.{extends_self}
 use Rattle.merge_documents.specs.declared.building.Building.{Building}
 use Rattle.merge_documents.specs.declared.judge.FieldJudge.{FieldJudge}
 use Rattle.merge_documents.specs.Definitions.{type_round, selections_of, IsLast}
-use Rattle.merge_documents.specs.Building.{rank_in, IsSetOfDefinition, AddsDefinition, AddsFragment, IsNothing, Built}
+use Rattle.merge_documents.specs.Building.{rank_in, IsSetOfDefinition, AreKnown, AddsDefinition, AddsFragment, IsNothing, Built}
 use Rattle.merge_documents.specs.TableGraph.{IsWhole, IsGraphOfTable}
 use Rattle.merge_documents.specs.DocumentGraph.{IsGraphOf}
 use Rattle.merge_documents.specs.Assembly.{AreRanked, KnowsAll, AreInPlaces, HasSetAt, AddsMissing, AddsOthers, IsComplete}
@@ -72,8 +71,6 @@ module _ {S C : Type 0} where
         order = h.order;
         falling = subst (λ ss. Falling ss b.fragments.items) (sym h.sets) (λ s. (All-nil (λ a. height a ≤ s), All-nil (IsWithin b.fragments.items s)));
         low = λ g l. absurd (no_fragment g l);
-        known = λ name g k. absurd (none_some g (sym (h.names name) ∙ k));
-        knows = λ name g k l. absurd (no_fragment g l);
         sized = h.sized;
         whole = λ k l. let none = ap length h.sets in absurd (omega (arith, l, none));
         added = λ p o d at some there. absurd (some (h.orders p o at));
@@ -83,36 +80,36 @@ module _ {S C : Type 0} where
         fields_from = λ k a at. absurd (none_some a (subst (λ fs. slice_get (map plain fs) k ≡ Some a) h.fields at));
       }
 
-  pub agree_next : (schema : Catalog S C) (document : List (Definition S)) (c : DocumentCycles) (b : Building S C) (name : List ℕ) (place : ℕ) (last : IsLast document name place)
+  pub agree_next : (schema : Catalog S C) (document : List (Definition S)) (c : DocumentCycles) (names : List ℕ → Option ℕ) (b : Building S C) (name : List ℕ) (place : ℕ) (last : IsLast document name place)
       → AreRanked document c → Built schema document (rank_in c) b → rank_in c name ≡ Some (length b.fragments.items)
-      → AgreeOn (number_in b.names) (rank_in c) (placed_spreads_of_all (selections_of last.is))
-  agree_next schema document c b name place last ranked built rank x within =
-      agree_by (number_in b.names x.name) (rank_in c x.name)
-      (λ g h. (built.known x.name g h).0)
-      (λ g h. built.knows x.name g h (rank_falls document c ranked.searched ranked.clean name x.name (length b.fragments.items) g rank h (last_spreads document name place last x within)))
+      → AreKnown (rank_in c) (length b.fragments.items) names → AgreeOn names (rank_in c) (placed_spreads_of_all (selections_of last.is))
+  agree_next schema document c names b name place last ranked built rank k x within =
+      agree_by (names x.name) (rank_in c x.name)
+      (λ g h. (k.known x.name g h).0)
+      (λ g h. k.knows x.name g h (rank_falls document c ranked.searched ranked.clean name x.name (length b.fragments.items) g rank h (last_spreads document name place last x within)))
 
-  pub fragment_added : (schema : Catalog S C) (document : List (Definition S)) (c : DocumentCycles) (b b' : Building S C) (name : List ℕ) (place : ℕ) (d : Definition S)
+  pub fragment_added : (schema : Catalog S C) (document : List (Definition S)) (c : DocumentCycles) (names : List ℕ → Option ℕ) (b b' : Building S C) (name : List ℕ) (place : ℕ) (d : Definition S)
       → AreRanked document c → IsLast document name place → Built schema document (rank_in c) b → rank_in c name ≡ Some (length b.fragments.items)
-      → d ≡ get_or document place d → AddsFragment schema d name place b b' → Built schema document (rank_in c) b'
-  fragment_added schema document c b b' name place d ranked last built rank is added =
+      → AreKnown (rank_in c) (length b.fragments.items) names → d ≡ get_or document place d → AddsFragment schema names d place b b' → Built schema document (rank_in c) b'
+  fragment_added schema document c names b b' name place d ranked last built rank k is added =
       let at : slice_get document place ≡ Some d = slice_get-get_or document place d (last_inside document name place last) ∙ ap (λ x. Some x) (sym is) in
-      built_fragment schema document (rank_in c) (rank_single document c ranked.searched) name place last b b' built
-      (subst (λ (x : Definition S). AddsFragment schema x name place b b') (same_some d last.is (sym at ∙ last.stands)) added)
-      (agree_next schema document c b name place last ranked built rank) rank
+      built_fragment schema document (rank_in c) (rank_single document c ranked.searched) names name place last b b' built
+      (subst (λ (x : Definition S). AddsFragment schema names x place b b') (same_some d last.is (sym at ∙ last.stands)) added)
+      k (agree_next schema document c names b name place last ranked built rank k) rank
 
   module _ (schema : Catalog S C) (document : List (Definition S)) (numbers : List ℕ → Option ℕ) where
-    agree_everywhere : (b : Building S C) → KnowsAll numbers b.fragments.items → Built schema document numbers b → (spreads : PlacedSpreads) → AgreeOn (number_in b.names) numbers spreads
-    agree_everywhere b all built spreads x c =
-        agree_by (number_in b.names x.name) (numbers x.name) (λ g h. (built.known x.name g h).0) (λ g h. built.knows x.name g h (all x.name g h))
+    agree_everywhere : (names : List ℕ → Option ℕ) (b : Building S C) → KnowsAll numbers b.fragments.items → AreKnown numbers (length b.fragments.items) names → (spreads : PlacedSpreads) → AgreeOn names numbers spreads
+    agree_everywhere names b all k spreads x c =
+        agree_by (names x.name) (numbers x.name) (λ g h. (k.known x.name g h).0) (λ g h. k.knows x.name g h (all x.name g h))
 
-    pub missing_added : (d : Definition S) (place n : ℕ) (b b' : Building S C) → slice_get document place ≡ Some d → AddsDefinition schema d place n b b' → KnowsAll numbers b.fragments.items → Built schema document numbers b → AddsMissing schema document numbers place b b'
-    missing_added d place n b b' at a all built =
-        let agree = agree_everywhere b all built (placed_spreads_of_all (selections_of d)) in
+    pub missing_added : (names : List ℕ → Option ℕ) (d : Definition S) (place n : ℕ) (b b' : Building S C) → slice_get document place ≡ Some d → AreKnown numbers (length b.fragments.items) names → AddsDefinition schema names d place n b b' → KnowsAll numbers b.fragments.items → Built schema document numbers b → AddsMissing schema document numbers place b b'
+    missing_added names d place n b b' at k a all built =
+        let agree = agree_everywhere names b all k (placed_spreads_of_all (selections_of d)) in
         record {
-          built = built_definition schema document numbers d place n b b' built a at agree;
-          extends = extends schema document numbers d place n b b' built a;
+          built = built_definition schema document numbers names d place n b b' built a at k agree;
+          extends = extends schema document numbers names d place n b b' built a;
           fragments = ap (λ v. v.items) a.notes.fragments;
-          has = λ x there. subst (λ (y : Definition S). (s : ℕ) × IsSetOfDefinition schema numbers (numbered b'.table) s y) (same_some d x (sym at ∙ there)) (n, is_set schema document numbers d place n b b' built a agree);
+          has = λ x there. subst (λ (y : Definition S). (s : ℕ) × IsSetOfDefinition schema numbers (numbered b'.table) s y) (same_some d x (sym at ∙ there)) (n, is_set schema document numbers names d place n b b' built a agree);
         }
 
     pub missing_there : (place : ℕ) (o : Vec ℕ Global) (b : Building S C) → slice_get b.orders.items place ≡ Some o → (o.items ≡ [] → ⊥) → Built schema document numbers b → AddsMissing schema document numbers place b b

@@ -11,7 +11,7 @@ use Rattle.schema.specs.Catalog.{Catalog}
 use Rattle.field_pairs.specs.Entries.{PlainEntry, plain}
 use Rattle.fragment_cycles.specs.Spreads.{placed_spreads_of_all}
 use Rattle.fragment_cycles.proofs.Lists.{same_some, set_same, set_other, contains_at}
-use Rattle.numbered_sets.specs.Names.{Names, number_in, AreApart}
+use Rattle.numbered_sets.specs.Names.{AreApart}
 use Rattle.numbered_sets.specs.Once.{is_among}
 use Rattle.numbered_sets.specs.Table.{Numbered, numbered, Extends, Falling}
 use Rattle.numbered_sets.specs.Represents.{IsSetOf}
@@ -20,7 +20,7 @@ use Rattle.numbered_sets.proofs.Origins.{kept_field}
 use Rattle.merge_documents.specs.declared.building.Building.{Building}
 use Rattle.merge_documents.specs.Definitions.{type_round, selections_of}
 use Rattle.merge_documents.specs.SetsIn.{IsFieldIn}
-use Rattle.merge_documents.specs.Building.{IsSetOfDefinition, IsFragment, HasOrigin, AddsDefinition, Built}
+use Rattle.merge_documents.specs.Building.{IsSetOfDefinition, IsFragment, HasOrigin, AreKnown, AddsDefinition, Built}
 use Rattle.merge_documents.proofs.Renumbering.{AgreeOn, set_renumbered, set_more, spreads_inside}
 
 pub among_append : (xs ys : List ℕ) (k : ℕ) → (is_among xs k ≡ true) ⊎ (is_among ys k ≡ true) → is_among (xs ++ ys) k ≡ true
@@ -43,7 +43,7 @@ module _ {S C : Type 0} (schema : Catalog S C) (document : List (Definition S)) 
     is = set_more schema numbers m m' f.set (type_round schema f.last.is) (selections_of f.last.is) e f.is;
   }
 
-  module _ (d : Definition S) (place n : ℕ) (b b' : Building S C) (built : Built schema document numbers b) (a : AddsDefinition schema d place n b b') where
+  module _ (names : List ℕ → Option ℕ) (d : Definition S) (place n : ℕ) (b b' : Building S C) (built : Built schema document numbers b) (a : AddsDefinition schema names d place n b b') where
     sets_are : b'.table.sets.items ≡ a.grown.sets.items
     sets_are = ap (λ (m : Numbered S C). m.sets) a.notes.same
 
@@ -56,21 +56,21 @@ module _ {S C : Type 0} (schema : Catalog S C) (document : List (Definition S)) 
     pub longer : length b.table.sets.items ≤ length b'.table.sets.items
     longer = extends.longer
 
-    pub is_set : AgreeOn (number_in b.names) numbers (placed_spreads_of_all (selections_of d)) → IsSetOfDefinition schema numbers (numbered b'.table) n d
+    pub is_set : AgreeOn names numbers (placed_spreads_of_all (selections_of d)) → IsSetOfDefinition schema numbers (numbered b'.table) n d
     is_set agree =
         subst (λ m. IsSetOfDefinition schema numbers m n d) (sym a.notes.same)
-        (set_renumbered schema (number_in b.names) numbers (numbered a.grown) n (type_round schema d) (selections_of d) a.adds.is agree)
+        (set_renumbered schema names numbers (numbered a.grown) n (type_round schema d) (selections_of d) a.adds.is agree)
 
     pub is_low : n < length b'.table.sets.items
     is_low = subst (λ ss. n < length ss) (sym sets_are) (slice_get_within a.grown.sets.items n a.adds.is.row a.adds.is.stored)
 
-    within : AreWithin (number_in b.names) b.fragments.items (length b.table.sets.items)
-    within name g h = let l = (built.known name g h).1 in (l, built.low g l)
+    within : AreKnown numbers (length b.fragments.items) names → AreWithin names b.fragments.items (length b.table.sets.items)
+    within k name g h = let l = (k.known name g h).1 in (l, built.low g l)
 
-    falling : Falling b'.table.sets.items b'.fragments.items
-    falling =
+    falling : AreKnown numbers (length b.fragments.items) names → Falling b'.table.sets.items b'.fragments.items
+    falling k =
         subst (λ fs. Falling b'.table.sets.items fs) (sym fragments_are)
-        (subst (λ ss. Falling ss b.fragments.items) (sym sets_are) (a.adds.keeps.falls b.fragments.items within built.falling))
+        (subst (λ ss. Falling ss b.fragments.items) (sym sets_are) (a.adds.keeps.falls b.fragments.items (within k) built.falling))
 
     -- the sets at a place
     changed : slice_get b'.orders.items place ≡ Some a.notes.after
@@ -108,7 +108,7 @@ module _ {S C : Type 0} (schema : Catalog S C) (document : List (Definition S)) 
       | inr o ↦ elim o [ inl lt ↦ old_stands k lt | inr gt ↦ new_stands k (omega (arith, gt)) l ]
     ]
 
-    module _ (at : slice_get document place ≡ Some d) (agree : AgreeOn (number_in b.names) numbers (placed_spreads_of_all (selections_of d))) where
+    module _ (at : slice_get document place ≡ Some d) (are_known : AreKnown numbers (length b.fragments.items) names) (agree : AgreeOn names numbers (placed_spreads_of_all (selections_of d))) where
       abbrev HasSet : Definition S → Type 0
       HasSet x = (s : ℕ) × IsSetOfDefinition schema numbers (numbered b'.table) s x
 
@@ -132,7 +132,7 @@ module _ {S C : Type 0} (schema : Catalog S C) (document : List (Definition S)) 
               inner,
               (d, stands, i),
               subst (λ m. IsSetOf schema numbers m k q inner) (sym a.notes.same)
-                  (set_renumbered schema (number_in b.names) numbers (numbered a.grown) k q inner is (λ x c. agree x (spreads_inside schema i x c))),
+                  (set_renumbered schema names numbers (numbered a.grown) k q inner is (λ x c. agree x (spreads_inside schema i x c))),
             ))
       ]
 
@@ -148,17 +148,12 @@ module _ {S C : Type 0} (schema : Catalog S C) (document : List (Definition S)) 
       built_definition = record {
         apart = subst AreApart (sym (ap (λ (m : Numbered S C). m.responses) a.notes.same)) (a.adds.keeps.apart built.apart);
         order = a.notes.empty;
-        falling = falling;
+        falling = falling are_known;
         low = λ g l.
             let long : length b'.fragments.items ≡ length b.fragments.items = ap length fragments_are in
             let old = built.low g (omega (arith, l, long)) in
             let more = longer in
             subst (λ (fs : List ℕ). get_or fs g 0 < length b'.table.sets.items) (sym fragments_are) (omega (arith, old, more));
-        known = λ name g h.
-            let k = built.known name g (ap (λ (ns : Names). number_in ns name) (sym a.notes.names) ∙ h) in
-            (k.0, subst (λ (fs : List ℕ). g < length fs) (sym fragments_are) k.1);
-        knows = λ name g h l.
-            ap (λ (ns : Names). number_in ns name) a.notes.names ∙ built.knows name g h (subst (λ (fs : List ℕ). g < length fs) fragments_are l);
         sized = ap length a.notes.orders ∙ length-set b.orders.items place a.notes.after ∙ built.sized;
         whole = whole;
         added = added;

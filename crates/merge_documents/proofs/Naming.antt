@@ -1,21 +1,18 @@
 -- What was built stays right where a fragment gets its number.
-use Rattle.std.proofs.Common.{◌≡◌, ◌<◌, ◌+◌, ℕ, List, [], ◌∷◌, ◌++◌, length, length-append, get_or, Option, Some, Bool, true, false, cond, refl, sym, ap, subst, ◌∙◌, inl, inr, ◌⊎◌, arith}
-use Rattle.std.specs.Str.{bytes_eq}
+use Rattle.std.proofs.Common.{◌≡◌, ◌<◌, ℕ, List, [], ◌∷◌, ◌++◌, length, length-append, get_or, Option, Some, refl, sym, ap, subst, ◌∙◌, inl, inr, ◌⊎◌, arith}
 use Rattle.std.proofs.Math.Seq.{get_or-append_seam}
 use Rattle.std.proofs.lemmas.List.{get_or_append_left}
 use Rattle.std.proofs.lemmas.List.Elements.{All-weaker}
 use Rattle.std.proofs.lemmas.Bool.{cases_order}
-use Rattle.std.proofs.lemmas.Slice.Eq.{bytes_eq-Decides}
 use Rattle.language.specs.declared.tree.Definition.{Definition}
 use Rattle.schema.specs.Catalog.{Catalog}
 use Rattle.fragment_cycles.specs.Spreads.{placed_spreads_of_all}
-use Rattle.fragment_cycles.proofs.Lists.{same_some, get_more, get_end}
+use Rattle.fragment_cycles.proofs.Lists.{get_more, get_end}
 use Rattle.numbered_sets.specs.declared.table.NumberedSet.{NumberedSet}
-use Rattle.numbered_sets.specs.Names.{Names, number_in}
 use Rattle.numbered_sets.specs.Table.{numbered, spreads_at, IsWithin, Falling}
 use Rattle.merge_documents.specs.declared.building.Building.{Building}
 use Rattle.merge_documents.specs.Definitions.{selections_of, IsLast}
-use Rattle.merge_documents.specs.Building.{IsFragment, AddsFragment, Built}
+use Rattle.merge_documents.specs.Building.{IsFragment, AreKnown, AddsFragment, Built}
 use Rattle.merge_documents.proofs.Renumbering.{AgreeOn}
 use Rattle.merge_documents.proofs.Growing.{built_definition, is_set, is_low}
 
@@ -37,27 +34,21 @@ falling_more sets fragments x f s = (
       (spreads_at sets s) (f s).1,
 )
 
--- the number of each name, by equal numbers and names
-pub number_inserted : (name q : List ℕ) (new middle old : Names) (k m : ℕ) → number_in new q ≡ cond (bytes_eq name q) (Some k) (number_in middle q) → k ≡ m → middle ≡ old
-    → number_in new q ≡ cond (bytes_eq name q) (Some m) (number_in old q)
-number_inserted name q new middle old k m h e f =
-    h ∙ ap (λ (j : ℕ). cond (bytes_eq name q) (Some j) (number_in middle q)) e ∙ ap (λ (ns : Names). cond (bytes_eq name q) (Some m) (number_in ns q)) f
-
 module _ {S C : Type 0} (schema : Catalog S C) (document : List (Definition S)) (numbers : List ℕ → Option ℕ)
     (single : (q other : List ℕ) (g : ℕ) → numbers q ≡ Some g → numbers other ≡ Some g → q ≡ other)
-    (name : List ℕ) (place : ℕ) (last : IsLast document name place) (b b' : Building S C) (built : Built schema document numbers b) (a : AddsFragment schema last.is name place b b')
-    (agree : AgreeOn (number_in b.names) numbers (placed_spreads_of_all (selections_of last.is))) (rank : numbers name ≡ Some (length b.fragments.items)) where
+    (names : List ℕ → Option ℕ) (name : List ℕ) (place : ℕ) (last : IsLast document name place) (b b' : Building S C) (built : Built schema document numbers b) (a : AddsFragment schema names last.is place b b')
+    (are_known : AreKnown numbers (length b.fragments.items) names) (agree : AgreeOn names numbers (placed_spreads_of_all (selections_of last.is))) (rank : numbers name ≡ Some (length b.fragments.items)) where
   abbrev next : ℕ
   next = length b.fragments.items
 
   middle_built : Built schema document numbers a.middle
-  middle_built = built_definition schema document numbers last.is place a.set b a.middle built a.adds last.stands agree
+  middle_built = built_definition schema document numbers names last.is place a.set b a.middle built a.adds last.stands are_known agree
 
   same_fragments : a.middle.fragments.items ≡ b.fragments.items
   same_fragments = ap (λ v. v.items) a.adds.notes.fragments
 
   set_low : a.set < length a.middle.table.sets.items
-  set_low = is_low schema document numbers last.is place a.set b a.middle built a.adds
+  set_low = is_low schema document numbers names last.is place a.set b a.middle built a.adds
 
   low_then : (g : ℕ) → g < length (b.fragments.items ++ a.set ∷ []) → get_or (b.fragments.items ++ a.set ∷ []) g 0 < length a.middle.table.sets.items
   low_then g l = elim (last_or_below b.fragments.items a.set g l) [
@@ -67,34 +58,9 @@ module _ {S C : Type 0} (schema : Catalog S C) (document : List (Definition S)) 
         (subst (λ (fs : List ℕ). get_or fs g 0 < length a.middle.table.sets.items) same_fragments (middle_built.low g (subst (λ (fs : List ℕ). g < length fs) (sym same_fragments) lt)))
   ]
 
-  named : (q : List ℕ) (t : Bool) → bytes_eq name q ≡ t → number_in a.names q ≡ cond t (Some next) (number_in b.names q)
-  named q t e = a.inserted q ∙ ap (λ c. cond c (Some next) (number_in b.names q)) e
-
-  long : length (b.fragments.items ++ a.set ∷ []) ≡ next + 1
-  long = length-append b.fragments.items (a.set ∷ [])
-
-  known_by : (q : List ℕ) (g : ℕ) → number_in a.names q ≡ Some g → (t : Bool) → bytes_eq name q ≡ t → (numbers q ≡ Some g) × (g < next + 1)
-  known_by q g h true e =
-      let is : next ≡ g = same_some next g (sym (named q true e) ∙ h) in (
-        ap numbers (sym ((bytes_eq-Decides name q).0 e)) ∙ rank ∙ ap (λ (k : ℕ). Some k) is,
-        omega (arith, is),
-      )
-  known_by q g h false e = let k = built.known q g (sym (named q false e) ∙ h) in let l = k.1 in (k.0, omega (arith, l))
-
-  knows_old : (q : List ℕ) (g : ℕ) → numbers q ≡ Some g → g < next → (t : Bool) → bytes_eq name q ≡ t → number_in a.names q ≡ Some g
-  knows_old q g h l true e =
-      let is : next ≡ g = same_some next g (sym rank ∙ ap numbers ((bytes_eq-Decides name q).0 e) ∙ h) in absurd (omega (arith, is, l))
-  knows_old q g h l false e = named q false e ∙ built.knows q g h l
-
   -- the name of the next number
   is_name : (q : List ℕ) (g : ℕ) → numbers q ≡ Some g → g ≡ next → name ≡ q
   is_name q g h eq = single name q g (rank ∙ ap (λ (k : ℕ). Some k) (sym eq)) h
-
-  knows_then : (q : List ℕ) (g : ℕ) → numbers q ≡ Some g → g < length (b.fragments.items ++ a.set ∷ []) → number_in a.names q ≡ Some g
-  knows_then q g h l = elim (last_or_below b.fragments.items a.set g l) [
-    | inl eq ↦ named q true ((bytes_eq-Decides name q).1 (is_name q g h eq)) ∙ ap (λ (k : ℕ). Some k) (sym eq)
-    | inr lt ↦ knows_old q g h lt (bytes_eq name q) refl
-  ]
 
   new_fragment : IsFragment schema document numbers (numbered a.middle.table) (b.fragments.items ++ a.set ∷ []) name next
   new_fragment = record {
@@ -102,7 +68,7 @@ module _ {S C : Type 0} (schema : Catalog S C) (document : List (Definition S)) 
     stored = get_end b.fragments.items a.set next refl;
     place = place;
     last = last;
-    is = is_set schema document numbers last.is place a.set b a.middle built a.adds agree;
+    is = is_set schema document numbers names last.is place a.set b a.middle built a.adds agree;
   }
 
   old_fragment : (q : List ℕ) (g : ℕ) → IsFragment schema document numbers (numbered a.middle.table) b.fragments.items q g → IsFragment schema document numbers (numbered a.middle.table) (b.fragments.items ++ a.set ∷ []) q g
@@ -125,19 +91,13 @@ module _ {S C : Type 0} (schema : Catalog S C) (document : List (Definition S)) 
   pub fragment_pushed : b'.fragments.items ≡ b.fragments.items ++ a.set ∷ []
   fragment_pushed = ap (λ (z : Building S C). z.fragments.items) a.is ∙ a.pushed
 
-  built_then : Built schema document numbers (record a.middle { names = a.names; fragments = a.fragments })
+  built_then : Built schema document numbers (record a.middle { fragments = a.fragments })
   built_then = record {
     apart = middle_built.apart;
     order = middle_built.order;
     falling = subst (λ (fs : List ℕ). Falling a.middle.table.sets.items fs) (sym a.pushed)
         (falling_more a.middle.table.sets.items b.fragments.items a.set (subst (λ (fs : List ℕ). Falling a.middle.table.sets.items fs) same_fragments middle_built.falling));
     low = subst (λ (fs : List ℕ). (g : ℕ) → g < length fs → get_or fs g 0 < length a.middle.table.sets.items) (sym a.pushed) low_then;
-    known = λ q g h.
-        let k = known_by q g h (bytes_eq name q) refl in
-        let l = k.1 in
-        let n = long in
-        (k.0, subst (λ (fs : List ℕ). g < length fs) (sym a.pushed) (omega (arith, l, n)));
-    knows = λ q g h l. knows_then q g h (subst (λ (fs : List ℕ). g < length fs) a.pushed l);
     sized = middle_built.sized;
     whole = middle_built.whole;
     added = middle_built.added;

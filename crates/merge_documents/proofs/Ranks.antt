@@ -1,6 +1,7 @@
 -- The ranks of a document's fragments.
-use Rattle.std.proofs.Common.{◌≡◌, ◌<◌, ℕ, List, [], length, Option, Some, None, option_and_then, slice_get, refl, sym, ap, subst, ◌∙◌, arith}
+use Rattle.std.proofs.Common.{◌≡◌, ◌<◌, ℕ, List, [], length, Option, Some, None, Bool, true, false, cond, nat_lt, option_and_then, slice_get, refl, sym, ap, subst, ◌∙◌, arith}
 use Rattle.std.specs.Option.{unwrap_or}
+use Rattle.std.proofs.lemmas.Bool.{lt-ltb, ltb-true}
 use Rattle.std.proofs.lemmas.Option.{slice_get_within}
 use Rattle.language.specs.declared.tree.Definition.{Definition}
 use Rattle.fragment_cycles.specs.declared.cycles.DocumentCycles.{DocumentCycles}
@@ -9,11 +10,41 @@ use Rattle.fragment_cycles.specs.DocumentCycles.{SearchedDocument, NameSpreads}
 use Rattle.fragment_cycles.proofs.Lists.{same_some, none_some, get_some}
 use Rattle.fragment_cycles.proofs.Numbering.{below, single}
 use Rattle.fragment_cycles.proofs.NamePaths.{edge}
-use Rattle.merge_documents.specs.Building.{rank_in}
+use Rattle.numbered_sets.specs.Known.{below as below_count}
+use Rattle.merge_documents.specs.Building.{rank_in, AreKnown}
+use Rattle.merge_documents.specs.Definitions.{last_place, IsLast, AreLast}
+use Rattle.merge_documents.proofs.Lasts.{place_of_number}
 
 then_some : {X Y : Type 0} (f : X → Option Y) (o : Option X) (y : Y) → option_and_then f o ≡ Some y → (x : X) × (o ≡ Some x) × (f x ≡ Some y)
 then_some f None y h = absurd (none_some y h)
 then_some f (Some x) y h = (x, refl, h)
+
+-- the rank of a name, where it is below the count
+known_by : (ranks : List ℕ) (count : ℕ) (o : Option ℕ) (g : ℕ) → option_and_then (λ v. option_and_then (below_count count) (slice_get ranks v)) o ≡ Some g
+    → (option_and_then (λ v. slice_get ranks v) o ≡ Some g) × (g < count)
+known_by ranks count None g h = absurd (none_some g h)
+known_by ranks count (Some v) g h = at_rank (slice_get ranks v) h
+  where
+    by_test : (r : ℕ) (b : Bool) → nat_lt r count ≡ b → cond b (Some r) None ≡ Some g → (Some r ≡ Some g) × (g < count)
+    by_test r true e k = let is : r ≡ g = same_some r g k in (k, subst (λ (q : ℕ). q < count) is (ltb-true r count e))
+    by_test r false e k = absurd (none_some g k)
+
+    at_rank : (r : Option ℕ) → option_and_then (below_count count) r ≡ Some g → (r ≡ Some g) × (g < count)
+    at_rank None k = absurd (none_some g k)
+    at_rank (Some r) k = by_test r (nat_lt r count) refl k
+
+knows_by : (ranks : List ℕ) (count : ℕ) (o : Option ℕ) (g : ℕ) → option_and_then (λ v. slice_get ranks v) o ≡ Some g → g < count
+    → option_and_then (λ v. option_and_then (below_count count) (slice_get ranks v)) o ≡ Some g
+knows_by ranks count None g h l = absurd (none_some g h)
+knows_by ranks count (Some v) g h l = ap (option_and_then (below_count count)) h ∙ ap (λ b. cond b (Some g) None) (lt-ltb g count l)
+
+-- the fragments of the ranks below a count are known
+pub known_ranks : (c : DocumentCycles) (ranks : List ℕ) (count : ℕ) → ranks ≡ c.outcome.ranks.items
+    → AreKnown (rank_in c) count (λ name. option_and_then (λ v. option_and_then (below_count count) (slice_get ranks v)) (number_of c.graph.numbers name))
+known_ranks c ranks count is = subst (λ rs. AreKnown (rank_in c) count (λ name. option_and_then (λ v. option_and_then (below_count count) (slice_get rs v)) (number_of c.graph.numbers name))) (sym is) record {
+  known = λ name g h. known_by c.outcome.ranks.items count (number_of c.graph.numbers name) g h;
+  knows = λ name g h l. knows_by c.outcome.ranks.items count (number_of c.graph.numbers name) g h l;
+}
 
 module _ {S : Type 0} (document : List (Definition S)) (c : DocumentCycles) (s : SearchedDocument document c) where
   -- the fragment's number in the search
@@ -63,3 +94,20 @@ module _ {S : Type 0} (document : List (Definition S)) (c : DocumentCycles) (s :
       let u = rank_split name r h in
       let v = rank_split other g k in
       s.outcome.earlier none u.0 v.0 r g (edge document c.graph.numbers c.graph.nodes.items s.graph.numbers s.graph.nodes name other u.0 v.0 u.1 v.1 spreads) u.2 v.2
+
+  abbrev pub name_at : ℕ → List ℕ
+  name_at v = unwrap_or (slice_get (names_of c.graph.numbers) v) []
+
+  -- what is kept at the node at a place in the order is kept for its name
+  module _ (last : List (Option ℕ)) (are : AreLast document (last_place c.graph.numbers last)) (g v : ℕ) (at : slice_get c.outcome.order.items g ≡ Some v) where
+    kept_for : (o : Option ℕ) → o ≡ option_and_then (λ p. p) (slice_get last v) → last_place c.graph.numbers last (name_at v) ≡ o
+    kept_for o found =
+        let low = slice_get_within c.outcome.ranks.items v g ((s.outcome.ranked v g).1 at) in
+        let many = as_many in
+        place_of_number c.graph.numbers s.graph.numbers.numbered last v (omega (arith, low, many)) ∙ sym found
+
+    pub last_at : (place : ℕ) → Some place ≡ option_and_then (λ p. p) (slice_get last v) → IsLast document (name_at v) place
+    last_at place found = are.each (name_at v) place (kept_for (Some place) found)
+
+    pub has_last : None ≡ option_and_then (λ p. p) (slice_get last v) → ⊥
+    has_last found = are.none_other (name_at v) (kept_for None found) (rank_defined (name_at v) g (rank_at g v at))

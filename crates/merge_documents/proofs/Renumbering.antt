@@ -12,7 +12,7 @@ use Rattle.fragment_cycles.specs.Spreads.{PlacedSpread, PlacedSpreads, placed_sp
 use Rattle.fragment_cycles.proofs.Lists.{one_contains, none_some, same_some, contains_get}
 use Rattle.fragment_cycles.proofs.Placed.{placed-Field, placed-Spread, placed-Inline}
 use Rattle.field_pairs.specs.OwnFields.{Placed}
-use Rattle.numbered_sets.specs.declared.table.OwnField.{OwnField}
+use Rattle.merging.specs.declared.node.Entry.{Entry as OwnField}
 use Rattle.numbered_sets.specs.Table.{Numbered, Extends}
 use Rattle.numbered_sets.specs.Represents.{Represents, nothing, join, leaf, field, spread, unknown, inline, IsSetOf}
 use Rattle.numbered_sets.specs.Inside.{IsInside, itself, below_field, of_inline}

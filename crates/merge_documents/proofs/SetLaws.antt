@@ -3,14 +3,13 @@ use Rattle.std.proofs.Common.{◌≡◌, ◌==◌, ◌||◌, ◌<◌, ◌≤◌,
 use Rattle.std.specs.List.{All, list_any}
 use Rattle.std.specs.Option.{option_map_or}
 use Rattle.std.proofs.lemmas.List.{length-map}
-use Rattle.std.proofs.lemmas.List.Elements.{All-map}
 use Rattle.std.proofs.lemmas.Option.{slice_get-map}
 use Rattle.merging.specs.declared.node.SetNode.{SetNode}
 use Rattle.merging.specs.Graph as searched
 use Rattle.numbered_sets.specs.declared.table.NumberedSet.{NumberedSet}
 use Rattle.numbered_sets.specs.Once.{is_among}
 use Rattle.numbered_sets.specs.Table.{own_at, spreads_at, IsWithin, Falling}
-use Rattle.merge_documents.specs.Sets.{entry_of, PlainSet, plain_row, plain_node}
+use Rattle.merge_documents.specs.Sets.{PlainSet, plain_row, plain_node}
 use Rattle.merge_documents.specs.TableGraph.{IsWhole}
 
 same_test : (m n : ℕ) → (m == n) ≡ (n == m)
@@ -24,7 +23,7 @@ node_own : (o : Option SetNode) → option_map_or (λ n. n.own.items) o [] ≡ o
 node_own None = refl
 node_own (Some n) = refl
 
-row_own : (o : Option NumberedSet) → option_map_or (λ (s : PlainSet). s.own) (option_map plain_row o) [] ≡ map entry_of (option_map_or (λ n. n.own.items) o [])
+row_own : (o : Option NumberedSet) → option_map_or (λ (s : PlainSet). s.own) (option_map plain_row o) [] ≡ option_map_or (λ n. n.own.items) o []
 row_own None = refl
 row_own (Some n) = refl
 
@@ -40,7 +39,7 @@ module _ (nodes : List SetNode) (rows : List NumberedSet) (same : map plain_node
   same_at : (s : ℕ) → option_map plain_node (slice_get nodes s) ≡ option_map plain_row (slice_get rows s)
   same_at s = sym (slice_get-map plain_node nodes s) ∙ ap (λ xs. slice_get xs s) same ∙ slice_get-map plain_row rows s
 
-  pub own_same : (s : ℕ) → searched.own_at nodes s ≡ map entry_of (own_at rows s)
+  pub own_same : (s : ℕ) → searched.own_at nodes s ≡ own_at rows s
   own_same s = node_own (slice_get nodes s) ∙ ap (λ o. option_map_or (λ (x : PlainSet). x.own) o []) (same_at s) ∙ row_own (slice_get rows s)
 
   pub spreads_same : (s : ℕ) → searched.spreads_at nodes s ≡ spreads_at rows s
@@ -51,7 +50,7 @@ module _ (nodes : List SetNode) (rows : List NumberedSet) (same : map plain_node
 
   pub falling : (fragments : List ℕ) → Falling rows fragments → searched.Falling nodes fragments
   falling fragments f s = (
-    subst (All (λ a. searched.height a ≤ s)) (sym (own_same s)) (All-map (λ a. searched.height a ≤ s) entry_of (own_at rows s) (f s).0),
+    subst (All (λ a. searched.height a ≤ s)) (sym (own_same s)) (f s).0,
     subst (All (IsWithin fragments s)) (sym (spreads_same s)) (f s).1,
   )
 

@@ -1,6 +1,5 @@
 -- How the sets of a document are added, definition by definition.
-use Rattle.std.specs.Prelude.{◌≡◌, ◌<◌, ℕ, List, [], ◌∷◌, ◌++◌, map, Option, Some, None, length, get_or, slice_get, slice_set, true, if◌then◌else◌, option_and_then}
-use Rattle.std.specs.Str.{bytes_eq}
+use Rattle.std.specs.Prelude.{◌≡◌, ◌<◌, ℕ, List, [], ◌∷◌, ◌++◌, map, Option, Some, length, get_or, slice_get, slice_set, true, option_and_then}
 use Rattle.std.specs.declared.vec.Vec.{Vec}
 use Rattle.std.specs.declared.alloc.Global.{Global}
 use Rattle.language.specs.declared.tree.Definition.{Definition}
@@ -11,7 +10,7 @@ use Rattle.field_pairs.specs.Entries.{PlainEntry, plain}
 use Rattle.fragment_cycles.specs.declared.cycles.DocumentCycles.{DocumentCycles}
 use Rattle.fragment_cycles.specs.Numbers.{number_of}
 use Rattle.numbered_sets.specs.declared.table.Table.{Table}
-use Rattle.numbered_sets.specs.Names.{Names, number_in, AreApart}
+use Rattle.numbered_sets.specs.Names.{AreApart}
 use Rattle.numbered_sets.specs.Once.{is_among}
 use Rattle.numbered_sets.specs.Table.{Numbered, numbered, Falling}
 use Rattle.numbered_sets.specs.Represents.{IsSetOf}
@@ -23,6 +22,11 @@ use Rattle.merge_documents.specs.Definitions.{type_round, selections_of, IsLast}
 -- The number of a fragment: its place in the order in which the search for cycles finished the fragments.
 abbrev pub rank_in : DocumentCycles → List ℕ → Option ℕ
 rank_in c name = option_and_then (λ v. slice_get c.outcome.ranks.items v) (number_of c.graph.numbers name)
+
+-- The names whose numbers are below the count.
+pub record AreKnown (numbers : List ℕ → Option ℕ) (count : ℕ) (names : List ℕ → Option ℕ) : Type 0 where
+  pub known : (name : List ℕ) (g : ℕ) → names name ≡ Some g → (numbers name ≡ Some g) × (g < count)
+  pub knows : (name : List ℕ) (g : ℕ) → numbers name ≡ Some g → g < count → names name ≡ Some g
 
 module _ {S C : Type 0} where
   -- The set of the number is that of the definition.
@@ -46,25 +50,22 @@ module _ {S C : Type 0} where
     pub orders : b'.orders.items ≡ slice_set b.orders.items place after
     pub same : numbered b'.table ≡ numbered b.table
     pub empty : b'.table.order.items ≡ []
-    pub names : b'.names ≡ b.names
     pub fragments : b'.fragments ≡ b.fragments
 
   -- The set of a definition was added, with all sets in it.
-  pub record AddsDefinition (schema : Catalog S C) (d : Definition S) (place n : ℕ) (b b' : Building S C) : Type 0 where
+  pub record AddsDefinition (schema : Catalog S C) (names : List ℕ → Option ℕ) (d : Definition S) (place n : ℕ) (b b' : Building S C) : Type 0 where
     pub grown : Table S C
-    pub adds : AddsSet schema (number_in b.names) (type_round schema d) (selections_of d) n b.table grown
+    pub adds : AddsSet schema names (type_round schema d) (selections_of d) n b.table grown
     pub notes : NotesOrder place (record b { table = grown }) b'
 
-  -- The definition's set was added as that of the fragment of the name, which got the next number.
-  pub record AddsFragment (schema : Catalog S C) (d : Definition S) (name : List ℕ) (place : ℕ) (b b' : Building S C) : Type 0 where
+  -- The definition's set was added as that of the next fragment.
+  pub record AddsFragment (schema : Catalog S C) (names : List ℕ → Option ℕ) (d : Definition S) (place : ℕ) (b b' : Building S C) : Type 0 where
     pub middle : Building S C
     pub set : ℕ
-    pub adds : AddsDefinition schema d place set b middle
-    pub names : Names
+    pub adds : AddsDefinition schema names d place set b middle
     pub fragments : Vec ℕ Global
-    pub is : b' ≡ record middle { names = names; fragments = fragments }
+    pub is : b' ≡ record middle { fragments = fragments }
     pub pushed : fragments.items ≡ b.fragments.items ++ set ∷ []
-    pub inserted : (q : List ℕ) → number_in names q ≡ (if bytes_eq name q then Some (length b.fragments.items) else number_in b.names q)
 
   -- Nothing was added, and each of so many places has an order.
   pub record IsNothing (count : ℕ) (b : Building S C) : Type 0 where
@@ -73,7 +74,6 @@ module _ {S C : Type 0} where
     pub fields : b.table.fields.items ≡ []
     pub sets : b.table.sets.items ≡ []
     pub fragments : b.fragments.items ≡ []
-    pub names : (q : List ℕ) → number_in b.names q ≡ None
     pub sized : length b.orders.items ≡ count
     pub orders : (p : ℕ) (o : Vec ℕ Global) → slice_get b.orders.items p ≡ Some o → o.items ≡ []
 
@@ -88,8 +88,6 @@ module _ {S C : Type 0} where
     pub order : b.table.order.items ≡ []
     pub falling : Falling b.table.sets.items b.fragments.items
     pub low : (g : ℕ) → g < length b.fragments.items → get_or b.fragments.items g 0 < length b.table.sets.items
-    pub known : (name : List ℕ) (g : ℕ) → number_in b.names name ≡ Some g → (numbers name ≡ Some g) × (g < length b.fragments.items)
-    pub knows : (name : List ℕ) (g : ℕ) → numbers name ≡ Some g → g < length b.fragments.items → number_in b.names name ≡ Some g
     pub sized : length b.orders.items ≡ length document
     pub whole : (k : ℕ) → k < length b.table.sets.items → (p : ℕ) × (o : Vec ℕ Global) × (slice_get b.orders.items p ≡ Some o) × (is_among o.items k ≡ true)
     pub added : (p : ℕ) (o : Vec ℕ Global) (d : Definition S) → slice_get b.orders.items p ≡ Some o → (o.items ≡ [] → ⊥) → slice_get document p ≡ Some d

@@ -1,7 +1,6 @@
 -- The definitions of a document: the set of each, the type round it, and the last of a name.
-use Rattle.std.specs.Prelude.{◌≡◌, ◌≤◌, ℕ, List, length, Bool, true, false, Option, Some, None, slice_get, if◌then◌else◌}
+use Rattle.std.specs.Prelude.{◌≡◌, ◌≤◌, ℕ, List, length, Bool, true, false, Option, Some, None, slice_get, slice_set, option_and_then}
 use Rattle.std.specs.List.{filter}
-use Rattle.std.specs.Str.{bytes_eq}
 use Rattle.language.specs.declared.tree.Selection.{Selection}
 use Rattle.language.specs.declared.tree.OperationType.{OperationType}
 use Rattle.language.specs.declared.tree.OperationType.TheVariants as kind
@@ -9,8 +8,8 @@ use Rattle.language.specs.declared.tree.Definition.{Definition}
 use Rattle.language.specs.declared.tree.Definition.TheVariants as definition
 use Rattle.meta.specs.declared.kinds.MetaTypeOf.{MetaTypeOf}
 use Rattle.schema.specs.Catalog.{Catalog, type_in, root_in}
-use Rattle.fragment_cycles.specs.Numbers.{IsNamed, Defines}
-use Rattle.numbered_sets.specs.Names.{Names, number_in}
+use Rattle.fragment_cycles.specs.declared.numbers.Numbers.{Numbers}
+use Rattle.fragment_cycles.specs.Numbers.{number_of, IsNamed, Defines}
 
 module _ {S C : Type 0} where
   -- the root of the operations of a kind, where the schema has one
@@ -45,11 +44,15 @@ module _ {S : Type 0} where
     pub last : (k : ℕ) (d : Definition S) → slice_get document k ≡ Some d → IsNamed name d → k ≤ place
 
   -- Each fragment has the place of its last definition, and there are no others.
-  pub record AreLast (document : List (Definition S)) (places : Names) : Type 0 where
-    pub each : (name : List ℕ) (place : ℕ) → number_in places name ≡ Some place → IsLast document name place
-    pub none_other : (name : List ℕ) → number_in places name ≡ None → Defines document name → ⊥
+  pub record AreLast (document : List (Definition S)) (place_of : List ℕ → Option ℕ) : Type 0 where
+    pub each : (name : List ℕ) (place : ℕ) → place_of name ≡ Some place → IsLast document name place
+    pub none_other : (name : List ℕ) → place_of name ≡ None → Defines document name → ⊥
 
-  -- A fragment's name has the place now.
-  abbrev pub NotesPlace : Definition S → ℕ → Names → Names → Type 0
-  NotesPlace (definition.Operation o) place old new = new ≡ old
-  NotesPlace (definition.Fragment f) place old new = (name : List ℕ) → number_in new name ≡ (if bytes_eq f.item.name.item.now name then Some place else number_in old name)
+-- The place that is kept for a name, at its number.
+abbrev pub last_place : Numbers → List (Option ℕ) → List ℕ → Option ℕ
+last_place n places name = option_and_then (λ k. option_and_then (λ o. o) (slice_get places k)) (number_of n name)
+
+-- The number, if there is one, has the place now.
+abbrev pub noted : Option ℕ → ℕ → List (Option ℕ) → List (Option ℕ)
+noted None place places = places
+noted (Some k) place places = slice_set places k (Some place)

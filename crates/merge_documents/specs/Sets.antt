@@ -1,13 +1,8 @@
 -- The sets of a table, as a search has them.
-use Rattle.std.specs.Prelude.{ℕ, List, map}
+use Rattle.std.specs.Prelude.{ℕ, List}
 use Rattle.merging.specs.declared.node.Entry.{Entry}
 use Rattle.merging.specs.declared.node.SetNode.{SetNode}
-use Rattle.numbered_sets.specs.declared.table.OwnField.{OwnField}
 use Rattle.numbered_sets.specs.declared.table.NumberedSet.{NumberedSet}
-
--- A field by the same numbers.
-abbrev pub entry_of : OwnField → Entry
-entry_of a = record { response = a.response; field = a.field; below = a.below }
 
 -- A set by its own fields and its spreads.
 pub record PlainSet : Type 0 where
@@ -15,7 +10,7 @@ pub record PlainSet : Type 0 where
   pub spreads : List ℕ
 
 abbrev pub plain_row : NumberedSet → PlainSet
-plain_row s = record { own = map entry_of s.own.items; spreads = s.spreads.items }
+plain_row s = record { own = s.own.items; spreads = s.spreads.items }
 
 abbrev pub plain_node : SetNode → PlainSet
 plain_node s = record { own = s.own.items; spreads = s.spreads.items }

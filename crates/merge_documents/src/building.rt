@@ -2,24 +2,23 @@
 ghost use Rattle.std.specs.Prelude.{◌≡◌, ◌<◌, ℕ, [], Some, OnOk, IfOk, length, slice_get};
 ghost use Rattle.std.specs.declared.vec.Vec.{Vec};
 ghost use Rattle.std.specs.declared.alloc.Global.{Global};
+ghost use Rattle.numbered_sets.specs.Known.{known_rank};
 ghost use Rattle.merge_documents.specs.Building.{NotesOrder, AddsDefinition, AddsFragment, IsNothing};
 
-use crate::definitions::{no_names, selections, type_of_definition};
+use crate::definitions::{selections, type_of_definition};
 use language::error::OutOfMemory;
 use language::tree::Definition;
 use numbered_sets::adding::add_set;
+use numbered_sets::known::KnownFragments;
 use numbered_sets::table::{Table, no_table};
 use schema::model::SchemaTypeOf;
 use std::alloc::{AllocError, Global};
-use std::collections::BTreeMap;
 
 /// What was made of a document so far.
 #[derive(Drop)]
 pub struct Building<'a, S, C> {
     pub table: Table<'a, S, C>,
-    /// The fragments whose sets are there.
-    pub names: BTreeMap<&'a str, usize>,
-    /// The set of each of them.
+    /// The set of each fragment whose set is there.
     pub fragments: Vec<usize>,
     /// The sets of the definition at each place, in the order of a walk.
     pub orders: Vec<Vec<usize>>,
@@ -44,7 +43,6 @@ pub fn no_building<'a, S, C>(alloc: Global, count: usize) -> Result<Building<'a,
     let orders = empty_orders(alloc, count)?;
     Ok(Building {
         table: no_table(alloc),
-        names: no_names(alloc),
         fragments: Vec::new(alloc),
         orders,
     })
@@ -60,46 +58,38 @@ fn note_order<S, C>(place: usize, building: &mut Building<'_, S, C>) -> Result<(
     Ok(())
 }
 
-/// Adds the set of a definition.
+/// Adds the set of a definition, of which the known fragments may be spread.
 pub fn add_definition<'a, S, C>(
     alloc: Global,
     schema: &'a SchemaTypeOf<S, C>,
+    known: &KnownFragments<'_, '_>,
     definition: &'a Definition<'a, S>,
     place: usize,
     building: &mut Building<'a, S, C>,
 ) -> Result<usize, OutOfMemory>
     requires { place < length building.old.orders.items }
-    ensures { IfOk result (λ n. AddsDefinition schema.now definition.now place n building.old building.new) }
+    ensures { IfOk result (λ n. AddsDefinition schema.now (known_rank known.now) definition.now place n building.old building.new) }
 {
     let parent = type_of_definition(schema, definition);
     let set = selections(definition);
-    let number = add_set(
-        alloc,
-        schema,
-        &building.names,
-        parent,
-        set,
-        &mut building.table,
-    )?;
+    let number = add_set(alloc, schema, known, parent, set, &mut building.table)?;
     note_order(place, building)?;
     Ok(number)
 }
 
-/// Adds the set of a fragment, by a definition of it, and gives its name the next number.
+/// Adds the set of the next fragment, by a definition of it.
 pub fn add_fragment<'a, S, C>(
     alloc: Global,
     schema: &'a SchemaTypeOf<S, C>,
+    known: &KnownFragments<'_, '_>,
     definition: &'a Definition<'a, S>,
-    name: &'a str,
     place: usize,
     building: &mut Building<'a, S, C>,
 ) -> Result<(), OutOfMemory>
     requires { place < length building.old.orders.items }
-    ensures { OnOk result (AddsFragment schema.now definition.now name.now place building.old building.new) }
+    ensures { OnOk result (AddsFragment schema.now (known_rank known.now) definition.now place building.old building.new) }
 {
-    let set = add_definition(alloc, schema, definition, place, building)?;
-    let number = building.fragments.len();
+    let set = add_definition(alloc, schema, known, definition, place, building)?;
     building.fragments.push(set)?;
-    building.names.insert(name, number)?;
     Ok(())
 }

@@ -1,13 +1,15 @@
 //! The definitions of a document.
-ghost use Rattle.std.specs.Prelude.{◌≡◌, ℕ, List, None, OnOk, IfOk, option_copied};
-ghost use Rattle.numbered_sets.specs.Names.{number_in};
-ghost use Rattle.merge_documents.specs.Definitions.{root_type, type_round, selections_of, AreLast, NotesPlace};
+ghost use Rattle.std.specs.Prelude.{◌≡◌, None, IfOk, option_copied, length};
+ghost use Rattle.std.specs.List.{All};
+ghost use Rattle.fragment_cycles.specs.DocumentGraph.{IsGraphOf};
+ghost use Rattle.merge_documents.specs.Definitions.{root_type, type_round, selections_of, AreLast, last_place, noted};
 
+use fragment_cycles::document_graph::DocumentGraph;
+use fragment_cycles::numbers::name_count;
 use language::tree::{Definition, Document, OperationType, Selection};
 use meta::kinds::MetaTypeOf;
 use schema::model::SchemaTypeOf;
 use std::alloc::{AllocError, Global};
-use std::collections::BTreeMap;
 
 // The root of the operations of a kind.
 fn root_of_kind<S, C>(schema: &SchemaTypeOf<S, C>, kind: OperationType) -> Option<&MetaTypeOf<S, C>>
@@ -45,40 +47,41 @@ pub fn selections<'d, 't, S>(definition: &'d Definition<'t, S>) -> &'d [Selectio
     }
 }
 
-/// No names.
-pub fn no_names<'a>(alloc: Global) -> BTreeMap<&'a str, usize>
-    ensures { (name : List ℕ) → number_in result name ≡ None }
+// No place at each of so many numbers.
+fn no_places(alloc: Global, count: usize) -> Result<Vec<Option<usize>>, AllocError>
+    ensures len { IfOk result (λ v. length v.items ≡ count) }
+    ensures none { IfOk result (λ v. All (λ o. o ≡ None) v.items) }
 {
-    BTreeMap::new(alloc)
+    let mut places = Vec::new(alloc);
+    for _number in 0..count {
+        places.push(None)?;
+    }
+    Ok(places)
 }
 
-// Notes the place of a fragment's definition.
-fn note_place<'a, S>(
-    definition: &Definition<'a, S>,
-    place: usize,
-    places: &mut BTreeMap<&'a str, usize>,
-) -> Result<(), AllocError>
-    ensures { OnOk result (NotesPlace definition.now place places.old places.new) }
+// Notes the place of a definition at the number of its name, if it has one.
+fn note_place(number: Option<usize>, place: usize, places: &mut Vec<Option<usize>>)
+    ensures { places.new.items ≡ noted number place places.old.items }
 {
-    match definition {
-        Definition::Operation(_) => Ok(()),
-        Definition::Fragment(fragment) => {
-            places.insert(fragment.item.name.item, place)?;
-            Ok(())
+    if let Some(number) = number {
+        if number < places.len() {
+            places[number] = Some(place);
         }
     }
 }
 
-/// The place of the last definition of each fragment.
-pub fn last_places<'a, S>(
+/// The place of the last definition of each fragment, by the number of its name.
+pub fn last_places<S>(
     alloc: Global,
-    document: Document<'a, S>,
-) -> Result<BTreeMap<&'a str, usize>, AllocError>
-    ensures { IfOk result (AreLast document.now) }
+    document: Document<'_, S>,
+    graph: &DocumentGraph<'_>,
+) -> Result<Vec<Option<usize>>, AllocError>
+    requires { IsGraphOf document.now graph.now }
+    ensures { IfOk result (λ v. AreLast document.now (last_place graph.now.numbers v.items)) }
 {
-    let mut places = no_names(alloc);
-    for place in 0..document.len() {
-        note_place(&document[place], place, &mut places)?;
+    let mut places = no_places(alloc, name_count(&graph.numbers))?;
+    for place in 0..graph.defined.len() {
+        note_place(graph.defined[place], place, &mut places);
     }
     Ok(places)
 }

@@ -1,14 +1,15 @@
 //! The graph of a document.
-ghost use Rattle.std.specs.Prelude.{◌≡◌, ◌<◌, ◌+◌, ◌↔◌, ℕ, List, [], Some, Option, OnOk, IfOk, IfSome, IsSome, length, map, slice_get};
+ghost use Rattle.std.specs.Prelude.{◌≡◌, ◌<◌, ◌+◌, ◌↔◌, ℕ, List, [], Some, Option, OnOk, IfOk, IfSome, IsSome, length, map, option_and_then, slice_get};
 ghost use Rattle.std.specs.List.{flat_map};
 ghost use Rattle.fragment_cycles.specs.DocumentCycles.{HasNoCycle};
+ghost use Rattle.fragment_cycles.specs.Numbers.{NumberedDefinitions};
 ghost use Rattle.field_pairs.specs.Entries.{plain};
 ghost use Rattle.field_pairs.specs.Numbered.{AreTidy};
 ghost use Rattle.merging.specs.Judgement.{Lawful};
-ghost use Rattle.numbered_sets.specs.Names.{number_in};
+ghost use Rattle.numbered_sets.specs.Known.{known_rank};
 ghost use Rattle.numbered_sets.specs.Table.{Falling, numbered};
-ghost use Rattle.merge_documents.specs.Definitions.{AreLast};
-ghost use Rattle.merge_documents.specs.Building.{rank_in, Built};
+ghost use Rattle.merge_documents.specs.Definitions.{AreLast, last_place};
+ghost use Rattle.merge_documents.specs.Building.{rank_in, AreKnown, Built};
 ghost use Rattle.merge_documents.specs.TableGraph.{IsGraphOfTable};
 ghost use Rattle.merge_documents.specs.Judging.{judgement_of};
 ghost use Rattle.merge_documents.specs.DocumentGraph.{IsGraphOf};
@@ -19,20 +20,34 @@ use crate::definitions::last_places;
 use crate::judge::FieldJudge;
 use crate::table_graph::graph_of_table;
 use fragment_cycles::cycles::{DocumentCycles, search_document};
-use fragment_cycles::numbers::name;
+use fragment_cycles::numbers::NumberedNames;
 use language::error::OutOfMemory;
 use language::scalar::ScalarValue;
 use language::tree::Document;
 use merging::graph::Graph;
+use numbered_sets::known::KnownFragments;
 use schema::model::SchemaTypeOf;
 use std::alloc::{AllocError, Global};
-use std::collections::BTreeMap;
 
-// The place of a name.
-fn place_of(places: &BTreeMap<&str, usize>, name: &str) -> Option<usize>
-    ensures { result ≡ number_in places.now name.now }
+// The place that is kept at a number.
+fn place_at(places: &[Option<usize>], number: usize) -> Option<usize>
+    ensures { result ≡ option_and_then (λ o. o) (slice_get places.now number) }
 {
-    places.get(name).copied()
+    match places.get(number) {
+        Some(place) => *place,
+        None => None,
+    }
+}
+
+// The fragments that have sets: so many, in the order in which the search for cycles finished them.
+fn known_fragments<'n, 'a>(cycles: &'n DocumentCycles<'a>, count: usize) -> KnownFragments<'n, 'a>
+    ensures { AreKnown (rank_in cycles.now) count (known_rank result) }
+{
+    KnownFragments {
+        numbers: &cycles.graph.numbers,
+        ranks: cycles.outcome.ranks.as_slice(),
+        count,
+    }
 }
 
 // Adds the set of the fragment that the search for cycles finished next, by its last definition.
@@ -41,20 +56,20 @@ fn add_next<'a, S, C>(
     schema: &'a SchemaTypeOf<S, C>,
     document: Document<'a, S>,
     cycles: &DocumentCycles<'a>,
-    last: &BTreeMap<&'a str, usize>,
+    last: &[Option<usize>],
     node: usize,
     building: &mut Building<'a, S, C>,
 ) -> Result<(), OutOfMemory>
     requires ranked { AreRanked document.now cycles.now }
-    requires last { AreLast document.now last.now }
+    requires last { AreLast document.now (last_place cycles.now.graph.numbers last.now) }
     requires next { slice_get cycles.now.outcome.order.items (length building.old.fragments.items) ≡ Some node }
     requires built { Built schema.now document.now (rank_in cycles.now) building.old }
     ensures built { OnOk result (Built schema.now document.now (rank_in cycles.now) building.new) }
     ensures longer { OnOk result (length building.new.fragments.items ≡ length building.old.fragments.items + 1) }
 {
-    let fragment = name(&cycles.graph.numbers, node);
-    match place_of(last, fragment) {
-        Some(place) => add_fragment(alloc, schema, &document[place], fragment, place, building),
+    let known = known_fragments(cycles, building.fragments.len());
+    match place_at(last, node) {
+        Some(place) => add_fragment(alloc, schema, &known, &document[place], place, building),
         None => unreachable!(),
     }
 }
@@ -65,11 +80,11 @@ fn add_fragments<'a, S, C>(
     schema: &'a SchemaTypeOf<S, C>,
     document: Document<'a, S>,
     cycles: &DocumentCycles<'a>,
-    last: &BTreeMap<&'a str, usize>,
+    last: &[Option<usize>],
     building: &mut Building<'a, S, C>,
 ) -> Result<(), OutOfMemory>
     requires ranked { AreRanked document.now cycles.now }
-    requires last { AreLast document.now last.now }
+    requires last { AreLast document.now (last_place cycles.now.graph.numbers last.now) }
     requires none { building.old.fragments.items ≡ [] }
     requires built { Built schema.now document.now (rank_in cycles.now) building.old }
     ensures built { OnOk result (Built schema.now document.now (rank_in cycles.now) building.new) }
@@ -86,16 +101,18 @@ fn add_missing<'a, S, C>(
     alloc: Global,
     schema: &'a SchemaTypeOf<S, C>,
     document: Document<'a, S>,
+    cycles: &DocumentCycles<'a>,
     place: usize,
     building: &mut Building<'a, S, C>,
 ) -> Result<(), OutOfMemory>
     requires inside { place < length document.now }
     requires sized { length building.old.orders.items ≡ length document.now }
     ensures sized { OnOk result (length building.new.orders.items ≡ length document.now) }
-    ensures adds { OnOk result ((numbers : List ℕ → Option ℕ) → KnowsAll numbers building.old.fragments.items → Built schema.now document.now numbers building.old → AddsMissing schema.now document.now numbers place building.old building.new) }
+    ensures adds { OnOk result (KnowsAll (rank_in cycles.now) building.old.fragments.items → Built schema.now document.now (rank_in cycles.now) building.old → AddsMissing schema.now document.now (rank_in cycles.now) place building.old building.new) }
 {
     if building.orders[place].is_empty() {
-        add_definition(alloc, schema, &document[place], place, building)?;
+        let known = known_fragments(cycles, building.fragments.len());
+        add_definition(alloc, schema, &known, &document[place], place, building)?;
     }
     Ok(())
 }
@@ -105,13 +122,14 @@ fn add_others<'a, S, C>(
     alloc: Global,
     schema: &'a SchemaTypeOf<S, C>,
     document: Document<'a, S>,
+    cycles: &DocumentCycles<'a>,
     building: &mut Building<'a, S, C>,
 ) -> Result<(), OutOfMemory>
     requires { length building.old.orders.items ≡ length document.now }
-    ensures { OnOk result ((numbers : List ℕ → Option ℕ) → KnowsAll numbers building.old.fragments.items → Built schema.now document.now numbers building.old → AddsOthers schema.now document.now numbers (length document.now) building.old building.new) }
+    ensures { OnOk result (KnowsAll (rank_in cycles.now) building.old.fragments.items → Built schema.now document.now (rank_in cycles.now) building.old → AddsOthers schema.now document.now (rank_in cycles.now) (length document.now) building.old building.new) }
 {
     for place in 0..document.len() {
-        add_missing(alloc, schema, document, place, building)?;
+        add_missing(alloc, schema, document, cycles, place, building)?;
     }
     Ok(())
 }
@@ -126,10 +144,17 @@ fn build<'a, S, C>(
     requires { AreRanked document.now cycles.now }
     ensures { IfOk result (IsComplete schema.now document.now (rank_in cycles.now)) }
 {
-    let last = last_places(alloc, document)?;
+    let last = last_places(alloc, document, &cycles.graph)?;
     let mut building = no_building(alloc, document.len())?;
-    add_fragments(alloc, schema, document, cycles, &last, &mut building)?;
-    add_others(alloc, schema, document, &mut building)?;
+    add_fragments(
+        alloc,
+        schema,
+        document,
+        cycles,
+        last.as_slice(),
+        &mut building,
+    )?;
+    add_others(alloc, schema, document, cycles, &mut building)?;
     Ok(building)
 }
 
@@ -173,7 +198,7 @@ fn graph_of_searched<'a, S: ScalarValue, C>(
     Ok(graph)
 }
 
-/// The graph of a document, and none exactly where some fragment leads back to itself.
+/// The graph of a document, whose names are numbered, and none exactly where some fragment leads back to itself.
 ///
 /// Each definition's set is in the graph. The set of a fragment is that of its last definition. Where no field repeats an
 /// argument, nor a key in one, the judgement of the fields is lawful.
@@ -181,12 +206,14 @@ pub fn graph_of_document<'a, S: ScalarValue, C>(
     alloc: Global,
     schema: &'a SchemaTypeOf<S, C>,
     document: Document<'a, S>,
+    names: NumberedNames<'a>,
 ) -> Result<Option<Graph<FieldJudge<'a, S, C>>>, OutOfMemory>
+    requires { NumberedDefinitions document.now names.numbers names.defined.items }
     ensures none { IfOk result (λ g. IsSome g ↔ HasNoCycle document.now) }
     ensures graph { IfOk result (λ g. IfSome g (IsGraphOf schema.now document.now)) }
     ensures lawful { IfOk result (λ g. IfSome g (λ x. AreTidy (map plain x.judge.fields.items) → Lawful (judgement_of S.eq x.judge))) }
 {
-    let cycles = search_document(alloc, document)?;
+    let cycles = search_document(alloc, document, names)?;
     if !cycles.outcome.reports.is_empty() {
         return Ok(None);
     }

@@ -1,45 +1,23 @@
 //! The graph of a table of sets.
 ghost use Rattle.std.specs.Prelude.{◌≡◌, IfOk, map};
 ghost use Rattle.numbered_sets.specs.Table.{Falling, numbered};
-ghost use Rattle.merge_documents.specs.Sets.{entry_of, plain_row, plain_node};
+ghost use Rattle.merge_documents.specs.Sets.{plain_row, plain_node};
 ghost use Rattle.merge_documents.specs.TableGraph.{IsWhole, IsGraphOfTable};
 
 use crate::judge::{FieldJudge, judge_fields};
 use language::scalar::ScalarValue;
 use merging::graph::Graph;
 use merging::groups::make_set;
-use merging::node::{Entry, SetNode};
-use numbered_sets::table::{NumberedSet, OwnField, Table};
+use merging::node::SetNode;
+use numbered_sets::table::{NumberedSet, Table};
 use schema::model::SchemaTypeOf;
 use std::alloc::{AllocError, Global};
-
-// The field for the search.
-fn searched_field(field: &OwnField) -> Entry
-    ensures { result ≡ entry_of field.now }
-{
-    Entry {
-        response: field.response,
-        field: field.field,
-        below: field.below,
-    }
-}
-
-fn searched_fields(alloc: Global, own: &[OwnField]) -> Result<Vec<Entry>, AllocError>
-    ensures { IfOk result (λ v. v.items ≡ map entry_of own.now) }
-{
-    let mut fields = Vec::with_capacity(alloc, own.len())?;
-    for field in own {
-        fields.push(searched_field(field))?;
-    }
-    Ok(fields)
-}
 
 // The set for the search, in place of the table's.
 fn searched_set(alloc: Global, set: NumberedSet) -> Result<SetNode, AllocError>
     ensures { IfOk result (λ node. plain_node node ≡ plain_row set) }
 {
-    let own = searched_fields(alloc, set.own.as_slice())?;
-    make_set(alloc, own, set.spreads)
+    make_set(alloc, set.own, set.spreads)
 }
 
 // The sets for the search. Each of the table's is let go as soon as it isn't needed, so that few stand there twice.

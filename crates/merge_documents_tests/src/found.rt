@@ -1,5 +1,6 @@
 //! What a search finds in the graph of a document, in words.
 
+use fragment_cycles::numbers::number_names;
 use language::error::OutOfMemory;
 use language::scalar::ScalarValue;
 use language::tree::Document;
@@ -66,7 +67,8 @@ pub fn found<'a, S: ScalarValue, C>(
     schema: &'a SchemaTypeOf<S, C>,
     document: Document<'a, S>,
 ) -> Result<String, OutOfMemory> {
-    match graph_of_document(alloc, schema, document)? {
+    let names = number_names(alloc, document)?;
+    match graph_of_document(alloc, schema, document, names)? {
         Some(graph) => lines_of_graph(alloc, &graph),
         None => Ok(String::from_str(alloc, "cycle")?),
     }

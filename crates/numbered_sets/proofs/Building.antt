@@ -18,7 +18,7 @@ use Rattle.meta.specs.declared.kinds.MetaTypeOf.{MetaTypeOf}
 use Rattle.schema.specs.Catalog.{Catalog}
 use Rattle.field_pairs.specs.Entries.{PlainEntry}
 use Rattle.field_pairs.specs.OwnFields.{Placed, entry_under, type_inside, type_below}
-use Rattle.numbered_sets.specs.declared.table.OwnField.{OwnField}
+use Rattle.merging.specs.declared.node.Entry.{Entry as OwnField}
 use Rattle.numbered_sets.specs.declared.table.NumberedSet.{NumberedSet}
 use Rattle.numbered_sets.specs.declared.table.Table.{Table}
 use Rattle.numbered_sets.specs.Once.{is_among}

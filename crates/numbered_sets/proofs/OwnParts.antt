@@ -12,7 +12,7 @@ use Rattle.schema.specs.Catalog.{Catalog}
 use Rattle.field_pairs.specs.Entries.{PlainEntry}
 use Rattle.field_pairs.specs.OwnFields.{Names, own_fields, own_fields_of, own_spreads, own_spreads_of}
 use Rattle.field_pairs.proofs.OwnFieldLaws.{own_fields_of-Field, own_fields_of-Spread, own_fields_of-Inline, own_spreads_of-Field, own_spreads_of-Spread, own_spreads_of-Inline}
-use Rattle.numbered_sets.specs.declared.table.OwnField.{OwnField}
+use Rattle.merging.specs.declared.node.Entry.{Entry as OwnField}
 use Rattle.numbered_sets.specs.Table.{Numbered}
 use Rattle.numbered_sets.specs.Represents.{Represents, nothing, join, leaf, field, spread, unknown, inline}
 use Rattle.numbered_sets.specs.OwnParts.{without_set, with_set, AreFieldsOf, no_fields, more_fields, AreNumbersOf}

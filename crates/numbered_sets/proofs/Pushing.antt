@@ -3,7 +3,7 @@ use Rattle.std.proofs.Common.{◌≡◌, ℕ, [], ◌∷◌, ◌++◌, length, m
 use Rattle.std.proofs.lemmas.List.{map-append, length-map}
 use Rattle.field_pairs.specs.declared.entry.Entry.{Entry}
 use Rattle.field_pairs.specs.Entries.{plain, response_of}
-use Rattle.numbered_sets.specs.declared.table.OwnField.{OwnField}
+use Rattle.merging.specs.declared.node.Entry.{Entry as OwnField}
 use Rattle.numbered_sets.specs.declared.table.NumberedSet.{NumberedSet}
 use Rattle.numbered_sets.specs.declared.table.Table.{Table}
 use Rattle.numbered_sets.specs.Names.{number_in, KeepsNames, AreApart}

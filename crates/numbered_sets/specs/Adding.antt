@@ -5,7 +5,7 @@ use Rattle.language.specs.declared.tree.Selection.{Selection}
 use Rattle.meta.specs.declared.kinds.MetaTypeOf.{MetaTypeOf}
 use Rattle.schema.specs.Catalog.{Catalog}
 use Rattle.field_pairs.specs.Entries.{PlainEntry, plain}
-use Rattle.numbered_sets.specs.declared.table.OwnField.{OwnField}
+use Rattle.merging.specs.declared.node.Entry.{Entry as OwnField}
 use Rattle.numbered_sets.specs.declared.table.NumberedSet.{NumberedSet}
 use Rattle.numbered_sets.specs.declared.table.Table.{Table}
 use Rattle.numbered_sets.specs.Names.{AreApart}

@@ -1,3 +1,4 @@
+pub mod Known
 pub mod Names
 pub mod Once
 pub mod Table

@@ -7,7 +7,7 @@ use Rattle.language.specs.declared.tree.Selection.{Selection}
 use Rattle.schema.specs.Catalog.{Catalog}
 use Rattle.field_pairs.specs.Entries.{PlainEntry}
 use Rattle.field_pairs.specs.OwnFields.{type_below, Names}
-use Rattle.numbered_sets.specs.declared.table.OwnField.{OwnField}
+use Rattle.merging.specs.declared.node.Entry.{Entry as OwnField}
 use Rattle.numbered_sets.specs.Once.{is_among}
 use Rattle.numbered_sets.specs.Table.{Numbered, IsOwnField}
 use Rattle.numbered_sets.specs.Represents.{IsSetOf}

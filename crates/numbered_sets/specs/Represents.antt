@@ -10,7 +10,7 @@ use Rattle.language.specs.declared.tree.InlineFragment.{InlineFragment}
 use Rattle.meta.specs.declared.kinds.MetaTypeOf.{MetaTypeOf}
 use Rattle.schema.specs.Catalog.{Catalog}
 use Rattle.field_pairs.specs.OwnFields.{Placed, entry_under, type_inside, type_below}
-use Rattle.numbered_sets.specs.declared.table.OwnField.{OwnField}
+use Rattle.merging.specs.declared.node.Entry.{Entry as OwnField}
 use Rattle.numbered_sets.specs.declared.table.NumberedSet.{NumberedSet}
 use Rattle.numbered_sets.specs.Once.{IsEachOnce}
 use Rattle.numbered_sets.specs.Table.{Numbered, IsOwnField}

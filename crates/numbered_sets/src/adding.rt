@@ -1,9 +1,9 @@
 //! Adds a selection set to a table, with all sets in it.
 ghost use Rattle.std.specs.Prelude.{◌≡◌, ◌∷◌, [], OnOk, IfOk, option_copied};
-ghost use Rattle.numbered_sets.specs.Names.{number_in};
+ghost use Rattle.numbered_sets.specs.Known.{known_rank};
 ghost use Rattle.numbered_sets.specs.Adding.{Adds, AddsSet, AddsSpread};
 
-use crate::names::number_of_name;
+use crate::known::{KnownFragments, rank_of_name};
 use crate::steps::{close_set, no_fields, open_set, push_field, take_over};
 use crate::table::{NumberedSet, Table};
 use field_pairs::own_fields::{entry_of_field, type_below_field, type_inside_fragment};
@@ -13,23 +13,22 @@ use language::tree::{Field, Selection};
 use meta::kinds::MetaTypeOf;
 use schema::model::SchemaTypeOf;
 use std::alloc::Global;
-use std::collections::BTreeMap;
 
-/// Adds a set under a type, behind the sets in it, and answers its number. `fragments` are the numbers of the fragments
-/// that may be spread; another counts as unknown.
+/// Adds a set under a type, behind the sets in it, and answers its number. `fragments` are those that may
+/// be spread; another counts as unknown.
 #[cycle(adding)]
 pub fn add_set<'a, S, C>(
     alloc: Global,
     schema: &'a SchemaTypeOf<S, C>,
-    fragments: &BTreeMap<&'a str, usize>,
+    fragments: &KnownFragments<'_, '_>,
     parent: Option<&'a MetaTypeOf<S, C>>,
     set: &'a [Selection<'a, S>],
     table: &mut Table<'a, S, C>,
 ) -> Result<usize, OutOfMemory>
-    ensures { IfOk result (λ n. AddsSet schema.now (number_in fragments.now) (option_copied parent.entry) set.now n table.old table.new) }
+    ensures { IfOk result (λ n. AddsSet schema.now (known_rank fragments.now) (option_copied parent.entry) set.now n table.old table.new) }
 {
     let place = open_set(table)?;
-    let mut part = no_fields(alloc);
+    let mut part = no_fields(alloc, set.len())?;
     add_selections(alloc, schema, fragments, parent, set, &mut part, table)?;
     close_set(alloc, place, part, table)
 }
@@ -38,13 +37,13 @@ pub fn add_set<'a, S, C>(
 fn add_selections<'a, S, C>(
     alloc: Global,
     schema: &'a SchemaTypeOf<S, C>,
-    fragments: &BTreeMap<&'a str, usize>,
+    fragments: &KnownFragments<'_, '_>,
     parent: Option<&'a MetaTypeOf<S, C>>,
     set: &'a [Selection<'a, S>],
     part: &mut NumberedSet,
     table: &mut Table<'a, S, C>,
 ) -> Result<(), OutOfMemory>
-    ensures { OnOk result (Adds schema.now (number_in fragments.now) (option_copied parent.entry) set.now part.old part.new table.old table.new) }
+    ensures { OnOk result (Adds schema.now (known_rank fragments.now) (option_copied parent.entry) set.now part.old part.new table.old table.new) }
 {
     for selection in set {
         add_selection(alloc, schema, fragments, parent, selection, part, table)?;
@@ -56,13 +55,13 @@ fn add_selections<'a, S, C>(
 fn add_selection<'a, S, C>(
     alloc: Global,
     schema: &'a SchemaTypeOf<S, C>,
-    fragments: &BTreeMap<&'a str, usize>,
+    fragments: &KnownFragments<'_, '_>,
     parent: Option<&'a MetaTypeOf<S, C>>,
     selection: &'a Selection<'a, S>,
     part: &mut NumberedSet,
     table: &mut Table<'a, S, C>,
 ) -> Result<(), OutOfMemory>
-    ensures { OnOk result (Adds schema.now (number_in fragments.now) (option_copied parent.entry) (selection.now ∷ []) part.old part.new table.old table.new) }
+    ensures { OnOk result (Adds schema.now (known_rank fragments.now) (option_copied parent.entry) (selection.now ∷ []) part.old part.new table.old table.new) }
 {
     match selection {
         Selection::Field(field) => {
@@ -82,13 +81,13 @@ fn add_selection<'a, S, C>(
 fn add_field<'a, S, C>(
     alloc: Global,
     schema: &'a SchemaTypeOf<S, C>,
-    fragments: &BTreeMap<&'a str, usize>,
+    fragments: &KnownFragments<'_, '_>,
     parent: Option<&'a MetaTypeOf<S, C>>,
     field: &'a Spanning<Field<'a, S>>,
     part: &mut NumberedSet,
     table: &mut Table<'a, S, C>,
 ) -> Result<(), OutOfMemory>
-    ensures { OnOk result (Adds schema.now (number_in fragments.now) (option_copied parent.entry) (Selection.Field field.now ∷ []) part.old part.new table.old table.new) }
+    ensures { OnOk result (Adds schema.now (known_rank fragments.now) (option_copied parent.entry) (Selection.Field field.now ∷ []) part.old part.new table.old table.new) }
 {
     let entry = entry_of_field(parent, field);
     match &field.item.selection_set {
@@ -103,13 +102,13 @@ fn add_field<'a, S, C>(
 
 // The number of the fragment, where it is known.
 fn add_spread(
-    fragments: &BTreeMap<&str, usize>,
+    fragments: &KnownFragments<'_, '_>,
     name: &str,
     part: &mut NumberedSet,
 ) -> Result<(), OutOfMemory>
-    ensures { OnOk result (AddsSpread (number_in fragments.now name.now) part.old part.new) }
+    ensures { OnOk result (AddsSpread (known_rank fragments.now name.now) part.old part.new) }
 {
-    if let Some(number) = number_of_name(fragments, name) {
+    if let Some(number) = rank_of_name(fragments, name) {
         part.spreads.push(number)?;
     }
     Ok(())

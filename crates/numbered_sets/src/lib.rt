@@ -2,6 +2,7 @@
 #![tactic(auto)]
 
 pub mod adding;
+pub mod known;
 mod names;
 mod once;
 mod steps;

@@ -1,12 +1,24 @@
 //! Numbers without repeats.
-ghost use Rattle.std.specs.Prelude.{IfOk};
+ghost use Rattle.std.specs.Prelude.{◌≡◌, true, IfOk};
 ghost use Rattle.numbered_sets.specs.Once.{IsEachOnce};
 
 use language::error::OutOfMemory;
 use std::alloc::Global;
 
-/// Each of the numbers once, in the order in which they stand first.
-pub fn each_once(alloc: Global, numbers: &[usize]) -> Result<Vec<usize>, OutOfMemory>
+// Whether each stands there once.
+fn are_each_once(numbers: &[usize]) -> bool
+    ensures { result ≡ true → IsEachOnce numbers.now numbers.now }
+{
+    for place in 0..numbers.len() {
+        if numbers[..place].contains(&numbers[place]) {
+            return false;
+        }
+    }
+    true
+}
+
+// Each of the numbers once, in a list of its own.
+fn copied_once(alloc: Global, numbers: &[usize]) -> Result<Vec<usize>, OutOfMemory>
     ensures { IfOk result (λ v. IsEachOnce numbers.now v.items) }
 {
     let mut once = Vec::new(alloc);
@@ -16,4 +28,14 @@ pub fn each_once(alloc: Global, numbers: &[usize]) -> Result<Vec<usize>, OutOfMe
         }
     }
     Ok(once)
+}
+
+/// Each of the numbers once, in the order in which they stand first. Mostly none is repeated, and then the list itself serves.
+pub fn each_once(alloc: Global, numbers: Vec<usize>) -> Result<Vec<usize>, OutOfMemory>
+    ensures { IfOk result (λ v. IsEachOnce numbers.items v.items) }
+{
+    if are_each_once(numbers.as_slice()) {
+        return Ok(numbers);
+    }
+    copied_once(alloc, numbers.as_slice())
 }

@@ -5,19 +5,20 @@ ghost use Rattle.numbered_sets.specs.Adding.{PushesField, TakesOver, OpensSet, C
 
 use crate::names::number_name;
 use crate::once::each_once;
-use crate::table::{NumberedSet, OwnField, Table};
+use crate::table::{NumberedSet, Table};
 use field_pairs::entry::Entry;
 use language::error::OutOfMemory;
+use merging::node::Entry as OwnField;
 use std::alloc::Global;
 
-// A set without fields and spreads.
-pub fn no_fields(alloc: Global) -> NumberedSet
-    ensures { IsEmptySet result }
+// A set without fields and spreads, with room for so many fields, so that its list seldom grows.
+pub fn no_fields(alloc: Global, room: usize) -> Result<NumberedSet, OutOfMemory>
+    ensures { IfOk result IsEmptySet }
 {
-    NumberedSet {
-        own: Vec::new(alloc),
+    Ok(NumberedSet {
+        own: Vec::with_capacity(alloc, room)?,
         spreads: Vec::new(alloc),
-    }
+    })
 }
 
 // Gives a field a number, and adds it to its set.
@@ -74,7 +75,7 @@ pub fn close_set<S, C>(
     requires { place < length table.old.order.items }
     ensures { IfOk result (λ n. ClosesSet place part n table.old table.new) }
 {
-    let spreads = each_once(alloc, part.spreads.as_slice())?;
+    let spreads = each_once(alloc, part.spreads)?;
     let mut own = part.own;
     own.shrink_to_fit();
     let number = table.sets.len();

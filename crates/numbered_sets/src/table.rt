@@ -2,16 +2,9 @@
 ghost use Rattle.numbered_sets.specs.Adding.{IsEmptyTable};
 
 use field_pairs::entry::Entry;
+use merging::node::Entry as OwnField;
 use std::alloc::Global;
 use std::collections::BTreeMap;
-
-/// A field of a set: the numbers of its response name, of itself, and of the set below it.
-#[derive(Clone, Copy, Debug)]
-pub struct OwnField {
-    pub response: usize,
-    pub field: usize,
-    pub below: Option<usize>,
-}
 
 /// A set: its own fields, and the numbers of the fragments that it spreads.
 #[derive(Debug, Drop)]

@@ -2,3 +2,4 @@ pub mod Cycles
 pub mod Meeting
 pub mod Settled
 pub mod Unused
+pub mod FirstMeeting

@@ -17,7 +17,8 @@ use Rattle.language.specs.declared.position.SourcePosition.{SourcePosition}
 use Rattle.walk.specs.ErrorValue.{position_cmp}
 use Rattle.reachability.specs.ReachedFragments.{IsNameMarked}
 use Rattle.reachability.specs.declared.reached.ReachedFragments.{ReachedFragments}
-use Rattle.reach.specs.NoUnusedFragments.{AddsFragment, NameAndSpan, name_and_span_cmp, IsMet, Met}
+use Rattle.reach.specs.declared.met_fragments.MetFragments.{MetFragments}
+use Rattle.reach.specs.NoUnusedFragments.{AddsFragment, NameAndSpan, name_and_span_cmp, IsMet, IsOther, Others}
 
 both_equal : (a b : Ordering) → ordering_then a b ≡ Equal → (a ≡ Equal) × (b ≡ Equal)
 both_equal Less b e = absurd (true≢false (ap is_lt e))
@@ -73,8 +74,8 @@ by_test true h = refl
 by_test false h = absurd (h (λ e. true≢false (sym e)))
 
 -- one more
-pub met_more : (k : Key) (old new : Met) → Updates key_cmp old new k true → (q : NameAndSpan) → IsMet new q ↔ (IsMet old q ⊎ (met_as k ≡ q))
-met_more k old new h q =
+pub others_more : (k : Key) (old new : Others) → Updates key_cmp old new k true → (q : NameAndSpan) → IsOther new q ↔ (IsOther old q ⊎ (met_as k ≡ q))
+others_more k old new h q =
     let at = h.0 (record { ref_ptr = k.0.ref_ptr; now = q.0 }, q.1.start, q.1.end) in
     let both = either (is_eq (name_and_span_cmp (met_as k) q)) (contains_by (λ m. name_and_span_cmp q (met_as m)) old) in
     let same = is_same (met_as k) q in (
@@ -83,34 +84,31 @@ met_more k old new h q =
     )
 
 -- none
-pub none_met : (met : Met) → met.keys ≡ [] → (q : NameAndSpan) → IsMet met q ↔ Contains [] q
-none_met met e q = (
-  λ h. absurd (true≢false (sym h ∙ ap (λ ks. list_any (λ k. is_eq (name_and_span_cmp q (met_as k))) ks) e)),
-  λ c. absurd (omega (arith, c.1)),
-)
+pub none_other : (others : Others) → others.keys ≡ [] → (q : NameAndSpan) → IsOther others q → ⊥
+none_other others e q h = true≢false (sym h ∙ ap (λ ks. list_any (λ k. is_eq (name_and_span_cmp q (met_as k))) ks) e)
 
 -- what a test of a meeting says where it fails
-pub met_before : (met : Met) (p : NameAndSpan) → ((IsMet met p → ⊥) → ⊥) → IsMet met p
-met_before met p h = by_test (contains_by (λ k. name_and_span_cmp p (met_as k)) met) h
+pub other_before : (others : Others) (p : NameAndSpan) → ((IsOther others p → ⊥) → ⊥) → IsOther others p
+other_before others p h = by_test (contains_by (λ k. name_and_span_cmp p (met_as k)) others) h
 
-module _ (r : ReachedFragments) (old new : Met) (p : NameAndSpan) where
+module _ (r : ReachedFragments) (old new : MetFragments) (p : NameAndSpan) where
   -- a fragment with a mark
   pub adds_marked : IsNameMarked r p.0 → AddsFragment r old old p []
   adds_marked marked = record { met = λ q. (λ h. inl h, λ s. elim s [ inl h ↦ h | inr c ↦ absurd (omega (arith, c.1)) ]); added = inl (inl marked, refl) }
 
-  module _ (more : (q : NameAndSpan) → IsMet new q ↔ (IsMet old q ⊎ (p ≡ q))) where
+  module _ (more : (q : NameAndSpan) → IsMet r.graph.now.numbers new q ↔ (IsMet r.graph.now.numbers old q ⊎ (p ≡ q))) where
     -- one that was met
-    pub adds_none : IsMet old p → AddsFragment r old new p []
+    pub adds_none : IsMet r.graph.now.numbers old p → AddsFragment r old new p []
     adds_none met = record {
       met = λ q. (
-        λ h. inl (elim ((more q).0 h) [ inl was ↦ was | inr e ↦ subst (λ z. IsMet old z) e met ]),
+        λ h. inl (elim ((more q).0 h) [ inl was ↦ was | inr e ↦ subst (λ z. IsMet r.graph.now.numbers old z) e met ]),
         λ s. (more q).1 (elim s [ inl was ↦ inl was | inr c ↦ absurd (omega (arith, c.1)) ]),
       );
       added = inl (inr met, refl);
     }
 
     -- any other
-    pub adds_one : (IsNameMarked r p.0 → ⊥) → (IsMet old p → ⊥) → AddsFragment r old new p (p ∷ [])
+    pub adds_one : (IsNameMarked r p.0 → ⊥) → (IsMet r.graph.now.numbers old p → ⊥) → AddsFragment r old new p (p ∷ [])
     adds_one unmarked new_one = record {
       met = λ q. (
         λ h. elim ((more q).0 h) [ inl was ↦ inl was | inr e ↦ inr (subst (λ z. Contains (p ∷ []) z) e (Contains-push [] p)) ],

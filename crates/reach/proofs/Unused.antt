@@ -16,8 +16,10 @@ use Rattle.walk.specs.ContextState.{ContextState, with_errors}
 use Rattle.walk.specs.ErrorValue.{ErrorValue}
 use Rattle.walk.specs.Rule.{Settled}
 use Rattle.reach.specs.AtDocument.{given_at_end}
+use Rattle.fragment_cycles.specs.declared.numbers.Numbers.{Numbers}
+use Rattle.reach.specs.declared.met_fragments.MetFragments.{MetFragments}
 use Rattle.reach.specs.declared.no_unused_fragments.NoUnusedFragments.{NoUnusedFragments}
-use Rattle.reach.specs.NoUnusedFragments.{NameAndSpan, unused_error, unused_errors, name_and_span, IsMet, IsSame, Met, NoneUnused, Stands, UnusedAmong, UnusedErrors, AddsFragment, AddsUnused}
+use Rattle.reach.specs.NoUnusedFragments.{NameAndSpan, unused_error, unused_errors, name_and_span, IsMet, IsSame, NoneUnused, Stands, UnusedAmong, UnusedErrors, AddsFragment, AddsUnused}
 
 once_push : (fs : List NameAndSpan) (p : NameAndSpan) → ((i j : ℕ) (q : NameAndSpan) → slice_get fs i ≡ Some q → slice_get fs j ≡ Some q → i ≡ j) → (Contains fs p → ⊥)
     → (i j : ℕ) (q : NameAndSpan) → slice_get (fs ++ p ∷ []) i ≡ Some q → slice_get (fs ++ p ∷ []) j ≡ Some q → i ≡ j
@@ -72,10 +74,10 @@ module _ {S : Type 0} (document earlier : List (Definition S)) (fs : List NameAn
   }
 
   -- those that were met are those that were added
-  abbrev pub Meets : Met → Type 0
-  Meets met = (q : NameAndSpan) → IsMet met q ↔ Contains fs q
+  abbrev pub Meets : Numbers → MetFragments → Type 0
+  Meets n met = (q : NameAndSpan) → IsMet n met q ↔ Contains fs q
 
-  module _ (r : ReachedFragments) (m : ReachedOf document r) (old new : Met) (known : Meets old) where
+  module _ (r : ReachedFragments) (m : ReachedOf document r) (old new : MetFragments) (known : Meets r.graph.now.numbers old) where
     added_on : (f : Placed (Fragment S)) (gs : List NameAndSpan) → Contains document (definition.Fragment f) → AddsFragment r old new (name_and_span f) gs → UnusedAmong document (earlier ++ definition.Fragment f ∷ []) (fs ++ gs)
     added_on f gs c a =
         let p = name_and_span f in
@@ -99,11 +101,11 @@ module _ {S : Type 0} (document earlier : List (Definition S)) (fs : List NameAn
         (same_on (definition.Operation o) (λ p is. absurd is))
     unused_next (definition.Fragment f) gs c a = added_on f gs c a
 
-    pub met_next : (d : Definition S) (gs : List NameAndSpan) → AddsUnused r old new d gs → (q : NameAndSpan) → IsMet new q ↔ Contains (fs ++ gs) q
+    pub met_next : (d : Definition S) (gs : List NameAndSpan) → AddsUnused r old new d gs → (q : NameAndSpan) → IsMet r.graph.now.numbers new q ↔ Contains (fs ++ gs) q
     met_next (definition.Operation o) gs e q =
         let none : fs ++ gs ≡ fs = ap (λ zs. fs ++ zs) e.1 ∙ append-nil fs in (
-          λ h. subst (λ (zs : List NameAndSpan). Contains zs q) (sym none) ((known q).0 (subst (λ (z : Met). IsMet z q) e.0 h)),
-          λ c. subst (λ (z : Met). IsMet z q) (sym e.0) ((known q).1 (subst (λ (zs : List NameAndSpan). Contains zs q) none c)),
+          λ h. subst (λ (zs : List NameAndSpan). Contains zs q) (sym none) ((known q).0 (subst (λ (z : MetFragments). IsMet r.graph.now.numbers z q) e.0 h)),
+          λ c. subst (λ (z : MetFragments). IsMet r.graph.now.numbers z q) (sym e.0) ((known q).1 (subst (λ (zs : List NameAndSpan). Contains zs q) none c)),
         )
     met_next (definition.Fragment f) gs a q = (
       λ h. elim ((a.met q).0 h) [ inl was ↦ Contains-append_left fs gs q ((known q).0 was) | inr now ↦ Contains-append_right fs gs q now ],

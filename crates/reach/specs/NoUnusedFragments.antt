@@ -1,5 +1,5 @@
 -- Fragments that no operation reaches.
-use Rattle.std.specs.Prelude.{◌≡◌, ◌⊎◌, ◌↔◌, ℕ, List, [], ◌∷◌, ◌++◌, Some, codes, map, slice_get, IsTrue}
+use Rattle.std.specs.Prelude.{◌≡◌, ◌⊎◌, ◌↔◌, ℕ, List, [], ◌∷◌, ◌++◌, Option, Some, codes, length, map, slice_get, IsTrue}
 use denote.Ref.{Bor}
 use Rattle.std.specs.BTreeSet.{BTreeSet, contains_by}
 use Rattle.std.specs.Cmp.Lexicographic.{slice_cmp}
@@ -14,9 +14,12 @@ use Rattle.language.specs.declared.tree.Fragment.{Fragment}
 use Rattle.events.specs.Node.{Placed}
 use Rattle.walk.specs.ContextState.{DocumentScope}
 use Rattle.walk.specs.ErrorValue.{ErrorValue, position_cmp}
+use Rattle.fragment_cycles.specs.declared.numbers.Numbers.{Numbers}
+use Rattle.fragment_cycles.specs.Numbers.{names_of, number_of}
 use Rattle.reachability.specs.Reach.{IsReached}
 use Rattle.reachability.specs.ReachedFragments.{IsNameMarked}
 use Rattle.reachability.specs.declared.reached.ReachedFragments.{ReachedFragments}
+use Rattle.reach.specs.declared.met_fragments.MetFragments.{MetFragments}
 use Rattle.reach.specs.declared.no_unused_fragments.NoUnusedFragments.{NoUnusedFragments}
 
 abbrev pub unused_message : List ℕ → List ℕ
@@ -33,12 +36,24 @@ unused_error p = record { locations = p.1.start ∷ []; message = unused_message
 abbrev pub name_and_span_cmp : NameAndSpan → NameAndSpan → Ordering
 name_and_span_cmp = then_cmp (then_cmp (on (λ p. p.0) (slice_cmp nat_cmp)) (on (λ p. p.1.start) position_cmp)) (on (λ p. p.1.end) position_cmp)
 
--- those that were met, as they are kept
-abbrev pub Met : Type 0
-Met = BTreeSet (Bor (List ℕ) × SourcePosition × SourcePosition)
+-- those that were met and aren't the first of their name, as they are kept
+abbrev pub Others : Type 0
+Others = BTreeSet (Bor (List ℕ) × SourcePosition × SourcePosition)
 
-abbrev pub IsMet : Met → NameAndSpan → Type 0
-IsMet met p = IsTrue (contains_by (λ k. name_and_span_cmp p (k.0.now, record { start = k.1; end = k.2 })) met)
+abbrev pub IsOther : Others → NameAndSpan → Type 0
+IsOther others p = IsTrue (contains_by (λ k. name_and_span_cmp p (k.0.now, record { start = k.1; end = k.2 })) others)
+
+-- the first of its name that was met
+abbrev pub IsFirst : Numbers → List (Option Span) → NameAndSpan → Type 0
+IsFirst n firsts p = (k : ℕ) × (number_of n p.0 ≡ Some k) × (slice_get firsts k ≡ Some (Some p.1))
+
+abbrev pub IsMet : Numbers → MetFragments → NameAndSpan → Type 0
+IsMet n met p = IsFirst n met.firsts.items p ⊎ IsOther met.others p
+
+-- there is a place for the first of each name, and the others stand behind a first of theirs
+pub record IsKeptFor (n : Numbers) (met : MetFragments) : Type 0 where
+  pub sized : length met.firsts.items ≡ length (names_of n)
+  pub behind : (p : NameAndSpan) → IsOther met.others p → (first : Span) × IsFirst n met.firsts.items (p.0, first)
 
 module _ {S : Type 0} where
   abbrev pub name_and_span : Placed (Fragment S) → NameAndSpan
@@ -73,10 +88,10 @@ abbrev pub UnusedAreTold : Type 0 → Type 0
 UnusedAreTold S = (document : List (Definition S)) (es : List ErrorValue) → UnusedErrors document es → (es ≡ []) ↔ NoneUnused document
 
 -- a fragment is added where it has no mark and was not met; what is added is met from then on
-pub record AddsFragment (r : ReachedFragments) (old new : Met) (p : NameAndSpan) (fs : List NameAndSpan) : Type 0 where
-  pub met : (q : NameAndSpan) → IsMet new q ↔ (IsMet old q ⊎ Contains fs q)
-  pub added : ((IsNameMarked r p.0 ⊎ IsMet old p) × (fs ≡ [])) ⊎ ((IsNameMarked r p.0 → ⊥) × (IsMet old p → ⊥) × (fs ≡ p ∷ []))
+pub record AddsFragment (r : ReachedFragments) (old new : MetFragments) (p : NameAndSpan) (fs : List NameAndSpan) : Type 0 where
+  pub met : (q : NameAndSpan) → IsMet r.graph.now.numbers new q ↔ (IsMet r.graph.now.numbers old q ⊎ Contains fs q)
+  pub added : ((IsNameMarked r p.0 ⊎ IsMet r.graph.now.numbers old p) × (fs ≡ [])) ⊎ ((IsNameMarked r p.0 → ⊥) × (IsMet r.graph.now.numbers old p → ⊥) × (fs ≡ p ∷ []))
 
-abbrev pub AddsUnused : {S : Type 0} → ReachedFragments → Met → Met → Definition S → List NameAndSpan → Type 0
+abbrev pub AddsUnused : {S : Type 0} → ReachedFragments → MetFragments → MetFragments → Definition S → List NameAndSpan → Type 0
 AddsUnused r old new (definition.Operation o) fs = (new ≡ old) × (fs ≡ [])
 AddsUnused r old new (definition.Fragment f) fs = AddsFragment r old new (name_and_span f) fs

@@ -2,6 +2,7 @@
 #![tactic(auto)]
 
 pub mod laws;
+pub mod met_fragments;
 pub mod no_fragment_cycles;
 pub mod no_undefined_variables;
 pub mod no_unused_fragments;

@@ -79,7 +79,8 @@ impl<'a, S: CheckedScalar> Visitor<'a, S> for NoFragmentCycles {
     ) -> Result<(), OutOfMemory> {
         match *event {
             Event::ExitDocument(document) => {
-                let graph = graph_of(self.alloc, document)?;
+                let names = ctx.numbered_names(document)?;
+                let graph = graph_of(self.alloc, document, names)?;
                 self.leave(ctx, &graph)
             }
             _ => Ok(()),

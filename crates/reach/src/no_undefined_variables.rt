@@ -60,7 +60,8 @@ impl<'a, S: CheckedScalar> Visitor<'a, S> for NoUndefinedVariables<'a> {
     ) -> Result<(), OutOfMemory> {
         match *event {
             Event::ExitDocument(document) => {
-                let index = index_document(self.alloc, document)?;
+                let names = ctx.numbered_names(document)?;
+                let index = index_document(self.alloc, document, names)?;
                 report_undefined(self.alloc, ctx, document, &index)
             }
             _ => Ok(()),

@@ -1,23 +1,24 @@
 //! Each fragment is reached from some operation (GraphQL, section 5.5.1.4).
 
-ghost use Rattle.std.specs.Prelude.{◌≡◌, ◌∷◌, [], ◌↔◌, ◌⊎◌, List, IfOk, IsTrue, OnOk, OnErr, map, string_bytes};
+ghost use Rattle.std.specs.Prelude.{◌≡◌, ◌∷◌, [], List, Some, IfOk, OnOk, OnErr, map, string_bytes};
 ghost use Rattle.walk.specs.ContextState.{with_errors};
 ghost use Rattle.walk.specs.Rule.{any_value};
 ghost use Rattle.walk.specs.Step.{KeepsPlace};
-ghost use Rattle.fragment_cycles.specs.Numbers.{defined_number, number_of};
+ghost use Rattle.fragment_cycles.specs.DocumentGraph.{IsNumbered};
+ghost use Rattle.fragment_cycles.specs.Numbers.{defined_number, number_of, WellNumbered};
 ghost use Rattle.scopes.specs.Index.{IsIndexOf};
 ghost use Rattle.reach.specs.AtDocument.{document_step, given_at_end};
 ghost use Rattle.reach.specs.AtDocumentLaws.{document_keeps};
-ghost use Rattle.reach.specs.NoUnusedFragments.{name_and_span, unused_error, unused_errors, unused_message, AddsFragment, AddsUnused, IsMet, NameAndSpan, UnusedAmong};
+ghost use Rattle.reach.specs.NoUnusedFragments.{name_and_span, unused_error, unused_errors, unused_message, AddsFragment, AddsUnused, IsKeptFor, NameAndSpan, UnusedAmong};
 
+use crate::met_fragments::{MetFragments, meet, none_met};
 use language::error::OutOfMemory;
-use language::position::{SourcePosition, Spanning};
+use language::position::Spanning;
 use language::tree::{Definition, Document, Fragment};
 use meta::check::CheckedScalar;
 use reachability::reached::{ReachedFragments, is_reached, reached_fragments};
 use scopes::index::{ScopeIndex, index_scopes};
 use std::alloc::{AllocError, Global};
-use std::collections::BTreeSet;
 use walk::{Event, Fresh, Machine, Rule, ValidatorContext, Visitor};
 
 /// Reports, where the document ends, each definition of a fragment that no operation reaches, at its start.
@@ -55,30 +56,13 @@ impl<'a, S: CheckedScalar> Visitor<'a, S> for NoUnusedFragments {
     ) -> Result<(), OutOfMemory> {
         match *event {
             Event::ExitDocument(document) => {
-                let index = index_scopes(self.alloc, document)?;
+                let names = ctx.numbered_names(document)?;
+                let index = index_scopes(self.alloc, document, names)?;
                 report_unused(self.alloc, ctx, document, &index)
             }
             _ => Ok(()),
         }
     }
-}
-
-// The fragments that were met: of each its name, and where its definition starts and ends.
-//
-// Strangers choose the names, so the set is an ordered one.
-type MetFragments<'a> = BTreeSet<(&'a str, SourcePosition, SourcePosition)>;
-
-// Notes that a fragment was met, and answers whether it is the first of its name and span.
-fn meet<'a, S>(
-    met: &mut MetFragments<'a>,
-    fragment: &Spanning<Fragment<'a, S>>,
-) -> Result<bool, OutOfMemory>
-    ensures first { IfOk result (λ first. IsTrue first ↔ (IsMet met.old (name_and_span fragment.now) → ⊥)) }
-    ensures met { OnOk result ((q : NameAndSpan) → IsMet met.new q ↔ (IsMet met.old q ⊎ (name_and_span fragment.now ≡ q))) }
-{
-    let Spanning { item, span } = fragment;
-    let first = met.insert((item.name.item, span.start, span.end))?;
-    Ok(first)
 }
 
 // Reports a fragment.
@@ -101,16 +85,19 @@ fn report_once<'a, 'd, S: CheckedScalar>(
     reached: &ReachedFragments<'_, '_>,
     met: &mut MetFragments<'d>,
     fragment: &Spanning<Fragment<'d, S>>,
-    number: Option<usize>,
+    number: usize,
 ) -> Result<(), OutOfMemory>
-    requires { number ≡ number_of reached.now.graph.now.numbers fragment.now.item.name.item.now }
+    requires numbered { WellNumbered reached.now.graph.now.numbers }
+    requires number { number_of reached.now.graph.now.numbers fragment.now.item.name.item.now ≡ Some number }
+    requires kept { IsKeptFor reached.now.graph.now.numbers met.old }
+    ensures kept { OnOk result (IsKeptFor reached.now.graph.now.numbers met.new) }
     ensures ok { IfOk result (λ _. (fs : List NameAndSpan) × AddsFragment reached.now met.old met.new (name_and_span fragment.now) fs × (ctx.new ≡ with_errors ctx.old (map unused_error fs))) }
     ensures err { OnErr result (KeepsPlace ctx.old ctx.new) }
 {
-    if is_reached(reached, number) {
+    if is_reached(reached, Some(number)) {
         return Ok(());
     }
-    if meet(met, fragment)? {
+    if meet(met, &reached.graph.numbers, fragment, number)? {
         return report_fragment(alloc, ctx, fragment);
     }
     Ok(())
@@ -125,12 +112,19 @@ fn report_if_unused<'a, 'd, S: CheckedScalar>(
     definition: &Definition<'d, S>,
     number: Option<usize>,
 ) -> Result<(), OutOfMemory>
-    requires { number ≡ defined_number reached.now.graph.now.numbers definition.now }
+    requires numbered { WellNumbered reached.now.graph.now.numbers }
+    requires number { number ≡ defined_number reached.now.graph.now.numbers definition.now }
+    requires has { IsNumbered reached.now.graph.now.numbers definition.now }
+    requires kept { IsKeptFor reached.now.graph.now.numbers met.old }
+    ensures kept { OnOk result (IsKeptFor reached.now.graph.now.numbers met.new) }
     ensures ok { IfOk result (λ _. (fs : List NameAndSpan) × AddsUnused reached.now met.old met.new definition.now fs × (ctx.new ≡ with_errors ctx.old (map unused_error fs))) }
     ensures err { OnErr result (KeepsPlace ctx.old ctx.new) }
 {
     match definition {
-        Definition::Fragment(fragment) => report_once(alloc, ctx, reached, met, fragment, number),
+        Definition::Fragment(fragment) => match number {
+            Some(number) => report_once(alloc, ctx, reached, met, fragment, number),
+            None => Ok(()),
+        },
         Definition::Operation(_) => Ok(()),
     }
 }
@@ -148,7 +142,7 @@ pub fn report_unused<'a, 'd, S: CheckedScalar>(
 {
     let starts = index.spreads.items.as_slice();
     let reached = reached_fragments(alloc, document, &index.graph, starts)?;
-    let mut met = BTreeSet::new(alloc);
+    let mut met = none_met(alloc, &reached.graph.numbers)?;
     for place in 0..document.len() {
         let number = index.graph.defined[place];
         report_if_unused(alloc, ctx, &reached, &mut met, &document[place], number)?;

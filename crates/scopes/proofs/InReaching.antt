@@ -22,7 +22,7 @@ use Rattle.reachability.proofs.Existence.{explored}
 use Rattle.reachability.proofs.Reaching.{begin_at, further_at, named_reached, marked_at, contains_flat}
 use Rattle.scopes.specs.declared.index.ScopeIndex.{ScopeIndex}
 use Rattle.scopes.specs.Index.{IsIndexOf}
-use Rattle.scopes.specs.Places.{numbered_places, places_at, places_of}
+use Rattle.scopes.specs.Places.{places_of}
 use Rattle.scopes.specs.Scopes.{InReach, IsOnce, same_scope, scope_of}
 use Rattle.scopes.specs.Searches.{fragment_places, spreads_at}
 use Rattle.scopes.proofs.Once.{once_append, once_flat, once_none}
@@ -95,14 +95,14 @@ module _ {S : Type 0} (document : List (Definition S)) where
         named_reached document index.graph h.graph own (λ g. Reach document name (fragment g)) (λ y c. onward start y c) (λ g y s c. onward s y c) r f e
 
     kept_places : (f : List ℕ) (k : ℕ) → number_of n f ≡ Some k → fragment_places index k ≡ places_of document (fragment f)
-    kept_places f k e = ap (λ o. option_map_or (numbered_places index.places.fragments.items) o []) (sym e) ∙ h.places (fragment f)
+    kept_places f k e = h.fragments f k e
 
     any_places : (k : ℕ) → IsOnce (fragment_places index k)
     any_places k = elim (cases_lt k (length (names_of n))) [
       | inl l ↦ let (f, e) = named n h.graph.numbers.numbered k l in subst IsOnce (sym (kept_places f k e)) (places_once (is_in (fragment f)) document)
       | inr p ↦
           let lists = h.lists in
-          subst IsOnce (sym (ap (λ o. option_map_or (λ v. v.items) o []) (slice_get_past index.places.fragments.items k (omega (arith, p, lists))))) once_none
+          subst IsOnce (sym (ap (λ o. option_map_or (λ v. v.items) o []) (slice_get_past index.fragments.items k (omega (arith, p, lists))))) once_none
     ]
 
     module _ (order : List ℕ) (marks : List Bool) (m : MarksReached nodes starts marks) (w : WellMarked order marks) where
@@ -179,16 +179,15 @@ module _ {S : Type 0} (document : List (Definition S)) where
         );
       }
 
-    pub in_reach : (order places : List ℕ) (marks : List Bool) → MarksReached nodes (map (resolved n) (flat_map (spreads_at document) (places_at index.graph.numbers index.places (operation name)))) marks → WellMarked order marks
-        → places ≡ places_at index.graph.numbers index.places (operation name) ++ flat_map (fragment_places index) order → InReach document name places
-    in_reach order places marks m w e =
-        let kept = h.places (operation name) in
+    pub in_reach : (own order found : List ℕ) (marks : List Bool) → own ≡ places_of document (operation name) → MarksReached nodes (map (resolved n) (flat_map (spreads_at document) own)) marks → WellMarked order marks
+        → found ≡ own ++ flat_map (fragment_places index) order → InReach document name found
+    in_reach first order found marks kept m w e =
         let all = subst (λ zs. MarksReached nodes (map (resolved n) zs) marks) (ap (flat_map (spreads_at document)) kept ∙ spreads_at_places name) m in
         subst (InReach document name) (sym (e ∙ ap (λ z. z ++ flat_map (fragment_places index) order) kept)) (all_in_reach order marks all w)
 
     -- there are such places, though no one searches for them
     pub some_reach : (places : List ℕ) × InReach document name places
     some_reach =
-        let own = places_at n index.places (operation name) in
-        let (order, marks, m, w) = explored nodes (map (resolved n) (flat_map (spreads_at document) own)) in
-        (own ++ flat_map (fragment_places index) order, in_reach order (own ++ flat_map (fragment_places index) order) marks m w refl)
+        let first = places_of document (operation name) in
+        let (order, marks, m, w) = explored nodes (map (resolved n) (flat_map (spreads_at document) first)) in
+        (first ++ flat_map (fragment_places index) order, in_reach first order (first ++ flat_map (fragment_places index) order) marks refl m w refl)

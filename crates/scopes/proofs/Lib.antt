@@ -1,8 +1,7 @@
+pub mod Growing
 pub mod InReaching
 pub mod Indexing
 pub mod Joined
-pub mod Keeping
-pub mod Numbered
 pub mod Once
 pub mod PlaceLists
 pub mod ScopeTests

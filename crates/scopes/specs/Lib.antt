@@ -1,4 +1,5 @@
 pub mod Index
+pub mod OperationNumbers
 pub mod Places
 pub mod Scopes
 pub mod Searches

@@ -21,4 +21,4 @@ abbrev pub spreads_at : {S : Type 0} → List (Definition S) → ℕ → PlacedS
 spreads_at document place = inside definition_spreads document place
 
 abbrev pub fragment_places : ScopeIndex → ℕ → List ℕ
-fragment_places index number = numbered_places index.places.fragments.items number
+fragment_places index number = numbered_places index.fragments.items number

@@ -1,47 +1,86 @@
 //! A document's scopes, each with what it spreads and where it is defined.
-ghost use Rattle.std.specs.Prelude.{◌≡◌, ◌-◌, ◌++◌, Some, IfOk, IfSome, IfNone, OnOk, length, map, option_map, slice_get};
-ghost use Rattle.scopes.specs.Scopes.{IsLastOf, IsOperationName, scope_name};
-ghost use Rattle.scopes.specs.Places.{operation_places_at};
-ghost use Rattle.scopes.specs.Index.{AddsDefinition, IsIndexOf, NoOperationAt, new_name};
+ghost use Rattle.std.specs.Prelude.{◌≡◌, ◌-◌, Option, Some, List, ℕ, IfOk, IfSome, IfNone, OnOk, length, option_map, slice_get};
+ghost use Rattle.fragment_cycles.specs.Numbers.{NumberedDefinitions};
+ghost use Rattle.reachability.specs.Reach.{operation};
+ghost use Rattle.scopes.specs.Scopes.{IsLastOf, IsOperationName, operation_name};
+ghost use Rattle.scopes.specs.Places.{numbered_places, places_of};
+ghost use Rattle.scopes.specs.Index.{AddsDefinition, AddsFragment, AddsOperation, IsIndexOf, NoOperationAt};
 
-use crate::places::{ScopePlaces, add_place, no_places, operation_places, scope_of_definition};
-use crate::scope::Scope;
+use crate::operation_numbers::{OperationNumbers, no_operations, number_operations};
+use crate::places::{add_numbered, empty_lists, numbered_places};
 use flat_lists::lists::FlatLists;
 use fragment_cycles::document_graph::{DocumentGraph, graph_of};
 use fragment_cycles::graph::Spread;
-use fragment_cycles::numbers::name_count;
+use fragment_cycles::numbers::{NumberedNames, name_count};
 use language::position::Spanning;
 use language::tree::{Definition, Document, Operation};
 use reachability::reached::operation_spreads;
 use std::alloc::{AllocError, Global};
 
-/// A document's scopes: the names of its operations, each once; the places of its definitions, by scope; what its fragments
-/// spread, and what its operations do.
+/// A document's scopes: the names of its operations, each once, in the order in which they stand there first; the places of the
+/// operations of each of these names; those of the definitions of each fragment, by the numbers of their names; what its fragments
+/// spread, and what its operations do. Places ascend.
 #[derive(Drop)]
 pub struct ScopeIndex<'a> {
     pub names: Vec<Option<&'a str>>,
-    pub places: ScopePlaces<'a>,
+    pub operations: Vec<Vec<usize>>,
+    pub fragments: Vec<Vec<usize>>,
     pub graph: DocumentGraph<'a>,
     /// The spreads inside each definition, if it is an operation.
     pub spreads: FlatLists<Spread>,
 }
 
-// Lists the name of operations that have no place yet.
-fn add_name<'a>(
-    scope: Scope<'a>,
-    places: &ScopePlaces<'_>,
-    names: &mut Vec<Option<&'a str>>,
-) -> Result<(), AllocError>
-    ensures { OnOk result (map (option_map (λ n. n.now)) names.new.items ≡ map (option_map (λ n. n.now)) names.old.items ++ new_name (scope_name scope.entry) (operation_places_at places.now (scope_name scope.entry))) }
+/// The places of the operations of the name at a place among the names.
+pub fn operation_places<'m>(index: &'m ScopeIndex<'_>, number: usize) -> &'m [usize]
+    ensures { result.now ≡ numbered_places index.now.operations.items number }
 {
-    match scope {
-        Scope::Operation(name) => {
-            if operation_places(places, name).is_empty() {
-                names.push(name)?;
-            }
+    numbered_places(index.operations.as_slice(), number)
+}
+
+// The name of an operation.
+fn name_of<'a, S>(operation: &Spanning<Operation<'a, S>>) -> Option<&'a str>
+    ensures { option_map (λ n. n.now) result ≡ operation_name operation.now }
+{
+    match &operation.item.name {
+        Some(name) => Some(name.item),
+        None => None,
+    }
+}
+
+// Adds an operation of a name, and its place.
+fn add_operation<'a>(
+    alloc: Global,
+    name: Option<&'a str>,
+    place: usize,
+    numbers: &mut OperationNumbers<'a>,
+    index: &mut ScopeIndex<'a>,
+) -> Result<(), AllocError>
+    ensures { OnOk result (AddsOperation (option_map (λ n. n.now) name.entry) place numbers.old numbers.new index.old index.new) }
+{
+    let next = index.names.len();
+    match number_operations(numbers, name, next)? {
+        Some(number) => add_numbered(&mut index.operations, number, place),
+        None => {
+            let mut places = Vec::new(alloc);
+            places.push(place)?;
+            index.names.push(name)?;
+            index.operations.push(places)?;
             Ok(())
         }
-        Scope::Fragment(_) => Ok(()),
+    }
+}
+
+// Adds a definition of the fragment of a number, and its place.
+fn add_fragment(
+    number: Option<usize>,
+    place: usize,
+    index: &mut ScopeIndex<'_>,
+) -> Result<(), AllocError>
+    ensures { OnOk result (AddsFragment number place index.old index.new) }
+{
+    match number {
+        Some(number) => add_numbered(&mut index.fragments, number, place),
+        None => Ok(()),
     }
 }
 
@@ -51,34 +90,49 @@ fn add_definition<'a, S>(
     definition: &Definition<'a, S>,
     number: Option<usize>,
     place: usize,
+    numbers: &mut OperationNumbers<'a>,
     index: &mut ScopeIndex<'a>,
 ) -> Result<(), AllocError>
-    ensures { OnOk result (AddsDefinition definition.now number place index.old index.new) }
+    ensures { OnOk result (AddsDefinition definition.now number place numbers.old numbers.new index.old index.new) }
 {
-    let scope = scope_of_definition(definition);
-    add_name(scope, &index.places, &mut index.names)?;
-    add_place(alloc, &mut index.places, scope, number, place)
+    match definition {
+        Definition::Operation(operation) => {
+            add_operation(alloc, name_of(operation), place, numbers, index)
+        }
+        Definition::Fragment(_) => add_fragment(number, place, index),
+    }
 }
 
-/// The scopes of a document.
+/// The scopes of a document, whose names are numbered.
 pub fn index_scopes<'a, S>(
     alloc: Global,
     document: Document<'a, S>,
+    names: NumberedNames<'a>,
 ) -> Result<ScopeIndex<'a>, AllocError>
+    requires { NumberedDefinitions document.now names.numbers names.defined.items }
     ensures { IfOk result (IsIndexOf document.now) }
 {
-    let graph = graph_of(alloc, document)?;
-    let places = no_places(alloc, name_count(&graph.numbers))?;
+    let graph = graph_of(alloc, document, names)?;
+    let fragments = empty_lists(alloc, name_count(&graph.numbers))?;
     let spreads = operation_spreads(alloc, &graph.numbers, document)?;
+    let mut numbers = no_operations(alloc);
     let mut index = ScopeIndex {
         names: Vec::new(alloc),
-        places,
+        operations: Vec::new(alloc),
+        fragments,
         graph,
         spreads,
     };
     for place in 0..document.len() {
         let number = index.graph.defined[place];
-        add_definition(alloc, &document[place], number, place, &mut index)?;
+        add_definition(
+            alloc,
+            &document[place],
+            number,
+            place,
+            &mut numbers,
+            &mut index,
+        )?;
     }
     Ok(index)
 }
@@ -104,17 +158,15 @@ fn operation_at<'d, 't, S>(
     }
 }
 
-/// The last operation of a name.
+/// The last operation of a name, by the places of all of them.
 pub fn last_operation<'d, 't, S>(
     document: &'d [Definition<'t, S>],
-    index: &ScopeIndex<'_>,
-    name: Option<&str>,
+    places: &[usize],
 ) -> Option<&'d Spanning<Operation<'t, S>>>
-    requires { IsIndexOf document.now index.now }
-    ensures some { IfSome result (λ o. IsLastOf document.now (option_map (λ n. n.now) name.entry) o.now) }
-    ensures none { IfNone result (IsOperationName document.now (option_map (λ n. n.now) name.entry) → ⊥) }
+    ensures some { IfSome result (λ o. (name : Option (List ℕ)) → places.now ≡ places_of document.now (operation name) → IsLastOf document.now name o.now) }
+    ensures none { IfNone result ((name : Option (List ℕ)) → places.now ≡ places_of document.now (operation name) → IsOperationName document.now name → ⊥) }
 {
-    match last_place(operation_places(&index.places, name)) {
+    match last_place(places) {
         Some(place) => operation_at(document, place),
         None => None,
     }

@@ -2,6 +2,7 @@
 #![tactic(auto)]
 
 pub mod index;
+pub mod operation_numbers;
 pub mod places;
 pub mod reach;
 pub mod scope;

@@ -1,14 +1,16 @@
 //! The definitions that an operation reaches.
-ghost use Rattle.std.specs.Prelude.{◌≡◌, ◌++◌, [], List, IfOk, OnOk, option_map};
+ghost use Rattle.std.specs.Prelude.{◌≡◌, ◌++◌, [], ℕ, List, Option, IfOk, OnOk};
 ghost use Rattle.std.specs.List.{flat_map};
 ghost use Rattle.flat_lists.specs.Lists.{Holds, list_at};
 ghost use Rattle.fragment_cycles.specs.declared.graph.Spread.{Spread};
+ghost use Rattle.reachability.specs.Reach.{operation};
 ghost use Rattle.scopes.specs.Index.{IsIndexOf};
+ghost use Rattle.scopes.specs.Places.{places_of};
 ghost use Rattle.scopes.specs.Scopes.{InReach};
 ghost use Rattle.scopes.specs.Searches.{IsReady, fragment_places};
 
 use crate::index::ScopeIndex;
-use crate::places::{fragment_places, operation_places};
+use crate::places::numbered_places;
 use fragment_cycles::graph::Spread;
 use language::tree::Definition;
 use reachability::search::{explore, forget};
@@ -77,7 +79,7 @@ fn add_fragment(
 ) -> Result<(), AllocError>
     ensures { OnOk result (places.new.items ≡ places.old.items ++ fragment_places index.now number) }
 {
-    places.extend_from_slice(fragment_places(&index.places, number))
+    places.extend_from_slice(numbered_places(index.fragments.as_slice(), number))
 }
 
 // Adds those of these numbers.
@@ -108,19 +110,19 @@ fn list_places(
     add_fragments(index, order, places)
 }
 
-/// Finds the places of the definitions that the operations of a name reach, each once. Each scope that is reached is looked at once.
+/// Finds the places of the definitions that the operations of a name reach, by the places of all of these operations, each once.
+/// Each scope that is reached is looked at once.
 pub fn reached_definitions<S>(
     document: &[Definition<'_, S>],
     index: &ScopeIndex<'_>,
     search: &mut Search,
-    name: Option<&str>,
+    own: &[usize],
 ) -> Result<(), AllocError>
     requires index { IsIndexOf document.now index.now }
     requires ready { IsReady index.now search.old }
-    ensures reached { OnOk result (InReach document.now (option_map (λ n. n.now) name.entry) search.new.found.items) }
+    ensures reached { OnOk result ((name : Option (List ℕ)) → own.now ≡ places_of document.now (operation name) → InReach document.now name search.new.found.items) }
     ensures ready { OnOk result (IsReady index.now search.new) }
 {
-    let own = operation_places(&index.places, name);
     list_spreads(index, own, &mut search.starts)?;
     let nodes = index.graph.nodes.as_slice();
     explore(

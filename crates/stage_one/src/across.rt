@@ -55,7 +55,8 @@ impl<'a> AcrossDocument<'a> {
         ensures stepped { IfOk result (λ _. Stepped across_step (leaving_document document.now (typing ctx.old)) self.old self.new ctx.old ctx.new) }
         ensures err { OnErr result (KeepsPlace ctx.old ctx.new) }
     {
-        let index = index_document(self.alloc, document)?;
+        let names = ctx.numbered_names(document)?;
+        let index = index_document(self.alloc, document, names)?;
         let graph = &index.scopes.graph;
         self.positions.leave(ctx, document, &index.scopes)?;
         no_unused_variables::report_unused(self.alloc, ctx, document, &index)?;

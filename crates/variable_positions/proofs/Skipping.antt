@@ -13,7 +13,7 @@ use Rattle.meta.specs.declared.kinds.MetaTypeOf.{MetaTypeOf}
 use Rattle.reachability.specs.Reach.{operation}
 use Rattle.scopes.specs.declared.index.ScopeIndex.{ScopeIndex}
 use Rattle.scopes.specs.Index.{IsIndexOf}
-use Rattle.scopes.specs.Places.{operation_places}
+use Rattle.scopes.specs.Places.{places_of}
 use Rattle.scopes.specs.Scopes.{same_scope, scope_of}
 use Rattle.scopes.proofs.InReaching.{some_reach}
 use Rattle.scopes.proofs.PlaceLists.{flat_places}
@@ -46,13 +46,11 @@ each_nothing : {O R : Type 0} (gives : O → List R → Type 0) (os : List O) �
 each_nothing gives [] h = refl
 each_nothing gives (o ∷ os) h = ([], [], h o, each_nothing gives os h, refl)
 
-module _ {S : Type 0} (document : List (Definition S)) (index : ScopeIndex) (h : IsIndexOf document index) (name : Option (List ℕ)) where
-  -- what the operations of a name define, by their places
-  pub own_variables : (own : List ℕ) → own ≡ operation_places index.places name → flat_map (variables_at document) own ≡ variables_of document name
-  own_variables own e =
-      ap (flat_map (variables_at document)) (e ∙ h.places (operation name))
-      ∙ flat_places (λ d. same_scope (scope_of d) (operation name)) variables_in document
+-- what the operations of a name define, by their places
+pub own_variables : {S : Type 0} (document : List (Definition S)) (name : Option (List ℕ)) (own : List ℕ) → own ≡ places_of document (operation name) → flat_map (variables_at document) own ≡ variables_of document name
+own_variables document name own e = ap (flat_map (variables_at document)) e ∙ flat_places (λ d. same_scope (scope_of d) (operation name)) variables_in document
 
+module _ {S : Type 0} (document : List (Definition S)) (index : ScopeIndex) (h : IsIndexOf document index) (name : Option (List ℕ)) where
   -- no use is of a variable that is defined
   pub none_misplaced : {C : Type 0} (types : List (MetaTypeOf S C)) (uses : List (List UseValue)) → ((v : List ℕ) → first_of (variables_of document name) v ≡ None) → OperationsGive types document uses name []
   none_misplaced types uses none =

@@ -1,11 +1,13 @@
 //! Each variable is used where its type may stand (GraphQL, section 5.8.5).
 
-ghost use Rattle.std.specs.Prelude.{◌≡◌, [], IfOk, OnErr, OnOk, map, option_map};
+ghost use Rattle.std.specs.Prelude.{◌≡◌, [], ℕ, List, Option, IfOk, OnErr, OnOk, map, option_map};
 ghost use Rattle.language.specs.Types.{borrowed_shape};
 ghost use Rattle.walk.specs.Entering.{EachGives};
 ghost use Rattle.walk.specs.Rule.{always, Appended};
 ghost use Rattle.walk.specs.Step.{KeepsPlace};
-ghost use Rattle.scopes.specs.Index.{IsIndexOf};
+ghost use Rattle.reachability.specs.Reach.{operation};
+ghost use Rattle.scopes.specs.Index.{IsIndexOf, operation_names};
+ghost use Rattle.scopes.specs.Places.{places_of};
 ghost use Rattle.scopes.specs.Searches.{IsReady};
 ghost use Rattle.variable_positions.specs.FirstVariables.{kept_first};
 ghost use Rattle.variable_positions.specs.PositionLaws.{positions_keep};
@@ -21,8 +23,7 @@ use language::position::SourcePosition;
 use language::tree::Definition;
 use language::types::BorrowedType;
 use meta::check::CheckedScalar;
-use scopes::index::{ScopeIndex, index_scopes};
-use scopes::places::operation_places;
+use scopes::index::{ScopeIndex, index_scopes, operation_places};
 use scopes::reach::{Search, found_places, new_search, reached_definitions};
 pub use scopes::scope::Scope;
 use std::alloc::Global;
@@ -95,7 +96,8 @@ impl<'a, S: CheckedScalar> Visitor<'a, S> for VariableInAllowedPosition<'a> {
                 )
             }
             Event::ExitDocument(document) => {
-                let index = index_scopes(self.alloc, document)?;
+                let names = ctx.numbered_names(document)?;
+                let index = index_scopes(self.alloc, document, names)?;
                 self.leave(ctx, document, &index)
             }
             _ => Ok(()),
@@ -191,48 +193,48 @@ fn report_places<'a, S: CheckedScalar>(
     Ok(())
 }
 
-// Reports the uses in what the operations of a name reach. Where these define no variable it asks nothing of what is in reach.
+// Reports the uses in what the operations of a name reach, by the places of all of these operations. Where these define no variable
+// it asks nothing of what is in reach.
 fn report_operations<'a, S: CheckedScalar>(
     alloc: Global,
     ctx: &mut ValidatorContext<'a, S>,
     document: &'a [Definition<'a, S>],
     index: &ScopeIndex<'_>,
     search: &mut Search,
-    name: Option<&str>,
+    own: &[usize],
     uses: &[Vec<TypedUse<'_>>],
 ) -> Result<(), OutOfMemory>
     requires index { IsIndexOf document.now index.now }
     requires ready { IsReady index.now search.old }
-    ensures ok { IfOk result (λ _. Appended (OperationsGive ctx.old.schema.types document.now (use_values uses.now) (option_map (λ n. n.now) name.entry)) ctx.old ctx.new) }
+    ensures ok { IfOk result (λ _. (name : Option (List ℕ)) → own.now ≡ places_of document.now (operation name) → Appended (OperationsGive ctx.old.schema.types document.now (use_values uses.now) name) ctx.old ctx.new) }
     ensures ready { OnOk result (IsReady index.now search.new) }
     ensures err { OnErr result (KeepsPlace ctx.old ctx.new) }
 {
-    let own = operation_places(&index.places, name);
     let variables = FirstVariables::at(alloc, document, own)?;
     if variables.is_empty() {
         return Ok(());
     }
-    reached_definitions(document, index, search, name)?;
+    reached_definitions(document, index, search, own)?;
     report_places(alloc, ctx, &variables, uses, found_places(search))
 }
 
-// Reports the uses in what the operations of each of these names reach.
+// Reports the uses in what the operations of each name reach.
 fn report_names<'a, S: CheckedScalar>(
     alloc: Global,
     ctx: &mut ValidatorContext<'a, S>,
     document: &'a [Definition<'a, S>],
     index: &ScopeIndex<'_>,
     search: &mut Search,
-    names: &[Option<&str>],
     uses: &[Vec<TypedUse<'_>>],
 ) -> Result<(), OutOfMemory>
     requires index { IsIndexOf document.now index.now }
     requires ready { IsReady index.now search.old }
-    ensures ok { IfOk result (λ _. Appended (EachGives (OperationsGive ctx.old.schema.types document.now (use_values uses.now)) (map (option_map (λ n. n.now)) names.now)) ctx.old ctx.new) }
+    ensures ok { IfOk result (λ _. Appended (EachGives (OperationsGive ctx.old.schema.types document.now (use_values uses.now)) (operation_names index.now)) ctx.old ctx.new) }
     ensures err { OnErr result (KeepsPlace ctx.old ctx.new) }
 {
-    for name in names {
-        report_operations(alloc, ctx, document, index, search, *name, uses)?;
+    for number in 0..index.names.len() {
+        let own = operation_places(index, number);
+        report_operations(alloc, ctx, document, index, search, own, uses)?;
     }
     Ok(())
 }
@@ -250,6 +252,5 @@ fn report_document<'a, S: CheckedScalar>(
     ensures err { OnErr result (KeepsPlace ctx.old ctx.new) }
 {
     let mut search = new_search(alloc, index)?;
-    let names = index.names.as_slice();
-    report_names(alloc, ctx, document, index, &mut search, names, uses)
+    report_names(alloc, ctx, document, index, &mut search, uses)
 }

@@ -73,7 +73,7 @@ module _ {S : Type 0} (document : List (Definition S)) (index : ScopeIndex) (h :
     -- where nothing is used all is defined
     pub none_undefined : IsOperationName document name → UndefinedIn document name []
     none_undefined named =
-        let (last, is) = some_last document index h name named in
+        let (last, is) = some_last document name named in
         let (places, reach) = some_reach document index h name in record {
           last = last;
           is_last = is;

@@ -22,7 +22,7 @@ in_turn_more gives [] ys x part e g = (part, [], g, refl, ap (λ z. z ++ part) e
 in_turn_more gives (z ∷ xs) ys x part (p, r, g, t, e) h = (p, r ++ part, g, in_turn_more gives xs r x part t h, ap (λ w. w ++ part) e ∙ append_assoc p r part)
 
 module _ {X Y : Type 0} (f : X → Y) (xs : List X) (i : ℕ) (x : X) (is : x ≡ get_or xs i x) (l : i < length xs) where
-  mapped_at : slice_get (map f xs) i ≡ Some (f x)
+  pub mapped_at : slice_get (map f xs) i ≡ Some (f x)
   mapped_at = get_map f xs i x (slice_get_read xs (length xs) i x refl l is)
 
   pub mapped_contains : Contains (map f xs) (f x)

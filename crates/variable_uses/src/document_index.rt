@@ -1,8 +1,10 @@
 //! What the rules that look across a document ask of it, made once for all of them.
 ghost use Rattle.std.specs.Prelude.{IfOk};
+ghost use Rattle.fragment_cycles.specs.Numbers.{NumberedDefinitions};
 ghost use Rattle.variable_uses.specs.DocumentIndex.{IsDocumentIndex};
 
 use crate::uses::{VariableUse, all_uses};
+use fragment_cycles::numbers::NumberedNames;
 use language::error::OutOfMemory;
 use language::tree::Document;
 use scopes::index::{ScopeIndex, index_scopes};
@@ -15,14 +17,16 @@ pub struct DocumentIndex<'a> {
     pub uses: Vec<Vec<VariableUse<'a>>>,
 }
 
-/// The index of a document.
+/// The index of a document, whose names are numbered.
 pub fn index_document<'a, S>(
     alloc: Global,
     document: Document<'a, S>,
+    names: NumberedNames<'a>,
 ) -> Result<DocumentIndex<'a>, OutOfMemory>
+    requires { NumberedDefinitions document.now names.numbers names.defined.items }
     ensures { IfOk result (IsDocumentIndex document.now) }
 {
-    let scopes = index_scopes(alloc, document)?;
+    let scopes = index_scopes(alloc, document, names)?;
     let uses = all_uses(alloc, document)?;
     Ok(DocumentIndex { scopes, uses })
 }

@@ -1,11 +1,11 @@
 //! Variables that are used where they are not defined.
 ghost use Rattle.std.specs.Prelude.{◌≡◌, ◌⊎◌, ◌++◌, ℕ, List, IfOk, IsTrue, OnOk, map, option_map};
 ghost use Rattle.std.specs.List.{flat_map};
-ghost use Rattle.scopes.specs.Index.{IsIndexOf};
+ghost use Rattle.reachability.specs.Reach.{operation};
+ghost use Rattle.scopes.specs.Places.{places_of};
 ghost use Rattle.scopes.specs.Scopes.{IsOperationName};
 ghost use Rattle.scopes.specs.Searches.{IsReady};
 ghost use Rattle.variable_uses.specs.DocumentIndex.{IsDocumentIndex};
-ghost use Rattle.variable_uses.specs.InReachUses.{AllUses};
 ghost use Rattle.variable_uses.specs.Names.{has_name};
 ghost use Rattle.variable_uses.specs.Uses.{use_of};
 ghost use Rattle.variable_uses.specs.Undefined.{AddsUndefined, TellsUndefined, UndefinedVariables, UsesNothing, told_undefined, undefined_of};
@@ -13,10 +13,11 @@ ghost use Rattle.variable_uses.specs.Undefined.{AddsUndefined, TellsUndefined, U
 use crate::document_index::{DocumentIndex, index_document};
 use crate::names::{is_named, name_set, variables};
 use crate::uses::{UseSearch, VariableUse, new_use_search, reached_uses};
+use fragment_cycles::numbers::number_names;
 use language::error::OutOfMemory;
 use language::position::SourcePosition;
 use language::tree::Document;
-use scopes::index::{ScopeIndex, last_operation};
+use scopes::index::{last_operation, operation_places};
 use std::alloc::Global;
 use std::collections::BTreeSet;
 
@@ -71,22 +72,23 @@ fn tell_all<'a>(
 fn add_undefined<'a, S>(
     alloc: Global,
     document: Document<'a, S>,
-    index: &ScopeIndex<'a>,
-    all: &[Vec<VariableUse<'a>>],
+    index: &DocumentIndex<'a>,
     name: Option<&'a str>,
+    own: &[usize],
     search: &mut UseSearch<'a>,
     found: &mut Vec<UndefinedVariable<'a>>,
 ) -> Result<(), OutOfMemory>
-    requires index { IsIndexOf document.now index.now }
-    requires ready { IsReady index.now search.old.search }
-    requires all { AllUses document.now all.now }
+    requires index { IsDocumentIndex document.now index.now }
+    requires ready { IsReady index.now.scopes search.old.search }
+    requires own { own.now ≡ places_of document.now (operation (option_map (λ n. n.now) name)) }
     requires named { IsOperationName document.now (option_map (λ n. n.now) name) }
     ensures told { OnOk result (AddsUndefined document.now (option_map (λ n. n.now) name.entry) (map undefined_of found.old.items) (map undefined_of found.new.items)) }
-    ensures ready { OnOk result (IsReady index.now search.new.search) }
+    ensures ready { OnOk result (IsReady index.now.scopes search.new.search) }
 {
-    match last_operation(document, index, name) {
+    let all = index.uses.as_slice();
+    match last_operation(document, own) {
         Some(last) => {
-            reached_uses(document, index, search, all, name)?;
+            reached_uses(document, &index.scopes, search, all, own)?;
             let defined = name_set(alloc, variables(last))?;
             tell_all(
                 &defined,
@@ -107,7 +109,8 @@ pub fn undefined_variables<'a, S>(
 ) -> Result<Vec<UndefinedVariable<'a>>, OutOfMemory>
     ensures { IfOk result (λ found. UndefinedVariables document.now (map undefined_of found.items)) }
 {
-    let index = index_document(alloc, document)?;
+    let names = number_names(alloc, document)?;
+    let index = index_document(alloc, document, names)?;
     undefined_in(alloc, document, &index)
 }
 
@@ -141,7 +144,8 @@ pub fn undefined_in<'a, S>(
     let mut search = new_use_search(alloc, scopes)?;
     for number in 0..scopes.names.len() {
         let name = scopes.names[number];
-        add_undefined(alloc, document, scopes, all, name, &mut search, &mut found)?;
+        let own = operation_places(scopes, number);
+        add_undefined(alloc, document, index, name, own, &mut search, &mut found)?;
     }
     Ok(found)
 }

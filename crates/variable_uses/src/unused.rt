@@ -1,21 +1,22 @@
 //! Variables that are defined and not used.
-ghost use Rattle.std.specs.Prelude.{◌≡◌, ◌≤◌, ◌++◌, ◌↔◌, IfOk, IsTrue, OnOk, map, option_map};
+ghost use Rattle.std.specs.Prelude.{◌≡◌, ◌≤◌, ◌++◌, ◌↔◌, ℕ, List, Option, IfOk, IsTrue, OnOk, map, option_map};
 ghost use Rattle.std.specs.List.{Contains};
-ghost use Rattle.scopes.specs.Index.{IsIndexOf};
+ghost use Rattle.reachability.specs.Reach.{operation};
+ghost use Rattle.scopes.specs.Places.{places_of};
 ghost use Rattle.scopes.specs.Scopes.{IsOperationName};
 ghost use Rattle.scopes.specs.Searches.{IsReady};
 ghost use Rattle.variable_uses.specs.DocumentIndex.{IsDocumentIndex};
-ghost use Rattle.variable_uses.specs.InReachUses.{AllUses};
 ghost use Rattle.variable_uses.specs.Names.{has_name};
 ghost use Rattle.variable_uses.specs.Unused.{AddsUnused, AddsVariable, DefinesNone, StartBy, UnusedAmong, UnusedVariables, name_and_span, unused_by, unused_of, variable_at};
 
 use crate::document_index::{DocumentIndex, index_document};
 use crate::names::{is_named, used_names, variables};
 use crate::uses::{UseSearch, VariableUse, new_use_search, reached_uses};
+use fragment_cycles::numbers::number_names;
 use language::error::OutOfMemory;
 use language::position::{Span, Spanning};
 use language::tree::{Document, VariableDefinition};
-use scopes::index::{ScopeIndex, last_operation};
+use scopes::index::{last_operation, operation_places};
 use std::alloc::Global;
 use std::collections::BTreeSet;
 
@@ -131,22 +132,23 @@ fn tell_all<'a>(
 fn add_unused<'a, S>(
     alloc: Global,
     document: Document<'a, S>,
-    index: &ScopeIndex<'a>,
-    all: &[Vec<VariableUse<'a>>],
+    index: &DocumentIndex<'a>,
     name: Option<&'a str>,
+    own: &[usize],
     search: &mut UseSearch<'a>,
     found: &mut Vec<UnusedVariable<'a>>,
 ) -> Result<(), OutOfMemory>
-    requires index { IsIndexOf document.now index.now }
-    requires ready { IsReady index.now search.old.search }
-    requires all { AllUses document.now all.now }
+    requires index { IsDocumentIndex document.now index.now }
+    requires ready { IsReady index.now.scopes search.old.search }
+    requires own { own.now ≡ places_of document.now (operation (option_map (λ n. n.now) name)) }
     requires named { IsOperationName document.now (option_map (λ n. n.now) name) }
     ensures told { OnOk result (AddsUnused document.now (option_map (λ n. n.now) name.entry) (map unused_of found.old.items) (map unused_of found.new.items)) }
-    ensures ready { OnOk result (IsReady index.now search.new.search) }
+    ensures ready { OnOk result (IsReady index.now.scopes search.new.search) }
 {
-    match last_operation(document, index, name) {
+    let all = index.uses.as_slice();
+    match last_operation(document, own) {
         Some(last) => {
-            reached_uses(document, index, search, all, name)?;
+            reached_uses(document, &index.scopes, search, all, own)?;
             let used = used_names(alloc, search.uses.as_slice())?;
             let unused = unused_among(alloc, &used, variables(last))?;
             tell_all(unused.as_slice(), name, found)
@@ -155,12 +157,11 @@ fn add_unused<'a, S>(
     }
 }
 
-// Whether the last operation of a name defines no variable.
-fn defines_none<S>(document: Document<'_, S>, index: &ScopeIndex<'_>, name: Option<&str>) -> bool
-    requires { IsIndexOf document.now index.now }
-    ensures { IsTrue result → DefinesNone document.now (option_map (λ n. n.now) name.entry) }
+// Whether the last operation of a name defines no variable, by the places of all of them.
+fn defines_none<S>(document: Document<'_, S>, own: &[usize]) -> bool
+    ensures { IsTrue result → (name : Option (List ℕ)) → own.now ≡ places_of document.now (operation name) → DefinesNone document.now name }
 {
-    match last_operation(document, index, name) {
+    match last_operation(document, own) {
         Some(last) => variables(last).is_empty(),
         None => false,
     }
@@ -170,23 +171,23 @@ fn defines_none<S>(document: Document<'_, S>, index: &ScopeIndex<'_>, name: Opti
 fn add_if_defined<'a, S>(
     alloc: Global,
     document: Document<'a, S>,
-    index: &ScopeIndex<'a>,
-    all: &[Vec<VariableUse<'a>>],
+    index: &DocumentIndex<'a>,
     name: Option<&'a str>,
+    own: &[usize],
     search: &mut UseSearch<'a>,
     found: &mut Vec<UnusedVariable<'a>>,
 ) -> Result<(), OutOfMemory>
-    requires index { IsIndexOf document.now index.now }
-    requires ready { IsReady index.now search.old.search }
-    requires all { AllUses document.now all.now }
+    requires index { IsDocumentIndex document.now index.now }
+    requires ready { IsReady index.now.scopes search.old.search }
+    requires own { own.now ≡ places_of document.now (operation (option_map (λ n. n.now) name)) }
     requires named { IsOperationName document.now (option_map (λ n. n.now) name) }
     ensures told { OnOk result (AddsUnused document.now (option_map (λ n. n.now) name.entry) (map unused_of found.old.items) (map unused_of found.new.items)) }
-    ensures ready { OnOk result (IsReady index.now search.new.search) }
+    ensures ready { OnOk result (IsReady index.now.scopes search.new.search) }
 {
-    if defines_none(document, index, name) {
+    if defines_none(document, own) {
         return Ok(());
     }
-    add_unused(alloc, document, index, all, name, search, found)
+    add_unused(alloc, document, index, name, own, search, found)
 }
 
 /// The variables that the last operation of a name defines and that no use in the reach of the operations of that name has, for
@@ -197,7 +198,8 @@ pub fn unused_variables<'a, S>(
 ) -> Result<Vec<UnusedVariable<'a>>, OutOfMemory>
     ensures { IfOk result (λ found. UnusedVariables document.now (map unused_of found.items)) }
 {
-    let index = index_document(alloc, document)?;
+    let names = number_names(alloc, document)?;
+    let index = index_document(alloc, document, names)?;
     unused_in(alloc, document, &index)
 }
 
@@ -211,12 +213,12 @@ pub fn unused_in<'a, S>(
     ensures { IfOk result (λ found. UnusedVariables document.now (map unused_of found.items)) }
 {
     let scopes = &index.scopes;
-    let all = index.uses.as_slice();
     let mut search = new_use_search(alloc, scopes)?;
     let mut found = Vec::new(alloc);
     for number in 0..scopes.names.len() {
         let name = scopes.names[number];
-        add_if_defined(alloc, document, scopes, all, name, &mut search, &mut found)?;
+        let own = operation_places(scopes, number);
+        add_if_defined(alloc, document, index, name, own, &mut search, &mut found)?;
     }
     Ok(found)
 }

@@ -1,7 +1,9 @@
 //! The variables that a definition uses, in arguments of fields and of directives.
-ghost use Rattle.std.specs.Prelude.{◌≡◌, ◌++◌, IfOk, OnOk, map, option_map};
+ghost use Rattle.std.specs.Prelude.{◌≡◌, ◌++◌, ℕ, List, Option, IfOk, OnOk, map};
 ghost use Rattle.std.specs.List.{flat_map};
+ghost use Rattle.reachability.specs.Reach.{operation};
 ghost use Rattle.scopes.specs.Index.{IsIndexOf};
+ghost use Rattle.scopes.specs.Places.{places_of};
 ghost use Rattle.scopes.specs.Searches.{IsReady};
 ghost use Rattle.variable_uses.specs.InReachUses.{AllUses, UsedIn, kept_uses};
 ghost use Rattle.variable_uses.specs.Uses.{argument_uses, arguments_uses, at_place, definition_uses, directive_uses, directives_uses, selection_uses, use_of, used_in_all, variable_definition_uses, variable_definitions_uses};
@@ -260,20 +262,20 @@ pub fn new_use_search<'a>(
     })
 }
 
-/// Finds the uses that the operations of a name reach.
+/// Finds the uses that the operations of a name reach, by the places of all of these operations.
 pub fn reached_uses<'a, S>(
     document: Document<'a, S>,
     index: &ScopeIndex<'a>,
     search: &mut UseSearch<'a>,
     all: &[Vec<VariableUse<'a>>],
-    name: Option<&'a str>,
+    own: &[usize],
 ) -> Result<(), OutOfMemory>
     requires index { IsIndexOf document.now index.now }
     requires ready { IsReady index.now search.old.search }
     requires all { AllUses document.now all.now }
-    ensures used { OnOk result (UsedIn document.now (option_map (λ n. n.now) name.entry) (map use_of search.new.uses.items)) }
+    ensures used { OnOk result ((name : Option (List ℕ)) → own.now ≡ places_of document.now (operation name) → UsedIn document.now name (map use_of search.new.uses.items)) }
     ensures ready { OnOk result (IsReady index.now search.new.search) }
 {
-    reached_definitions(document, index, &mut search.search, name)?;
+    reached_definitions(document, index, &mut search.search, own)?;
     list_uses(all, found_places(&search.search), &mut search.uses)
 }

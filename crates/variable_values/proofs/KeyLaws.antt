@@ -10,7 +10,7 @@ use Rattle.std.proofs.lemmas.List.Sums.{fold_more}
 use Rattle.std.proofs.lemmas.List.Folds.{list_any-append}
 use Rattle.std.proofs.lemmas.Slice.Eq.{bytes_eq-Decides}
 use Rattle.schema.specs.Possible.{is_among}
-use Rattle.walk.specs.NameSet.{has_name}
+use Rattle.variable_values.specs.NameSet.{has_name}
 use Rattle.variable_values.specs.Faults.{unknown_field}
 use Rattle.variable_values.specs.Keys.{noted, unknown_keys}
 use Rattle.variable_values.specs.Messages.{told_after}

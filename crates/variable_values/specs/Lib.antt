@@ -6,6 +6,7 @@ pub mod Inputs
 pub mod Keys
 pub mod Laws
 pub mod Messages
+pub mod NameSet
 pub mod Places
 pub mod Rows
 pub mod Texts

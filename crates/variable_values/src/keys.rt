@@ -1,7 +1,7 @@
 //! Keys that no input field has.
 ghost use Rattle.std.specs.Prelude.{◌≡◌, [], ◌∷◌, ◌++◌, ℕ, List, IfOk, OnOk, if◌then◌else◌, map, true};
 ghost use Rattle.std.specs.Str.{bytes_eq};
-ghost use Rattle.walk.specs.NameSet.{has_name};
+ghost use Rattle.variable_values.specs.NameSet.{has_name};
 ghost use Rattle.schema.specs.Possible.{is_among};
 ghost use Rattle.variable_values.specs.Faults.{unknown_field};
 ghost use Rattle.variable_values.specs.Keys.{field_names, keys_of, unknown_keys};

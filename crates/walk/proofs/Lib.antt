@@ -1,5 +1,4 @@
 pub mod Entering
-pub mod NameSets
 pub mod Orders
 pub mod Replaced
 pub mod Runs

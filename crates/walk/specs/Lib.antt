@@ -3,8 +3,6 @@ pub mod Codes
 pub mod ContextState
 pub mod Entering
 pub mod ErrorValue
-pub mod FragmentSet
-pub mod NameSet
 pub mod Names
 pub mod Pair
 pub mod PairLaws

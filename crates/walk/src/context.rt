@@ -8,12 +8,14 @@ ghost use Rattle.walk.specs.ContextState.{typing, pushed, popped, with_errors, f
 ghost use Rattle.walk.specs.ErrorValue.{error_cmp};
 ghost use Rattle.events.specs.EventValue.{typing_of};
 ghost use Rattle.events.specs.Cursor.{IsNextLeft};
-ghost use Rattle.walk.specs.Names.{is_among};
+ghost use Rattle.fragment_cycles.specs.Kept.{is_among};
+ghost use Rattle.fragment_cycles.specs.Numbers.{NumberedDefinitions};
 ghost use Rattle.events.specs.Typing.{at_type, at_input, at_set};
 
 use crate::RuleError;
-use crate::fragment_names::FragmentNames;
 use events::{Event, EventCursorOf, TypesOf};
+use fragment_cycles::kept::KeptNames;
+use fragment_cycles::numbers::NumberedNames;
 use language::error::OutOfMemory;
 use language::position::SourcePosition;
 use language::tree::Definition;
@@ -32,7 +34,7 @@ use std::marker::Model;
 pub struct ValidatorContextOf<'a, S, C> {
     pub schema: &'a SchemaTypeOf<S, C>,
     alloc: Global,
-    fragment_names: FragmentNames<'a>,
+    fragment_names: KeptNames<'a>,
     types: Vec<TypesOf<'a, S, C>>,
     errors: Vec<RuleError>,
     failed: bool,
@@ -46,13 +48,13 @@ impl<'a, S, C> Model for ValidatorContextOf<'a, S, C> {
     ghost use Rattle.walk.specs.Codes.{coded_state};
     ghost use Rattle.walk.specs.ContextState.{ContextState};
     ghost use Rattle.events.specs.EventValue.{typing_of};
-    ghost use Rattle.walk.specs.FragmentSet.{known_names};
+    ghost use Rattle.fragment_cycles.specs.KeptNames.{kept_by};
 
     ghost Value = { ContextState S C };
 
     ghost coded = { Prim.hlevel coded_state };
 
-    ghost view = { λ c. record { allocator = c.alloc; schema = c.schema.now; known = known_names c.fragment_names; typings = map typing_of c.types.items; errors = c.errors.items; failed = c.failed } };
+    ghost view = { λ c. record { allocator = c.alloc; schema = c.schema.now; known = kept_by c.fragment_names; typings = map typing_of c.types.items; errors = c.errors.items; failed = c.failed } };
 }
 
 impl<'a, S, C> ValidatorContextOf<'a, S, C> {
@@ -64,7 +66,7 @@ impl<'a, S, C> ValidatorContextOf<'a, S, C> {
     ) -> Result<ValidatorContextOf<'a, S, C>, OutOfMemory>
         ensures { IfOk result (λ ctx. ctx ≡ fresh_context alloc schema.now document.now) }
     {
-        let fragment_names = FragmentNames::new(alloc, document)?;
+        let fragment_names = KeptNames::new(alloc, document)?;
         Ok(ValidatorContextOf {
             schema,
             alloc,
@@ -87,6 +89,18 @@ impl<'a, S, C> ValidatorContextOf<'a, S, C> {
         ensures { result ≡ is_among self.now.known name.now }
     {
         self.fragment_names.has(name)
+    }
+
+    /// The names of the fragments of a document, numbered: those of the document that the context was made for are numbered once,
+    /// for all that ask.
+    pub fn numbered_names(
+        &self,
+        document: &'a [Definition<'a, S>],
+    ) -> Result<NumberedNames<'a>, OutOfMemory>
+        ensures { IfOk result (λ n. NumberedDefinitions document.now n.numbers n.defined.items) }
+    {
+        let names = self.fragment_names.names_of(self.alloc, document)?;
+        Ok(names)
     }
 
     /// Whether an error was reported.

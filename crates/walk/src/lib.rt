@@ -2,7 +2,6 @@
 #![tactic(auto)]
 
 pub mod context;
-mod fragment_names;
 pub mod laws;
 pub mod multi_visitor;
 pub mod rule;

@@ -1,5 +1,5 @@
 use Rattle.std.proofs.Common.{subst, option_copied}
-use Rattle.numbered_sets.specs.Names.{number_in}
+use Rattle.numbered_sets.specs.Known.{known_rank}
 use Rattle.numbered_sets.specs.Adding.{AddsSet}
 use Rattle.merge_documents.specs.Definitions.{selections_of}
 use Rattle.merge_documents.proofs.building.add_definition.Goals as goal
@@ -10,7 +10,7 @@ returns g c =
     let old = c.args.building.now in
     record {
       grown = c.add_set.new.table;
-      adds = subst (λ p. AddsSet schema (number_in old.names) p (selections_of c.args.definition.now) c.in_ok-number.number old.table c.add_set.new.table) c.type_of_definition-parent.ensures
-          (subst (λ xs. AddsSet schema (number_in old.names) (option_copied c.type_of_definition-parent.result) xs c.in_ok-number.number old.table c.add_set.new.table) c.selections-set.ensures c.in_ok-number.ensures);
+      adds = subst (λ p. AddsSet schema (known_rank c.args.known.now) p (selections_of c.args.definition.now) c.in_ok-number.number old.table c.add_set.new.table) c.type_of_definition-parent.ensures
+          (subst (λ xs. AddsSet schema (known_rank c.args.known.now) (option_copied c.type_of_definition-parent.result) xs c.in_ok-number.number old.table c.add_set.new.table) c.selections-set.ensures c.in_ok-number.ensures);
       notes = c.in_ok-note_order.ensures;
     }

@@ -11,6 +11,5 @@ returns g c = record {
   orders = refl;
   same = refl;
   empty = c.clear.ensures.items;
-  names = refl;
   fragments = refl;
 }

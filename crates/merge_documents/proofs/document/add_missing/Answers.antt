@@ -1,20 +1,25 @@
-use Rattle.std.proofs.Common.{◌≡◌, length, Some, false, sym, ap, ◌∙◌, arith}
+use Rattle.std.proofs.Common.{◌≡◌, length, Some, false, sym, ap, subst, ◌∙◌, arith}
 use Rattle.std.proofs.lemmas.Option.{slice_get-get_or}
+use Rattle.numbered_sets.specs.Known.{known_rank}
+use Rattle.merge_documents.specs.Building.{rank_in, AreKnown}
 use Rattle.merge_documents.proofs.Assembling.{missing_added, missing_there}
 use Rattle.merge_documents.proofs.document.add_missing.Goals as goal
 
 pub returns-in_ok-add_definition-clause-adds : goal.returns-in_ok-add_definition-clause-adds
-returns-in_ok-add_definition-clause-adds g c = λ numbers all built.
-    missing_added c.args.schema.now c.args.document.now numbers c.index-document-place.result c.args.place c.in_ok-add_definition.field-0 c.args.building.now c.add_definition.new.building
+returns-in_ok-add_definition-clause-adds g c = λ all built.
+    let old = c.args.building.now in
+    let counted : c.len.result ≡ length old.fragments.items = let e = c.len.ensures in let long = old.fragments.ok.0 in omega (arith, e, long) in
+    missing_added c.args.schema.now c.args.document.now (rank_in c.args.cycles.now) (known_rank c.known_fragments-known.result) c.index-document-place.result c.args.place c.in_ok-add_definition.field-0 c.args.building.now c.add_definition.new.building
     (slice_get-get_or c.args.document.now c.args.place c.index-document-place.result c.requires.inside ∙ ap (λ x. Some x) (sym c.index-document-place.is))
+    (subst (λ k. AreKnown (rank_in c.args.cycles.now) k (known_rank c.known_fragments-known.result)) counted c.known_fragments-known.ensures)
     c.in_ok-add_definition.ensures all built
 
 pub returns-else-is_empty-clause-adds : goal.returns-else-is_empty-clause-adds
-returns-else-is_empty-clause-adds g c = λ numbers all built.
+returns-else-is_empty-clause-adds g c = λ all built.
     let o = c.index.result.now in
     let inside = c.requires.inside in
     let sized = c.requires.sized in
-    missing_there c.args.schema.now c.args.document.now numbers c.args.place o c.args.building.now
+    missing_there c.args.schema.now c.args.document.now (rank_in c.args.cycles.now) c.args.place o c.args.building.now
     (slice_get-get_or c.args.building.now.orders.items c.args.place o (omega (arith, inside, sized)) ∙ ap (λ x. Some x) (sym c.index.ensures))
     (λ e.
     let none : length o.items ≡ 0 = ap length e in

@@ -8,4 +8,4 @@ add_fragments-requires-clause-built g c = built_none c.args.schema.now c.args.do
 pub returns : goal.returns
 returns g c =
     complete c.args.schema.now c.args.document.now (rank_in c.args.cycles.now) c.add_fragments.new.building c.add_others.new.building c.in_ok-add_fragments.ensures.all
-    (c.in_ok-add_others.ensures (rank_in c.args.cycles.now) c.in_ok-add_fragments.ensures.all c.in_ok-add_fragments.ensures.built)
+    (c.in_ok-add_others.ensures c.in_ok-add_fragments.ensures.all c.in_ok-add_fragments.ensures.built)

@@ -1,4 +1,4 @@
-use Rattle.std.proofs.Common.{map, refl, subst, take}
+use Rattle.std.proofs.Common.{map, refl, subst}
 use Rattle.std.proofs.lemmas.List.{take_all}
 use Rattle.std.proofs.lemmas.List.Elements.{All-more}
 use Rattle.merging.specs.declared.node.Entry.{Entry}

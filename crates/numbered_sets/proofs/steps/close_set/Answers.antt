@@ -1,12 +1,11 @@
-use Rattle.std.proofs.Common.{refl, subst, arith}
-use Rattle.numbered_sets.specs.Once.{IsEachOnce}
+use Rattle.std.proofs.Common.{refl, arith}
 use Rattle.numbered_sets.proofs.steps.close_set.Goals as goal
 
 pub returns : goal.returns
 returns g c = record {
   row = record { own = c.shrink_to_fit.new.self; spreads = c.in_ok-spreads.spreads };
   own = c.shrink_to_fit.ensures.items;
-  once = subst (λ z. IsEachOnce z c.in_ok-spreads.spreads.items) c.as_slice.ensures.value c.in_ok-spreads.ensures;
+  once = c.in_ok-spreads.ensures;
   number = omega arith;
   fields = refl;
   responses = refl;

@@ -1,14 +1,14 @@
-use Rattle.std.proofs.Common.{[], ◌∷◌}
+use Rattle.std.proofs.Common.{[], ◌∷◌, sym}
 use Rattle.std.proofs.lemmas.Result.{IfOk-weaker}
 use Rattle.reach.specs.NoUnusedFragments.{name_and_span}
-use Rattle.reach.proofs.Meeting.{adds_marked, adds_none, adds_one, met_before}
+use Rattle.reach.proofs.Meeting.{adds_marked, adds_none, adds_one}
 use Rattle.reach.proofs.Unused.{both, told_nothing}
 use Rattle.reach.proofs.no_unused_fragments.report_once.Goals as goal
 
 pub returns-then-is_reached-clause-ok : goal.returns-then-is_reached-clause-ok
 returns-then-is_reached-clause-ok g c =
     let met = c.args.met.now in
-    ([], adds_marked c.args.reached.now met met (name_and_span c.args.fragment.now) ((c.is_reached.ensures _ c.requires).0 c.if-is_reached.true), told_nothing c.args.ctx.now)
+    ([], adds_marked c.args.reached.now met met (name_and_span c.args.fragment.now) ((c.is_reached.ensures _ (sym c.requires.number)).0 c.if-is_reached.true), told_nothing c.args.ctx.now)
 
 pub returns-then-branch-clause-ok : goal.returns-then-branch-clause-ok
 returns-then-branch-clause-ok g c =
@@ -17,8 +17,8 @@ returns-then-branch-clause-ok g c =
     (λ x e. (
       p ∷ [],
       adds_one c.args.reached.now c.args.met.now c.meet.new.met p c.in_ok-meet.ensures.met
-          (λ m. both c.is_reached.result ((c.is_reached.ensures _ c.requires).1 m) c.if-is_reached.false)
-          (c.in_ok-meet.ensures.first.0 c.if-branch.true),
+          (λ m. both c.is_reached.result ((c.is_reached.ensures _ (sym c.requires.number)).1 m) c.if-is_reached.false)
+          (c.in_ok-meet.ensures.first c.if-branch.true),
       e,
     ))
     c.report_fragment.ensures.ok
@@ -29,6 +29,6 @@ returns-clause-ok g c =
     let met = c.args.met.now in (
       [],
       adds_none c.args.reached.now met c.meet.new.met p c.in_ok-meet.ensures.met
-          (met_before met p (λ unmet. both c.in_ok-meet.field-0 (c.in_ok-meet.ensures.first.1 unmet) c.if-branch.false)),
+          (c.in_ok-meet.ensures.known c.if-branch.false),
       told_nothing c.args.ctx.now,
     )

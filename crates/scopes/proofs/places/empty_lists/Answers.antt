@@ -1,5 +1,5 @@
 use Rattle.std.proofs.Common.{◌+◌, ◌∷◌, [], ap, length, length-append, ◌∙◌}
-use Rattle.scopes.proofs.Numbered.{none_at_all, none_more}
+use Rattle.scopes.proofs.Growing.{none_at_all, none_more}
 use Rattle.scopes.proofs.places.empty_lists.Goals as goal
 
 pub loop-number-init : goal.loop-number-init

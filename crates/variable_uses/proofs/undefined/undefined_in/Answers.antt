@@ -1,10 +1,10 @@
-use Rattle.std.proofs.Common.{◌++◌, ◌∷◌, [], ◌<◌, ◌≤◌, length, map, option_map, subst, sym, arith, take, inl, inr}
+use Rattle.std.proofs.Common.{◌++◌, ◌∷◌, [], ◌<◌, ◌≤◌, length, map, option_map, subst, sym, arith, take, inl, inr, ◌∙◌}
 use Rattle.std.proofs.lemmas.List.{length-map, take_all}
 use Rattle.scopes.specs.Index.{operation_names}
 use Rattle.variable_uses.specs.InReachUses.{InTurn}
 use Rattle.variable_uses.specs.Undefined.{UndefinedIn, UndefinedVariables, UsesNothing, undefined_of}
 use Rattle.variable_uses.proofs.Skipping.{all_defined, not_used}
-use Rattle.variable_uses.proofs.Telling.{in_turn_more, mapped_contains, mapped_next}
+use Rattle.variable_uses.proofs.Telling.{in_turn_more, mapped_at, mapped_contains, mapped_next}
 use Rattle.variable_uses.proofs.undefined.undefined_in.Goals as goal
 
 pub add_undefined-requires-clause-named : goal.add_undefined-requires-clause-named
@@ -13,6 +13,14 @@ add_undefined-requires-clause-named g c =
     let low : c.loop-number.number < length names.items = let t = c.loop-number-test.true in let e = c.len-number-end.ensures in let same = names.ok.0 in omega (arith, t, e, same) in
     (c.requires.scopes.names.are (option_map (λ n. n.now) c.index-name.result.now)).0
     (mapped_contains (option_map (λ n. n.now)) names.items c.loop-number.number c.index-name.result.now c.index-name.ensures low)
+
+pub add_undefined-requires-clause-own : goal.add_undefined-requires-clause-own
+add_undefined-requires-clause-own g c =
+    let names = c.args.index.now.scopes.names in
+    let low : c.loop-number.number < length names.items = let t = c.loop-number-test.true in let e = c.len-number-end.ensures in let same = names.ok.0 in omega (arith, t, e, same) in
+    c.operation_places-own.ensures
+    ∙ c.requires.scopes.operations (option_map (λ n. n.now) c.index-name.result.now) c.loop-number.number
+    (mapped_at (option_map (λ n. n.now)) names.items c.loop-number.number c.index-name.result.now c.index-name.ensures low)
 
 pub loop-number-preserved : goal.loop-number-preserved
 loop-number-preserved g c =

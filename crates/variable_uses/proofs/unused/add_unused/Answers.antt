@@ -16,9 +16,9 @@ returns-in_ok-unused-in-Some-clause-told g c =
       map (unused_by name) vs,
       record {
         last = last;
-        is_last = c.in-Some.ensures.some;
+        is_last = c.in-Some.ensures.some name c.requires.own;
         uses = us;
-        used = c.in_ok-reached_uses-in-Some.ensures.used;
+        used = c.in_ok-reached_uses-in-Some.ensures.used name c.requires.own;
         variables = vs;
         unused = unused_in us last c.as_slice.result.now c.in_ok-used-in-Some.used c.variables.result.now vs c.variables.ensures (ap (map use_of) c.as_slice.ensures.value) c.in_ok-used-in-Some.ensures c.in_ok-unused-in-Some.ensures;
         told = refl;
@@ -28,7 +28,7 @@ returns-in_ok-unused-in-Some-clause-told g c =
     c.tell_all.ensures
 
 pub returns-in-None-clause-told : goal.returns-in-None-clause-told
-returns-in-None-clause-told g c = absurd (c.in-None.ensures.none c.requires.named)
+returns-in-None-clause-told g c = absurd (c.in-None.ensures.none (option_map (λ n. n.now) c.args.name) c.requires.own c.requires.named)
 
 pub returns-in_ok-unused-in-Some-clause-ready : goal.returns-in_ok-unused-in-Some-clause-ready
 returns-in_ok-unused-in-Some-clause-ready g c = on_ok_weaker c.tell_all.result (λ e. c.in_ok-reached_uses-in-Some.ensures.ready) c.tell_all.ensures

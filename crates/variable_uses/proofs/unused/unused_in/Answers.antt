@@ -1,9 +1,9 @@
-use Rattle.std.proofs.Common.{◌++◌, ◌∷◌, [], ◌<◌, ◌≤◌, length, map, option_map, subst, sym, arith, take}
+use Rattle.std.proofs.Common.{◌++◌, ◌∷◌, [], ◌<◌, ◌≤◌, length, map, option_map, subst, sym, arith, take, ◌∙◌}
 use Rattle.std.proofs.lemmas.List.{length-map, take_all}
 use Rattle.scopes.specs.Index.{operation_names}
 use Rattle.variable_uses.specs.InReachUses.{InTurn}
 use Rattle.variable_uses.specs.Unused.{UnusedIn, unused_of}
-use Rattle.variable_uses.proofs.Telling.{in_turn_more, mapped_contains, mapped_next}
+use Rattle.variable_uses.proofs.Telling.{in_turn_more, mapped_at, mapped_contains, mapped_next}
 use Rattle.variable_uses.proofs.unused.unused_in.Goals as goal
 
 pub add_if_defined-requires-clause-named : goal.add_if_defined-requires-clause-named
@@ -12,6 +12,14 @@ add_if_defined-requires-clause-named g c =
     let low : c.loop-number.number < length names.items = let t = c.loop-number-test.true in let e = c.len-number-end.ensures in let same = names.ok.0 in omega (arith, t, e, same) in
     (c.requires.scopes.names.are (option_map (λ n. n.now) c.index-name.result.now)).0
     (mapped_contains (option_map (λ n. n.now)) names.items c.loop-number.number c.index-name.result.now c.index-name.ensures low)
+
+pub add_if_defined-requires-clause-own : goal.add_if_defined-requires-clause-own
+add_if_defined-requires-clause-own g c =
+    let names = c.args.index.now.scopes.names in
+    let low : c.loop-number.number < length names.items = let t = c.loop-number-test.true in let e = c.len-number-end.ensures in let same = names.ok.0 in omega (arith, t, e, same) in
+    c.operation_places-own.ensures
+    ∙ c.requires.scopes.operations (option_map (λ n. n.now) c.index-name.result.now) c.loop-number.number
+    (mapped_at (option_map (λ n. n.now)) names.items c.loop-number.number c.index-name.result.now c.index-name.ensures low)
 
 pub loop-number-preserved : goal.loop-number-preserved
 loop-number-preserved g c =

@@ -8,9 +8,9 @@ use Rattle.variable_uses.proofs.uses.reached_uses.Goals as goal
 pub returns-clause-used : goal.returns-clause-used
 returns-clause-used g c =
     on_ok_weaker c.list_uses.result
-    (λ e. (
+    (λ e name own. (
       c.reached_definitions.new.search.found.items,
-      c.in_ok-reached_definitions.ensures.reached,
+      c.in_ok-reached_definitions.ensures.reached name own,
       e ∙ ap (flat_map (kept_uses c.args.all.now)) c.found_places.ensures
           ∙ (λ i. flat_map (λ k. kept_there c.args.document.now c.args.all.now c.requires.all k i) c.reached_definitions.new.search.found.items),
     ))

@@ -1,6 +1,6 @@
 use Rattle.std.proofs.Common.{◌≡◌, ◌<◌, ◌+◌, ap, sym, ◌∙◌, subst, length, get_or, take, string_bytes, refl, arith}
 use Rattle.std.proofs.lemmas.List.{get_or-map, length-map}
-use Rattle.walk.specs.NameSet.{has_name}
+use Rattle.variable_values.specs.NameSet.{has_name}
 use Rattle.variable_values.specs.Keys.{field_names, keys_of, unknown_keys}
 use Rattle.variable_values.specs.Places.{before}
 use Rattle.variable_values.proofs.KeyLaws.{HasBoth, noted_more, told_noted, unknown_more}

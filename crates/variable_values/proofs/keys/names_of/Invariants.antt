@@ -1,6 +1,6 @@
 use Rattle.std.proofs.Common.{◌≡◌, ℕ, List, take}
 use Rattle.schema.specs.Possible.{is_among}
-use Rattle.walk.specs.NameSet.{has_name}
+use Rattle.variable_values.specs.NameSet.{has_name}
 use Rattle.variable_values.specs.Keys.{field_names}
 use Rattle.variable_values.proofs.keys.names_of.Given as goal
 

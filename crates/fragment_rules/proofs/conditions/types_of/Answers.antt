@@ -1,0 +1,14 @@
+use Rattle.std.proofs.Common.{sym, ◌∙◌}
+use Rattle.fragment_rules.specs.PossibleFragmentSpreads.{no_conditions}
+use Rattle.fragment_rules.proofs.ConditionsSeen.{conditions_more, has_number}
+use Rattle.fragment_rules.proofs.conditions.types_of.Goals as goal
+
+pub note_type-requires-clause-has : goal.note_type-requires-clause-has
+note_type-requires-clause-has g c =
+    has_number c.args.document.now c.args.names.now.numbers c.args.names.now.defined.items c.requires c.index-document-place.result (c.loop-place.place, c.loop-place-test.true, sym c.index-document-place.is)
+
+pub loop-place-preserved : goal.loop-place-preserved
+loop-place-preserved g c = (
+  conditions_more c.args.schema.now no_conditions _ _ c.args.document.now c.loop-place.place c.index-document-place.result c.loop-place-test.true c.index-document-place.is c.loop-place.invariant.0 c.note_type.ensures.noted,
+  c.note_type.ensures.sized ∙ c.loop-place.invariant.1,
+)
