@@ -1,8 +1,9 @@
 -- The first of each name that was met, by number.
-use Rattle.std.proofs.Common.{◌≡◌, ◌↔◌, ℕ, List, length, refl, ap, sym, subst, ◌∙◌, inl, inr, ◌⊎◌, Option, Some, None, Vec, slice_get, slice_set, Bool, true, false, ◌&&◌, ◌==◌}
+use Rattle.std.proofs.Common.{◌≡◌, ◌↔◌, ◌<◌, ℕ, List, arith, get_or, length, vec_len, refl, ap, sym, subst, ◌∙◌, inl, inr, ◌⊎◌, Option, Some, None, Vec, slice_get, slice_set, Bool, true, false, ◌&&◌, ◌==◌}
 use Rattle.std.specs.List.{All, Contains}
 use Rattle.std.specs.declared.alloc.Global.{Global}
 use Rattle.std.proofs.lemmas.Bool.{cases_eq, eq-eqb, eqb-true, true≢false}
+use Rattle.std.proofs.lemmas.Option.{slice_get_read}
 use Rattle.std.proofs.lemmas.List.Elements.{All-contains}
 use Rattle.language.specs.declared.position.SourcePosition.{SourcePosition}
 use Rattle.language.specs.declared.position.Span.{Span}
@@ -12,7 +13,7 @@ use Rattle.fragment_cycles.specs.declared.numbers.Numbers.{Numbers}
 use Rattle.fragment_cycles.specs.DocumentGraph.{IsNumbered}
 use Rattle.fragment_cycles.specs.Numbers.{names_of, number_of, NumbersOf, WellNumbered}
 use Rattle.fragment_cycles.proofs.Lists.{none_some, same_item, same_some, set_same, set_other, contains_at}
-use Rattle.fragment_cycles.proofs.Numbering.{single}
+use Rattle.fragment_cycles.proofs.Numbering.{below, single}
 use Rattle.reach.specs.declared.met_fragments.MetFragments.{MetFragments}
 use Rattle.reach.specs.NoUnusedFragments.{IsFirst, IsKeptFor, IsMet, IsOther, NameAndSpan, Others}
 
@@ -64,6 +65,17 @@ module _ (n : Numbers) (met : MetFragments) (sized : length met.firsts.items ≡
   nothing_kept = record { sized = sized; behind = λ q other. absurd (no_others q other) }
 
 module _ (n : Numbers) (w : WellNumbered n) (p : NameAndSpan) (k : ℕ) (at : number_of n p.0 ≡ Some k) (old : MetFragments) (kept : IsKeptFor n old) where
+  inside : k < length old.firsts.items
+  inside = let low = below n w p.0 k at in let sized = kept.sized in omega (arith, low, sized)
+
+  -- the number has a place
+  pub has_place : k < vec_len old.firsts
+  has_place = let low = inside in let long = old.firsts.ok.0 in omega (arith, low, long)
+
+  -- what is read there
+  pub read_there : (x o : Option Span) → x ≡ get_or old.firsts.items k x → x ≡ o → slice_get old.firsts.items k ≡ Some o
+  read_there x o is e = slice_get_read old.firsts.items (length old.firsts.items) k x refl inside is ∙ ap Some e
+
   -- nothing is kept at the number
   module _ (free : slice_get old.firsts.items k ≡ Some None) where
     not_here : (s : Span) → slice_get old.firsts.items k ≡ Some (Some s) → ⊥
