@@ -32,14 +32,23 @@ holds-set_other (x ∷ rows) zero s (suc i) j apart = refl
 holds-set_other (x ∷ rows) (suc k) s zero j apart = refl
 holds-set_other (x ∷ rows) (suc k) s (suc i) j apart = holds-set_other rows k s i j (λ same. apart (ap suc same))
 
--- a set that was changed at no other number than l was put in place of the set of row k
-module _ (rows : List BitSet) (k l : ℕ) (s t : BitSet) (within : k < length rows) (read : s ≡ get_or rows k s) where
-  was : (j : ℕ) → has s j ≡ holds rows k j
+-- a set was put in place of the set of row k
+module _ (rows : List BitSet) (k : ℕ) (s t : BitSet) (within : k < length rows) (read : s ≡ get_or rows k s) where
+  pub was : (j : ℕ) → has s j ≡ holds rows k j
   was j = sym (ap (row_has j) (slice_get_read rows (length rows) k s refl within read))
 
-  pub changed_others : ((m : ℕ) → (m ≡ l → ⊥) → has t m ≡ has s m) → (i j : ℕ) → ((i ≡ k) × (j ≡ l) → ⊥)
+  -- the two sets have the same numbers
+  pub unchanged : ((m : ℕ) → has t m ≡ has s m) → (i j : ℕ) → holds (set rows k t) i j ≡ holds rows i j
+  unchanged same i j =
+      elim (cases_eq i k) [
+        | inl is ↦ subst (λ (x : ℕ). holds (set rows k t) x j ≡ holds rows x j) (sym is) (holds-set_same rows k t j within ∙ (same j ∙ was j))
+        | inr other ↦ holds-set_other rows k t i j other
+      ]
+
+  -- the two sets differ at no other number than l
+  pub changed_others : (l : ℕ) → ((m : ℕ) → (m ≡ l → ⊥) → has t m ≡ has s m) → (i j : ℕ) → ((i ≡ k) × (j ≡ l) → ⊥)
       → holds (set rows k t) i j ≡ holds rows i j
-  changed_others others i j apart =
+  changed_others l others i j apart =
       elim (cases_eq i k) [
         | inl is ↦
             subst (λ (x : ℕ). holds (set rows k t) x j ≡ holds rows x j) (sym is)
@@ -47,5 +56,5 @@ module _ (rows : List BitSet) (k l : ℕ) (s t : BitSet) (within : k < length ro
         | inr other ↦ holds-set_other rows k t i j other
       ]
 
-  pub changed_same : has t l ≡ has s l → holds (set rows k t) k l ≡ holds rows k l
-  changed_same same = holds-set_same rows k t l within ∙ (same ∙ was l)
+  pub changed_same : (l : ℕ) → has t l ≡ has s l → holds (set rows k t) k l ≡ holds rows k l
+  changed_same l same = holds-set_same rows k t l within ∙ (same ∙ was l)

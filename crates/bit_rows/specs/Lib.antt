@@ -1,2 +1,3 @@
+pub mod Count
 pub mod Rows
 pub mod Set

@@ -1,6 +1,8 @@
 //! Rows of sets of small numbers.
-ghost use Rattle.std.specs.Prelude.{◌≡◌, ◌<◌, ℕ, false, length, IsTrue, OnOk, OnErr};
+ghost use Rattle.std.specs.Prelude.{◌≡◌, ◌<◌, ◌&&◌, ◌||◌, ℕ, false, not, nat_lt, length, IsTrue, OnOk, OnErr, IfOk};
+ghost use Rattle.bit_rows.specs.Count.{count_below};
 ghost use Rattle.bit_rows.specs.Rows.{marked};
+ghost use Rattle.bit_rows.specs.Set.{has};
 
 use crate::set::BitSet;
 use std::alloc::{AllocError, Global};
@@ -42,6 +44,17 @@ impl BitRows {
         self.grow(row)?;
         self.rows[row].insert(column)?;
         Ok(())
+    }
+
+    /// Adds to the set of a row the members of `columns` that are less than the row's number, and answers how many of them are new. Without memory the sets stay as they were.
+    pub fn insert_below(&mut self, row: usize, columns: &BitSet) -> Result<usize, AllocError>
+        ensures row { OnOk result ((j : ℕ) → marked self.new row j ≡ (marked self.old row j || (has columns.now j && nat_lt j row))) }
+        ensures others { (i j : ℕ) → (i ≡ row → ⊥) → marked self.new i j ≡ marked self.old i j }
+        ensures added { IfOk result (λ added. added ≡ count_below (λ j. marked self.new row j && not (marked self.old row j)) row) }
+        ensures err { OnErr result ((i j : ℕ) → marked self.new i j ≡ marked self.old i j) }
+    {
+        self.grow(row)?;
+        self.rows[row].insert_below(columns, row)
     }
 
     // Makes the rows up to this one, with nothing in them.

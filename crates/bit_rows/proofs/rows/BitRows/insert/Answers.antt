@@ -15,18 +15,18 @@ returns-clause-there c =
 
 pub returns-clause-others : goal.returns-clause-others
 unfolding marked
-returns-clause-others c = λ i j apart. changed_others c.grow.new.self.rows.items c.args.row c.args.column c.index_mut.result.now c.insert.new.self
-    c.in_ok-grow.ensures.room c.index_mut.ensures.value c.in_ok-insert.ensures.others i j apart
+returns-clause-others c = λ i j apart. changed_others c.grow.new.self.rows.items c.args.row c.index_mut.result.now c.insert.new.self
+    c.in_ok-grow.ensures.room c.index_mut.ensures.value c.args.column c.in_ok-insert.ensures.others i j apart
     ∙ c.in_ok-grow.ensures.same i j
 
 pub returns-in_err-insert-clause-others : goal.returns-in_err-insert-clause-others
 unfolding marked
-returns-in_err-insert-clause-others c = λ i j apart. changed_others c.grow.new.self.rows.items c.args.row c.args.column c.index_mut.result.now c.insert.new.self
-    c.in_ok-grow.ensures.room c.index_mut.ensures.value c.in_err-insert.ensures.others i j apart
+returns-in_err-insert-clause-others c = λ i j apart. changed_others c.grow.new.self.rows.items c.args.row c.index_mut.result.now c.insert.new.self
+    c.in_ok-grow.ensures.room c.index_mut.ensures.value c.args.column c.in_err-insert.ensures.others i j apart
     ∙ c.in_ok-grow.ensures.same i j
 
 pub returns-in_err-insert-clause-err : goal.returns-in_err-insert-clause-err
 unfolding marked
-returns-in_err-insert-clause-err c = on_err c.from_residual-in_err-insert.result _ (changed_same c.grow.new.self.rows.items c.args.row c.args.column c.index_mut.result.now c.insert.new.self
-    c.in_ok-grow.ensures.room c.index_mut.ensures.value c.in_err-insert.ensures.err
+returns-in_err-insert-clause-err c = on_err c.from_residual-in_err-insert.result _ (changed_same c.grow.new.self.rows.items c.args.row c.index_mut.result.now c.insert.new.self
+    c.in_ok-grow.ensures.room c.index_mut.ensures.value c.args.column c.in_err-insert.ensures.err
     ∙ c.in_ok-grow.ensures.same c.args.row c.args.column)

@@ -1,4 +1,4 @@
-use Rattle.std.proofs.Common.{ℕ, ◌+◌, ◌-◌, List, ap, ◌∙◌, vec_len, arith}
+use Rattle.std.proofs.Common.{ℕ, ◌-◌, List, ap, ◌∙◌, vec_len, arith}
 use Rattle.bit_rows.specs.Set.{has, bit_of}
 use Rattle.bit_rows.proofs.Bits.{bit_of-zeros}
 use Rattle.bit_rows.proofs.set.BitSet.grow.Goals as goal
@@ -12,5 +12,5 @@ unfolding has
 returns-in_ok-resize-clause-same c =
     let words = c.args.self.now.words in
     λ m. ap (λ (ws : List ℕ). bit_of ws m) c.in_ok-resize.ensures.items
-    ∙ bit_of-zeros words.items (c.args.index + 1) (c.args.index + 1 - vec_len words) m
-    (omega (arith, c.if-len-index.true, c.len.ensures, words.ok.0))
+    ∙ bit_of-zeros words.items c.args.count (c.args.count - vec_len words) m
+    (omega (arith, c.if-len-count.true, c.len.ensures, words.ok.0))
