@@ -1,5 +1,5 @@
--- The judgement of tidy fields is lawful, and fields that are alike with one are in no conflict.
-use Rattle.std.proofs.Common.{◌≡◌, ℕ, List, Bool, true, false, Option, Some, None, refl, ap, get_or}
+-- The judgement of tidy fields is lawful.
+use Rattle.std.proofs.Common.{◌≡◌, ℕ, List, Bool, true, false, Option, Some, None, refl, ap}
 use Rattle.std.specs.Option.{is_some}
 use Rattle.std.specs.Cmp.{IsEquivalence}
 use Rattle.schema.specs.Catalog.{Catalog}
@@ -8,10 +8,8 @@ use Rattle.field_pairs.specs.Entries.{PlainEntry}
 use Rattle.field_pairs.specs.Numbered.{direct_at, AreTidy}
 use Rattle.field_pairs.proofs.DirectLaws.{least}
 use Rattle.field_pairs.proofs.NumberedLaws.{exclusive_at_flip, exclusive_at_true, direct_at_up, direct_at_flip, direct_at_self}
-use Rattle.field_pairs.proofs.AlikeLaws.{alike_at}
-use Rattle.merging.specs.declared.node.Entry as numbered
-use Rattle.merging.specs.Judgement.{Lawful, NoneConflict}
-use Rattle.merge_documents.specs.Judging.{judgement_by, AreLike}
+use Rattle.merging.specs.Judgement.{Lawful}
+use Rattle.merge_documents.specs.Judging.{judgement_by}
 
 clash : {X : Type 0} (o : Option X) → o ≡ None → is_some o ≡ true → ⊥
 clash None e h = cc
@@ -30,7 +28,3 @@ module _ {S C : Type 0} (E : S → S → Bool) (schema : Catalog S C) (fields : 
     conflict_flip = λ e a b. ap (λ (o : Option DirectReason). is_some o) (direct_at_flip E schema laws fields e a b tidy);
     conflict_self = λ e a. ap (λ (o : Option DirectReason). is_some o) (direct_at_self E schema laws fields e a tidy);
   }
-
-  pub none_conflict : (one : ℕ) (left right : List numbered.Entry) → AreLike fields one left → AreLike fields one right → NoneConflict (judgement_by E schema fields) left right
-  none_conflict one left right p q = λ e k d l m f less.
-      ap (λ (o : Option DirectReason). is_some o) (alike_at E schema fields e one (get_or left k d).field (get_or right m f).field (p k d l) (q m f less))

@@ -1,12 +1,10 @@
 -- What a search asks of the fields of a document.
 use Rattle.std.specs.Prelude.{ℕ, List, map, Bool}
-use Rattle.std.specs.List.{All}
 use Rattle.std.specs.Option.{is_some}
 use Rattle.schema.specs.Catalog.{Catalog}
 use Rattle.field_pairs.specs.Entries.{PlainEntry, plain}
 use Rattle.field_pairs.specs.Alike.{AreAlikeAt}
 use Rattle.field_pairs.specs.Numbered.{exclusive_at, direct_at}
-use Rattle.merging.specs.declared.node.Entry as numbered
 use Rattle.merging.specs.Judgement.{Judgement}
 use Rattle.merge_documents.specs.declared.judge.FieldJudge.{FieldJudge}
 
@@ -21,6 +19,6 @@ module _ {S C : Type 0} where
   abbrev pub judgement_of : (S → S → Bool) → FieldJudge S C → Judgement
   judgement_of E judge = judgement_by E judge.schema.now (map plain judge.fields.items)
 
-  -- each of them is plainly like one
-  abbrev pub AreLike : List (PlainEntry S C) → ℕ → List numbered.Entry → Type 0
-  AreLike fields one others = All (λ a. AreAlikeAt fields one a.field) others
+  -- one field, and another that is plainly like it
+  abbrev pub alike_of : FieldJudge S C → ℕ → ℕ → Type 0
+  alike_of judge one other = AreAlikeAt (map plain judge.fields.items) one other

@@ -1,4 +1,5 @@
 pub mod Judging
+pub mod AlikeLaw
 pub mod Sets
 pub mod TableGraph
 pub mod Definitions

@@ -1,16 +1,15 @@
 //! The judgement of a document's fields.
 ghost use Rattle.std.specs.Prelude.{◌≡◌, map};
-ghost use Rattle.std.specs.Bool.{OnTrue};
 ghost use Rattle.field_pairs.specs.Entries.{plain};
 ghost use Rattle.field_pairs.specs.Numbered.{AreTidy};
 ghost use Rattle.merging.specs.Judgement.{Lawful};
-ghost use Rattle.merge_documents.specs.Judging.{judgement_of, AreLike};
+ghost use Rattle.merge_documents.specs.AlikeLaw.{alike_agree};
+ghost use Rattle.merge_documents.specs.Judging.{judgement_of, alike_of};
 
 use field_pairs::entry::Entry;
 use field_pairs::numbered::{are_alike_at, are_exclusive_at, direct_reason_at};
 use language::scalar::ScalarValue;
 use merging::judge::Judge;
-use merging::node::Entry as Numbered;
 use schema::model::SchemaTypeOf;
 
 /// Fields by number, and the schema that they are judged under. Of a number past the last there is no conflict.
@@ -23,34 +22,21 @@ pub struct FieldJudge<'a, S, C> {
 impl<'a, S: ScalarValue, C> Judge for FieldJudge<'a, S, C> {
     ghost judgement = { judgement_of S.eq };
 
+    ghost are_alike = { alike_of };
+
+    ghost agree = { λ j. alike_agree S.eq j.schema.now (map plain j.fields.items) };
+
     fn are_exclusive(&self, exclusive: bool, left: usize, right: usize) -> bool {
         are_exclusive_at(self.fields.as_slice(), exclusive, left, right)
     }
 
-    fn are_plainly_alike(&self, left: &[Numbered], right: &[Numbered]) -> bool {
-        let fields = self.fields.as_slice();
-        match left.first() {
-            Some(first) => are_like(fields, first.field, left)
-                && are_like(fields, first.field, right),
-            None => true,
-        }
+    fn is_plainly_like(&self, one: usize, other: usize) -> bool {
+        are_alike_at(self.fields.as_slice(), one, other)
     }
 
     fn are_in_conflict(&self, exclusive: bool, left: usize, right: usize) -> bool {
         direct_reason_at(self.schema, self.fields.as_slice(), exclusive, left, right).is_some()
     }
-}
-
-// Whether some fields are like one.
-fn are_like<S, C>(fields: &[Entry<'_, S, C>], one: usize, others: &[Numbered]) -> bool
-    ensures { OnTrue result (AreLike (map plain fields.now) one others.now) }
-{
-    for other in others {
-        if !are_alike_at(fields, one, other.field) {
-            return false;
-        }
-    }
-    true
 }
 
 /// The judge of some fields. Where none of them repeats an argument, nor a key in one, its judgement is lawful.

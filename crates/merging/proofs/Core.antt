@@ -11,11 +11,13 @@ use Rattle.merging.specs.Judgement.{Lawful}
 use Rattle.merging.specs.Graph.{Falling, height}
 use Rattle.merging.specs.World.{World, own_of, spreads_of, set_of, conflict_of, exclusive_of, Same}
 use Rattle.merging.specs.Log.{Covers}
-use Rattle.merging.specs.Work.{pair_in, Searched, Pair, Asked, Done, stood, shallow, deep, OwnPairs, ClosedPair, AllClosed}
+use Rattle.merging.specs.Work.{pair_in, Searched, Pair, Asked, Done, stood, shallow, deep, clear, OwnPairs, FollowedUp, AllClosed}
+use Rattle.merging.specs.Plain.{IsOnePlain}
 use Rattle.merging.specs.Merging.{Stands, own, spread, Below, below, Merges, merges, Way, here, down, Good, Passes, Top}
 use Rattle.merging.specs.Reports.{Told}
 use Rattle.merging.proofs.Laws.{Le, least, even, up, both, conflict_up, exclusive_up, conflict_flip, exclusive_flip, conflict_self, clash, clash_some, same_some}
 use Rattle.merging.proofs.Flips.{flip_pair}
+use Rattle.merging.proofs.Harmless.{none_fails, below_clear, sets_clear}
 
 place_of : {X : Type 0} (xs : List X) (a : X) (p : Contains xs a) → slice_get xs p.0 ≡ Some a
 place_of xs a p = slice_get-get_or xs p.0 a p.1 ∙ ap (λ x. Some x) p.2
@@ -53,30 +55,33 @@ module _ (w : World) (M : Search) (falling : Falling w.sets w.fragments) (closed
   flip (back d) = forth d
   flip (weak d) = weak (flip d)
 
-  at_pair : (e : Bool) (f g : ℕ) → K e f g → (x : Bool) × ((x ≡ e) ⊎ (x ≡ false)) × (ClosedPair w M x f g ⊎ ClosedPair w M x g f)
+  at_pair : (e : Bool) (f g : ℕ) → K e f g → (x : Bool) × ((x ≡ e) ⊎ (x ≡ false)) × FollowedUp w M x f g
   at_pair e f g c = (c.0, c.1, closed.pairs_closed c.0 f g c.2)
 
-  own_from : (x : Bool) (f g : ℕ) (a b : Entry) → ClosedPair w M x f g ⊎ ClosedPair w M x g f
+  own_from : (x : Bool) (f g : ℕ) (a b : Entry) → FollowedUp w M x f g
       → Contains (own_of w (set_of w f)) a → Contains (own_of w (set_of w g)) b → Same a b → DoneW x a b
-  own_from x f g a b (inl z) p q same = forth (z.0 a b p q same)
-  own_from x f g a b (inr z) p q same = back (z.0 b a q p (sym same))
+  own_from x f g a b (inl (inl z)) p q same = forth (z.0 a b p q same)
+  own_from x f g a b (inl (inr z)) p q same = back (z.0 b a q p (sym same))
+  own_from x f g a b (inr z) p q same = forth (sets_clear w z (own p) (own q) same)
 
   closed_own : (e : Bool) (f g : ℕ) (a b : Entry) → K e f g → Contains (own_of w (set_of w f)) a → Contains (own_of w (set_of w g)) b → Same a b → DoneW e a b
   closed_own e f g a b c p q same = let z = at_pair e f g c in at_flag z.1 (own_from z.0 f g a b z.2 p q same)
 
-  right_from : (x : Bool) (f g h : ℕ) → ClosedPair w M x f g ⊎ ClosedPair w M x g f → Contains (spreads_of w (set_of w g)) h → Pair M x f h
-  right_from x f g h (inl z) v = All-contains (λ k. Pair M x f k) (spreads_of w (set_of w g)) h z.1 v
-  right_from x f g h (inr z) v = flip_pair M x h f (All-contains (λ k. Pair M x k f) (spreads_of w (set_of w g)) h z.2 v)
+  right_from : (x e : Bool) (f g h : ℕ) → (x ≡ e) ⊎ (x ≡ false) → FollowedUp w M x f g → Contains (spreads_of w (set_of w g)) h → Pair M e f h ⊎ IsOnePlain w f g
+  right_from x e f g h l (inl (inl z)) v = inl (pair_at x e f h l (All-contains (λ k. Pair M x f k) (spreads_of w (set_of w g)) h z.1 v))
+  right_from x e f g h l (inl (inr z)) v = inl (pair_at x e f h l (flip_pair M x h f (All-contains (λ k. Pair M x k f) (spreads_of w (set_of w g)) h z.2 v)))
+  right_from x e f g h l (inr z) v = inr z
 
-  closed_right : (e : Bool) (f g h : ℕ) → K e f g → Contains (spreads_of w (set_of w g)) h → Pair M e f h
-  closed_right e f g h c v = let z = at_pair e f g c in pair_at z.0 e f h z.1 (right_from z.0 f g h z.2 v)
+  closed_right : (e : Bool) (f g h : ℕ) → K e f g → Contains (spreads_of w (set_of w g)) h → Pair M e f h ⊎ IsOnePlain w f g
+  closed_right e f g h c v = let z = at_pair e f g c in right_from z.0 e f g h z.1 z.2 v
 
-  left_from : (x : Bool) (f g h : ℕ) → ClosedPair w M x f g ⊎ ClosedPair w M x g f → Contains (spreads_of w (set_of w f)) h → Pair M x h g
-  left_from x f g h (inl z) v = All-contains (λ k. Pair M x k g) (spreads_of w (set_of w f)) h z.2 v
-  left_from x f g h (inr z) v = flip_pair M x g h (All-contains (λ k. Pair M x g k) (spreads_of w (set_of w f)) h z.1 v)
+  left_from : (x e : Bool) (f g h : ℕ) → (x ≡ e) ⊎ (x ≡ false) → FollowedUp w M x f g → Contains (spreads_of w (set_of w f)) h → Pair M e h g ⊎ IsOnePlain w f g
+  left_from x e f g h l (inl (inl z)) v = inl (pair_at x e h g l (All-contains (λ k. Pair M x k g) (spreads_of w (set_of w f)) h z.2 v))
+  left_from x e f g h l (inl (inr z)) v = inl (pair_at x e h g l (flip_pair M x g h (All-contains (λ k. Pair M x g k) (spreads_of w (set_of w f)) h z.1 v)))
+  left_from x e f g h l (inr z) v = inr z
 
-  closed_left : (e : Bool) (f g h : ℕ) → K e f g → Contains (spreads_of w (set_of w f)) h → Pair M e h g
-  closed_left e f g h c v = let z = at_pair e f g c in pair_at z.0 e h g z.1 (left_from z.0 f g h z.2 v)
+  closed_left : (e : Bool) (f g h : ℕ) → K e f g → Contains (spreads_of w (set_of w f)) h → Pair M e h g ⊎ IsOnePlain w f g
+  closed_left e f g h c v = let z = at_pair e f g c in left_from z.0 e f g h z.1 z.2 v
 
   -- a search that was asked for met everything that stands there
   searched_own : (e : Bool) (s g : ℕ) (c d : Entry) → Searched M e s g → Contains (own_of w s) c → Contains (own_of w (set_of w g)) d → Same c d → DoneW e c d
@@ -124,8 +129,9 @@ module _ (w : World) (M : Search) (falling : Falling w.sets w.fragments) (closed
   meet_own {e} {t} {a} {b} f g is k p (own q) same = done (closed_own e f g a b k p (subst (λ u. Contains (own_of w u) b) is q) same)
   meet_own {e} {t} {a} {b} f g is k p (spread {f = h} v q) same =
       elim (closed_right e f g h k (subst (λ u. Contains (spreads_of w u) h) is v)) [
-        | inl eq ↦ common (set_of w f) (omega arith) (own p) (subst (λ x. Stands w (set_of w x) b) (sym eq) q)
-        | inr k' ↦ meet_own f h refl k' p q same
+        | inl (inl eq) ↦ common (set_of w f) (omega arith) (own p) (subst (λ x. Stands w (set_of w x) b) (sym eq) q)
+        | inl (inr k') ↦ meet_own f h refl k' p q same
+        | inr one ↦ done (forth (sets_clear w one (own p) (subst (λ u. Stands w u b) is (spread v q)) same))
       ]
 
   raise : {e : Bool} {m n : ℕ} {a b : Entry} → m < n → Meet e m a b → Meet e n a b
@@ -137,8 +143,9 @@ module _ (w : World) (M : Search) (falling : Falling w.sets w.fragments) (closed
       subst (λ u. Meet e u a b) (sym is) (meet_own f g refl k (subst (λ u. Contains (own_of w u) a) is p) q same)
   meet_in {e} {s} {a} {b} f g is k (spread {f = h} v p) q same =
       elim (closed_left e f g h k (subst (λ u. Contains (spreads_of w u) h) is v)) [
-        | inl eq ↦ common (set_of w h) (omega (arith, falls s h v)) p (subst (λ x. Stands w (set_of w x) b) (sym eq) q)
-        | inr k' ↦ raise (falls s h v) (meet_in h g refl k' p q same)
+        | inl (inl eq) ↦ common (set_of w h) (omega (arith, falls s h v)) p (subst (λ x. Stands w (set_of w x) b) (sym eq) q)
+        | inl (inr k') ↦ raise (falls s h v) (meet_in h g refl k' p q same)
+        | inr one ↦ done (forth (sets_clear w one (subst (λ u. Stands w u a) is (spread v p)) q same))
       ]
 
   meet : {e : Bool} {a b : Entry} (f g : ℕ) → K e f g → Stands w (set_of w f) a → Stands w (set_of w g) b → Same a b → Meet e (set_of w f) a b
@@ -201,6 +208,7 @@ module _ (w : World) (M : Search) (falling : Falling w.sets w.fragments) (closed
   open_one {e} (stood h r) = good (inl (e, r))
   open_one {e} (shallow n none) = pass e even n (λ c d f. absurd (none_below none f))
   open_one {e} (deep n sa tb oo asked) = pass e even n (λ c d f. at_sets sa tb oo asked f)
+  open_one {e} (clear same p q h) = pass e even (none_fails w e same p q h) (λ c d f. inr (forth (below_clear w h f)))
 
   flip_below : {a b c d : Entry} → Below w a b c d → Below w b a d c
   flip_below (below sa tb p q same) = below tb sa q p (sym same)
@@ -269,6 +277,7 @@ module _ (w : World) (M : Search) (falling : Falling w.sets w.fragments) (closed
     exact_one {a = a} {b = b} eq (stood h r) = inl (subst (λ x. conflict_of w x a b ≡ true) eq h, subst (λ x. Contains M.found.items (Direct a b x)) eq r)
     exact_one {a = a} {b = b} eq (shallow n none) = inr (subst (λ x. conflict_of w x a b ≡ false) eq n)
     exact_one {a = a} {b = b} eq (deep n sa tb oo asked) = inr (subst (λ x. conflict_of w x a b ≡ false) eq n)
+    exact_one eq (clear same p q h) = inr (none_fails w false same p q h)
 
     exact_pair : {e : Bool} {a b : Entry} → e ≡ false → DoneW e a b → Told w M.found.items a b ⊎ (conflict_of w false a b ≡ false)
     exact_pair eq (forth d) = elim (exact_one eq d) [ inl r ↦ inl (inl r) | inr n ↦ inr n ]

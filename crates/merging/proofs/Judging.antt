@@ -1,5 +1,5 @@
 -- What follows once all sets were searched.
-use Rattle.std.proofs.Common.{◌≡◌, ◌==◌, ℕ, ◌+◌, ◌<◌, ◌≤◌, List, [], length, drop, get_or, refl, sym, subst, ap, ◌∙◌, arith, Some, inl, inr, ◌⊎◌, false, true, slice_get, below_more}
+use Rattle.std.proofs.Common.{◌≡◌, ◌==◌, ℕ, ◌+◌, ◌<◌, ◌≤◌, List, [], length, get_or, refl, sym, subst, ap, ◌∙◌, arith, Some, inl, inr, ◌⊎◌, false, true, slice_get, below_more}
 use Rattle.std.specs.List.{All, Contains}
 use Rattle.std.specs.Option.{option_map_or}
 use Rattle.std.proofs.lemmas.Option.{get_or_from_slice_get, slice_get_within, slice_get_past, slice_get-get_or}
@@ -22,7 +22,6 @@ use Rattle.merging.specs.State.{Begins}
 use Rattle.merging.specs.Tops.{AtTop, AtWithin, AtWritten, AtListed}
 use Rattle.merging.proofs.Adding.{Upto, refuted, roots_of, no_root}
 use Rattle.merging.proofs.Laws.{clash, conflict_self, same_some}
-use Rattle.merging.proofs.Order.{rest_places}
 use Rattle.merging.proofs.Work.{grows_same, grows_then}
 use Rattle.merging.proofs.Core.{set_merges, ways, failing}
 
@@ -46,15 +45,16 @@ places_within w s r h = (own_own h.0.3 h.0.4 (λ eq. omega (arith, h.0.2, eq)), 
 pub places_written : (w : World) (s f : ℕ) → Contains (spreads_of w s) f → (r : Root) → AtWritten w s f r → AtPlaces w s r
 places_written w s f v r h = (own_spread h.0 v h.1, h.2)
 
-pub places_listed : (w : World) (s k : ℕ) (xs : List ℕ) → xs ≡ spreads_of w s → k < length xs → (r : Root) → AtListed w (get_or xs k 0) (drop (k + 1) xs) r → AtPlaces w s r
-places_listed w s k xs eq lt r h =
-    let z = rest_places xs k h.0 h.1 in (
-      two_spreads (subst (λ ys. slice_get ys k ≡ Some (get_or xs k 0)) eq (slice_get-get_or xs k 0 lt)) (subst (λ ys. slice_get ys (z.0) ≡ Some (h.0)) eq z.2)
-          (λ same. omega (arith, z.1, same)) h.2.1 h.2.2,
-      h.2.3,
-    )
+pub places_listed : (w : World) (s f : ℕ) (xs : List ℕ) → xs ≡ spreads_of w s → Contains xs f → (r : Root) → AtListed w f xs r → AtPlaces w s r
+places_listed w s f xs eq c r h = (
+  two_spreads (at c) (at h.1) (λ same. h.2.0 (same_some f h.0 (slice_get (spreads_of w s) c.0) (at c) (subst (λ k. slice_get (spreads_of w s) k ≡ Some h.0) (sym same) (at h.1)))) h.2.1 h.2.2,
+  h.2.3,
+)
+  where
+    at : {x : ℕ} (p : Contains xs x) → slice_get (spreads_of w s) p.0 ≡ Some x
+    at {x} p = subst (λ ys. slice_get ys p.0 ≡ Some x) eq (place_of xs x p)
 
-no_own : (w : World) (s : ℕ) → length w.sets ≤ s → length (own_of w s) ≡ 0
+pub no_own : (w : World) (s : ℕ) → length w.sets ≤ s → length (own_of w s) ≡ 0
 no_own w s le = ap (λ o. length (option_map_or (λ n. n.own.items) o [])) (slice_get_past w.sets s le)
 
 no_spreads : (w : World) (s : ℕ) → length w.sets ≤ s → length (spreads_of w s) ≡ 0

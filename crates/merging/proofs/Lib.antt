@@ -1,5 +1,7 @@
 pub mod Adding
 pub mod Clear
+pub mod Harmless
+pub mod NamesSeen
 pub mod Core
 pub mod Counting
 pub mod Distinct
@@ -11,6 +13,8 @@ pub mod Logs
 pub mod Opened
 pub mod Order
 pub mod Rows
+pub mod Spreads
 pub mod Tallying
+pub mod TallyingBelow
 pub mod Work
 pub mod Naming

@@ -27,7 +27,7 @@ same_item x y o h k = cc
 at_index : (log : List Compared) (k : ℕ) (r : Compared) → slice_get log k ≡ Some r → Contains log r
 at_index log k r p = (k, slice_get_within log k r p, get_or_from_slice_get log k r r p)
 
-distinct_push : (log : List Compared) (new : Compared) → Distinct log → (new.first ≡ new.second → ⊥)
+pub distinct_push : (log : List Compared) (new : Compared) → Distinct log → (new.first ≡ new.second → ⊥)
     → ((r : Compared) → Contains log r → Repeats r new → ⊥) → Distinct (log ++ new ∷ [])
 distinct_push log new d ne fresh = record {
   different = All-push (λ r. r.first ≡ r.second → ⊥) log new d.different ne;
@@ -93,11 +93,11 @@ listed_new log e x f g i j (is, inr p) = inr (subst (λ (y : Bool). Contains (lo
     (subst (λ (k : ℕ). Contains (log ++ record { first = f; second = g; flag = e } ∷ []) (record { first = k; second = i; flag = e })) (sym p.1)
     (subst (λ (k : ℕ). Contains (log ++ record { first = f; second = g; flag = e } ∷ []) (record { first = f; second = k; flag = e })) (sym p.0) (Contains-push log (record { first = f; second = g; flag = e })))))
 
-either_more : (log : List Compared) (new a b : Compared) → Contains log a ⊎ Contains log b → Contains (log ++ new ∷ []) a ⊎ Contains (log ++ new ∷ []) b
+pub either_more : (log : List Compared) (new a b : Compared) → Contains log a ⊎ Contains log b → Contains (log ++ new ∷ []) a ⊎ Contains (log ++ new ∷ []) b
 either_more log new a b (inl c) = inl (Contains-append_left log (new ∷ []) a c)
 either_more log new a b (inr c) = inr (Contains-append_left log (new ∷ []) b c)
 
-listed_more : (log : List Compared) (e x : Bool) (f g i j : ℕ)
+pub listed_more : (log : List Compared) (e x : Bool) (f g i j : ℕ)
     → (Contains log (record { first = i; second = j; flag = x }) ⊎ Contains log (record { first = j; second = i; flag = x })) ⊎ ((x ≡ e) × (((i ≡ f) × (j ≡ g)) ⊎ ((i ≡ g) × (j ≡ f))))
     → Contains (log ++ record { first = f; second = g; flag = e } ∷ []) (record { first = i; second = j; flag = x })
     ⊎ Contains (log ++ record { first = f; second = g; flag = e } ∷ []) (record { first = j; second = i; flag = x })

@@ -9,8 +9,11 @@ use Rattle.merging.specs.declared.state.Finding.{Finding}
 use Rattle.merging.specs.World.{World, spreads_of, set_of}
 use Rattle.merging.specs.Log.{in_log, covers_of, Covers}
 use Rattle.merging.specs.Work.{pair_in, search_in, Searched, Pair, OwnPairs, ClosedSearch, ClosedPair, Grows, Did, Owes}
-use Rattle.merging.specs.State.{NotesPair, NotesSearch, Reports, CountsList, Keeps}
+use Rattle.merging.specs.Plain.{IsPlain, IsOnePlain}
+use Rattle.merging.specs.State.{NotesBelow, NotesPair, NotesSearch, Reports, CountsList, Keeps}
+use Rattle.std.proofs.lemmas.Bool.{cases_lt}
 use Rattle.merging.proofs.Tallying.{tally_same, tally_pair, tally_list}
+use Rattle.merging.proofs.TallyingBelow.{tally_below}
 
 abbrev pub no_entry : Entry
 no_entry = record { response = 0; field = 0; below = None }
@@ -156,9 +159,47 @@ module _ (w : World) where
         holds = λ M k. inr (e, inl refl, k.more_pairs e f g (d.grows.more_pairs e f g n.notes.noted));
         closes = λ M k c. d.closes M k record {
           searches_closed = λ x i h z. c.searches_closed x i h (search_back s t n.searched x i h z);
-          pairs_closed = λ x i j z. elim (n.notes.only x i j z) [ inl old ↦ c.pairs_closed x i j old | inr is ↦ closed_pair M e x f g i j is (d.holds M k) ];
+          pairs_closed = λ x i j z. elim (n.notes.only x i j z) [ inl old ↦ c.pairs_closed x i j old | inr is ↦ inl (closed_pair M e x f g i j is (d.holds M k)) ];
         };
       }
+
+  one_plain : (e x : Bool) (f g i j : ℕ) → (x ≡ e) × (((i ≡ f) × (j ≡ g)) ⊎ ((i ≡ g) × (j ≡ f))) → IsOnePlain w f g → IsOnePlain w i j
+  one_plain e x f g i j (is, inl p) (inl h) = inl (subst (λ (k : ℕ). IsPlain w (set_of w k)) (sym p.0) h)
+  one_plain e x f g i j (is, inl p) (inr h) = inr (subst (λ (k : ℕ). IsPlain w (set_of w k)) (sym p.1) h)
+  one_plain e x f g i j (is, inr p) (inl h) = inr (subst (λ (k : ℕ). IsPlain w (set_of w k)) (sym p.1) h)
+  one_plain e x f g i j (is, inr p) (inr h) = inl (subst (λ (k : ℕ). IsPlain w (set_of w k)) (sym p.0) h)
+
+  -- a pair of fragments was recorded, of which one is plain
+  pub did_passed : (f g : ℕ) {s t : Search} → NotesPair f g false s t → (f ≡ g → ⊥) → f < length w.fragments → g < length w.fragments
+      → (pair_in s false f g ≡ true → ⊥) → IsOnePlain w f g → Did w (λ M. Pair M false f g) s t
+  did_passed f g {s} {t} n ne lf lg fresh one = record {
+    keeps = tally_pair n ne lf lg fresh;
+    grows = record { more_pairs = n.notes.kept; more_searched = search_from s t n.searched; more_found = λ y h. subst (λ zs. Contains zs y) (sym n.found) h };
+    holds = λ M k. inr (false, inl refl, k.more_pairs false f g n.notes.noted);
+    closes = λ M k c. record {
+      searches_closed = λ x i h z. c.searches_closed x i h (search_back s t n.searched x i h z);
+      pairs_closed = λ x i j z. elim (n.notes.only x i j z) [ inl old ↦ c.pairs_closed x i j old | inr is ↦ inr (one_plain false x f g i j is one) ];
+    };
+  }
+
+  below_plain : (f i j : ℕ) → max i j ≡ f → IsPlain w (set_of w f) → IsOnePlain w i j
+  below_plain f i j is h = elim (cases_lt j i) [
+    | inl more ↦ inl (subst (λ (k : ℕ). IsPlain w (set_of w k)) (omega (arith, more, is)) h)
+    | inr le ↦ inr (subst (λ (k : ℕ). IsPlain w (set_of w k)) (omega (arith, le, is)) h)
+  ]
+
+  -- a plain fragment was recorded with some of smaller numbers
+  pub did_below : (f : ℕ) (among : ℕ → Bool) {s t : Search} → NotesBelow f among s t → f < length w.fragments → IsPlain w (set_of w f)
+      → Did w (λ M. (g : ℕ) → among g ≡ true → g < f → Pair M false f g) s t
+  did_below f among {s} {t} n lf one = record {
+    keeps = tally_below f among n lf;
+    grows = record { more_pairs = n.kept; more_searched = search_from s t n.searched; more_found = λ y h. subst (λ zs. Contains zs y) (sym n.found) h };
+    holds = λ M k g there less. inr (false, inl refl, k.more_pairs false f g (n.noted g there less));
+    closes = λ M k c. record {
+      searches_closed = λ x i h z. c.searches_closed x i h (search_back s t n.searched x i h z);
+      pairs_closed = λ x i j z. elim (n.only x i j z) [ inl old ↦ c.pairs_closed x i j old | inr is ↦ inr (below_plain f i j is.1 one) ];
+    };
+  }
 
   -- something was reported, after other work
   pub did_report : (P : Search → Type 0) (y : Finding) {s t u : Search} → Reports y t u → Did w P s t → Did w (λ M. P M × Contains M.found.items y) s u

@@ -20,3 +20,7 @@ pub record Lawful (j : Judgement) : Type 0 where
 -- No field of the one list fails with one of the other, whatever the flag.
 abbrev pub NoneConflict : Judgement → List Entry → List Entry → Type 0
 NoneConflict j left right = (e : Bool) → All (λ a. All (λ b. j.conflict e a.field b.field ≡ false) right) left
+
+-- Two fields that are like a third fail with each other under no flag.
+abbrev pub AlikeAgree : Judgement → (ℕ → ℕ → Type 0) → Type 0
+AlikeAgree j alike = (e : Bool) (one a b : ℕ) → alike one a → alike one b → j.conflict e a b ≡ false

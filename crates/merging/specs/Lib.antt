@@ -4,6 +4,8 @@ pub mod Indexed
 pub mod Graph
 pub mod World
 pub mod Clear
+pub mod Plain
+pub mod Firsts
 pub mod Log
 pub mod Opening
 pub mod Work

@@ -1,5 +1,6 @@
 -- The single steps of a search.
-use Rattle.std.specs.Prelude.{ℕ, ◌+◌, min, [], ◌∷◌, ◌++◌, Bool, false, ◌≡◌}
+use Rattle.std.specs.Prelude.{ℕ, ◌+◌, ◌<◌, min, max, [], ◌∷◌, ◌++◌, Bool, true, false, not, ◌&&◌, ◌≡◌, ◌⊎◌}
+use Rattle.bit_rows.specs.Count.{count_below}
 use Rattle.merging.specs.declared.state.Search.{Search}
 use Rattle.merging.specs.declared.state.Finding.{Finding}
 use Rattle.merging.specs.Log.{Notes, NotesBoth}
@@ -16,6 +17,18 @@ pub record Begins (s : Search) : Type 0 where
 pub record NotesPair (f g : ℕ) (e : Bool) (old new : Search) : Type 0 where
   pub notes : NotesBoth e f g (pair_in old) (pair_in new)
   pub compared : new.compared ≡ min (old.compared + 1) greatest
+  pub searched : new.searched ≡ old.searched
+  pub found : new.found.items ≡ old.found.items
+  pub opened : new.opened ≡ old.opened
+  pub lists : new.lists ≡ old.lists
+
+-- A fragment is noted with each of some that have smaller numbers, and how many of these pairs are new is counted.
+pub record NotesBelow (f : ℕ) (among : ℕ → Bool) (old new : Search) : Type 0 where
+  pub noted : (g : ℕ) → among g ≡ true → g < f → pair_in new false f g ≡ true
+  pub kept : (x : Bool) (i j : ℕ) → pair_in old x i j ≡ true → pair_in new x i j ≡ true
+  pub only : (x : Bool) (i j : ℕ) → pair_in new x i j ≡ true
+      → (pair_in old x i j ≡ true) ⊎ ((x ≡ false) × (max i j ≡ f) × (min i j < f) × (among (min i j) ≡ true))
+  pub compared : new.compared ≡ min (old.compared + count_below (λ g. pair_in new false f g && not (pair_in old false f g)) f) greatest
   pub searched : new.searched ≡ old.searched
   pub found : new.found.items ≡ old.found.items
   pub opened : new.opened ≡ old.opened

@@ -1,9 +1,13 @@
 -- What is asked of the sets, one after another.
-use Rattle.std.specs.Prelude.{ℕ, ◌<◌, List, Some, ◌≡◌, ◌⊎◌, slice_get}
+use Rattle.std.specs.Prelude.{ℕ, ◌<◌, List, Some, true, false, ◌≡◌, ◌⊎◌, slice_get}
 use Rattle.std.specs.List.{All, Contains}
+use Rattle.bit_rows.specs.Set.{has}
+use Rattle.bit_rows.specs.declared.set.BitSet.{BitSet}
 use Rattle.merging.specs.declared.node.Entry.{Entry}
+use Rattle.merging.specs.declared.state.Search.{Search}
 use Rattle.merging.specs.World.{World, own_of, spreads_of, set_of, Same}
-use Rattle.merging.specs.Merging.{Stands}
+use Rattle.merging.specs.Work.{Pair}
+use Rattle.merging.specs.Merging.{Stands, OwnWritten}
 use Rattle.merging.specs.Reports.{Root, AtFragments}
 
 abbrev pub AtRest : Entry → List Entry → Root → Type 0
@@ -32,9 +36,21 @@ AtSpread w s r = (f : ℕ) × Contains (spreads_of w s) f × AtWritten w s f r
 abbrev pub AtTop : World → ℕ → Root → Type 0
 AtTop w s r = AtWithin w s r ⊎ AtSpread w s r
 
--- A fragment, and one of a list.
+-- A fragment, and another one of a list.
 abbrev pub AtListed : World → ℕ → List ℕ → Root → Type 0
-AtListed w f rest r = (g : ℕ) × Contains rest g × AtFragments w f g r
+AtListed w f list r = (g : ℕ) × Contains list g × AtFragments w f g r
+
+-- An own field and one of the fragment, or fields of the fragment and of another one of a list.
+abbrev pub AtWrittenOrListed : World → ℕ → ℕ → List ℕ → Root → Type 0
+AtWrittenOrListed w s f list r = AtWritten w s f r ⊎ AtListed w f list r
+
+-- All that is asked of a spread of a set: its own fields with it, and it with each of the spreads, but for what is marked as plain.
+abbrev pub SpreadDone : World → Search → BitSet → ℕ → List ℕ → ℕ → Type 0
+SpreadDone w M plain s list f = OwnWritten w M s f × ((has plain (set_of w f) ≡ true) ⊎ All (Pair M false f) list)
+
+-- Each marked one of some fragments was noted with all that have smaller numbers.
+abbrev pub MarkedDone : World → Search → BitSet → List ℕ → ℕ → Type 0
+MarkedDone w M plain list f = has plain (set_of w f) ≡ true → (g : ℕ) → Contains list g → g < f → Pair M false f g
 
 -- The same two fragments, in either order.
 abbrev pub SamePair : ℕ × ℕ → ℕ × ℕ → Type 0

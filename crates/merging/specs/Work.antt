@@ -7,6 +7,7 @@ use Rattle.merging.specs.declared.state.Finding.{Finding}
 use Rattle.merging.specs.declared.state.Finding.TheVariants.{Direct}
 use Rattle.merging.specs.World.{World, own_of, spreads_of, set_of, conflict_of, exclusive_of, Same}
 use Rattle.merging.specs.Log.{in_log, Covers}
+use Rattle.merging.specs.Plain.{Occurs, IsPlainField, IsOnePlain}
 use Rattle.merging.specs.Counts.{Tally}
 
 -- Two fragments were compared under the flag, in either order.
@@ -29,13 +30,14 @@ Asked w M x s t =
     × All (λ h. Searched M x t h) (spreads_of w s)
     × All (λ g. All (λ h. Pair M x g h) (spreads_of w t)) (spreads_of w s)
 
--- The pair was compared: its fault is in the list, or all that stands below was asked for.
+-- The pair was compared: its fault is in the list, or all that stands below was asked for. Or one of the two is plain.
 pub data Done (w : World) (M : Search) : Bool → Entry → Entry → Type 0 where
   stood : {e : Bool} {a b : Entry} → conflict_of w e a b ≡ true → Contains M.found.items (Direct a b e) → Done w M e a b
   shallow : {e : Bool} {a b : Entry} → conflict_of w e a b ≡ false → (a.below ≡ None) ⊎ (b.below ≡ None) → Done w M e a b
   deep : {e : Bool} {a b : Entry} {s t : ℕ} → conflict_of w e a b ≡ false → a.below ≡ Some s → b.below ≡ Some t
       → ((c d : Entry) → Contains (own_of w s) c → Contains (own_of w t) d → Same c d → Done w M (exclusive_of w e a b) c d)
       → Asked w M (exclusive_of w e a b) s t → Done w M e a b
+  clear : {e : Bool} {a b : Entry} → Same a b → Occurs w a → Occurs w b → IsPlainField w a ⊎ IsPlainField w b → Done w M e a b
 
 abbrev pub OwnPairs : World → Search → Bool → ℕ → ℕ → Type 0
 OwnPairs w M e s t = (c d : Entry) → Contains (own_of w s) c → Contains (own_of w t) d → Same c d → Done w M e c d
@@ -52,9 +54,13 @@ ClosedPair w M x f g =
     × All (λ h. Pair M x f h) (spreads_of w (set_of w g))
     × All (λ h. Pair M x h g) (spreads_of w (set_of w f))
 
+-- Two fragments were compared, in either order, or one of them is plain.
+abbrev pub FollowedUp : World → Search → Bool → ℕ → ℕ → Type 0
+FollowedUp w M x f g = (ClosedPair w M x f g ⊎ ClosedPair w M x g f) ⊎ IsOnePlain w f g
+
 -- Everything that is recorded in s is followed up in M.
 pub record AllClosed (w : World) (M s : Search) : Type 0 where
-  pub pairs_closed : (x : Bool) (f g : ℕ) → pair_in s x f g ≡ true → ClosedPair w M x f g ⊎ ClosedPair w M x g f
+  pub pairs_closed : (x : Bool) (f g : ℕ) → pair_in s x f g ≡ true → FollowedUp w M x f g
   pub searches_closed : (x : Bool) (i g : ℕ) → search_in s x i g ≡ true → ClosedSearch w M x i g
 
 pub record Grows (old new : Search) : Type 0 where

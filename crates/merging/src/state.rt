@@ -1,8 +1,9 @@
 //! What a search has found and noted.
 ghost use Rattle.std.specs.Prelude.{◌≡◌, ◌≤◌, ◌++◌, ◌∷◌, [], OnOk, ℕ, Bool, false, max, min, length};
+ghost use Rattle.bit_rows.specs.Set.{has};
 ghost use Rattle.merging.specs.Log.{covers_of};
 ghost use Rattle.merging.specs.Work.{pair_in, search_in};
-ghost use Rattle.merging.specs.State.{Begins, NotesPair, NotesSearch, Reports, CountsList, Keeps};
+ghost use Rattle.merging.specs.State.{Begins, NotesBelow, NotesPair, NotesSearch, Reports, CountsList, Keeps};
 
 use crate::log::{Log, is_in, no_questions, note};
 use crate::node::Entry;
@@ -101,6 +102,15 @@ pub fn note_pair(search: &mut Search, f: usize, g: usize, e: bool) -> Result<(),
 {
     note(&mut search.pairs, e, f.max(g), f.min(g))?;
     search.compared = search.compared.saturating_add(1);
+    Ok(())
+}
+
+/// Notes that a fragment is compared with each of some that have smaller numbers, many at once.
+pub fn note_below(search: &mut Search, f: usize, among: &BitSet) -> Result<(), AllocError>
+    ensures { OnOk result (NotesBelow f (has among.now) search.old search.new) }
+{
+    let added = search.pairs.plain.insert_below(f, among)?;
+    search.compared = search.compared.saturating_add(added as u128);
     Ok(())
 }
 

@@ -5,16 +5,20 @@ ghost use Rattle.merging.specs.World.{world, set_of, spreads_of};
 ghost use Rattle.merging.specs.Opening.{Opens};
 ghost use Rattle.merging.specs.Work.{Did, Done, OwnPairs, Pair};
 ghost use Rattle.merging.specs.Merging.{Top, OwnWithin, OwnWritten};
-ghost use Rattle.merging.specs.Reports.{Adds, AddsAll, AtPlaces, Judged};
-ghost use Rattle.merging.specs.Tops.{AllBefore, AtBefore, AtListed, AtRest, AtSpread, AtTop, AtWithin, AtWritten, Together};
+ghost use Rattle.merging.specs.Reports.{Adds, AddsAll, AtFragments, AtPlaces, Judged};
+ghost use Rattle.merging.specs.Plain.{ArePlain};
+ghost use Rattle.merging.specs.Tops.{AllBefore, AtBefore, AtListed, AtRest, AtSpread, AtTop, AtWithin, AtWritten, AtWrittenOrListed, MarkedDone, SpreadDone, Together};
 
 use crate::graph::Graph;
 use crate::judge::Judge;
 use crate::node::Entry;
 use crate::opening::opened;
+use crate::passing::{note_plain, pass_over};
+use crate::plain::{is_plain, passed_over};
 use crate::search::{compare_fields, compare_fragments, compare_own};
 use crate::state::{Search, no_search, put_opening};
 use crate::view::{are_plainly_alike, firsts, group, order, set, spreads};
+use bit_rows::set::BitSet;
 use std::alloc::{AllocError, Global};
 
 // A field and those after it.
@@ -117,48 +121,99 @@ fn write_own<J: Judge>(
     write_out(graph, s, g, search)
 }
 
+// Two fragments.
+fn compare_pair<J: Judge>(
+    graph: &Graph<J>,
+    f: usize,
+    g: usize,
+    plain: &BitSet,
+    search: &mut Search,
+) -> Result<(), AllocError>
+    requires first { f < length graph.now.fragments.items }
+    requires second { g < length graph.now.fragments.items }
+    requires plain { ArePlain (world J.judgement graph.now) plain.now }
+    ensures done { OnOk result (Did (world J.judgement graph.now) (λ M. Pair M false f g) search.old search.new) }
+    ensures real { OnOk result (Adds (world J.judgement graph.now) false (AtFragments (world J.judgement graph.now) f g) search.old.found.items search.new.found.items) }
+{
+    if is_plain(graph, g, plain) {
+        return pass_over(graph, f, g, search);
+    }
+    compare_fragments(graph, f, g, false, search)
+}
+
 // A fragment, and each of a list.
 fn pair_all<J: Judge>(
     graph: &Graph<J>,
     f: usize,
-    rest: &[usize],
+    list: &[usize],
+    plain: &BitSet,
     search: &mut Search,
 ) -> Result<(), AllocError>
     requires first { f < length graph.now.fragments.items }
-    requires rest { All (λ g. g < length graph.now.fragments.items) rest.now }
-    ensures done { OnOk result (Did (world J.judgement graph.now) (λ M. All (λ g. Pair M false f g) rest.now) search.old search.new) }
-    ensures real { OnOk result (Adds (world J.judgement graph.now) false (AtListed (world J.judgement graph.now) f rest.now) search.old.found.items search.new.found.items) }
+    requires list { All (λ g. g < length graph.now.fragments.items) list.now }
+    requires plain { ArePlain (world J.judgement graph.now) plain.now }
+    ensures done { OnOk result (Did (world J.judgement graph.now) (λ M. All (λ g. Pair M false f g) list.now) search.old search.new) }
+    ensures real { OnOk result (Adds (world J.judgement graph.now) false (AtListed (world J.judgement graph.now) f list.now) search.old.found.items search.new.found.items) }
 {
-    for g in rest {
-        compare_fragments(graph, f, *g, false, search)?;
+    for g in list {
+        compare_pair(graph, f, *g, plain, search)?;
     }
     Ok(())
 }
 
-// The spreads of a set, each with the own fields and then with the spreads after it.
+// A spread of a set, with the own fields and with each spread. A plain one is left to `note_plain`.
+fn compare_spread<J: Judge>(
+    graph: &Graph<J>,
+    s: usize,
+    f: usize,
+    list: &[usize],
+    plain: &BitSet,
+    search: &mut Search,
+) -> Result<(), AllocError>
+    requires first { f < length graph.now.fragments.items }
+    requires list { All (λ g. g < length graph.now.fragments.items) list.now }
+    requires plain { ArePlain (world J.judgement graph.now) plain.now }
+    ensures done { OnOk result (Did (world J.judgement graph.now) (λ M. SpreadDone (world J.judgement graph.now) M plain.now s list.now f) search.old search.new) }
+    ensures real { OnOk result (AddsAll (world J.judgement graph.now) false (AtWrittenOrListed (world J.judgement graph.now) s f list.now) (AtWritten (world J.judgement graph.now) s f) search.old.found.items search.new.found.items) }
+{
+    if is_plain(graph, f, plain) {
+        return Ok(());
+    }
+    write_own(graph, s, f, search)?;
+    pair_all(graph, f, list, plain, search)
+}
+
+// The spreads of a set, each with the own fields and with the other spreads.
 fn compare_spreads<J: Judge>(
     graph: &Graph<J>,
     s: usize,
+    plain: &BitSet,
     search: &mut Search,
 ) -> Result<(), AllocError>
+    requires { ArePlain (world J.judgement graph.now) plain.now }
     ensures done { OnOk result (Did (world J.judgement graph.now) (λ M. All (λ f. OwnWritten (world J.judgement graph.now) M s f) (spreads_of (world J.judgement graph.now) s) × AllBefore (Pair M false) (spreads_of (world J.judgement graph.now) s)) search.old search.new) }
     ensures real { OnOk result (AddsAll (world J.judgement graph.now) false (AtPlaces (world J.judgement graph.now) s) (AtSpread (world J.judgement graph.now) s) search.old.found.items search.new.found.items) }
 {
     let list = spreads(graph, s);
-    for k in 0..list.len() {
-        write_own(graph, s, list[k], search)?;
-        pair_all(graph, list[k], &list[k + 1..], search)?;
+    for f in list {
+        compare_spread(graph, s, *f, list, plain, search)?;
     }
-    Ok(())
+    note_plain(graph, list, plain, search)
 }
 
 // All that one set asks for.
-fn compare_set<J: Judge>(graph: &Graph<J>, s: usize, search: &mut Search) -> Result<(), AllocError>
+fn compare_set<J: Judge>(
+    graph: &Graph<J>,
+    s: usize,
+    plain: &BitSet,
+    search: &mut Search,
+) -> Result<(), AllocError>
+    requires { ArePlain (world J.judgement graph.now) plain.now }
     ensures done { OnOk result (Did (world J.judgement graph.now) (λ M. Top (world J.judgement graph.now) M s) search.old search.new) }
     ensures real { OnOk result (AddsAll (world J.judgement graph.now) false (AtPlaces (world J.judgement graph.now) s) (AtTop (world J.judgement graph.now) s) search.old.found.items search.new.found.items) }
 {
     compare_within(graph, s, search)?;
-    compare_spreads(graph, s, search)
+    compare_spreads(graph, s, plain, search)
 }
 
 /// The search over all sets, in the graph's order.
@@ -171,9 +226,10 @@ pub fn search_all<J: Judge>(alloc: Global, graph: &Graph<J>) -> Result<Search, A
     ensures enough { IfOk result (λ m. (ps : List (ℕ × ℕ)) → Together (world J.judgement graph.now) ps → length ps ≤ m.compared) }
     ensures opened { IfOk result (λ m. m.opened ≤ length graph.now.fragments.items * m.lists) }
 {
+    let plain = passed_over(alloc, graph)?;
     let mut search = no_search(alloc);
     for s in order(graph) {
-        compare_set(graph, *s, &mut search)?;
+        compare_set(graph, *s, &plain, &mut search)?;
     }
     Ok(search)
 }

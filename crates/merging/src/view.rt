@@ -2,6 +2,7 @@
 ghost use Rattle.std.specs.Prelude.{◌≡◌};
 ghost use Rattle.merging.specs.Names.{named, AreListed};
 ghost use Rattle.std.specs.Bool.{OnTrue};
+ghost use Rattle.std.specs.List.{All};
 ghost use Rattle.merging.specs.Clear.{AreClear, AreLeaves};
 ghost use Rattle.merging.specs.World.{world, own_of, spreads_of, set_of, exclusive_of, conflict_of};
 
@@ -81,13 +82,31 @@ pub fn are_in_conflict<J: Judge>(graph: &Graph<J>, e: bool, a: Entry, b: Entry) 
     graph.judge.are_in_conflict(e, a.field, b.field)
 }
 
-/// Whether it is plain that no field of the one list fails with one of the other, nor any that stand below them.
+/// Whether it is plain that no field of the one list fails with one of the other, nor any that stand below them. False says nothing.
 ///
-/// Nothing stands below the first, so there is nothing below to compare.
+/// Nothing stands below the first list, so there is nothing below to compare. It takes as long as the two lists are.
 pub fn are_plainly_alike<J: Judge>(graph: &Graph<J>, left: &[Entry], right: &[Entry]) -> bool
     ensures { OnTrue result (AreClear (world J.judgement graph.now) left.now right.now) }
 {
-    are_leaves(left) && graph.judge.are_plainly_alike(left, right)
+    match left.first() {
+        Some(first) => {
+            let one = first.field;
+            are_leaves(left) && are_like(graph, one, left) && are_like(graph, one, right)
+        }
+        None => true,
+    }
+}
+
+// Whether some fields are like one.
+fn are_like<J: Judge>(graph: &Graph<J>, one: usize, others: &[Entry]) -> bool
+    ensures { OnTrue result (All (λ a. J.are_alike graph.now.judge one a.field) others.now) }
+{
+    for other in others {
+        if !graph.judge.is_plainly_like(one, other.field) {
+            return false;
+        }
+    }
+    true
 }
 
 // Whether nothing stands below any of them.

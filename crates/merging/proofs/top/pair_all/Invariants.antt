@@ -8,5 +8,5 @@ use Rattle.merging.proofs.top.pair_all.Given as goal
 
 abbrev pub invariant-loop-g : goal.invariant-loop-g
 invariant-loop-g g l =
-    Did (world g.J.Judge.judgement l.graph) (λ M. All (λ k. Pair M false l.f k) (take l.g-index l.rest)) l.fn.search l.search
-    × Adds (world g.J.Judge.judgement l.graph) false (AtListed (world g.J.Judge.judgement l.graph) l.f l.rest) l.fn.search.found.items l.search.found.items
+    Did (world g.J.Judge.judgement l.graph) (λ M. All (λ k. Pair M false l.f k) (take l.g-index l.list)) l.fn.search l.search
+    × Adds (world g.J.Judge.judgement l.graph) false (AtListed (world g.J.Judge.judgement l.graph) l.f l.list) l.fn.search.found.items l.search.found.items

@@ -1,0 +1,11 @@
+use Rattle.std.proofs.Common.{◌≡◌, take}
+use Rattle.std.specs.List.{All}
+use Rattle.merging.specs.World.{world}
+use Rattle.merging.specs.Work.{Did}
+use Rattle.merging.specs.Tops.{MarkedDone}
+use Rattle.merging.proofs.passing.note_plain.Given as goal
+
+abbrev pub invariant-loop-f : goal.invariant-loop-f
+invariant-loop-f g l =
+    Did (world g.J.Judge.judgement l.graph) (λ M. All (MarkedDone (world g.J.Judge.judgement l.graph) M l.plain l.list) (take l.f-index l.list)) l.fn.search l.search
+    × (l.search.found.items ≡ l.fn.search.found.items)
