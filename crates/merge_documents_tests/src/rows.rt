@@ -9,7 +9,7 @@ use schema::model::SchemaType;
 use std::alloc::Global;
 use std::process::Abort;
 
-const PETS: [(&str, &str); 16] = [
+const PETS: [(&str, &str); 18] = [
     (
         "{ dog { ...A } } fragment A on Dog { ...B } fragment B on Dog { ...A }",
         "cycle",
@@ -75,6 +75,15 @@ const PETS: [(&str, &str); 16] = [
     (
         "{ dog { x: name x: name ...A } } fragment A on Dog { x: name x: nickname }",
         "compared 0\n8 and 61\n16 and 61\n53 and 61\n",
+    ),
+    // Of many fragments those are passed over in which nothing can fail, and counted with each that some set spreads beside them.
+    (
+        "{ dog { ...A ...B ...C ...D ...E ...F ...G ...H } } fragment A on Dog { name } fragment B on Dog { name } fragment C on Dog { name } fragment D on Dog { name } fragment E on Dog { name } fragment F on Dog { name } fragment G on Dog { name } fragment H on Dog { name }",
+        "compared 28\n",
+    ),
+    (
+        "{ dog { ...A ...B ...C ...D ...E ...F ...G ...H ...I } } fragment A on Dog { name } fragment B on Dog { name } fragment C on Dog { name } fragment D on Dog { name } fragment E on Dog { name } fragment F on Dog { name } fragment G on Dog { name } fragment H on Dog { x: name } fragment I on Dog { x: barks }",
+        "compared 36\n266 and 296\n",
     ),
 ];
 

@@ -90,12 +90,16 @@ fn plain_sets<J: Judge>(alloc: Global, graph: &Graph<J>) -> Result<BitSet, Alloc
     Ok(sets)
 }
 
+/// Of fewer fragments so few pairs are compared that nothing is gained by passing some over.
+pub const MANY: usize = 8;
+
 // Whether some set may be met more than once: one spreads two fragments, or a fragment with fields of its own spreads another.
 fn is_worthwhile<J>(graph: &Graph<J>) -> bool {
     let fragments = graph.fragments.as_slice();
     let sets = graph.sets.as_slice();
-    sets.iter().any(|set| set.spreads.len() > 1)
-        || fragments.iter().any(|s| may_be_met_again(sets, *s))
+    fragments.len() >= MANY
+        && (sets.iter().any(|set| set.spreads.len() > 1)
+            || fragments.iter().any(|s| may_be_met_again(sets, *s)))
 }
 
 fn may_be_met_again(sets: &[SetNode], s: usize) -> bool {

@@ -5,7 +5,7 @@ use Rattle.language.proofs.Members.{bytes_eq-same, bytes_eq-refl}
 use Rattle.std.specs.Option.{is_some}
 use Rattle.std.specs.Prelude.{if◌then◌else◌}
 use Rattle.std.specs.BTreeMap.{btree_map_len}
-use Rattle.numbered_sets.specs.Names.{Names, number_in, AreApart}
+use Rattle.numbered_sets.specs.NameMap.{NameMap, number_at, AreNumbersApart}
 use Rattle.numbered_sets.proofs.Lists.{same_some}
 
 module _ (f g : List ℕ → Option ℕ) (name : List ℕ) (next : ℕ) (absent : f name ≡ None) (updated : (q : List ℕ) → g q ≡ cond (bytes_eq name q) (Some next) (f q)) where
@@ -43,11 +43,11 @@ module _ (f g : List ℕ → Option ℕ) (name : List ℕ) (next : ℕ) (absent 
 pub one_more : (o p : Option ℕ) (m n : ℕ) → o ≡ p → p ≡ None → n ≡ m + (if is_some o then 0 else 1) → n ≡ m + 1
 one_more o p m n e f h = h ∙ ap (λ q. m + (if is_some q then 0 else 1)) (e ∙ f)
 
-pub apart_more : (old new : Names) (name : List ℕ) (next : ℕ) → number_in old name ≡ None
-    → ((q : List ℕ) → number_in new q ≡ cond (bytes_eq name q) (Some next) (number_in old q)) → next ≡ btree_map_len old → btree_map_len new ≡ next + 1 → AreApart old → AreApart new
+pub apart_more : (old new : NameMap) (name : List ℕ) (next : ℕ) → number_at old name ≡ None
+    → ((q : List ℕ) → number_at new q ≡ cond (bytes_eq name q) (Some next) (number_at old q)) → next ≡ btree_map_len old → btree_map_len new ≡ next + 1 → AreNumbersApart old → AreNumbersApart new
 apart_more old new name next absent updated count longer a =
-    let small : (q : List ℕ) (k : ℕ) → number_in old q ≡ Some k → k < next = λ q k h. subst (λ (l : ℕ). k < l) (sym count) (a.small q k h) in
+    let small : (q : List ℕ) (k : ℕ) → number_at old q ≡ Some k → k < next = λ q k h. subst (λ (l : ℕ). k < l) (sym count) (a.small q k h) in
     record {
-      small = λ q k h. subst (λ (l : ℕ). k < l) (sym longer) (named_small (number_in old) (number_in new) name next absent updated small q k h);
-      apart = named_apart (number_in old) (number_in new) name next absent updated small a.apart;
+      small = λ q k h. subst (λ (l : ℕ). k < l) (sym longer) (named_small (number_at old) (number_at new) name next absent updated small q k h);
+      apart = named_apart (number_at old) (number_at new) name next absent updated small a.apart;
     }

@@ -1,4 +1,6 @@
 pub mod Known
+pub mod NameMap
+pub mod Recent
 pub mod Names
 pub mod Once
 pub mod Table

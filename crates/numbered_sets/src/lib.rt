@@ -5,5 +5,7 @@ pub mod adding;
 pub mod known;
 mod names;
 mod once;
+mod recent;
+mod responses;
 mod steps;
 pub mod table;

@@ -1,32 +1,62 @@
 //! Names by number.
-ghost use Rattle.std.specs.Prelude.{◌≡◌, ℕ, List, Some, OnOk, IfOk};
+ghost use Rattle.std.specs.Prelude.{◌≡◌, ℕ, List, None, Some, OnOk, IfOk};
+ghost use Rattle.numbered_sets.specs.NameMap.{number_at, KeepsNumbers, AreNumbersApart};
 ghost use Rattle.numbered_sets.specs.Names.{number_in, KeepsNames, AreApart};
 
+use crate::recent::{keep_name, recent_number, slot_of};
+use crate::responses::ResponseNames;
 use language::error::OutOfMemory;
+use std::alloc::Global;
 use std::collections::BTreeMap;
 
-/// The number of a name.
-pub fn number_of_name(names: &BTreeMap<&str, usize>, name: &str) -> Option<usize>
-    ensures { result ≡ number_in names.now name.now }
+/// No names.
+pub fn no_names<'a>(alloc: Global) -> ResponseNames<'a>
+    ensures { AreApart result }
 {
-    names.get(name).copied()
+    ResponseNames {
+        map: BTreeMap::new(alloc),
+        recent: Vec::new(alloc),
+    }
 }
 
-/// The number of a name, the next one where it has none.
-pub fn number_name<'a>(
-    names: &mut BTreeMap<&'a str, usize>,
+/// The number of a name in a map.
+pub fn number_of_name(map: &BTreeMap<&str, usize>, name: &str) -> Option<usize>
+    ensures { result ≡ number_at map.now name.now }
+{
+    map.get(name).copied()
+}
+
+/// The number of a name in a map, the next one where it has none.
+pub fn number_in_map<'a>(
+    map: &mut BTreeMap<&'a str, usize>,
     name: &'a str,
 ) -> Result<usize, OutOfMemory>
+    ensures numbered { IfOk result (λ k. number_at map.new name.now ≡ Some k) }
+    ensures kept { KeepsNumbers map.old map.new }
+    ensures apart { AreNumbersApart map.old → OnOk result (AreNumbersApart map.new) }
+{
+    match number_of_name(map, name) {
+        Some(number) => Ok(number),
+        None => {
+            let next = map.len();
+            map.insert(name, next)?;
+            Ok(next)
+        }
+    }
+}
+
+/// The number of a name, the next one where it has none. In real documents few names stand again and again, so the recent
+/// ones are asked first, and the map only where they don't know.
+pub fn number_name<'a>(names: &mut ResponseNames<'a>, name: &'a str) -> Result<usize, OutOfMemory>
     ensures numbered { IfOk result (λ k. number_in names.new name.now ≡ Some k) }
     ensures kept { OnOk result (KeepsNames names.old names.new) }
     ensures apart { AreApart names.old → OnOk result (AreApart names.new) }
 {
-    match number_of_name(names, name) {
-        Some(number) => Ok(number),
-        None => {
-            let next = names.len();
-            names.insert(name, next)?;
-            Ok(next)
-        }
+    let slot = slot_of(name);
+    if let Some(number) = recent_number(names.recent.as_slice(), slot, name) {
+        return Ok(number);
     }
+    let number = number_in_map(&mut names.map, name)?;
+    keep_name(&mut names.recent, slot, name, number)?;
+    Ok(number)
 }

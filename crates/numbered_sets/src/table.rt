@@ -1,10 +1,11 @@
 //! What is made of a document's selection sets.
 ghost use Rattle.numbered_sets.specs.Adding.{IsEmptyTable};
 
+use crate::names::no_names;
+use crate::responses::ResponseNames;
 use field_pairs::entry::Entry;
 use merging::node::Entry as OwnField;
 use std::alloc::Global;
-use std::collections::BTreeMap;
 
 /// A set: its own fields, and the numbers of the fragments that it spreads.
 #[derive(Debug, Drop)]
@@ -17,7 +18,7 @@ pub struct NumberedSet {
 #[derive(Drop)]
 pub struct Table<'a, S, C> {
     pub fields: Vec<Entry<'a, S, C>>,
-    pub responses: BTreeMap<&'a str, usize>,
+    pub responses: ResponseNames<'a>,
     pub sets: Vec<NumberedSet>,
     pub order: Vec<usize>,
 }
@@ -28,7 +29,7 @@ pub fn no_table<'a, S, C>(alloc: Global) -> Table<'a, S, C>
 {
     Table {
         fields: Vec::new(alloc),
-        responses: BTreeMap::new(alloc),
+        responses: no_names(alloc),
         sets: Vec::new(alloc),
         order: Vec::new(alloc),
     }
