@@ -27,7 +27,7 @@ use std::alloc::Global;
 ///
 /// The metadata of the type has to stand in the schema. A value that conforms takes no memory but what the checks of its
 /// scalars and enum values take: no type is printed and no text made before there is a fault. An input field is looked up by
-/// comparing names in turn. `OutOfMemory` is answered where a text or a check wants memory.
+/// `SchemaTypeOf::input_field_by_name`. `OutOfMemory` is answered where a text or a check wants memory.
 pub fn validate_literal_value<'a, S: CheckedScalar>(
     alloc: Global,
     schema: &'a SchemaType<S>,
@@ -124,7 +124,7 @@ fn fault_of_entry<'a, S: CheckedScalar>(
     requires known { IsInSchema schema.now (plain_meta meta.now) }
     ensures { IfOk result (λ fault. KeyedFault schema.now S.may_answer (printed_value S.text S.str_of) meta.now key.now value.now (option_map string_bytes fault)) }
 {
-    match meta.input_field_by_name(key) {
+    match schema.input_field_by_name(meta, key) {
         None => Ok(Some(unknown_fault(alloc, meta, key)?)),
         Some(field) => match fault_of(alloc, schema, type_of_field(schema, field), value)? {
             None => Ok(None),

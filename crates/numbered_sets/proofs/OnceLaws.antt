@@ -2,7 +2,10 @@
 use Rattle.std.proofs.Common.{◌≡◌, ℕ, ◌+◌, ◌<◌, List, [], ◌∷◌, ◌++◌, length, take, get_or, Some, slice_get, refl, sym, ap, subst, ◌∙◌, inl, inr, true, false, Bool, ◌||◌, ◌==◌}
 use Rattle.std.proofs.lemmas.List.{take_more}
 use Rattle.std.proofs.lemmas.List.Folds.{list_any-append}
-use Rattle.std.proofs.lemmas.Bool.{eqb-true}
+use Rattle.std.proofs.Common.{eq-eqb, ne_eqb}
+use Rattle.std.proofs.lemmas.Bool.{cases_eq, eqb-true}
+use Rattle.bit_rows.specs.Set.{has}
+use Rattle.bit_rows.specs.declared.set.BitSet.{BitSet}
 use Rattle.numbered_sets.specs.Once.{is_among, IsEachOnce}
 use Rattle.numbered_sets.proofs.Lists.{get_snoc, among_from_get}
 
@@ -53,3 +56,30 @@ once_step xs i once new l h absent e =
 
 pub once_stay : (xs : List ℕ) (i : ℕ) (once : List ℕ) → i < length xs → IsEachOnce (take i xs) once → is_among once (get_or xs i 0) ≡ true → IsEachOnce (take (i + 1) xs) once
 once_stay xs i once l h there = subst (λ z. IsEachOnce z once) (sym (take_more xs i 0 l)) (once_again (take i xs) once (get_or xs i 0) there h)
+
+-- the members of a set of bits are the numbers of a list
+abbrev pub HaveBits : BitSet → List ℕ → Type 0
+HaveBits seen once = (x : ℕ) → has seen x ≡ is_among once x
+
+module _ (old new : BitSet) (once : List ℕ) (n : ℕ) (h : HaveBits old once) (there : has new n ≡ true) (others : (m : ℕ) → (m ≡ n → ⊥) → has new m ≡ has old m) where
+  last : (b : Bool) → (b || (true || false)) ≡ true
+  last true = refl
+  last false = refl
+
+  no_last : (b : Bool) → b ≡ (b || (false || false))
+  no_last true = refl
+  no_last false = refl
+
+  pub bits_more : HaveBits new (once ++ n ∷ [])
+  bits_more x = elim (cases_eq x n) [
+    | inl is ↦ subst (λ (y : ℕ). has new y ≡ true) (sym is) there
+        ∙ sym (among_more once n x ∙ ap (λ b. is_among once x || (b || false)) (eq-eqb n x (sym is)) ∙ last (is_among once x))
+    | inr other ↦ others x other ∙ h x ∙ no_last (is_among once x)
+        ∙ sym (among_more once n x ∙ ap (λ b. is_among once x || (b || false)) (ne_eqb n x (λ e. other (sym e))))
+  ]
+
+  pub bits_stay : has old n ≡ true → HaveBits new once
+  bits_stay stood x = elim (cases_eq x n) [
+    | inl is ↦ subst (λ (y : ℕ). has new y ≡ has old y) (sym is) (there ∙ sym stood) ∙ h x
+    | inr other ↦ others x other ∙ h x
+  ]

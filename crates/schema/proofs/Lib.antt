@@ -5,9 +5,11 @@ pub mod DirectiveLemmas
 pub mod DistinctLemmas
 pub mod ExtendLemmas
 pub mod Finds
+pub mod InputOrderLemmas
 pub mod KeyedLemmas
 pub mod NamesBelow
 pub mod OrderLemmas
+pub mod PlaceLemmas
 pub mod PossibleLemmas
 pub mod Refusals
 pub mod RootLemmas

@@ -7,11 +7,13 @@ pub mod Codes
 pub mod Concrete
 pub mod Directives
 pub mod ErrorTexts
+pub mod InputOrders
 pub mod Layers
 pub mod Locations
 pub mod Named
 pub mod Names
 pub mod Ordered
+pub mod Places
 pub mod Possible
 pub mod Repeated
 pub mod RootNames

@@ -7,5 +7,6 @@ pub mod extend;
 pub mod first;
 pub mod keyed;
 pub mod listed;
+pub mod orders;
 pub mod repeated;
 pub mod roots;

@@ -2,6 +2,7 @@
 
 pub mod directives;
 mod made;
+pub(crate) mod places;
 pub mod schemas;
 mod type_calls;
 pub mod types;

@@ -17,3 +17,5 @@ mod relations;
 mod said;
 #[cfg(test)]
 mod schemas;
+#[cfg(test)]
+mod wide_inputs;

@@ -5,9 +5,11 @@ ghost use Rattle.indexmap.specs.IndexMap.{values};
 ghost use Rattle.schema.specs.Accepted.{IsAccepted, is_input_listed};
 ghost use Rattle.schema.specs.Directives.{directive_name, directive_inputs};
 ghost use Rattle.meta.specs.Kinds.{name_of_meta};
+ghost use Rattle.schema.specs.InputOrders.{AreOrders};
 ghost use Rattle.schema.specs.Named.{are_distinct, are_keyed};
 
 mod changes;
+mod inputs;
 mod lists;
 mod ordered;
 mod possible;
@@ -17,6 +19,7 @@ use crate::build::accept::check_types;
 use crate::build::directives::directives_by_name;
 use crate::build::extend::with_added_fields;
 use crate::build::keyed::map_by_name;
+use crate::build::orders::{InputOrders, input_orders};
 use crate::build::roots::RootNames;
 use crate::error::SchemaError;
 use crate::model::directives::DirectiveType;
@@ -34,6 +37,7 @@ use std::marker::Model;
 pub struct SchemaTypeOf<S, C> {
     description: Option<String>,
     types: IndexMap<String, MetaTypeOf<S, C>>,
+    orders: InputOrders,
     query: String,
     mutation: Option<String>,
     subscription: Option<String>,
@@ -43,6 +47,7 @@ pub struct SchemaTypeOf<S, C> {
     ghost keyed: { are_keyed name_of_meta types.entries ≡ true },
     ghost directives_keyed: { are_keyed directive_name directives.entries ≡ true },
     ghost directives_distinct: { are_distinct directive_name (values directives) ≡ true },
+    ghost ordered: { AreOrders (values types) orders.entries },
 }
 
 /// A schema, with the checks that its kind of scalars has.
@@ -132,10 +137,12 @@ impl<S: Drop, C: Drop> SchemaTypeOf<S, C> {
         let mutation = copy_text(alloc, roots.mutation)?;
         let subscription = copy_text(alloc, roots.subscription)?;
         let directives = directives_by_name(alloc)?;
+        let orders = input_orders(alloc, types.as_slice())?;
         let types = map_by_name(alloc, types)?;
         Ok(SchemaTypeOf {
             description: None,
             types,
+            orders,
             query,
             mutation,
             subscription,

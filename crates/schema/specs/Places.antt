@@ -1,0 +1,31 @@
+-- Places in a list of names, in the order of the names.
+use Rattle.std.specs.Prelude.{◌≡◌, ℕ, suc, List, [], ◌∷◌, Bool, cond, Option, Some, None, find, option_map, slice_index_or}
+use Rattle.std.specs.Cmp.Lexicographic.{slice_cmp}
+use Rattle.std.specs.List.Sorted.{IsSortedBy}
+use Rattle.std.specs.Ordering.{is_lt, nat_cmp}
+use Rattle.std.specs.Str.{bytes_eq}
+
+-- the first place of a name
+abbrev pub first_place : List ℕ → List (List ℕ) → Option ℕ
+first_place name [] = None
+first_place name (n ∷ ns) = cond (bytes_eq n name) (Some 0) (option_map suc (first_place name ns))
+
+module _ (names : List (List ℕ)) where
+  -- the name at a place
+  abbrev pub name_at : ℕ → List ℕ
+  name_at i = slice_index_or names i []
+
+  abbrev pub is_at : List ℕ → ℕ → Bool
+  is_at name i = bytes_eq (name_at i) name
+
+  -- the name at one place is less than that at another
+  abbrev pub is_below : ℕ → ℕ → Bool
+  is_below i j = is_lt (slice_cmp nat_cmp (name_at i) (name_at j))
+
+  -- the names at the places ascend
+  abbrev pub AreAscending : List ℕ → Type 0
+  AreAscending places = IsSortedBy is_below places
+
+  -- of the places of a name the first one stands first
+  abbrev pub StandFirst : List ℕ → Type 0
+  StandFirst places = (name : List ℕ) → find (is_at name) places ≡ first_place name names
