@@ -1,16 +1,15 @@
 -- The own fields of a set by its index, or as they are where it has none.
 use Rattle.std.specs.Prelude.{List, Option, None, Some}
-use Rattle.std.specs.declared.alloc.Global.{Global}
-use Rattle.std.specs.declared.boxed.Box.{Box}
+use Rattle.std.specs.Option.{option_map_or}
 use Rattle.merging.specs.declared.node.Entry.{Entry}
 use Rattle.merging.specs.declared.node.NameIndex.{NameIndex}
 
 -- The first field of each response name.
-abbrev pub firsts_of : List Entry → Option (Box NameIndex Global) → List Entry
+abbrev pub firsts_of : List Entry → Option NameIndex → List Entry
 firsts_of own None = own
-firsts_of own (Some index) = index.value.firsts.items
+firsts_of own (Some index) = option_map_or (λ v. v.items) index.firsts own
 
 -- The fields by the numbers of their response names.
-abbrev pub sorted_of : List Entry → Option (Box NameIndex Global) → List Entry
+abbrev pub sorted_of : List Entry → Option NameIndex → List Entry
 sorted_of own None = own
-sorted_of own (Some index) = index.value.by_name.items
+sorted_of own (Some index) = index.by_name.items

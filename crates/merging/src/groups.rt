@@ -1,6 +1,7 @@
 //! The fields of a set by their response names.
 ghost use Rattle.std.specs.Prelude.{◌≡◌, IfOk};
 ghost use Rattle.std.specs.Bool.{OnTrue};
+ghost use Rattle.std.specs.Option.{option_map_or};
 ghost use Rattle.merging.specs.Names as Spec;
 
 use crate::node::{Entry, NameIndex, SetNode};
@@ -60,6 +61,22 @@ fn are_ascending(own: &[Entry]) -> bool
     own.is_sorted_by(|a, b| a.response < b.response)
 }
 
+// The first field of each response name, where some name has two; else each field is the first of its name.
+fn repeated_firsts(
+    alloc: Global,
+    own: &[Entry],
+    by_name: &[Entry],
+) -> Result<Option<Vec<Entry>>, AllocError>
+    requires sorted { Spec.AreSorted by_name.now }
+    requires grouped { Spec.HaveSameGroups by_name.now own.now }
+    ensures { IfOk result (λ firsts. Spec.AreListed (option_map_or (λ v. v.items) firsts own.now) own.now) }
+{
+    if are_ascending(by_name) {
+        return Ok(None);
+    }
+    Ok(Some(list_firsts(alloc, own, by_name)?))
+}
+
 /// A set of these own fields, which spreads these fragments.
 pub fn make_set(alloc: Global, own: Vec<Entry>, spreads: Vec<usize>) -> Result<SetNode, AllocError>
     ensures own { IfOk result (λ set. set.own ≡ own) }
@@ -73,12 +90,11 @@ pub fn make_set(alloc: Global, own: Vec<Entry>, spreads: Vec<usize>) -> Result<S
         });
     }
     let by_name = sort_fields(alloc, own.as_slice())?;
-    let firsts = list_firsts(alloc, own.as_slice(), by_name.as_slice())?;
-    let index = Box::new(alloc, NameIndex { firsts, by_name })?;
+    let firsts = repeated_firsts(alloc, own.as_slice(), by_name.as_slice())?;
     Ok(SetNode {
         own,
         spreads,
-        index: Some(index),
+        index: Some(NameIndex { firsts, by_name }),
     })
 }
 
@@ -87,7 +103,10 @@ pub(crate) fn first_fields(set: &SetNode) -> &[Entry]
     ensures { Spec.AreListed result.now set.now.own.items }
 {
     match &set.index {
-        Some(index) => index.firsts.as_slice(),
+        Some(index) => match &index.firsts {
+            Some(firsts) => firsts.as_slice(),
+            None => set.own.as_slice(),
+        },
         None => set.own.as_slice(),
     }
 }

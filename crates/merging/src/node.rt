@@ -13,8 +13,8 @@ pub struct Entry {
 /// The own fields of a set by their response names.
 #[derive(Drop)]
 pub struct NameIndex {
-    /// The first field of each response name, in the order in which they stand.
-    pub firsts: Vec<Entry>,
+    /// The first field of each response name, in the order in which they stand; None where each has one field.
+    pub firsts: Option<Vec<Entry>>,
     /// The own fields by the numbers of their response names; those of one name in their order.
     pub by_name: Vec<Entry>,
 }
@@ -25,7 +25,7 @@ pub struct SetNode {
     pub own: Vec<Entry>,
     pub spreads: Vec<usize>,
     /// None where the numbers of the response names rise from each own field to the next: then the own fields serve.
-    pub index: Option<Box<NameIndex>>,
+    pub index: Option<NameIndex>,
     ghost listed: { AreListed (firsts_of own.items index) own.items },
     ghost sorted: { AreSorted (sorted_of own.items index) },
     ghost grouped: { HaveSameGroups (sorted_of own.items index) own.items },

@@ -4,6 +4,7 @@ ghost use Rattle.std.specs.List.{flat_map};
 ghost use Rattle.reachability.specs.Reach.{operation};
 ghost use Rattle.scopes.specs.Index.{IsIndexOf};
 ghost use Rattle.scopes.specs.Places.{places_of};
+ghost use Rattle.language.specs.Values.{variables_of};
 ghost use Rattle.scopes.specs.Searches.{IsReady};
 ghost use Rattle.variable_uses.specs.InReachUses.{AllUses, UsedIn, kept_uses};
 ghost use Rattle.variable_uses.specs.Uses.{argument_uses, arguments_uses, at_place, definition_uses, directive_uses, directives_uses, selection_uses, use_of, used_in_all, variable_definition_uses, variable_definitions_uses};
@@ -39,6 +40,32 @@ fn add_names<'d>(
     Ok(())
 }
 
+// Adds those inside a value, at the place of the argument that it is.
+fn add_value<'d, S>(
+    alloc: Global,
+    place: SourcePosition,
+    value: &'d InputValue<S>,
+    found: &mut Vec<VariableUse<'d>>,
+) -> Result<(), OutOfMemory>
+    ensures { OnOk result (map use_of found.new.items ≡ map use_of found.old.items ++ map (at_place place) (variables_of value.now)) }
+{
+    match value {
+        // for these, as most values are, a list of names would be asked for in vain
+        InputValue::Null | InputValue::Scalar(_) | InputValue::Enum(_) => Ok(()),
+        InputValue::Variable(name) => {
+            found.push(VariableUse {
+                name: name.as_str(),
+                place,
+            })?;
+            Ok(())
+        }
+        InputValue::List(_) | InputValue::Object(_) => {
+            let names = value.referenced_variables(alloc)?;
+            add_names(place, names.as_slice(), found)
+        }
+    }
+}
+
 // Adds those of an argument.
 fn add_argument<'d, S>(
     alloc: Global,
@@ -47,8 +74,7 @@ fn add_argument<'d, S>(
 ) -> Result<(), OutOfMemory>
     ensures { OnOk result (map use_of found.new.items ≡ map use_of found.old.items ++ argument_uses argument.now) }
 {
-    let names = argument.1.item.referenced_variables(alloc)?;
-    add_names(argument.1.span.start, names.as_slice(), found)
+    add_value(alloc, argument.1.span.start, &argument.1.item, found)
 }
 
 // Adds those of each of these arguments.
