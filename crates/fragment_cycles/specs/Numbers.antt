@@ -20,10 +20,11 @@ abbrev pub or_else : {T : Type 0} → Option T → Option T → Option T
 or_else None o = o
 or_else (Some x) o = Some x
 
--- The name got the next number, if it had none.
+-- The name got the next number, if it had none; the slots are what they were.
 pub record AddsName (old new : Numbers) (name : List ℕ) : Type 0 where
   pub numbers : (other : List ℕ) → number_of new other ≡ or_else (number_of old other) (if bytes_eq name other then Some (length (names_of old)) else None)
   pub names : names_of new ≡ (if is_some (number_of old name) then names_of old else names_of old ++ name ∷ [])
+  pub slots : new.slots ≡ old.slots
 
 abbrev pub AddsDefinition : {S : Type 0} → Definition S → Numbers → Numbers → Type 0
 AddsDefinition (definition.Operation o) old new = new ≡ old

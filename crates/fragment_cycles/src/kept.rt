@@ -56,20 +56,28 @@ impl<'a> KeptNames<'a> {
     }
 }
 
+// A copy of the numbers of names, with the slots, since copies are what is asked most.
+fn copied_numbers<'a>(numbers: &Numbers<'a>) -> Result<Numbers<'a>, AllocError>
+    ensures numbers { IfOk result (λ n. (name : List ℕ) → number_of n name ≡ number_of numbers.now name) }
+    ensures names { IfOk result (λ n. names_of n ≡ names_of numbers.now) }
+{
+    let by_name = numbers.by_name.clone()?;
+    let names = numbers.names.clone()?;
+    let slots = numbers.slots.clone()?;
+    Ok(Numbers {
+        by_name,
+        names,
+        slots,
+    })
+}
+
 // A copy of numbered names.
 fn copied<'a>(names: &NumberedNames<'a>) -> Result<NumberedNames<'a>, AllocError>
     ensures { IfOk result (IsCopy names.now) }
 {
-    let by_name = names.numbers.by_name.clone()?;
-    let listed = names.numbers.names.clone()?;
+    let numbers = copied_numbers(&names.numbers)?;
     let defined = names.defined.clone()?;
-    Ok(NumberedNames {
-        numbers: Numbers {
-            by_name,
-            names: listed,
-        },
-        defined,
-    })
+    Ok(NumberedNames { numbers, defined })
 }
 
 // Whether a number is that of a name.

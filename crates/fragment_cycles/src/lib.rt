@@ -5,5 +5,6 @@ pub mod cycles;
 pub mod document_graph;
 pub mod graph;
 pub mod kept;
+pub mod names;
 pub mod numbers;
 pub mod search;

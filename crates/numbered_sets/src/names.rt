@@ -3,9 +3,10 @@ ghost use Rattle.std.specs.Prelude.{◌≡◌, ℕ, List, None, Some, OnOk, IfOk
 ghost use Rattle.numbered_sets.specs.NameMap.{number_at, KeepsNumbers, AreNumbersApart};
 ghost use Rattle.numbered_sets.specs.Names.{number_in, KeepsNames, AreApart};
 
-use crate::recent::{keep_name, recent_number, slot_of};
+use crate::recent::{SLOTS, keep_name, recent_number};
 use crate::responses::ResponseNames;
 use language::error::OutOfMemory;
+use name_slots::slots::slot_of;
 use std::alloc::Global;
 use std::collections::BTreeMap;
 
@@ -52,7 +53,7 @@ pub fn number_name<'a>(names: &mut ResponseNames<'a>, name: &'a str) -> Result<u
     ensures kept { OnOk result (KeepsNames names.old names.new) }
     ensures apart { AreApart names.old → OnOk result (AreApart names.new) }
 {
-    let slot = slot_of(name);
+    let slot = slot_of(name, SLOTS);
     if let Some(number) = recent_number(names.recent.as_slice(), slot, name) {
         return Ok(number);
     }

@@ -4,27 +4,14 @@ ghost use Rattle.numbered_sets.specs.Recent.{number_in_slot, KeepsName};
 
 use std::alloc::AllocError;
 
-const SLOTS: usize = 64;
+/// How many names are kept at most.
+pub const SLOTS: usize = 64;
 
 /// A name and its number.
 #[derive(Clone, Copy, Debug, Drop)]
 pub struct RecentName<'a> {
     pub name: &'a str,
     pub number: usize,
-}
-
-/// The slot of a name. Two names of one slot drive each other out, and then the map is asked, so any slot is right.
-pub fn slot_of(name: &str) -> usize
-    ensures { result < 64 }
-{
-    let bytes = name.as_bytes();
-    let Some(first) = bytes.first() else {
-        return 0;
-    };
-    let Some(last) = bytes.last() else {
-        return 0;
-    };
-    (*first as usize + *last as usize * 3 + bytes.len() % SLOTS * 17) % SLOTS
 }
 
 /// The number of a name, where it is the one in the slot.

@@ -10,3 +10,4 @@ pub mod listed;
 pub mod orders;
 pub mod repeated;
 pub mod roots;
+pub mod slots;

@@ -1,5 +1,5 @@
 //! A schema: its types and its directives, each by name.
-ghost use Rattle.std.specs.Prelude.{◌≡◌, true, option_map, string_bytes};
+ghost use Rattle.std.specs.Prelude.{◌≡◌, ◌<◌, true, length, option_map, string_bytes};
 ghost use Rattle.std.specs.List.{list_all};
 ghost use Rattle.indexmap.specs.IndexMap.{values};
 ghost use Rattle.schema.specs.Accepted.{IsAccepted, is_input_listed};
@@ -21,6 +21,7 @@ use crate::build::extend::with_added_fields;
 use crate::build::keyed::map_by_name;
 use crate::build::orders::{InputOrders, input_orders};
 use crate::build::roots::RootNames;
+use crate::build::slots::type_slots;
 use crate::error::SchemaError;
 use crate::model::directives::DirectiveType;
 use crate::model::types::TypeTypeOf;
@@ -29,6 +30,7 @@ use language::value::DefaultScalarValue;
 use meta::check::CheckedScalar;
 use meta::kinds::MetaTypeOf;
 use meta::texts::copy_text;
+use name_slots::slots::slot_of;
 use std::alloc::Global;
 use std::marker::Model;
 
@@ -37,6 +39,7 @@ use std::marker::Model;
 pub struct SchemaTypeOf<S, C> {
     description: Option<String>,
     types: IndexMap<String, MetaTypeOf<S, C>>,
+    slots: Vec<Option<usize>>,
     orders: InputOrders,
     query: String,
     mutation: Option<String>,
@@ -48,6 +51,7 @@ pub struct SchemaTypeOf<S, C> {
     ghost directives_keyed: { are_keyed directive_name directives.entries ≡ true },
     ghost directives_distinct: { are_distinct directive_name (values directives) ≡ true },
     ghost ordered: { AreOrders (values types) orders.entries },
+    ghost slotted: { 0 < length slots.items },
 }
 
 /// A schema, with the checks that its kind of scalars has.
@@ -139,9 +143,11 @@ impl<S: Drop, C: Drop> SchemaTypeOf<S, C> {
         let directives = directives_by_name(alloc)?;
         let orders = input_orders(alloc, types.as_slice())?;
         let types = map_by_name(alloc, types)?;
+        let slots = type_slots(alloc, &types)?;
         Ok(SchemaTypeOf {
             description: None,
             types,
+            slots,
             orders,
             query,
             mutation,
@@ -152,7 +158,7 @@ impl<S: Drop, C: Drop> SchemaTypeOf<S, C> {
 }
 
 impl<S, C> SchemaTypeOf<S, C> {
-    ghost use Rattle.std.specs.Prelude.{◌≡◌, ◌↔◌, Some, IsSome, true, option_copied, option_map};
+    ghost use Rattle.std.specs.Prelude.{◌≡◌, ◌↔◌, Some, IfSome, IsSome, true, option_copied, option_map};
     ghost use Rattle.schema.specs.Catalog.{type_in, root_in, directive_in};
     ghost use Rattle.schema.specs.Concrete.{concrete_of};
     ghost use Rattle.meta.specs.Kinds.{is_object_meta};
@@ -171,7 +177,24 @@ impl<S, C> SchemaTypeOf<S, C> {
     pub fn concrete_type_by_name(&self, name: &str) -> Option<&MetaTypeOf<S, C>>
         ensures { option_copied result ≡ type_in name.now self.now }
     {
-        self.types.get(name)
+        match self.type_in_slot(name) {
+            Some(meta) => Some(meta),
+            None => self.types.get(name),
+        }
+    }
+
+    // The type whose place is noted at the slot of the name, if it is the one of the name. `None` says
+    // nothing: a type of another name may have the slot, and then the map has to be asked.
+    fn type_in_slot(&self, name: &str) -> Option<&MetaTypeOf<S, C>>
+        ensures { IfSome result (λ meta. type_in name.now self.now ≡ Some meta.now) }
+    {
+        let place = (*self.slots.get(slot_of(name, self.slots.len()))?)?;
+        let (key, meta) = self.types.get_index(place)?;
+        if key.as_str() == name {
+            Some(meta)
+        } else {
+            None
+        }
     }
 
     /// The root of queries, with nothing round it.

@@ -1,4 +1,5 @@
 use Rattle.std.proofs.Common.{option_map, string_bytes, subst, sym, ◌∙◌}
+use Rattle.std.proofs.lemmas.Result.{err_from_is_err_and}
 use Rattle.indexmap.specs.IndexMap.{values}
 use Rattle.schema.specs.InputOrders.{AreOrders}
 use Rattle.schema.specs.RootNames.{roots_asked}
@@ -16,6 +17,11 @@ invariant_of-result g c =
       accepted,
       (
         directives-input (record { query = query; mutation = mutation; subscription = subscription }) types (values c.in_ok-directives.directives) accepted c.in_ok-directives.ensures.standard,
-        (c.in_ok-types.ensures.keyed, (c.in_ok-directives.ensures.keyed, (directives-distinct (values c.in_ok-directives.directives) c.in_ok-directives.ensures.standard, (orders, tt)))),
+        (c.in_ok-types.ensures.keyed, (c.in_ok-directives.ensures.keyed, (directives-distinct (values c.in_ok-directives.directives) c.in_ok-directives.ensures.standard, (orders, (c.in_ok-slots.ensures.some, tt))))),
       ),
     )
+
+pub returns-in_err-slots-clause-err : goal.returns-in_err-slots-clause-err
+returns-in_err-slots-clause-err g c =
+    let p = err_from_is_err_and c.from_residual-in_err-slots.result c.from_residual-in_err-slots.ensures.1 in
+    rw p.1 (p.2 ∙ c.in_err-slots.ensures.err)

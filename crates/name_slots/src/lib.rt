@@ -1,0 +1,4 @@
+//! Where a look-up of a name looks first.
+#![tactic(auto)]
+
+pub mod slots;
