@@ -1,5 +1,5 @@
 //! How the names of a document's fragments are numbered and looked up.
-ghost use Rattle.std.specs.Prelude.{◌≡◌, [], length, OnOk, IfOk, List, ℕ, None, Some, map, slice_get};
+ghost use Rattle.std.specs.Prelude.{◌≡◌, ◌<◌, [], length, OnOk, IfOk, List, ℕ, None, Some, map, slice_get};
 ghost use Rattle.std.specs.Option.{unwrap_or, IfSome};
 ghost use Rattle.fragment_cycles.specs.Numbers.{number_of, names_of, defined_number, AddsName, AddsDefinition, NumberedDefinitions};
 
@@ -28,7 +28,7 @@ fn number_in_slot(numbers: &Numbers<'_>, name: &str) -> Option<usize>
         return None;
     }
     let slot = slot_of(name, numbers.slots.len());
-    let number = (*numbers.slots.get(slot)?)?;
+    let number = *numbers.slots.get(slot)? as usize;
     if *numbers.names.get(number)? == name {
         Some(number)
     } else {
@@ -103,19 +103,28 @@ fn add_definition<'a, S>(
     }
 }
 
-// Slots for names, where each slot holds the number of one of its names; none where there is no name.
-fn slots_for(alloc: Global, names: &[&str]) -> Result<Vec<Option<usize>>, AllocError>
+// Puts a number at the slot of its name. One that has no room there is left to the map.
+fn note_number(slots: &mut [u32], name: &str, number: usize)
+    requires { 0 < length slots.old }
+    ensures { length slots.new ≡ length slots.old }
+{
+    if let Ok(noted) = u32::try_from(number) {
+        let slot = slot_of(name, slots.len());
+        slots[slot] = noted;
+    }
+}
+
+// Slots for names, with the number of one of its names in each, and 0 where it has none; no slots where there is no name.
+fn slots_for(alloc: Global, names: &[&str]) -> Result<Vec<u32>, AllocError>
     ensures { names.now ≡ [] → IfOk result (λ s. s.items ≡ []) }
 {
     let mut slots = Vec::new(alloc);
     if names.is_empty() {
         return Ok(slots);
     }
-    let count = slot_count(names.len());
-    slots.resize(count, None)?;
+    slots.resize(slot_count(names.len()), 0)?;
     for number in 0..names.len() {
-        let slot = slot_of(names[number], count);
-        slots[slot] = Some(number);
+        note_number(&mut slots, names[number], number);
     }
     Ok(slots)
 }

@@ -9,8 +9,8 @@ use std::collections::BTreeMap;
 pub struct Numbers<'a> {
     pub by_name: BTreeMap<&'a str, usize>,
     pub names: Vec<&'a str>,
-    /// Where a look-up looks first. There are none while names are still numbered.
-    pub(crate) slots: Vec<Option<usize>>,
+    /// Where a look-up looks first: the number of a name, at its slot. There are none while names are still numbered.
+    pub(crate) slots: Vec<u32>,
     ghost slotted: { AreSlotsOf by_name names.items slots.items },
 }
 

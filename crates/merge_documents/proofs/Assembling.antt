@@ -1,8 +1,6 @@
 -- How a document's sets are put together.
-use Rattle.std.proofs.Common.{◌≡◌, ◌<◌, ◌≤◌, ◌+◌, ℕ, List, [], ◌∷◌, length, map, get_or, Option, Some, None, true, cond, slice_get, zero, suc, refl, sym, ap, subst, ◌∙◌, inl, inr, arith}
+use Rattle.std.proofs.Common.{◌≡◌, ◌<◌, ◌≤◌, ◌+◌, ℕ, List, [], ◌∷◌, length, length-append, map, get_or, Option, Some, None, is_some, true, cond, slice_get, refl, sym, ap, subst, ◌∙◌, inl, inr, arith}
 use Rattle.std.specs.List.{Contains, flat_map}
-use Rattle.std.specs.declared.vec.Vec.{Vec}
-use Rattle.std.specs.declared.alloc.Global.{Global}
 use Rattle.std.proofs.lemmas.Bool.{cases_order}
 use Rattle.std.proofs.lemmas.List.Elements.{All-nil}
 use Rattle.std.proofs.lemmas.Slice.Eq.{bytes_eq-Decides}
@@ -15,7 +13,7 @@ use Rattle.fragment_cycles.specs.declared.cycles.DocumentCycles.{DocumentCycles}
 use Rattle.fragment_cycles.specs.DocumentCycles.{NameSpreads}
 use Rattle.fragment_cycles.specs.Numbers.{IsNamed}
 use Rattle.fragment_cycles.specs.Spreads.{PlacedSpread, PlacedSpreads, placed_spreads_of_all, spreads_named}
-use Rattle.fragment_cycles.proofs.Lists.{same_some, none_some, contains_get}
+use Rattle.fragment_cycles.proofs.Lists.{same_some, none_some, contains_get, get_some, set_other}
 use Rattle.merging.specs.declared.graph.Graph.{Graph}
 use Rattle.numbered_sets.specs.Once.{is_among}
 use Rattle.numbered_sets.specs.Table.{numbered, height, IsWithin, Falling}
@@ -23,12 +21,13 @@ use Rattle.numbered_sets.proofs.Representing.{extends_self}
 use Rattle.merge_documents.specs.declared.building.Building.{Building}
 use Rattle.merge_documents.specs.declared.judge.FieldJudge.{FieldJudge}
 use Rattle.merge_documents.specs.Definitions.{type_round, selections_of, IsLast}
-use Rattle.merge_documents.specs.Building.{rank_in, IsSetOfDefinition, AreKnown, AddsDefinition, AddsFragment, IsNothing, Built}
+use Rattle.merge_documents.specs.Building.{rank_in, stretch_of, IsSetOfDefinition, AreKnown, AddsDefinition, AddsFragment, IsNothing, Built}
 use Rattle.merge_documents.specs.TableGraph.{IsWhole, IsGraphOfTable}
 use Rattle.merge_documents.specs.DocumentGraph.{IsGraphOf}
-use Rattle.merge_documents.specs.Assembly.{AreRanked, KnowsAll, AreInPlaces, HasSetAt, AddsMissing, AddsOthers, IsComplete}
+use Rattle.merge_documents.specs.Assembly.{AreRanked, KnowsAll, AreInPlaces, AreFree, HasSetAt, AddsMissing, AddsOthers, IsComplete}
 use Rattle.merge_documents.proofs.Renumbering.{AgreeOn, in_flat, set_more}
-use Rattle.merge_documents.proofs.Growing.{among_append, built_definition, is_set, extends}
+use Rattle.merge_documents.proofs.Growing.{built_definition, is_set, extends}
+use Rattle.merge_documents.proofs.Stretches.{among_all}
 use Rattle.merge_documents.proofs.Few.{few_numbers}
 use Rattle.merge_documents.proofs.Lasts.{last_inside}
 use Rattle.merge_documents.proofs.Naming.{built_fragment}
@@ -40,12 +39,15 @@ agree_by None None to back = refl
 agree_by None (Some g) to back = absurd (none_some g (back g refl))
 agree_by (Some g) p to back = sym (to g refl)
 
-pub among_all : (os : List (Vec ℕ Global)) (p : ℕ) (o : Vec ℕ Global) (k : ℕ) → slice_get os p ≡ Some o → is_among o.items k ≡ true → is_among (flat_map (λ o. o.items) os) k ≡ true
-among_all [] p o k h i = absurd (none_some o h)
-among_all (z ∷ os) zero o k h i = among_append z.items (flat_map (λ o. o.items) os) k (inl (subst (λ (w : Vec ℕ Global). is_among w.items k ≡ true) (sym (same_some z o h)) i))
-among_all (z ∷ os) (suc p) o k h i = among_append z.items (flat_map (λ o. o.items) os) k (inr (among_all os p o k h i))
-
 module _ {S : Type 0} where
+  -- a definition has one name
+  one_name : (name other : List ℕ) (d : Definition S) → IsNamed name d → IsNamed other d → name ≡ other
+  one_name name other (definition.Operation o) h k = absurd h
+  one_name name other (definition.Fragment f) h k = sym h ∙ k
+
+  one_last : (document : List (Definition S)) (name other : List ℕ) (place : ℕ) → IsLast document name place → IsLast document other place → name ≡ other
+  one_last document name other place h k = one_name name other k.is (subst (IsNamed name) (same_some h.is k.is (sym h.stands ∙ k.stands)) h.named) k.named
+
   -- a definition of the name has the name's spreads
   named_all : (name : List ℕ) (d : Definition S) → IsNamed name d → spreads_named name d ≡ placed_spreads_of_all (selections_of d)
   named_all name (definition.Operation o) h = absurd h
@@ -59,9 +61,9 @@ module _ {S : Type 0} where
   )
 
 module _ {S C : Type 0} where
-  pub joined_whole : (b : Building S C) (order : List ℕ) → order ≡ flat_map (λ o. o.items) b.orders.items → AreInPlaces b → IsWhole b.table.sets.items order
+  pub joined_whole : (b : Building S C) (order : List ℕ) → order ≡ flat_map (stretch_of b.order.items) b.stretches.items → AreInPlaces b → IsWhole b.table.sets.items order
   joined_whole b order is places k l =
-      let at = places k l in subst (λ xs. is_among xs k ≡ true) (sym is) (among_all b.orders.items at.0 at.1 k at.2 at.3)
+      let at = places k l in subst (λ xs. is_among xs k ≡ true) (sym is) (among_all b.order.items b.stretches.items at.0 k at.1)
 
   pub built_none : (schema : Catalog S C) (document : List (Definition S)) (numbers : List ℕ → Option ℕ) (b : Building S C) → IsNothing (length document) b → Built schema document numbers b
   built_none schema document numbers b h =
@@ -72,13 +74,33 @@ module _ {S C : Type 0} where
         falling = subst (λ ss. Falling ss b.fragments.items) (sym h.sets) (λ s. (All-nil (λ a. height a ≤ s), All-nil (IsWithin b.fragments.items s)));
         low = λ g l. absurd (no_fragment g l);
         sized = h.sized;
+        within = λ p start end at. absurd (none_some (start, end) (sym (h.free p (Some (start, end)) at)));
         whole = λ k l. let none = ap length h.sets in absurd (omega (arith, l, none));
-        added = λ p o d at some there. absurd (some (h.orders p o at));
+        added = λ p ends d at there. absurd (none_some ends (sym (h.free p (Some ends) at)));
         fragments = λ name g k l. absurd (no_fragment g l);
         named = λ g l. absurd (no_fragment g l);
         sets_from = λ k l. let none = ap length h.sets in absurd (omega (arith, l, none));
         fields_from = λ k a at. absurd (none_some a (subst (λ fs. slice_get (map plain fs) k ≡ Some a) h.fields at));
       }
+
+  -- at first each place is free
+  pub free_none : (document : List (Definition S)) (numbers : List ℕ → Option ℕ) (b : Building S C) → IsNothing (length document) b → AreFree document numbers b
+  free_none document numbers b h name g place rank low last =
+      let inside = last_inside document name place last in
+      let sized = h.sized in
+      let there = get_some b.stretches.items place (omega (arith, inside, sized)) in
+      there.1 ∙ ap (λ o. Some o) (h.free place there.0 there.1)
+
+  -- where a fragment got its set, the places of those behind it stay free
+  pub free_next : (document : List (Definition S)) (numbers : List ℕ → Option ℕ) (schema : Catalog S C) (names : List ℕ → Option ℕ) (b b' : Building S C) (name : List ℕ) (place : ℕ) (d : Definition S)
+      → IsLast document name place → numbers name ≡ Some (length b.fragments.items) → AddsFragment schema names d place b b' → AreFree document numbers b → AreFree document numbers b'
+  free_next document numbers schema names b b' name place d last rank a free other g p ranked low its =
+      let longer = ap (λ (z : Building S C). length z.fragments.items) a.is ∙ ap length a.pushed ∙ length-append b.fragments.items (a.set ∷ []) in
+      let one : p ≡ place → name ≡ other = λ same. one_last document name other p (subst (IsLast document name) (sym same) last) its in
+      let apart : p ≡ place → ⊥ = λ same. let equal = same_some (length b.fragments.items) g (sym rank ∙ ap numbers (one same) ∙ ranked) in omega (arith, equal, low, longer) in
+      ap (λ (z : Building S C). slice_get z.stretches.items p) a.is ∙ ap (λ os. slice_get os p) a.adds.notes.stretches
+      ∙ set_other b.stretches.items place p (Some (length b.order.items, length a.middle.order.items)) apart
+      ∙ free other g p ranked (omega (arith, low, longer)) its
 
   pub agree_next : (schema : Catalog S C) (document : List (Definition S)) (c : DocumentCycles) (names : List ℕ → Option ℕ) (b : Building S C) (name : List ℕ) (place : ℕ) (last : IsLast document name place)
       → AreRanked document c → Built schema document (rank_in c) b → rank_in c name ≡ Some (length b.fragments.items)
@@ -112,12 +134,13 @@ module _ {S C : Type 0} where
           has = λ x there. subst (λ (y : Definition S). (s : ℕ) × IsSetOfDefinition schema numbers (numbered b'.table) s y) (same_some d x (sym at ∙ there)) (n, is_set schema document numbers names d place n b b' built a agree);
         }
 
-    pub missing_there : (place : ℕ) (o : Vec ℕ Global) (b : Building S C) → slice_get b.orders.items place ≡ Some o → (o.items ≡ [] → ⊥) → Built schema document numbers b → AddsMissing schema document numbers place b b
-    missing_there place o b at some built = record {
+    pub missing_there : (place : ℕ) (o : Option (ℕ × ℕ)) (b : Building S C) → slice_get b.stretches.items place ≡ Some o → is_some o ≡ true → Built schema document numbers b → AddsMissing schema document numbers place b b
+    missing_there place None b at some built = cc
+    missing_there place (Some ends) b at some built = record {
       built = built;
       extends = extends_self (numbered b.table);
       fragments = refl;
-      has = λ d there. built.added place o d at some there;
+      has = λ d there. built.added place ends d at there;
     }
 
     pub others_none : (b : Building S C) → Built schema document numbers b → AddsOthers schema document numbers 0 b b

@@ -1,16 +1,13 @@
 -- What was built stays right where a definition's set is added.
-use Rattle.std.proofs.Common.{◌≡◌, ◌<◌, ◌≤◌, ◌==◌, ℕ, List, [], ◌++◌, length, map, get_or, Option, Some, true, slice_get, length-set, sym, ap, subst, ◌∙◌, inl, inr, ◌⊎◌, arith}
+use Rattle.std.proofs.Common.{◌≡◌, ◌<◌, ◌≤◌, ℕ, List, ◌++◌, length, map, get_or, Option, Some, true, slice_get, slice_set, length-set, sym, ap, subst, ◌∙◌, inl, inr, ◌⊎◌, arith}
 use Rattle.std.specs.List.{Contains}
-use Rattle.std.specs.declared.vec.Vec.{Vec}
-use Rattle.std.specs.declared.alloc.Global.{Global}
 use Rattle.std.proofs.lemmas.Option.{slice_get_within}
-use Rattle.std.proofs.lemmas.Bool.{cases_order, cases_eq, or_left, or_right}
-use Rattle.std.proofs.lemmas.List.Folds.{list_any-append}
+use Rattle.std.proofs.lemmas.Bool.{cases_order, cases_eq}
 use Rattle.language.specs.declared.tree.Definition.{Definition}
 use Rattle.schema.specs.Catalog.{Catalog}
 use Rattle.field_pairs.specs.Entries.{PlainEntry, plain}
 use Rattle.fragment_cycles.specs.Spreads.{placed_spreads_of_all}
-use Rattle.fragment_cycles.proofs.Lists.{same_some, set_same, set_other, contains_at}
+use Rattle.fragment_cycles.proofs.Lists.{same_some, set_other, contains_at}
 use Rattle.numbered_sets.specs.Names.{AreApart}
 use Rattle.numbered_sets.specs.Once.{is_among}
 use Rattle.numbered_sets.specs.Table.{Numbered, numbered, Extends, Falling}
@@ -20,12 +17,9 @@ use Rattle.numbered_sets.proofs.Origins.{kept_field}
 use Rattle.merge_documents.specs.declared.building.Building.{Building}
 use Rattle.merge_documents.specs.Definitions.{type_round, selections_of}
 use Rattle.merge_documents.specs.SetsIn.{IsFieldIn}
-use Rattle.merge_documents.specs.Building.{IsSetOfDefinition, IsFragment, HasOrigin, AreKnown, AddsDefinition, Built}
+use Rattle.merge_documents.specs.Building.{order_at, AreStretches, IsSetOfDefinition, IsFragment, HasOrigin, AreKnown, AddsDefinition, Built}
+use Rattle.merge_documents.proofs.Stretches.{stretch_at, new_stretch, stays, still_within}
 use Rattle.merge_documents.proofs.Renumbering.{AgreeOn, set_renumbered, set_more, spreads_inside}
-
-pub among_append : (xs ys : List ℕ) (k : ℕ) → (is_among xs k ≡ true) ⊎ (is_among ys k ≡ true) → is_among (xs ++ ys) k ≡ true
-among_append xs ys k (inl h) = list_any-append (λ y. y == k) xs ys ∙ or_left (is_among xs k) (is_among ys k) h
-among_append xs ys k (inr h) = list_any-append (λ y. y == k) xs ys ∙ or_right (is_among xs k) (is_among ys k) h
 
 less_or : (m n : ℕ) → (m < n) ⊎ (n ≤ m)
 less_or m n = elim (cases_order m n) [
@@ -72,35 +66,32 @@ module _ {S C : Type 0} (schema : Catalog S C) (document : List (Definition S)) 
         subst (λ fs. Falling b'.table.sets.items fs) (sym fragments_are)
         (subst (λ ss. Falling ss b.fragments.items) (sym sets_are) (a.adds.keeps.falls b.fragments.items (within k) built.falling))
 
-    -- the sets at a place
-    changed : slice_get b'.orders.items place ≡ Some a.notes.after
-    changed = ap (λ os. slice_get os place) a.notes.orders ∙ set_same b.orders.items place a.notes.before a.notes.after a.notes.stood
+    others : (p : ℕ) → (p ≡ place → ⊥) → slice_get b'.stretches.items p ≡ slice_get b.stretches.items p
+    others p ne = ap (λ os. slice_get os p) a.notes.stretches ∙ set_other b.stretches.items place p (Some (length b.order.items, length b'.order.items)) ne
 
-    others : (p : ℕ) → (p ≡ place → ⊥) → slice_get b'.orders.items p ≡ slice_get b.orders.items p
-    others p ne = ap (λ os. slice_get os p) a.notes.orders ∙ set_other b.orders.items place p a.notes.after ne
+    -- the orders of the places, by what they were
+    by_order : (P : List ℕ → List (Option (ℕ × ℕ)) → Type 0)
+        → P (b.order.items ++ a.grown.order.items) (slice_set b.stretches.items place (Some (length b.order.items, length (b.order.items ++ a.grown.order.items)))) → P b'.order.items b'.stretches.items
+    by_order P h =
+        subst (λ os. P b'.order.items os) (sym a.notes.stretches)
+        (subst (λ xs. P xs (slice_set b.stretches.items place (Some (length b.order.items, length xs)))) (sym a.notes.order) h)
 
     order_is : a.grown.order.items ≡ a.adds.keeps.order.more
     order_is = a.adds.keeps.order.order ∙ ap (λ xs. xs ++ a.adds.keeps.order.more) built.order
 
     abbrev Stands : ℕ → Type 0
-    Stands k = (p : ℕ) × (o : Vec ℕ Global) × (slice_get b'.orders.items p ≡ Some o) × (is_among o.items k ≡ true)
-
-    at_place : (k : ℕ) → (is_among a.notes.before.items k ≡ true) ⊎ (is_among a.grown.order.items k ≡ true) → Stands k
-    at_place k h = (place, a.notes.after, changed, subst (λ xs. is_among xs k ≡ true) (sym a.notes.extended) (among_append a.notes.before.items a.grown.order.items k h))
+    Stands k = (p : ℕ) × (is_among (order_at b' p) k ≡ true)
 
     old_stands : (k : ℕ) → k < length b.table.sets.items → Stands k
     old_stands k l =
         let w = built.whole k l in
-        elim (cases_eq w.0 place) [
-          | inl same ↦
-              let is : w.1 ≡ a.notes.before = same_some w.1 a.notes.before (sym w.2 ∙ ap (λ (p : ℕ). slice_get b.orders.items p) same ∙ a.notes.stood) in
-              at_place k (inl (subst (λ (o : Vec ℕ Global). is_among o.items k ≡ true) is w.3))
-          | inr ne ↦ (w.0, w.1, others w.0 ne ∙ w.2, w.3)
-        ]
+        (w.0, by_order (λ xs os. is_among (stretch_at xs os w.0) k ≡ true) (stays b.order.items a.grown.order.items b.stretches.items place a.notes.free built.within w.0 k w.1))
 
     new_stands : (k : ℕ) → length b.table.sets.items ≤ k → k < length b'.table.sets.items → Stands k
     new_stands k low l =
-        at_place k (inr (subst (λ xs. is_among xs k ≡ true) (sym order_is) (a.adds.keeps.order.whole k low (subst (λ ss. k < length ss) sets_are l))))
+        let more = a.adds.keeps.order.whole k low (subst (λ ss. k < length ss) sets_are l) in
+        let is = new_stretch b.order.items a.grown.order.items b.stretches.items place a.notes.free built.within in
+        (place, by_order (λ xs os. is_among (stretch_at xs os place) k ≡ true) (subst (λ xs. is_among xs k ≡ true) (sym (is ∙ order_is)) more))
 
     whole : (k : ℕ) → k < length b'.table.sets.items → Stands k
     whole k l = elim (cases_order k (length b.table.sets.items)) [
@@ -112,11 +103,11 @@ module _ {S C : Type 0} (schema : Catalog S C) (document : List (Definition S)) 
       abbrev HasSet : Definition S → Type 0
       HasSet x = (s : ℕ) × IsSetOfDefinition schema numbers (numbered b'.table) s x
 
-      added : (p : ℕ) (o : Vec ℕ Global) (x : Definition S) → slice_get b'.orders.items p ≡ Some o → (o.items ≡ [] → ⊥) → slice_get document p ≡ Some x → HasSet x
-      added p o x h some there = elim (cases_eq p place) [
+      added : (p : ℕ) (ends : ℕ × ℕ) (x : Definition S) → slice_get b'.stretches.items p ≡ Some (Some ends) → slice_get document p ≡ Some x → HasSet x
+      added p ends x h there = elim (cases_eq p place) [
         | inl same ↦ subst HasSet (same_some d x (sym at ∙ ap (λ (q : ℕ). slice_get document q) (sym same) ∙ there)) (n, is_set agree)
         | inr ne ↦
-            let s = built.added p o x (sym (others p ne) ∙ h) some there in
+            let s = built.added p ends x (sym (others p ne) ∙ h) there in
             (s.0, set_more schema numbers (numbered b.table) (numbered b'.table) s.0 (type_round schema x) (selections_of x) extends s.1)
       ]
 
@@ -154,7 +145,8 @@ module _ {S C : Type 0} (schema : Catalog S C) (document : List (Definition S)) 
             let old = built.low g (omega (arith, l, long)) in
             let more = longer in
             subst (λ (fs : List ℕ). get_or fs g 0 < length b'.table.sets.items) (sym fragments_are) (omega (arith, old, more));
-        sized = ap length a.notes.orders ∙ length-set b.orders.items place a.notes.after ∙ built.sized;
+        sized = ap length a.notes.stretches ∙ length-set b.stretches.items place (Some (length b.order.items, length b'.order.items)) ∙ built.sized;
+        within = by_order AreStretches (still_within b.order.items a.grown.order.items b.stretches.items place a.notes.free built.within);
         whole = whole;
         added = added;
         fragments = λ name g h l.

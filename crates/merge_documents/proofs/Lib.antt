@@ -2,6 +2,7 @@ pub mod JudgeLaws
 pub mod SetLaws
 pub mod Lasts
 pub mod Renumbering
+pub mod Stretches
 pub mod Growing
 pub mod Ranks
 pub mod Few

@@ -99,6 +99,7 @@ module _ {S C : Type 0} (schema : Catalog S C) (document : List (Definition S)) 
         (falling_more a.middle.table.sets.items b.fragments.items a.set (subst (λ (fs : List ℕ). Falling a.middle.table.sets.items fs) same_fragments middle_built.falling));
     low = subst (λ (fs : List ℕ). (g : ℕ) → g < length fs → get_or fs g 0 < length a.middle.table.sets.items) (sym a.pushed) low_then;
     sized = middle_built.sized;
+    within = middle_built.within;
     whole = middle_built.whole;
     added = middle_built.added;
     fragments = subst (λ (fs : List ℕ). (q : List ℕ) (g : ℕ) → numbers q ≡ Some g → g < length fs → IsFragment schema document numbers (numbered a.middle.table) fs q g) (sym a.pushed) fragments_then;

@@ -1,8 +1,6 @@
 -- How the graph of a document is put together.
-use Rattle.std.specs.Prelude.{◌≡◌, ◌<◌, ℕ, List, [], Option, Some, length, slice_get, true}
+use Rattle.std.specs.Prelude.{◌≡◌, ◌<◌, ◌≤◌, ℕ, List, [], Option, Some, length, slice_get, true}
 use Rattle.std.specs.List.{Contains}
-use Rattle.std.specs.declared.vec.Vec.{Vec}
-use Rattle.std.specs.declared.alloc.Global.{Global}
 use Rattle.language.specs.declared.tree.Definition.{Definition}
 use Rattle.schema.specs.Catalog.{Catalog}
 use Rattle.fragment_cycles.specs.declared.cycles.DocumentCycles.{DocumentCycles}
@@ -10,7 +8,8 @@ use Rattle.fragment_cycles.specs.DocumentCycles.{SearchedDocument}
 use Rattle.numbered_sets.specs.Once.{is_among}
 use Rattle.numbered_sets.specs.Table.{numbered, Extends}
 use Rattle.merge_documents.specs.declared.building.Building.{Building}
-use Rattle.merge_documents.specs.Building.{IsSetOfDefinition, Built}
+use Rattle.merge_documents.specs.Definitions.{IsLast}
+use Rattle.merge_documents.specs.Building.{order_at, IsFree, IsSetOfDefinition, Built}
 
 -- The search found no cycle, so its order has each fragment behind those that it spreads.
 pub record AreRanked {S : Type 0} (document : List (Definition S)) (c : DocumentCycles) : Type 0 where
@@ -24,7 +23,11 @@ KnowsAll numbers fragments = (name : List ℕ) (g : ℕ) → numbers name ≡ So
 module _ {S C : Type 0} where
   -- Each set stands at some place.
   abbrev pub AreInPlaces : Building S C → Type 0
-  AreInPlaces b = (k : ℕ) → k < length b.table.sets.items → (p : ℕ) × (o : Vec ℕ Global) × (slice_get b.orders.items p ≡ Some o) × (is_among o.items k ≡ true)
+  AreInPlaces b = (k : ℕ) → k < length b.table.sets.items → (p : ℕ) × (is_among (order_at b p) k ≡ true)
+
+  -- The place of each fragment whose set isn't there yet is free.
+  abbrev pub AreFree : List (Definition S) → (List ℕ → Option ℕ) → Building S C → Type 0
+  AreFree document numbers b = (name : List ℕ) (g place : ℕ) → numbers name ≡ Some g → length b.fragments.items ≤ g → IsLast document name place → IsFree place b
 
   -- The set of the definition at the place is there.
   abbrev pub HasSetAt : Catalog S C → List (Definition S) → (List ℕ → Option ℕ) → ℕ → Building S C → Type 0

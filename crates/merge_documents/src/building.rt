@@ -1,9 +1,7 @@
 //! How the sets of a document are added.
-ghost use Rattle.std.specs.Prelude.{◌≡◌, ◌<◌, ℕ, [], Some, OnOk, IfOk, length, slice_get};
-ghost use Rattle.std.specs.declared.vec.Vec.{Vec};
-ghost use Rattle.std.specs.declared.alloc.Global.{Global};
+ghost use Rattle.std.specs.Prelude.{◌≡◌, ℕ, Option, Some, None, OnOk, IfOk, length, slice_get};
 ghost use Rattle.numbered_sets.specs.Known.{known_rank};
-ghost use Rattle.merge_documents.specs.Building.{NotesOrder, AddsDefinition, AddsFragment, IsNothing};
+ghost use Rattle.merge_documents.specs.Building.{IsFree, NotesOrder, AddsDefinition, AddsFragment, IsNothing};
 
 use crate::definitions::{selections, type_of_definition};
 use language::error::OutOfMemory;
@@ -20,41 +18,49 @@ pub struct Building<'a, S, C> {
     pub table: Table<'a, S, C>,
     /// The set of each fragment whose set is there.
     pub fragments: Vec<usize>,
-    /// The sets of the definition at each place, in the order of a walk.
-    pub orders: Vec<Vec<usize>>,
+    /// The sets of one definition after those of another, each one's in the order of a walk: one list, so that
+    /// many definitions ask for memory as seldom as one.
+    pub order: Vec<usize>,
+    /// Where those of the definition at each place start and end in it, once they are there.
+    pub stretches: Vec<Option<(usize, usize)>>,
 }
 
-// So many lists.
-fn empty_orders(alloc: Global, count: usize) -> Result<Vec<Vec<usize>>, AllocError>
+// No stretch at each of so many places.
+fn no_stretches(alloc: Global, count: usize) -> Result<Vec<Option<(usize, usize)>>, AllocError>
     ensures len { IfOk result (λ v. length v.items ≡ count) }
-    ensures empty { IfOk result (λ v. (p : ℕ) (o : Vec ℕ Global) → slice_get v.items p ≡ Some o → o.items ≡ []) }
+    ensures none { IfOk result (λ v. (p : ℕ) (o : Option (ℕ × ℕ)) → slice_get v.items p ≡ Some o → o ≡ None) }
 {
-    let mut orders = Vec::new(alloc);
+    let mut stretches = Vec::new(alloc);
     for _place in 0..count {
-        orders.push(Vec::new(alloc))?;
+        stretches.push(None)?;
     }
-    Ok(orders)
+    Ok(stretches)
 }
 
 /// Nothing, with so many places.
 pub fn no_building<'a, S, C>(alloc: Global, count: usize) -> Result<Building<'a, S, C>, AllocError>
     ensures { IfOk result (IsNothing count) }
 {
-    let orders = empty_orders(alloc, count)?;
+    let stretches = no_stretches(alloc, count)?;
     Ok(Building {
         table: no_table(alloc),
         fragments: Vec::new(alloc),
-        orders,
+        order: Vec::new(alloc),
+        stretches,
     })
 }
 
-// Puts the order of the sets that were added to those of a place.
+// Keeps the order of the sets that were added as that of a place.
 fn note_order<S, C>(place: usize, building: &mut Building<'_, S, C>) -> Result<(), AllocError>
-    requires { place < length building.old.orders.items }
+    requires { IsFree place building.old }
     ensures { OnOk result (NotesOrder place building.old building.new) }
 {
-    building.orders[place].extend_from_slice(building.table.order.as_slice())?;
+    let start = building.order.len();
+    building
+        .order
+        .extend_from_slice(building.table.order.as_slice())?;
     building.table.order.clear();
+    building.stretches[place] = Some((start, building.order.len()));
     Ok(())
 }
 
@@ -67,7 +73,7 @@ pub fn add_definition<'a, S, C>(
     place: usize,
     building: &mut Building<'a, S, C>,
 ) -> Result<usize, OutOfMemory>
-    requires { place < length building.old.orders.items }
+    requires { IsFree place building.old }
     ensures { IfOk result (λ n. AddsDefinition schema.now (known_rank known.now) definition.now place n building.old building.new) }
 {
     let parent = type_of_definition(schema, definition);
@@ -86,7 +92,7 @@ pub fn add_fragment<'a, S, C>(
     place: usize,
     building: &mut Building<'a, S, C>,
 ) -> Result<(), OutOfMemory>
-    requires { place < length building.old.orders.items }
+    requires { IsFree place building.old }
     ensures { OnOk result (AddsFragment schema.now (known_rank known.now) definition.now place building.old building.new) }
 {
     let set = add_definition(alloc, schema, known, definition, place, building)?;

@@ -9,11 +9,11 @@ ghost use Rattle.merging.specs.Judgement.{Lawful};
 ghost use Rattle.numbered_sets.specs.Known.{known_rank};
 ghost use Rattle.numbered_sets.specs.Table.{Falling, numbered};
 ghost use Rattle.merge_documents.specs.Definitions.{AreLast, last_place};
-ghost use Rattle.merge_documents.specs.Building.{rank_in, AreKnown, Built};
+ghost use Rattle.merge_documents.specs.Building.{rank_in, AreKnown, AreStretches, stretch_of, Built};
 ghost use Rattle.merge_documents.specs.TableGraph.{IsGraphOfTable};
 ghost use Rattle.merge_documents.specs.Judging.{judgement_of};
 ghost use Rattle.merge_documents.specs.DocumentGraph.{IsGraphOf};
-ghost use Rattle.merge_documents.specs.Assembly.{AreRanked, AreInPlaces, KnowsAll, AddsMissing, AddsOthers, IsComplete};
+ghost use Rattle.merge_documents.specs.Assembly.{AreRanked, AreInPlaces, AreFree, KnowsAll, AddsMissing, AddsOthers, IsComplete};
 
 use crate::building::{Building, add_definition, add_fragment, no_building};
 use crate::definitions::last_places;
@@ -63,7 +63,9 @@ fn add_next<'a, S, C>(
     requires ranked { AreRanked document.now cycles.now }
     requires last { AreLast document.now (last_place cycles.now.graph.numbers last.now) }
     requires next { slice_get cycles.now.outcome.order.items (length building.old.fragments.items) ≡ Some node }
+    requires free { AreFree document.now (rank_in cycles.now) building.old }
     requires built { Built schema.now document.now (rank_in cycles.now) building.old }
+    ensures free { OnOk result (AreFree document.now (rank_in cycles.now) building.new) }
     ensures built { OnOk result (Built schema.now document.now (rank_in cycles.now) building.new) }
     ensures longer { OnOk result (length building.new.fragments.items ≡ length building.old.fragments.items + 1) }
 {
@@ -86,6 +88,7 @@ fn add_fragments<'a, S, C>(
     requires ranked { AreRanked document.now cycles.now }
     requires last { AreLast document.now (last_place cycles.now.graph.numbers last.now) }
     requires none { building.old.fragments.items ≡ [] }
+    requires free { AreFree document.now (rank_in cycles.now) building.old }
     requires built { Built schema.now document.now (rank_in cycles.now) building.old }
     ensures built { OnOk result (Built schema.now document.now (rank_in cycles.now) building.new) }
     ensures all { OnOk result (KnowsAll (rank_in cycles.now) building.new.fragments.items) }
@@ -106,11 +109,11 @@ fn add_missing<'a, S, C>(
     building: &mut Building<'a, S, C>,
 ) -> Result<(), OutOfMemory>
     requires inside { place < length document.now }
-    requires sized { length building.old.orders.items ≡ length document.now }
-    ensures sized { OnOk result (length building.new.orders.items ≡ length document.now) }
+    requires sized { length building.old.stretches.items ≡ length document.now }
+    ensures sized { OnOk result (length building.new.stretches.items ≡ length document.now) }
     ensures adds { OnOk result (KnowsAll (rank_in cycles.now) building.old.fragments.items → Built schema.now document.now (rank_in cycles.now) building.old → AddsMissing schema.now document.now (rank_in cycles.now) place building.old building.new) }
 {
-    if building.orders[place].is_empty() {
+    if building.stretches[place].is_none() {
         let known = known_fragments(cycles, building.fragments.len());
         add_definition(alloc, schema, &known, &document[place], place, building)?;
     }
@@ -125,7 +128,7 @@ fn add_others<'a, S, C>(
     cycles: &DocumentCycles<'a>,
     building: &mut Building<'a, S, C>,
 ) -> Result<(), OutOfMemory>
-    requires { length building.old.orders.items ≡ length document.now }
+    requires { length building.old.stretches.items ≡ length document.now }
     ensures { OnOk result (KnowsAll (rank_in cycles.now) building.old.fragments.items → Built schema.now document.now (rank_in cycles.now) building.old → AddsOthers schema.now document.now (rank_in cycles.now) (length document.now) building.old building.new) }
 {
     for place in 0..document.len() {
@@ -158,13 +161,20 @@ fn build<'a, S, C>(
     Ok(building)
 }
 
-// All sets in the order of a walk.
-fn joined_orders(alloc: Global, orders: &[Vec<usize>]) -> Result<Vec<usize>, AllocError>
-    ensures { IfOk result (λ v. v.items ≡ flat_map (λ o. o.items) orders.now) }
+// All sets in the order of a walk: the stretches by their places.
+fn joined_orders(
+    alloc: Global,
+    order: &[usize],
+    stretches: &[Option<(usize, usize)>],
+) -> Result<Vec<usize>, AllocError>
+    requires { AreStretches order.now stretches.now }
+    ensures { IfOk result (λ v. v.items ≡ flat_map (stretch_of order.now) stretches.now) }
 {
-    let mut joined = Vec::new(alloc);
-    for order in orders {
-        joined.extend_from_slice(order.as_slice())?;
+    let mut joined = Vec::with_capacity(alloc, order.len())?;
+    for stretch in stretches {
+        if let Some((start, end)) = stretch {
+            joined.extend_from_slice(&order[*start..*end])?;
+        }
     }
     Ok(joined)
 }
@@ -176,10 +186,15 @@ fn graph_of_building<'a, S: ScalarValue, C>(
     building: Building<'a, S, C>,
 ) -> Result<Graph<FieldJudge<'a, S, C>>, AllocError>
     requires falling { Falling building.table.sets.items building.fragments.items }
+    requires within { AreStretches building.order.items building.stretches.items }
     requires whole { AreInPlaces building }
     ensures { IfOk result (IsGraphOfTable schema.now (numbered building.entry.table) building.entry.fragments.items) }
 {
-    let order = joined_orders(alloc, building.orders.as_slice())?;
+    let order = joined_orders(
+        alloc,
+        building.order.as_slice(),
+        building.stretches.as_slice(),
+    )?;
     graph_of_table(alloc, schema, building.table, building.fragments, order)
 }
 

@@ -7,6 +7,9 @@ ghost use Rattle.std.specs.Prelude.{◌<◌, ◌≤◌, ◌+◌, ◌*◌, min};
 /// The most slots that are made, however many names there are.
 const MOST: usize = 1 << 20;
 
+/// How many of a name's last bytes count for its slot. Longer names often begin alike, and end in a number.
+const LAST: usize = 8;
+
 /// How many slots serve so many names: two to four for each, up to a million.
 pub fn slot_count(names: usize) -> usize
     ensures some { 0 < result }
@@ -26,7 +29,7 @@ fn byte_at(bytes: &[u8], at: usize) -> usize
     }
 }
 
-/// The slot of a name among so many. Names that differ in their length, their first byte, the one in their middle or one of their last three mostly
+/// The slot of a name among so many. Names that differ in their length, their first byte, the one in their middle or one of their last eight mostly
 /// have different slots.
 pub fn slot_of(name: &str, slots: usize) -> usize
     requires { 0 < slots }
@@ -34,11 +37,9 @@ pub fn slot_of(name: &str, slots: usize) -> usize
 {
     let bytes = name.as_bytes();
     let length = bytes.len();
-    let sum = length % 64 * 17
-        + byte_at(bytes, 0) * 5171
-        + byte_at(bytes, length / 2) * 1031
-        + byte_at(bytes, length.saturating_sub(3)) * 131
-        + byte_at(bytes, length.saturating_sub(2)) * 11
-        + byte_at(bytes, length.saturating_sub(1));
+    let mut sum = length % 64 * 17 + byte_at(bytes, 0) * 5171 + byte_at(bytes, length / 2) * 1031;
+    for byte in &bytes[length.saturating_sub(LAST)..] {
+        sum = sum.wrapping_mul(71).wrapping_add(*byte as usize);
+    }
     sum & (slots - 1)
 }

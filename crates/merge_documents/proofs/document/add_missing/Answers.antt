@@ -1,4 +1,4 @@
-use Rattle.std.proofs.Common.{◌≡◌, length, Some, false, sym, ap, subst, ◌∙◌, arith}
+use Rattle.std.proofs.Common.{◌≡◌, length, Some, not, sym, ap, subst, ◌∙◌, arith}
 use Rattle.std.proofs.lemmas.Option.{slice_get-get_or}
 use Rattle.numbered_sets.specs.Known.{known_rank}
 use Rattle.merge_documents.specs.Building.{rank_in, AreKnown}
@@ -14,17 +14,12 @@ returns-in_ok-add_definition-clause-adds g c = λ all built.
     (subst (λ k. AreKnown (rank_in c.args.cycles.now) k (known_rank c.known_fragments-known.result)) counted c.known_fragments-known.ensures)
     c.in_ok-add_definition.ensures all built
 
-pub returns-else-is_empty-clause-adds : goal.returns-else-is_empty-clause-adds
-returns-else-is_empty-clause-adds g c = λ all built.
+pub returns-else-is_none-clause-adds : goal.returns-else-is_none-clause-adds
+returns-else-is_none-clause-adds g c = λ all built.
     let o = c.index.result.now in
     let inside = c.requires.inside in
     let sized = c.requires.sized in
     missing_there c.args.schema.now c.args.document.now (rank_in c.args.cycles.now) c.args.place o c.args.building.now
-    (slice_get-get_or c.args.building.now.orders.items c.args.place o (omega (arith, inside, sized)) ∙ ap (λ x. Some x) (sym c.index.ensures))
-    (λ e.
-    let none : length o.items ≡ 0 = ap length e in
-    let long = o.ok.0 in
-    let is = c.is_empty.ensures in
-    let no : c.is_empty.result ≡ false = c.if-is_empty.false in
-    grind (arith, none, long, is, no))
+    (slice_get-get_or c.args.building.now.stretches.items c.args.place o (omega (arith, inside, sized)) ∙ ap (λ x. Some x) (sym c.index.ensures))
+    (c.is_none.ensures ∙ ap not c.if-is_none.false)
     built

@@ -5,7 +5,7 @@ use Rattle.numbered_sets.specs.Known.{known_rank}
 use Rattle.merge_documents.specs.Building.{rank_in, AreKnown}
 use Rattle.merge_documents.proofs.Lasts.{last_inside}
 use Rattle.merge_documents.proofs.Ranks.{has_last, last_at, name_at, rank_at}
-use Rattle.merge_documents.proofs.Assembling.{fragment_added}
+use Rattle.merge_documents.proofs.Assembling.{fragment_added, free_next}
 use Rattle.merge_documents.proofs.document.add_next.Goals as goal
 
 pub offset_bounds-document-place : goal.offset_bounds-document-place
@@ -24,10 +24,10 @@ bounds-document-place g c =
 pub add_fragment-requires : goal.add_fragment-requires
 add_fragment-requires g c =
     let searched = c.requires.ranked.searched in
-    let last = last_at c.args.document.now c.args.cycles.now searched c.args.last.now c.requires.last (length c.args.building.now.fragments.items) c.args.node c.requires.next c.in-Some.place c.in-Some.ensures in
-    let l = last_inside c.args.document.now (name_at c.args.document.now c.args.cycles.now searched c.args.node) c.in-Some.place last in
-    let sized = c.requires.built.sized in
-    omega (arith, l, sized)
+    let next = length c.args.building.now.fragments.items in
+    let name = name_at c.args.document.now c.args.cycles.now searched c.args.node in
+    c.requires.free name next c.in-Some.place (rank_at c.args.document.now c.args.cycles.now searched next c.args.node c.requires.next) (omega arith)
+    (last_at c.args.document.now c.args.cycles.now searched c.args.last.now c.requires.last next c.args.node c.requires.next c.in-Some.place c.in-Some.ensures)
 
 pub unreachable-requires : goal.unreachable-requires
 unreachable-requires g c =
@@ -45,4 +45,15 @@ returns-clause-built g c =
     c.requires.built (rank_at c.args.document.now c.args.cycles.now searched next c.args.node c.requires.next)
     (subst (λ k. AreKnown (rank_in c.args.cycles.now) k (known_rank c.known_fragments-known.result)) counted c.known_fragments-known.ensures)
     c.index-document-place.is h)
+    c.add_fragment.ensures
+
+pub returns-clause-free : goal.returns-clause-free
+returns-clause-free g c =
+    let next = length c.args.building.now.fragments.items in
+    let searched = c.requires.ranked.searched in
+    on_ok_weaker c.add_fragment.result
+    (λ h. free_next c.args.document.now (rank_in c.args.cycles.now) c.args.schema.now (known_rank c.known_fragments-known.result) c.args.building.now c.add_fragment.new.building
+    (name_at c.args.document.now c.args.cycles.now searched c.args.node) c.in-Some.place c.index-document-place.result
+    (last_at c.args.document.now c.args.cycles.now searched c.args.last.now c.requires.last next c.args.node c.requires.next c.in-Some.place c.in-Some.ensures)
+    (rank_at c.args.document.now c.args.cycles.now searched next c.args.node c.requires.next) h c.requires.free)
     c.add_fragment.ensures

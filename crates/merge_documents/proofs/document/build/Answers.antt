@@ -1,9 +1,12 @@
 use Rattle.merge_documents.specs.Building.{rank_in}
-use Rattle.merge_documents.proofs.Assembling.{built_none, complete}
+use Rattle.merge_documents.proofs.Assembling.{built_none, free_none, complete}
 use Rattle.merge_documents.proofs.document.build.Goals as goal
 
 pub add_fragments-requires-clause-built : goal.add_fragments-requires-clause-built
 add_fragments-requires-clause-built g c = built_none c.args.schema.now c.args.document.now (rank_in c.args.cycles.now) c.in_ok-building.building c.in_ok-building.ensures
+
+pub add_fragments-requires-clause-free : goal.add_fragments-requires-clause-free
+add_fragments-requires-clause-free g c = free_none c.args.document.now (rank_in c.args.cycles.now) c.in_ok-building.building c.in_ok-building.ensures
 
 pub returns : goal.returns
 returns g c =
