@@ -7,9 +7,6 @@ ghost use Rattle.std.specs.Prelude.{◌<◌, ◌≤◌, ◌+◌, ◌*◌, min};
 /// The most slots that are made, however many names there are.
 const MOST: usize = 1 << 20;
 
-/// How many of a name's last bytes count for its slot. Longer names often begin alike, and end in a number.
-const LAST: usize = 8;
-
 /// How many slots serve so many names: two to four for each, up to a million.
 pub fn slot_count(names: usize) -> usize
     ensures some { 0 < result }
@@ -29,7 +26,7 @@ fn byte_at(bytes: &[u8], at: usize) -> usize
     }
 }
 
-/// The slot of a name among so many. Names that differ in their length, their first byte, the one in their middle or one of their last eight mostly
+/// The slot of a name among so many. Names that differ in their length, their first byte, the one in their middle or one of their last four mostly
 /// have different slots.
 pub fn slot_of(name: &str, slots: usize) -> usize
     requires { 0 < slots }
@@ -37,9 +34,12 @@ pub fn slot_of(name: &str, slots: usize) -> usize
 {
     let bytes = name.as_bytes();
     let length = bytes.len();
-    let mut sum = length % 64 * 17 + byte_at(bytes, 0) * 5171 + byte_at(bytes, length / 2) * 1031;
-    for byte in &bytes[length.saturating_sub(LAST)..] {
-        sum = sum.wrapping_mul(71).wrapping_add(*byte as usize);
-    }
+    let sum = length % 64 * 17
+        + byte_at(bytes, 0) * 4513
+        + byte_at(bytes, length / 2) * 2311
+        + byte_at(bytes, length.saturating_sub(4)) * 1543
+        + byte_at(bytes, length.saturating_sub(3)) * 137
+        + byte_at(bytes, length.saturating_sub(2)) * 11
+        + byte_at(bytes, length.saturating_sub(1));
     sum & (slots - 1)
 }
