@@ -27,16 +27,16 @@ fn byte_at(bytes: &[u8], at: usize) -> usize
 }
 
 /// The slot of a name among so many. Names that differ in their length, their first byte, the one in their middle or one of their last four mostly
-/// have different slots.
+/// have different slots: the weights are those that served best of some hundreds that were tried on names of types and fragments.
 pub fn slot_of(name: &str, slots: usize) -> usize
     requires { 0 < slots }
     ensures { result < slots }
 {
     let bytes = name.as_bytes();
     let length = bytes.len();
-    let sum = length % 64 * 17
-        + byte_at(bytes, 0) * 4513
-        + byte_at(bytes, length / 2) * 2311
+    let sum = length % 64 * 135
+        + byte_at(bytes, 0) * 6573
+        + byte_at(bytes, length / 2) * 8511
         + byte_at(bytes, length.saturating_sub(4)) * 1543
         + byte_at(bytes, length.saturating_sub(3)) * 137
         + byte_at(bytes, length.saturating_sub(2)) * 11

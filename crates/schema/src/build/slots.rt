@@ -16,7 +16,9 @@ pub fn type_slots<S, C>(
     ensures some { IfOk result (λ v. 0 < length v.items) }
     ensures err { IfErr result (λ e. e ≡ SchemaError.OutOfMemory) }
 {
-    let mut slots = vec![in alloc; None; slot_count(types.len())]?;
+    // a schema is made once, so there is room for more than two slots a type
+    let count = slot_count(types.len().saturating_mul(4));
+    let mut slots = vec![in alloc; None; count]?;
     for (place, name) in types.keys().enumerate() {
         note_place(&mut slots, name.as_str(), place);
     }
