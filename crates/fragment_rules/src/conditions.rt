@@ -79,11 +79,7 @@ fn no_types<'a, S, C>(
     ensures len { IfOk result (λ v. length v.items ≡ count) }
     ensures none { IfOk result (λ v. All (λ o. o ≡ None) v.items) }
 {
-    let mut types = Vec::new(alloc);
-    for _number in 0..count {
-        types.push(None)?;
-    }
-    Ok(types)
+    Ok(vec![in alloc; None; count]?)
 }
 
 // Keeps the type of a definition at the number of its name.

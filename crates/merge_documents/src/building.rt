@@ -30,11 +30,7 @@ fn no_stretches(alloc: Global, count: usize) -> Result<Vec<Option<(usize, usize)
     ensures len { IfOk result (λ v. length v.items ≡ count) }
     ensures none { IfOk result (λ v. (p : ℕ) (o : Option (ℕ × ℕ)) → slice_get v.items p ≡ Some o → o ≡ None) }
 {
-    let mut stretches = Vec::new(alloc);
-    for _place in 0..count {
-        stretches.push(None)?;
-    }
-    Ok(stretches)
+    vec![in alloc; None; count]
 }
 
 /// Nothing, with so many places.

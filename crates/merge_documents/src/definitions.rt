@@ -52,11 +52,7 @@ fn no_places(alloc: Global, count: usize) -> Result<Vec<Option<usize>>, AllocErr
     ensures len { IfOk result (λ v. length v.items ≡ count) }
     ensures none { IfOk result (λ v. All (λ o. o ≡ None) v.items) }
 {
-    let mut places = Vec::new(alloc);
-    for _number in 0..count {
-        places.push(None)?;
-    }
-    Ok(places)
+    vec![in alloc; None; count]
 }
 
 // Notes the place of a definition at the number of its name, if it has one.

@@ -26,11 +26,7 @@ fn no_firsts(alloc: Global, count: usize) -> Result<Vec<Option<Span>>, AllocErro
     ensures len { IfOk result (λ v. length v.items ≡ count) }
     ensures none { IfOk result (λ v. All (λ o. o ≡ None) v.items) }
 {
-    let mut firsts = Vec::new(alloc);
-    for _number in 0..count {
-        firsts.push(None)?;
-    }
-    Ok(firsts)
+    vec![in alloc; None; count]
 }
 
 /// None yet, with room for the first of each of these names.
