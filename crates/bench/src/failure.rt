@@ -26,7 +26,7 @@ impl fmt::Display for Failure {
             Failure::NoVariables =>
                 "the input begins with no operation whose variables have input types",
             Failure::Usage =>
-                "usage: bench <pets, number of input fields> READS WALKS VALUES, or bench <sdl, queries> READS",
+                "usage: bench [--through MEGABYTES] <pets, number of input fields> READS WALKS VALUES, or <sdl, queries> READS",
             Failure::OutOfMemory => "out of memory",
             Failure::InputOutput => "input, output or the clock failed",
         })

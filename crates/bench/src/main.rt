@@ -8,6 +8,9 @@
 //! - `sdl` or `queries`, and how often the standard input is to be read by `graphql_reader`, as a type system document or as an
 //!   executable one.
 //!
+//! Before them may stand `--through` and a number: so many megabytes of memory are gone through before each pass that is timed, so that it
+//! finds a cold cache.
+//!
 //! It prints the bytes of the text, the errors of the rules, the faults of the values where they are judged, and for each phase that
 //! is asked for the median of its times, in nanoseconds of the processor.
 #![tactic(auto)]

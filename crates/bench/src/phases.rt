@@ -1,7 +1,7 @@
 //! The phases of a document: it is read, and it is judged. Each answers the median of its times, or none where it is asked for no
 //! time.
 use crate::failure::Failure;
-use crate::times::{median_of, time_of};
+use crate::times::{Stopwatch, median_of};
 use document_reader::read_document;
 use std::alloc::Global;
 use std::rt::CpuClock;
@@ -10,7 +10,7 @@ use validation::{DefaultScalarValue, Definition, SchemaType, ValidatorContext, v
 
 /// Reads the text so often.
 pub fn time_reading<R: CpuClock>(
-    clock: &R,
+    watch: &mut Stopwatch<'_, R>,
     alloc: Global,
     text: &[u8],
     times: usize,
@@ -18,27 +18,27 @@ pub fn time_reading<R: CpuClock>(
     median_of(
         alloc,
         times,
-        || time_of(clock, || Ok(read_document(alloc, text)?)),
+        || watch.time_of(|| Ok(read_document(alloc, text)?)),
     )
 }
 
 /// Judges the document by all rules so often.
 pub fn time_walking<R: CpuClock>(
-    clock: &R,
+    watch: &mut Stopwatch<'_, R>,
     alloc: Global,
     schema: &SchemaType<DefaultScalarValue>,
     document: &[Definition<'_, DefaultScalarValue>],
     times: usize,
 ) -> Result<Option<u128>, Failure> {
-    median_of(alloc, times, || time_walk(clock, alloc, schema, document))
+    median_of(alloc, times, || time_walk(watch, alloc, schema, document))
 }
 
 fn time_walk<'a, R: CpuClock>(
-    clock: &R,
+    watch: &mut Stopwatch<'_, R>,
     alloc: Global,
     schema: &'a SchemaType<DefaultScalarValue>,
     document: &'a [Definition<'_, DefaultScalarValue>],
 ) -> Result<Duration, Failure> {
     let mut ctx = ValidatorContext::new(alloc, schema, document)?;
-    time_of(clock, || Ok(visit_all_rules(&mut ctx, document)?))
+    watch.time_of(|| Ok(visit_all_rules(&mut ctx, document)?))
 }

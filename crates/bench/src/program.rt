@@ -3,6 +3,7 @@ use crate::failure::Failure;
 use crate::phases::{time_reading, time_walking};
 use crate::readers::{kind_named, time_reader};
 use crate::schemas::{root_fields, wide_input};
+use crate::times::Stopwatch;
 use crate::values::{first_operation, judge, time_values, values_of};
 use document_reader::read_document;
 use samples::build::{Checks, common, object, scalar};
@@ -44,14 +45,30 @@ fn measure<R: CpuClock + Env + AllocGlobal + Print, I: Read>(
     input.read_to_end(&mut text)?;
     println!(rt; "bytes {}", text.len())?;
     match words.as_slice() {
-        [reader, reads] => measure_reader(rt, reader.as_str(), text.as_slice(), number(reads)?),
+        [option, megabytes, words @ ..] if option.as_str() == "--through" => {
+            measure_words(rt, words, text.as_slice(), number(megabytes)?)
+        }
+        words => measure_words(rt, words, text.as_slice(), 0),
+    }
+}
+
+/// Measures what the words behind the option ask for.
+fn measure_words<R: CpuClock + AllocGlobal + Print>(
+    rt: &R,
+    words: &[String],
+    text: &[u8],
+    megabytes: usize,
+) -> Result<(), Failure> {
+    let mut watch = Stopwatch::new(rt.alloc(), rt, megabytes)?;
+    match words {
+        [reader, reads] => measure_reader(rt, &mut watch, reader.as_str(), text, number(reads)?),
         [schema, reads, walks, values] => {
             let times = Times {
                 reads: number(reads)?,
                 walks: number(walks)?,
                 values: number(values)?,
             };
-            measure_against(rt, schema.as_str(), text.as_slice(), times)
+            measure_against(rt, &mut watch, schema.as_str(), text, times)
         }
         _ => Err(Failure::Usage),
     }
@@ -71,22 +88,32 @@ fn number(word: &String) -> Result<usize, Failure> {
 
 fn measure_reader<R: CpuClock + AllocGlobal + Print>(
     rt: &R,
+    watch: &mut Stopwatch<'_, R>,
     word: &str,
     text: &[u8],
     reads: usize,
 ) -> Result<(), Failure> {
     let kind = kind_named(word)?;
     let text = str::from_utf8(text).map_err(|_| Failure::Syntax)?;
-    tell(rt, "read", time_reader(rt, rt.alloc(), kind, text, reads)?)
+    tell(
+        rt,
+        "read",
+        time_reader(watch, rt.alloc(), kind, text, reads)?,
+    )
 }
 
 fn measure_against<R: CpuClock + AllocGlobal + Print>(
     rt: &R,
+    watch: &mut Stopwatch<'_, R>,
     word: &str,
     text: &[u8],
     times: Times,
 ) -> Result<(), Failure> {
-    tell(rt, "read", time_reading(rt, rt.alloc(), text, times.reads)?)?;
+    tell(
+        rt,
+        "read",
+        time_reading(watch, rt.alloc(), text, times.reads)?,
+    )?;
     let checks = Checks {
         int: DefaultCheck::with_token(check_int, refuse_token),
         string: DefaultCheck::with_token(check_string, refuse_token),
@@ -114,45 +141,48 @@ fn measure_against<R: CpuClock + AllocGlobal + Print>(
         "_EmptyMutation",
         "_EmptySubscription",
     )?;
-    measure_text(rt, &schema, text, times)
+    measure_text(rt, watch, &schema, text, times)
 }
 
 fn measure_text<R: CpuClock + AllocGlobal + Print>(
     rt: &R,
+    watch: &mut Stopwatch<'_, R>,
     schema: &SchemaType<DefaultScalarValue>,
     text: &[u8],
     times: Times,
 ) -> Result<(), Failure> {
     match read_document(rt.alloc(), text) {
-        Ok(document) => measure_document(rt, schema, document.as_slice(), times),
+        Ok(document) => measure_document(rt, watch, schema, document.as_slice(), times),
         Err(error) => Err(Failure::from(error)),
     }
 }
 
 fn measure_document<R: CpuClock + AllocGlobal + Print>(
     rt: &R,
+    watch: &mut Stopwatch<'_, R>,
     schema: &SchemaType<DefaultScalarValue>,
     document: &[Definition<'_, DefaultScalarValue>],
     times: Times,
 ) -> Result<(), Failure> {
-    let walk = time_walking(rt, rt.alloc(), schema, document, times.walks)?;
+    let walk = time_walking(watch, rt.alloc(), schema, document, times.walks)?;
     tell(rt, "walk", walk)?;
     println!(rt; "errors {}", count_errors(rt.alloc(), schema, document)?)?;
     if times.values > 0 {
-        measure_values(rt, schema, document, times.values)?;
+        measure_values(rt, watch, schema, document, times.values)?;
     }
     Ok(())
 }
 
 fn measure_values<R: CpuClock + AllocGlobal + Print>(
     rt: &R,
+    watch: &mut Stopwatch<'_, R>,
     schema: &SchemaType<DefaultScalarValue>,
     document: &[Definition<'_, DefaultScalarValue>],
     times: usize,
 ) -> Result<(), Failure> {
     let operation = first_operation(document)?;
     let values = values_of(rt.alloc(), operation)?;
-    let time = time_values(rt, rt.alloc(), schema, operation, &values, times)?;
+    let time = time_values(watch, rt.alloc(), schema, operation, &values, times)?;
     tell(rt, "values", time)?;
     let faults = judge(rt.alloc(), schema, operation, &values)?;
     println!(rt; "faults {}", faults.len())?;

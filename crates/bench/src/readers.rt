@@ -1,6 +1,6 @@
 //! The readers of a team's texts, in time of the processor.
 use crate::failure::Failure;
-use crate::times::{median_of, time_of};
+use crate::times::{Stopwatch, median_of};
 use graphql_reader::{read_document, read_type_system};
 use std::alloc::Global;
 use std::rt::CpuClock;
@@ -25,7 +25,7 @@ pub fn kind_named(word: &str) -> Result<Kind, Failure> {
 
 /// Reads the text so often, and answers the median of the times, or none where it is asked for no time.
 pub fn time_reader<R: CpuClock>(
-    clock: &R,
+    watch: &mut Stopwatch<'_, R>,
     alloc: Global,
     kind: Kind,
     text: &str,
@@ -33,10 +33,10 @@ pub fn time_reader<R: CpuClock>(
 ) -> Result<Option<u128>, Failure> {
     match kind {
         Kind::TypeSystem => median_of(alloc, times, || {
-            time_of(clock, || Ok(read_type_system(alloc, text)?))
+            watch.time_of(|| Ok(read_type_system(alloc, text)?))
         }),
         Kind::Queries => median_of(alloc, times, || {
-            time_of(clock, || Ok(read_document(alloc, text)?))
+            watch.time_of(|| Ok(read_document(alloc, text)?))
         }),
     }
 }

@@ -1,6 +1,6 @@
 //! The phase of an operation's variables: their values are judged.
 use crate::failure::Failure;
-use crate::times::{median_of, time_of};
+use crate::times::{Stopwatch, median_of};
 use std::alloc::Global;
 use std::collections::BTreeMap;
 use std::rt::CpuClock;
@@ -52,7 +52,7 @@ pub fn judge(
 
 /// Judges the values so often, and answers the median of the times, or none where it is asked for no time.
 pub fn time_values<R: CpuClock>(
-    clock: &R,
+    watch: &mut Stopwatch<'_, R>,
     alloc: Global,
     schema: &SchemaType<DefaultScalarValue>,
     operation: &PlacedOperation<'_>,
@@ -60,6 +60,6 @@ pub fn time_values<R: CpuClock>(
     times: usize,
 ) -> Result<Option<u128>, Failure> {
     median_of(alloc, times, || {
-        time_of(clock, || judge(alloc, schema, operation, values))
+        watch.time_of(|| judge(alloc, schema, operation, values))
     })
 }
