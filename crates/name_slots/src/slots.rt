@@ -2,7 +2,8 @@
 //!
 //! Two names of one slot drive each other out, and then the map is asked, so any slot is right and any number of slots. Who takes what stands in a
 //! slot compares the names first: strangers choose them, and can do no more than have the map asked each time.
-ghost use Rattle.std.specs.Prelude.{◌<◌, ◌≤◌, ◌+◌, ◌*◌, min};
+ghost use Rattle.std.specs.Prelude.{◌≡◌, ◌<◌, ◌≤◌, ◌+◌, ◌*◌, min};
+ghost use Rattle.name_slots.specs.Slots.{byte_at, slot_number};
 
 /// The most slots that are made, however many names there are.
 const MOST: usize = 1 << 20;
@@ -18,7 +19,8 @@ pub fn slot_count(names: usize) -> usize
 
 // A byte of a name, and 0 where there is none.
 fn byte_at(bytes: &[u8], at: usize) -> usize
-    ensures { result < 256 }
+    ensures small { result < 256 }
+    ensures exact { result ≡ byte_at bytes.now at }
 {
     match bytes.get(at) {
         Some(byte) => *byte as usize,
@@ -30,7 +32,8 @@ fn byte_at(bytes: &[u8], at: usize) -> usize
 /// have different slots: the weights are those that served best of some hundreds that were tried on names of types and fragments.
 pub fn slot_of(name: &str, slots: usize) -> usize
     requires { 0 < slots }
-    ensures { result < slots }
+    ensures inside { result < slots }
+    ensures exact { result ≡ slot_number name.now slots }
 {
     let bytes = name.as_bytes();
     let length = bytes.len();
