@@ -1,3 +1,2 @@
-pub mod FirstNoted
 pub mod RepeatsSeen
 pub mod Told
