@@ -1,5 +1,5 @@
 -- Names with what belongs to each.
-use Rattle.std.specs.Prelude.{ℕ, List, Option, None, Some, option_map, slice_get}
+use Rattle.std.specs.Prelude.{ℕ, List, length, Option, None, Some, option_map, slice_get}
 use Rattle.name_maps.specs.declared.map.NameMap.{NameMap}
 use Rattle.name_maps.specs.Looking.{Entries, index_in}
 
@@ -17,3 +17,7 @@ value_at es (Some k) = option_map (λ e. e.1) (slice_get es k)
 -- What belongs to a name.
 abbrev pub value_of : {T : Type 0} → NameMap T → List ℕ → Option T
 value_of m name = value_at (entries_of m) (index_of m name)
+
+-- How many slots there are.
+abbrev pub slots_in : {T : Type 0} → NameMap T → ℕ
+slots_in m = length m.slots.items

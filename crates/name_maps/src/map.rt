@@ -23,11 +23,11 @@ pub struct NameMap<'a, T> {
 }
 
 impl<'a, T: Copy> NameMap<'a, T> {
-    ghost use Rattle.std.specs.Prelude.{◌≡◌, ◌↔◌, [], ℕ, List, None, Some, IsTrue, OnErr, OnOk, IfOk, length, slice_get, if◌then◌else◌};
+    ghost use Rattle.std.specs.Prelude.{◌≡◌, ◌↔◌, ◌≤◌, ◌*◌, [], ℕ, min, List, None, Some, IsTrue, OnErr, OnOk, IfOk, length, slice_get, if◌then◌else◌};
     ghost use Rattle.std.specs.Str.{bytes_eq};
     ghost use Rattle.name_maps.specs.Adding.{or_else, Adds, IsUnchanged};
     ghost use Rattle.name_maps.specs.Looking.{held_by, index_held, is_named, other_index};
-    ghost use Rattle.name_maps.specs.Maps.{entries_of, index_of, value_at, value_of};
+    ghost use Rattle.name_maps.specs.Maps.{entries_of, index_of, slots_in, value_at, value_of};
 
     /// No names, and no slots, so that each name stands in the ordered map. It asks for no memory.
     pub fn new(alloc: Global) -> NameMap<'a, T>
@@ -41,8 +41,9 @@ impl<'a, T: Copy> NameMap<'a, T> {
         }
     }
 
-    /// No names, with slots for so many.
+    /// No names, with slots for so many: two for each, up to a million in all.
     pub fn with_slots(alloc: Global, names: usize) -> Result<NameMap<'a, T>, AllocError>
+        ensures slots { IfOk result (λ m. 2 * min names 524288 ≤ slots_in m) }
         ensures entries { IfOk result (λ m. entries_of m ≡ []) }
         ensures none { IfOk result (λ m. (name : List ℕ) → index_of m name ≡ None) }
     {

@@ -15,7 +15,7 @@ invariant_of-self-in-Ok g c =
     let m = c.args.self.now in
     let next = c.len-next.ensures ∙ m.entries.ok.0 in
     let updates = subst (λ k. (q : _) → other_index c.insert.new.self q ≡ update bytes_eq (other_index m.others) c.args.name.now (Some k) q) next
-        (btree_map_updates_str c.args.name.now m.others c.insert.new.self (Some c.len-next.result) c.in-Ok.ensures.updates) in
+    (btree_map_updates_str c.args.name.now m.others c.insert.new.self (Some c.len-next.result) c.in-Ok.ensures.updates) in
     record {
       held = subst (λ es. AreHeld es m.slots.items) (sym c.in_ok-push.ensures.items)
           (pass_held m.entries.items m.slots.items m.others c.insert.new.self c.args.name c.args.value c.requires.taken c.requires.new updates m.held m.within m.taken);
@@ -29,7 +29,7 @@ returns-in-Ok-clause-adds g c =
     let m = c.args.self.now in
     let next = c.len-next.ensures ∙ m.entries.ok.0 in
     let updates = subst (λ k. (q : _) → other_index c.insert.new.self q ≡ update bytes_eq (other_index m.others) c.args.name.now (Some k) q) next
-        (btree_map_updates_str c.args.name.now m.others c.insert.new.self (Some c.len-next.result) c.in-Ok.ensures.updates) in
+    (btree_map_updates_str c.args.name.now m.others c.insert.new.self (Some c.len-next.result) c.in-Ok.ensures.updates) in
     record {
       entries = c.in_ok-push.ensures.items ∙ ap (λ o. cond (is_some o) m.entries.items (m.entries.items ++ (c.args.name, c.args.value) ∷ [])) (sym c.requires.new);
       indices = λ other.
