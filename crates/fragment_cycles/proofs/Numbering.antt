@@ -7,7 +7,7 @@ use Rattle.std.proofs.lemmas.List.{length-map, map-append}
 use Rattle.std.proofs.lemmas.Option.{slice_get_within}
 use denote.Ref.{Bor}
 use Rattle.name_maps.specs.Adding.{Adds}
-use Rattle.name_maps.specs.Maps.{entries_of}
+use Rattle.name_maps.specs.Maps.{entries_of, index_of}
 use Rattle.fragment_cycles.specs.declared.numbers.Numbers.{Numbers}
 use Rattle.fragment_cycles.specs.Numbers.{or_else, number_of, names_of, AddsName, WellNumbered}
 use Rattle.fragment_cycles.proofs.Lists.{same_item, same_some, none_some, get_more, get_snoc, get_end, get_some}
@@ -16,13 +16,23 @@ names_by_case : (b : Bool) (n : Numbers) (name : Bor (List ℕ)) (x : Unit {0}) 
 names_by_case true n name x = refl
 names_by_case false n name x = map-append (λ e. e.0.now) (entries_of n.map) ((name, x) ∷ [])
 
+-- a name's number is its index
+pub number_is : (n : Numbers) (name : List ℕ) → number_of n name ≡ index_of n.map name
+unfolding number_of
+number_is n name = refl
+
 -- a map with one name more
 pub adds_name : (old new : Numbers) (name : Bor (List ℕ)) (x : Unit {0}) → Adds name x old.map new.map → AddsName old new name.now
 adds_name old new name x a = record {
   numbers = λ other.
-      a.indices other
-      ∙ ap (λ k. or_else (number_of old other) (cond (bytes_eq name.now other) (Some k) None)) (sym (length-map (entries_of old.map) (λ e. e.0.now)));
-  names = ap (map (λ e. e.0.now)) a.entries ∙ names_by_case (is_some (number_of old name.now)) old name x;
+      number_is new other
+      ∙ a.indices other
+      ∙ ap (λ k. or_else (index_of old.map other) (cond (bytes_eq name.now other) (Some k) None)) (sym (length-map (entries_of old.map) (λ e. e.0.now)))
+      ∙ ap (λ o. or_else o (cond (bytes_eq name.now other) (Some (length (names_of old))) None)) (sym (number_is old other));
+  names =
+      ap (map (λ e. e.0.now)) a.entries
+      ∙ names_by_case (is_some (index_of old.map name.now)) old name x
+      ∙ ap (λ o. cond (is_some o) (names_of old) (names_of old ++ name.now ∷ [])) (sym (number_is old name.now));
 }
 
 split : (b : Bool) (p : Option ℕ) (c k : ℕ) → or_else p (cond b (Some c) None) ≡ Some k → (p ≡ Some k) ⊎ ((p ≡ None) × (b ≡ true) × (c ≡ k))

@@ -9,7 +9,7 @@ use Rattle.language.specs.declared.tree.Definition.{Definition}
 use Rattle.language.specs.declared.tree.Definition.TheVariants as definition
 use Rattle.fragment_cycles.specs.declared.numbers.Numbers.{Numbers}
 
-abbrev pub number_of : Numbers → List ℕ → Option ℕ
+unfoldable pub number_of : Numbers → List ℕ → Option ℕ
 number_of n name = index_of n.map name
 
 abbrev pub names_of : Numbers → List (List ℕ)
