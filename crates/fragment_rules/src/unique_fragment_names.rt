@@ -50,8 +50,8 @@ impl<'a, S: CheckedScalar> Visitor<'a, S> for UniqueFragmentNames<'a> {
         ctx: &mut ValidatorContext<'a, S>,
         event: &Event<'a, S>,
     ) -> Result<(), OutOfMemory> {
-        match event {
-            Event::EnterDocument(document) => self.names.make_room(document.len())?,
+        match *event {
+            Event::EnterDocument(document) => self.names.make_room(document.len()),
             Event::EnterFragmentDefinition(fragment) => {
                 let name = &fragment.item.name;
                 let place = name.span.start;
@@ -59,10 +59,10 @@ impl<'a, S: CheckedScalar> Visitor<'a, S> for UniqueFragmentNames<'a> {
                     let message = error_message(self.alloc, name.item)?;
                     ctx.report_error(message.as_str(), &[first, place])?;
                 }
+                Ok(())
             }
-            _ => {}
+            _ => Ok(()),
         }
-        Ok(())
     }
 }
 

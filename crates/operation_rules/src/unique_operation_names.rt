@@ -50,8 +50,8 @@ impl<'a, S: CheckedScalar> Visitor<'a, S> for UniqueOperationNames<'a> {
         ctx: &mut ValidatorContext<'a, S>,
         event: &Event<'a, S>,
     ) -> Result<(), OutOfMemory> {
-        match event {
-            Event::EnterDocument(document) => self.names.make_room(document.len())?,
+        match *event {
+            Event::EnterDocument(document) => self.names.make_room(document.len()),
             Event::EnterOperationDefinition(operation) => {
                 if let Some(name) = &operation.item.name {
                     let place = operation.span.start;
@@ -60,10 +60,10 @@ impl<'a, S: CheckedScalar> Visitor<'a, S> for UniqueOperationNames<'a> {
                         ctx.report_error(message.as_str(), &[first, place])?;
                     }
                 }
+                Ok(())
             }
-            _ => {}
+            _ => Ok(()),
         }
-        Ok(())
     }
 }
 
