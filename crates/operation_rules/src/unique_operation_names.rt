@@ -50,20 +50,16 @@ impl<'a, S: CheckedScalar> Visitor<'a, S> for UniqueOperationNames<'a> {
         ctx: &mut ValidatorContext<'a, S>,
         event: &Event<'a, S>,
     ) -> Result<(), OutOfMemory> {
-        match *event {
-            Event::EnterDocument(document) => self.names.make_room(document.len()),
-            Event::EnterOperationDefinition(operation) => {
-                if let Some(name) = &operation.item.name {
-                    let place = operation.span.start;
-                    if let Some(first) = self.names.note(name.item, place)? {
-                        let message = error_message(self.alloc, name.item)?;
-                        ctx.report_error(message.as_str(), &[first, place])?;
-                    }
+        if let Event::EnterOperationDefinition(operation) = event {
+            if let Some(name) = &operation.item.name {
+                let place = operation.span.start;
+                if let Some(first) = self.names.note(name.item, place)? {
+                    let message = error_message(self.alloc, name.item)?;
+                    ctx.report_error(message.as_str(), &[first, place])?;
                 }
-                Ok(())
             }
-            _ => Ok(()),
         }
+        Ok(())
     }
 }
 
