@@ -5,5 +5,6 @@ pub mod Kept
 pub mod KeptNames
 pub mod Numbers
 pub mod Searched
+pub mod Slots
 pub mod Sound
 pub mod Spreads

@@ -30,18 +30,6 @@ pub fn factory<'a>(alloc: Global) -> UniqueFragmentNames<'a>
     }
 }
 
-impl<'a> UniqueFragmentNames<'a> {
-    // Makes room for the names of a document's fragments where the document is entered.
-    fn make_ready<S>(&mut self, event: &Event<'a, S>) -> Result<(), OutOfMemory>
-        ensures { places_of self.new.names ≡ places_of self.old.names }
-    {
-        match *event {
-            Event::EnterDocument(document) => self.names.make_room(document.len()),
-            _ => Ok(()),
-        }
-    }
-}
-
 impl<'a> Fresh for UniqueFragmentNames<'a> {
     ghost fresh = { NothingNoted (λ a. places_of a.names) };
 }
@@ -62,7 +50,6 @@ impl<'a, S: CheckedScalar> Visitor<'a, S> for UniqueFragmentNames<'a> {
         ctx: &mut ValidatorContext<'a, S>,
         event: &Event<'a, S>,
     ) -> Result<(), OutOfMemory> {
-        self.make_ready(event)?;
         if let Event::EnterFragmentDefinition(fragment) = event {
             let name = &fragment.item.name;
             let place = name.span.start;

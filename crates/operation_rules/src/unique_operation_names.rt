@@ -30,18 +30,6 @@ pub fn factory<'a>(alloc: Global) -> UniqueOperationNames<'a>
     }
 }
 
-impl<'a> UniqueOperationNames<'a> {
-    // Makes room for the names of a document's operations where the document is entered.
-    fn make_ready<S>(&mut self, event: &Event<'a, S>) -> Result<(), OutOfMemory>
-        ensures { places_of self.new.names ≡ places_of self.old.names }
-    {
-        match *event {
-            Event::EnterDocument(document) => self.names.make_room(document.len()),
-            _ => Ok(()),
-        }
-    }
-}
-
 impl<'a> Fresh for UniqueOperationNames<'a> {
     ghost fresh = { NothingNoted (λ a. places_of a.names) };
 }
@@ -62,7 +50,6 @@ impl<'a, S: CheckedScalar> Visitor<'a, S> for UniqueOperationNames<'a> {
         ctx: &mut ValidatorContext<'a, S>,
         event: &Event<'a, S>,
     ) -> Result<(), OutOfMemory> {
-        self.make_ready(event)?;
         if let Event::EnterOperationDefinition(operation) = event {
             if let Some(name) = &operation.item.name {
                 let place = operation.span.start;

@@ -1,3 +1,3 @@
-pub mod Kept
+pub mod FirstNoted
 pub mod RepeatsSeen
 pub mod Told
