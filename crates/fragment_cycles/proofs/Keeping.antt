@@ -9,8 +9,8 @@ use Rattle.language.specs.declared.tree.Definition.{Definition}
 use Rattle.language.specs.declared.tree.Definition.TheVariants as definition
 use Rattle.fragment_cycles.specs.declared.numbers.NumberedNames.{NumberedNames}
 use Rattle.fragment_cycles.specs.declared.numbers.Numbers.{Numbers}
-use Rattle.fragment_cycles.specs.Kept.{is_among, fragment_name, fragment_names, name_of_number, defined_names, is_kept, IsCopy, IsNumberOf, AreNumbersOf}
-use Rattle.fragment_cycles.specs.Numbers.{number_of, names_of, defined_number, Defines, IsNamed, NumberedDefinitions, NumbersOf, WellNumbered}
+use Rattle.fragment_cycles.specs.Kept.{is_among, fragment_name, fragment_names, name_of_number, is_kept, IsCopy, IsNumberOf, AreNumbersOf}
+use Rattle.fragment_cycles.specs.Numbers.{number_of, defined_number, Defines, IsNamed, NumberedDefinitions, NumbersOf, WellNumbered}
 use Rattle.fragment_cycles.proofs.Lists.{none_some, contains_at, contains_get, same_some}
 
 either : (b c : Bool) → (b || c) ≡ true → (b ≡ true) ⊎ (c ≡ true)

@@ -1,18 +1,13 @@
 -- Lists by index.
-use Rattle.std.proofs.Common.{◌≡◌, ℕ, ◌<◌, ◌≤◌, List, [], ◌∷◌, ◌++◌, length, refl, sym, subst, ap, arith, inl, inr, ◌⊎◌, zero, suc, Option, Some, None, slice_get, ◌∙◌, slice_set}
+use Rattle.std.proofs.Common.{◌≡◌, ℕ, ◌≤◌, List, [], ◌∷◌, ◌++◌, length, refl, sym, subst, ap, arith, inl, inr, ◌⊎◌, zero, suc, Option, Some, None, slice_get, ◌∙◌, slice_set}
 use Rattle.std.specs.List.{Contains}
 use Rattle.std.proofs.lemmas.Bool.{cases_eq}
 use Rattle.std.proofs.lemmas.Option.{slice_get_within, get_or_from_slice_get, slice_get-get_or}
 use Rattle.std.proofs.lemmas.List.Elements.{Contains-push}
+pub use Rattle.name_maps.proofs.Lists.{get_last, get_some, none_some, same_some, set_other, set_same}
 
 pub same_item : {X : Type 0} (x y : X) (o : Option X) → o ≡ Some x → o ≡ Some y → x ≡ y
 same_item x y o h k = cc
-
-pub same_some : {X : Type 0} (x y : X) → Some x ≡ Some y → x ≡ y
-same_some x y h = cc
-
-pub none_some : {X : Type 0} (x : X) → None ≡ Some x → ⊥
-none_some x h = cc
 
 pub get_more : {X : Type 0} (xs ys : List X) (i : ℕ) (x : X) → slice_get xs i ≡ Some x → slice_get (xs ++ ys) i ≡ Some x
 get_more [] ys i x h = absurd (none_some x h)
@@ -26,10 +21,6 @@ get_snoc [] y (suc i) x h = absurd (none_some x h)
 get_snoc (z ∷ xs) y zero x h = inl h
 get_snoc (z ∷ xs) y (suc i) x h = elim (get_snoc xs y i x h) [ inl a ↦ inl a | inr b ↦ inr (omega (arith, b.0), b.1) ]
 
-get_last : {X : Type 0} (xs : List X) (x : X) → slice_get (xs ++ x ∷ []) (length xs) ≡ Some x
-get_last [] x = refl
-get_last (y ∷ xs) x = get_last xs x
-
 pub get_end : {X : Type 0} (xs : List X) (x : X) (i : ℕ) → i ≡ length xs → slice_get (xs ++ x ∷ []) i ≡ Some x
 get_end xs x i e = subst (λ (k : ℕ). slice_get (xs ++ x ∷ []) k ≡ Some x) (sym e) (get_last xs x)
 
@@ -37,23 +28,6 @@ pub get_none : {X : Type 0} (xs : List X) (i : ℕ) → slice_get xs i ≡ None 
 get_none [] i h = omega arith
 get_none (x ∷ xs) zero h = absurd (none_some x (sym h))
 get_none (x ∷ xs) (suc i) h = let r : length xs ≤ i = get_none xs i h in omega (arith, r)
-
-pub get_some : {X : Type 0} (xs : List X) (i : ℕ) → i < length xs → (x : X) × (slice_get xs i ≡ Some x)
-get_some [] i h = absurd (omega (arith, h))
-get_some (x ∷ xs) zero h = (x, refl)
-get_some (x ∷ xs) (suc i) h = get_some xs i (omega (arith, h))
-
-pub set_same : {X : Type 0} (xs : List X) (i : ℕ) (x y : X) → slice_get xs i ≡ Some x → slice_get (slice_set xs i y) i ≡ Some y
-set_same [] i x y h = absurd (none_some x h)
-set_same (z ∷ xs) zero x y h = refl
-set_same (z ∷ xs) (suc i) x y h = set_same xs i x y h
-
-pub set_other : {X : Type 0} (xs : List X) (i j : ℕ) (y : X) → (j ≡ i → ⊥) → slice_get (slice_set xs i y) j ≡ slice_get xs j
-set_other [] i j y ne = refl
-set_other (z ∷ xs) zero zero y ne = absurd (ne refl)
-set_other (z ∷ xs) zero (suc j) y ne = refl
-set_other (z ∷ xs) (suc i) zero y ne = refl
-set_other (z ∷ xs) (suc i) (suc j) y ne = set_other xs i j y (λ e. ne (omega (arith, e)))
 
 -- an element that differs from the one that was replaced
 pub set_keep : {X : Type 0} (xs : List X) (i j : ℕ) (x y z : X) → slice_get xs i ≡ Some x → (x ≡ z → ⊥) → slice_get xs j ≡ Some z

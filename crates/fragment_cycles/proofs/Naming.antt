@@ -68,10 +68,6 @@ module _ {S : Type 0} where
       let (k, is) = (h.defined p.item.name.item.now).1 (definition.Fragment p, c, refl) in
       number_keep old new f.item.name.item.now a p.item.name.item.now k is ∙ sym is
 
-  pub slots_kept : (d : Definition S) (old new : Numbers) → AddsDefinition d old new → new.slots ≡ old.slots
-  slots_kept (definition.Operation o) old new e = ap (λ n. n.slots) e
-  slots_kept (definition.Fragment f) old new a = a.slots
-
   pub definitions_more : (xs : List (Definition S)) (d : Definition S) (old new : Numbers) (before after : List (Option ℕ)) (number : Option ℕ)
       → AddsDefinition d old new → number ≡ defined_number new d → after ≡ before ++ number ∷ []
       → NumberedDefinitions xs old before → NumberedDefinitions (xs ++ d ∷ []) new after

@@ -1,41 +1,39 @@
 -- How names get numbers.
-use Rattle.std.proofs.Common.{◌≡◌, ℕ, ◌<◌, List, [], ◌∷◌, ◌++◌, length, refl, sym, ap, ◌∙◌, inl, inr, ◌⊎◌, Bool, true, false, cond, Option, Some, None, slice_get}
+use Rattle.std.proofs.Common.{◌≡◌, ℕ, ◌<◌, List, [], ◌∷◌, ◌++◌, length, refl, sym, ap, ◌∙◌, inl, inr, ◌⊎◌, Bool, true, false, cond, Option, Some, None, map, slice_get}
 use Rattle.std.specs.Option.{is_some}
 use Rattle.std.specs.Str.{bytes_eq}
-use Rattle.std.specs.Map.{update}
 use Rattle.std.proofs.lemmas.Slice.Eq.{bytes_eq-Decides}
+use Rattle.std.proofs.lemmas.List.{length-map, map-append}
 use Rattle.std.proofs.lemmas.Option.{slice_get_within}
+use denote.Ref.{Bor}
+use Rattle.name_maps.specs.Adding.{Adds}
+use Rattle.name_maps.specs.Maps.{entries_of, index_of}
 use Rattle.fragment_cycles.specs.declared.numbers.Numbers.{Numbers}
 use Rattle.fragment_cycles.specs.Numbers.{or_else, number_of, names_of, AddsName, WellNumbered}
 use Rattle.fragment_cycles.proofs.Lists.{same_item, same_some, none_some, get_more, get_snoc, get_end, get_some}
 
-new_by : (b : Bool) (f : Option ℕ) (k : ℕ) → (b ≡ true → f ≡ None) → cond b (Some k) f ≡ or_else f (cond b (Some k) None)
-new_by true f k h = ap (λ z. or_else z (Some k)) (sym (h refl))
-new_by false None k h = refl
-new_by false (Some p) k h = refl
+names_by_case : (b : Bool) (n : Numbers) (name : Bor (List ℕ)) (x : Unit {0}) → map (λ e. e.0.now) (cond b (entries_of n.map) (entries_of n.map ++ (name, x) ∷ [])) ≡ cond b (names_of n) (names_of n ++ name.now ∷ [])
+names_by_case true n name x = refl
+names_by_case false n name x = map-append (λ e. e.0.now) (entries_of n.map) ((name, x) ∷ [])
 
-old_by : (b : Bool) (f : Option ℕ) (k : ℕ) → (b ≡ true → (j : ℕ) × (f ≡ Some j)) → f ≡ or_else f (cond b (Some k) None)
-old_by b (Some p) k h = refl
-old_by false None k h = refl
-old_by true None k h = absurd (none_some (h refl).0 (h refl).1)
+-- a name's number is its index
+pub number_is : (n : Numbers) (name : List ℕ) → number_of n name ≡ index_of n.map name
+unfolding number_of
+number_is n name = refl
 
-pub adds_new : (p q : List ℕ → Option ℕ) (name : List ℕ) (k : ℕ) → None ≡ p name → ((o : List ℕ) → q o ≡ update bytes_eq p name (Some k) o)
-    → (o : List ℕ) → q o ≡ or_else (p o) (cond (bytes_eq name o) (Some k) None)
-adds_new p q name k h u o = u o ∙ new_by (bytes_eq name o) (p o) k (λ e. ap p (sym ((bytes_eq-Decides name o).0 e)) ∙ sym h)
-
-pub adds_old : (p : List ℕ → Option ℕ) (name : List ℕ) (k j : ℕ) → Some j ≡ p name → (o : List ℕ) → p o ≡ or_else (p o) (cond (bytes_eq name o) (Some k) None)
-adds_old p name k j h o = old_by (bytes_eq name o) (p o) k (λ e. (j, ap p (sym ((bytes_eq-Decides name o).0 e)) ∙ sym h))
-
-back_by : (b : Bool) (f q : Option ℕ) (k j : ℕ) → (b ≡ true → f ≡ Some j) → q ≡ cond b (Some k) f → cond b (Some j) q ≡ f
-back_by true f q k j h e = sym (h refl)
-back_by false f q k j h e = e
-
--- a number that was overwritten and is put back
-pub adds_back : (p q r : List ℕ → Option ℕ) (name : List ℕ) (k next j : ℕ) → Some j ≡ p name → ((o : List ℕ) → q o ≡ update bytes_eq p name (Some next) o)
-    → ((o : List ℕ) → r o ≡ update bytes_eq q name (Some j) o)
-    → (o : List ℕ) → r o ≡ or_else (p o) (cond (bytes_eq name o) (Some k) None)
-adds_back p q r name k next j h u v o =
-    v o ∙ back_by (bytes_eq name o) (p o) (q o) next j (λ e. ap p (sym ((bytes_eq-Decides name o).0 e)) ∙ sym h) (u o) ∙ adds_old p name k j h o
+-- a map with one name more
+pub adds_name : (old new : Numbers) (name : Bor (List ℕ)) (x : Unit {0}) → Adds name x old.map new.map → AddsName old new name.now
+adds_name old new name x a = record {
+  numbers = λ other.
+      number_is new other
+      ∙ a.indices other
+      ∙ ap (λ k. or_else (index_of old.map other) (cond (bytes_eq name.now other) (Some k) None)) (sym (length-map (entries_of old.map) (λ e. e.0.now)))
+      ∙ ap (λ o. or_else o (cond (bytes_eq name.now other) (Some (length (names_of old))) None)) (sym (number_is old other));
+  names =
+      ap (map (λ e. e.0.now)) a.entries
+      ∙ names_by_case (is_some (index_of old.map name.now)) old name x
+      ∙ ap (λ o. cond (is_some o) (names_of old) (names_of old ++ name.now ∷ [])) (sym (number_is old name.now));
+}
 
 split : (b : Bool) (p : Option ℕ) (c k : ℕ) → or_else p (cond b (Some c) None) ≡ Some k → (p ≡ Some k) ⊎ ((p ≡ None) × (b ≡ true) × (c ≡ k))
 split b (Some j) c k h = inl h
@@ -69,7 +67,7 @@ module _ (old new : Numbers) (name : List ℕ) (a : AddsName old new name) where
   pub number_keep : (o : List ℕ) (k : ℕ) → number_of old o ≡ Some k → number_of new o ≡ Some k
   number_keep o k h = a.numbers o ∙ ap (λ z. or_else z (cond (bytes_eq name o) (Some next) None)) h
 
-  number_new : number_of old name ≡ None → number_of new name ≡ Some next
+  pub number_new : number_of old name ≡ None → number_of new name ≡ Some next
   number_new h = a.numbers name ∙ ap (λ z. or_else z (cond (bytes_eq name name) (Some next) None)) h ∙ ap (λ b. cond b (Some next) None) (yes_self name)
 
   -- the name has a number now

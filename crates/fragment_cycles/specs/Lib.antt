@@ -5,6 +5,5 @@ pub mod Kept
 pub mod KeptNames
 pub mod Numbers
 pub mod Searched
-pub mod Slots
 pub mod Sound
 pub mod Spreads

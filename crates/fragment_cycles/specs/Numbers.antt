@@ -2,29 +2,23 @@
 use Rattle.std.specs.Prelude.{ℕ, List, [], ◌∷◌, ◌++◌, length, map, ◌≡◌, ◌↔◌, Option, None, Some, slice_get, if◌then◌else◌}
 use Rattle.std.specs.List.{Contains}
 use Rattle.std.specs.Option.{is_some}
-use Rattle.std.specs.Ordering.{nat_cmp}
-use Rattle.std.specs.BTreeMap.{get_by}
-use Rattle.std.specs.Cmp.Lexicographic.{slice_cmp}
 use Rattle.std.specs.Str.{bytes_eq}
+use Rattle.name_maps.specs.Maps.{entries_of, index_of}
+pub use Rattle.name_maps.specs.Adding.{or_else}
 use Rattle.language.specs.declared.tree.Definition.{Definition}
 use Rattle.language.specs.declared.tree.Definition.TheVariants as definition
 use Rattle.fragment_cycles.specs.declared.numbers.Numbers.{Numbers}
 
-abbrev pub number_of : Numbers → List ℕ → Option ℕ
-number_of n name = get_by (λ k. slice_cmp nat_cmp name k.now) n.by_name
+unfoldable pub number_of : Numbers → List ℕ → Option ℕ
+number_of n name = index_of n.map name
 
 abbrev pub names_of : Numbers → List (List ℕ)
-names_of n = map (λ k. k.now) n.names.items
+names_of n = map (λ e. e.0.now) (entries_of n.map)
 
-abbrev pub or_else : {T : Type 0} → Option T → Option T → Option T
-or_else None o = o
-or_else (Some x) o = Some x
-
--- The name got the next number, if it had none; the slots are what they were.
+-- The name got the next number, if it had none.
 pub record AddsName (old new : Numbers) (name : List ℕ) : Type 0 where
   pub numbers : (other : List ℕ) → number_of new other ≡ or_else (number_of old other) (if bytes_eq name other then Some (length (names_of old)) else None)
   pub names : names_of new ≡ (if is_some (number_of old name) then names_of old else names_of old ++ name ∷ [])
-  pub slots : new.slots ≡ old.slots
 
 abbrev pub AddsDefinition : {S : Type 0} → Definition S → Numbers → Numbers → Type 0
 AddsDefinition (definition.Operation o) old new = new ≡ old

@@ -49,34 +49,28 @@ impl<'a> KeptNames<'a> {
         ensures { IfOk result (λ n. NumberedDefinitions document.now n.numbers n.defined.items) }
     {
         if are_numbers_of(&self.names, document) {
-            copied(&self.names)
+            copied(alloc, &self.names)
         } else {
             number_names(alloc, document)
         }
     }
 }
 
-// A copy of the numbers of names, with the slots, since copies are what is asked most.
-fn copied_numbers<'a>(numbers: &Numbers<'a>) -> Result<Numbers<'a>, AllocError>
+// A copy of the numbers of names.
+fn copied_numbers<'a>(alloc: Global, numbers: &Numbers<'a>) -> Result<Numbers<'a>, AllocError>
     ensures numbers { IfOk result (λ n. (name : List ℕ) → number_of n name ≡ number_of numbers.now name) }
     ensures names { IfOk result (λ n. names_of n ≡ names_of numbers.now) }
 {
-    let by_name = numbers.by_name.clone()?;
-    let names = numbers.names.clone()?;
-    let slots = numbers.slots.clone()?;
-    Ok(Numbers {
-        by_name,
-        names,
-        slots,
-    })
+    let map = numbers.map.copied(alloc)?;
+    Ok(Numbers { map })
 }
 
 // A copy of numbered names.
-fn copied<'a>(names: &NumberedNames<'a>) -> Result<NumberedNames<'a>, AllocError>
+fn copied<'a>(alloc: Global, names: &NumberedNames<'a>) -> Result<NumberedNames<'a>, AllocError>
     ensures { IfOk result (IsCopy names.now) }
 {
-    let numbers = copied_numbers(&names.numbers)?;
-    let defined = names.defined.clone()?;
+    let numbers = copied_numbers(alloc, &names.numbers)?;
+    let defined = Vec::from_slice(alloc, names.defined.as_slice())?;
     Ok(NumberedNames { numbers, defined })
 }
 

@@ -1,17 +1,11 @@
 //! The names of a document's fragments, by number.
-ghost use Rattle.fragment_cycles.specs.Slots.{AreSlotsOf};
-
 pub use crate::names::{name, name_count, number, number_names};
-use std::collections::BTreeMap;
+use name_maps::map::NameMap;
 
 /// Names by number, in the order in which they were met first.
 #[derive(Drop)]
 pub struct Numbers<'a> {
-    pub by_name: BTreeMap<&'a str, usize>,
-    pub names: Vec<&'a str>,
-    /// Where a look-up looks first: the number of a name, at its slot. There are none while names are still numbered.
-    pub(crate) slots: Vec<u32>,
-    ghost slotted: { AreSlotsOf by_name names.items slots.items },
+    pub(crate) map: NameMap<'a, ()>,
 }
 
 /// The names of a document's fragments, numbered, and the number of each definition's name.

@@ -1,10 +1,11 @@
 -- The types of fragments, definition by definition.
-use Rattle.std.proofs.Common.{◌≡◌, ℕ, ◌+◌, ◌<◌, get_or, List, [], ◌∷◌, ◌++◌, slice_set, option_and_then, subst, Option, Some, None, Bool, true, false, cond, take, length, refl, ap, sym, ◌∙◌}
+use Rattle.std.proofs.Common.{◌≡◌, ℕ, ◌+◌, ◌<◌, get_or, List, [], ◌∷◌, ◌++◌, slice_set, option_and_then, subst, Option, Some, None, Bool, true, false, cond, take, length, refl, ap, sym, slice_get, ◌∙◌}
 use mathlib.Core.Path.{fun_ext}
 use denote.Ref.{Bor}
 use Rattle.std.proofs.lemmas.List.{take_more}
 use Rattle.std.proofs.lemmas.Slice.Eq.{bytes_eq-Decides}
-use Rattle.std.specs.List.{Contains}
+use Rattle.std.specs.List.{All, Contains}
+use Rattle.std.proofs.lemmas.List.Elements.{All-contains}
 use Rattle.std.specs.Map.{update}
 use Rattle.std.specs.Option.{option_copied}
 use Rattle.std.specs.Str.{bytes_eq}
@@ -13,7 +14,7 @@ use Rattle.language.specs.declared.tree.Definition.TheVariants as definition
 use Rattle.fragment_cycles.specs.declared.numbers.Numbers.{Numbers}
 use Rattle.fragment_cycles.specs.DocumentGraph.{IsNumbered}
 use Rattle.fragment_cycles.specs.Numbers.{number_of, NumberedDefinitions, WellNumbered}
-use Rattle.fragment_cycles.proofs.Lists.{none_some, same_item, get_some, set_same, set_other}
+use Rattle.fragment_cycles.proofs.Lists.{contains_at, none_some, same_item, get_some, set_same, set_other}
 use Rattle.fragment_cycles.proofs.Numbering.{single}
 use Rattle.fragment_rules.specs.ConditionsKept.{kept_at}
 use Rattle.meta.specs.declared.kinds.MetaTypeOf.{MetaTypeOf}
@@ -65,3 +66,12 @@ module _ {S : Type 0} (document : List (Definition S)) (n : Numbers) (defined : 
   pub has_number : (d : Definition S) → Contains document d → IsNumbered n d
   has_number (definition.Operation o) c = tt
   has_number (definition.Fragment f) c = (h.numbers.defined f.item.name.item.now).1 (definition.Fragment f, c, refl)
+
+none_at : {X : Type 0} (xs : List (Option X)) → All (λ o. o ≡ None) xs → (k : ℕ) (r : Option (Option X)) → slice_get xs k ≡ r → option_and_then (λ o. o) r ≡ None
+none_at xs a k None h = refl
+none_at xs a k (Some o) h = All-contains (λ o. o ≡ None) xs o a (contains_at xs k o h)
+
+-- where nothing is kept at any number, nothing is kept at one
+pub none_kept : {X : Type 0} (xs : List (Option X)) → All (λ o. o ≡ None) xs → (o : Option ℕ) → kept_at xs o ≡ None
+none_kept xs a None = refl
+none_kept xs a (Some k) = none_at xs a k (slice_get xs k) refl

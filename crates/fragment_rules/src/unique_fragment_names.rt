@@ -50,13 +50,17 @@ impl<'a, S: CheckedScalar> Visitor<'a, S> for UniqueFragmentNames<'a> {
         ctx: &mut ValidatorContext<'a, S>,
         event: &Event<'a, S>,
     ) -> Result<(), OutOfMemory> {
-        if let Event::EnterFragmentDefinition(fragment) = event {
-            let name = &fragment.item.name;
-            let place = name.span.start;
-            if let Some(first) = self.names.note(name.item, place)? {
-                let message = error_message(self.alloc, name.item)?;
-                ctx.report_error(message.as_str(), &[first, place])?;
+        match *event {
+            Event::EnterDocument(document) => self.names.make_room(document.len())?,
+            Event::EnterFragmentDefinition(fragment) => {
+                let name = &fragment.item.name;
+                let place = name.span.start;
+                if let Some(first) = self.names.note(name.item, place)? {
+                    let message = error_message(self.alloc, name.item)?;
+                    ctx.report_error(message.as_str(), &[first, place])?;
+                }
             }
+            _ => {}
         }
         Ok(())
     }

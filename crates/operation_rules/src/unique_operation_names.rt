@@ -50,14 +50,18 @@ impl<'a, S: CheckedScalar> Visitor<'a, S> for UniqueOperationNames<'a> {
         ctx: &mut ValidatorContext<'a, S>,
         event: &Event<'a, S>,
     ) -> Result<(), OutOfMemory> {
-        if let Event::EnterOperationDefinition(operation) = event {
-            if let Some(name) = &operation.item.name {
-                let place = operation.span.start;
-                if let Some(first) = self.names.note(name.item, place)? {
-                    let message = error_message(self.alloc, name.item)?;
-                    ctx.report_error(message.as_str(), &[first, place])?;
+        match *event {
+            Event::EnterDocument(document) => self.names.make_room(document.len())?,
+            Event::EnterOperationDefinition(operation) => {
+                if let Some(name) = &operation.item.name {
+                    let place = operation.span.start;
+                    if let Some(first) = self.names.note(name.item, place)? {
+                        let message = error_message(self.alloc, name.item)?;
+                        ctx.report_error(message.as_str(), &[first, place])?;
+                    }
                 }
             }
+            _ => {}
         }
         Ok(())
     }

@@ -8,15 +8,12 @@ use Rattle.events.specs.Occurrence.{Occurrence, occurrences}
 use Rattle.walk.specs.Step.{StepOf}
 use Rattle.walk.specs.Rule.{Collection}
 use Rattle.walk.specs.Entering.{keeping_step}
+pub use Rattle.name_maps.specs.Adding.{or_else}
 use Rattle.rule_parts.specs.Names.{Named, Places}
 use Rattle.rule_parts.specs.Repeats.{repeat_at, repeats}
 
 abbrev pub nothing_noted : Places
 nothing_noted name = None
-
-abbrev pub or_else : {T : Type 0} → Option T → Option T → Option T
-or_else None o = o
-or_else (Some x) o = Some x
 
 -- a name that is new gets its place
 abbrev pub noted : Places → Named → Places

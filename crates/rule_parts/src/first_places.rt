@@ -6,15 +6,14 @@ ghost use Rattle.rule_parts.specs.Places.{places_of};
 
 use language::error::OutOfMemory;
 use language::position::SourcePosition;
+use name_maps::map::NameMap;
 use std::alloc::Global;
-use std::collections::BTreeMap;
 
 /// For each name that was noted, the place of the first time.
-///
-/// Strangers choose the names, so the map is an ordered one.
 #[derive(Drop)]
 pub struct FirstPlaces<'a> {
-    places: BTreeMap<&'a str, SourcePosition>,
+    alloc: Global,
+    places: NameMap<'a, SourcePosition>,
 }
 
 impl<'a> FirstPlaces<'a> {
@@ -23,22 +22,22 @@ impl<'a> FirstPlaces<'a> {
         ensures { places_of result ≡ nothing_noted }
     {
         FirstPlaces {
-            places: BTreeMap::new(alloc),
+            alloc,
+            places: NameMap::new(alloc),
         }
     }
 
-    /// The place where a name was noted first, if it was.
-    pub fn place(&self, name: &str) -> Option<SourcePosition>
-        ensures { result ≡ places_of self.now name.now }
+    /// Makes slots for so many names, if none was noted yet.
+    pub fn make_room(&mut self, names: usize) -> Result<(), OutOfMemory>
+        ensures { places_of self.new ≡ places_of self.old }
     {
-        match self.places.get(name) {
-            Some(first) => Some(*first),
-            None => None,
+        if self.places.len() == 0 {
+            self.places = NameMap::with_slots(self.alloc, names)?;
         }
+        Ok(())
     }
 
-    /// Notes a name at a place, and answers the place where it was noted first, if it was noted before. Mostly it is new, and
-    /// then one look at the map does.
+    /// Notes a name at a place, and answers the place where it was noted first, if it was noted before.
     pub fn note(
         &mut self,
         name: &'a str,
@@ -47,12 +46,7 @@ impl<'a> FirstPlaces<'a> {
         ensures first { IfOk result (λ first. first ≡ places_of self.old name.now) }
         ensures kept { IfOk result (λ _. places_of self.new ≡ noted (places_of self.old) (name.now, place)) }
     {
-        match self.places.insert(name, place)? {
-            Some(first) => {
-                self.places.insert(name, first)?;
-                Ok(Some(first))
-            }
-            None => Ok(None),
-        }
+        let first = self.places.note(name, place)?;
+        Ok(first)
     }
 }

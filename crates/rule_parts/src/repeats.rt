@@ -67,6 +67,7 @@ pub fn report_repeats<'a, S: CheckedScalar, N: HasName>(
         return Ok(());
     }
     let mut names = FirstPlaces::new(alloc);
+    names.make_room(entries.len())?;
     for entry in entries {
         report_repeat(
             alloc,

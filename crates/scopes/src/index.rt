@@ -115,7 +115,7 @@ pub fn index_scopes<'a, S>(
     let graph = graph_of(alloc, document, names)?;
     let fragments = empty_lists(alloc, name_count(&graph.numbers))?;
     let spreads = operation_spreads(alloc, &graph.numbers, document)?;
-    let mut numbers = no_operations(alloc);
+    let mut numbers = no_operations(alloc, document.len())?;
     let mut index = ScopeIndex {
         names: Vec::new(alloc),
         operations: Vec::new(alloc),

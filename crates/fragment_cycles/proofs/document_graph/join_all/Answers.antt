@@ -1,9 +1,8 @@
-use Rattle.std.proofs.Common.{[], ◌+◌, ap, subst, sym, length, ◌∙◌, take, length-append}
+use Rattle.std.proofs.Common.{[], ◌+◌, ap, sym, length, ◌∙◌, take, length-append}
 use Rattle.std.specs.List.{flat_map}
-use Rattle.std.proofs.lemmas.List.{take_all}
 use Rattle.fragment_cycles.specs.Graph.{spreads_of}
 use Rattle.fragment_cycles.specs.Spreads.{definition_spreads, spreads_named}
-use Rattle.fragment_cycles.specs.DocumentGraph.{resolved, Joined}
+use Rattle.fragment_cycles.specs.DocumentGraph.{resolved}
 use Rattle.fragment_cycles.proofs.Joining.{more_spreads, flat_map-next}
 use Rattle.fragment_cycles.proofs.GraphGrowth.{each_numbered}
 use Rattle.fragment_cycles.proofs.document_graph.join_all.Goals as goal

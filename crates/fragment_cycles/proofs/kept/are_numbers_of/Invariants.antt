@@ -1,4 +1,4 @@
-use Rattle.std.proofs.Common.{◌≡◌, ◌<◌, ◌≤◌, ℕ, length, Option, Some, slice_get}
+use Rattle.std.proofs.Common.{◌≡◌, ◌<◌, ℕ, length, Option, Some, slice_get}
 use Rattle.language.specs.declared.tree.Definition.{Definition}
 use Rattle.fragment_cycles.specs.Kept.{IsNumberOf}
 use Rattle.fragment_cycles.proofs.kept.are_numbers_of.Given as goal

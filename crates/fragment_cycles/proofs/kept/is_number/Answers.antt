@@ -1,4 +1,4 @@
-use Rattle.std.proofs.Common.{◌≡◌, ◌∙◌, sym, ap, Some, [], arith, subst}
+use Rattle.std.proofs.Common.{◌∙◌, sym, ap, Some, [], arith}
 use Rattle.std.specs.Option.{unwrap_or}
 use Rattle.std.proofs.lemmas.Slice.Eq.{bytes_eq-Decides}
 use Rattle.fragment_cycles.specs.Numbers.{names_of}

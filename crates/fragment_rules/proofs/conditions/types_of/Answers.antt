@@ -1,7 +1,16 @@
-use Rattle.std.proofs.Common.{sym, ◌∙◌}
+use Rattle.std.proofs.Common.{ap, sym, ◌∙◌}
+use mathlib.Core.Path.{fun_ext}
+use Rattle.std.specs.Option.{option_copied}
+use Rattle.fragment_cycles.specs.Numbers.{number_of}
 use Rattle.fragment_rules.specs.PossibleFragmentSpreads.{no_conditions}
-use Rattle.fragment_rules.proofs.ConditionsSeen.{conditions_more, has_number}
+use Rattle.fragment_rules.proofs.ConditionsSeen.{conditions_more, has_number, none_kept}
 use Rattle.fragment_rules.proofs.conditions.types_of.Goals as goal
+
+pub loop-place-init : goal.loop-place-init
+loop-place-init g c = (
+  fun_ext (λ name. ap option_copied (none_kept c.in_ok-types.types.items c.in_ok-types.ensures.none (number_of c.args.names.now.numbers name))),
+  c.in_ok-types.ensures.len ∙ c.name_count.ensures,
+)
 
 pub note_type-requires-clause-has : goal.note_type-requires-clause-has
 note_type-requires-clause-has g c =

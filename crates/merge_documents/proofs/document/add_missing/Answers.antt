@@ -1,9 +1,22 @@
-use Rattle.std.proofs.Common.{◌≡◌, length, Some, not, sym, ap, subst, ◌∙◌, arith}
+use Rattle.std.proofs.Common.{◌≡◌, length, Option, None, Some, false, not, refl, sym, ap, subst, ◌∙◌, arith}
+use Rattle.std.specs.Option.{is_some}
 use Rattle.std.proofs.lemmas.Option.{slice_get-get_or}
 use Rattle.numbered_sets.specs.Known.{known_rank}
 use Rattle.merge_documents.specs.Building.{rank_in, AreKnown}
 use Rattle.merge_documents.proofs.Assembling.{missing_added, missing_there}
 use Rattle.merge_documents.proofs.document.add_missing.Goals as goal
+
+none_is : {X : Type 0} (o : Option X) → is_some o ≡ false → o ≡ None
+none_is None e = refl
+none_is (Some x) e = absurd cc
+
+pub add_definition-requires : goal.add_definition-requires
+add_definition-requires g c =
+    let o = c.index.result.now in
+    let inside = c.requires.inside in
+    let sized = c.requires.sized in
+    slice_get-get_or c.args.building.now.stretches.items c.args.place o (omega (arith, inside, sized)) ∙ ap (λ x. Some x) (sym c.index.ensures)
+    ∙ ap (λ x. Some x) (none_is o (c.is_none.ensures ∙ ap not c.if-is_none.true))
 
 pub returns-in_ok-add_definition-clause-adds : goal.returns-in_ok-add_definition-clause-adds
 returns-in_ok-add_definition-clause-adds g c = λ all built.

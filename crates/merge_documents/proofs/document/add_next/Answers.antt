@@ -1,4 +1,4 @@
-use Rattle.std.proofs.Common.{rules, ◌≡◌, ◌<◌, length, subst, arith}
+use Rattle.std.proofs.Common.{rules, ◌≡◌, ◌<◌, ◌++◌, ◌∷◌, [], ◌∙◌, ap, length, length-append, subst, arith}
 use Rattle.std.proofs.lemmas.Result.{on_ok_weaker}
 use Rattle.std.proofs.lemmas.Grind.{common_steps}
 use Rattle.numbered_sets.specs.Known.{known_rank}
@@ -56,4 +56,13 @@ returns-clause-free g c =
     (name_at c.args.document.now c.args.cycles.now searched c.args.node) c.in-Some.place c.index-document-place.result
     (last_at c.args.document.now c.args.cycles.now searched c.args.last.now c.requires.last next c.args.node c.requires.next c.in-Some.place c.in-Some.ensures)
     (rank_at c.args.document.now c.args.cycles.now searched next c.args.node c.requires.next) h c.requires.free)
+    c.add_fragment.ensures
+
+pub returns-clause-longer : goal.returns-clause-longer
+returns-clause-longer g c =
+    on_ok_weaker c.add_fragment.result
+    (λ h.
+    let grown : length c.add_fragment.new.building.fragments.items ≡ length (c.args.building.now.fragments.items ++ h.set ∷ []) = ap (λ b. length b.fragments.items) h.is ∙ ap length h.pushed in
+    let l : length (c.args.building.now.fragments.items ++ h.set ∷ []) ≡ _ = length-append c.args.building.now.fragments.items (h.set ∷ []) in
+    omega (arith, grown, l))
     c.add_fragment.ensures
