@@ -1,10 +1,9 @@
 -- The places that are kept are what belongs to the names.
-use Rattle.std.proofs.Common.{◌≡◌, ◌∙◌, [], ℕ, List, Option, None, Some, ap, refl, sym}
+use Rattle.std.proofs.Common.{◌≡◌, ◌∙◌, [], ℕ, List, Option, None, Some, ap, refl}
 use mathlib.Core.Path.{fun_ext}
 use Rattle.name_maps.specs.Maps.{entries_of, index_of, value_at, value_of}
 use Rattle.rule_parts.specs.declared.first_places.FirstPlaces.{FirstPlaces}
-use Rattle.rule_parts.specs.Names.{Named}
-use Rattle.rule_parts.specs.Noting.{noted, nothing_noted}
+use Rattle.rule_parts.specs.Noting.{nothing_noted}
 use Rattle.rule_parts.specs.Places.{places_of}
 
 pub place_is : (f : FirstPlaces) (name : List ℕ) → places_of f name ≡ value_of f.places name

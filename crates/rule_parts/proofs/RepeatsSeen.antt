@@ -8,6 +8,7 @@ use Rattle.walk.specs.ErrorValue.{ErrorValue}
 use Rattle.rule_parts.specs.Names.{Named, Places}
 use Rattle.rule_parts.specs.Noting.{noted}
 use Rattle.rule_parts.specs.NotingLaws.{first_place-more}
+use Rattle.rule_parts.proofs.Told.{told_none}
 use Rattle.rule_parts.specs.Repeats.{first_place, repeat_at, repeats_after, repeats}
 
 -- one more at the end
@@ -25,7 +26,7 @@ pub record Seen {S C : Type 0} (message : List ℕ → List ℕ) (names : List N
   pub told : new ≡ with_errors old (repeats message names)
 
 pub seen_none : {S C : Type 0} (message : List ℕ → List ℕ) (places : Places) (w : ContextState S C) → places ≡ first_place [] → Seen message [] places w w
-seen_none message places w e = record { noted = e; told = ap (λ zs. record w { errors = zs }) (sym (append-nil w.errors)) }
+seen_none message places w e = record { noted = e; told = told_none w }
 
 pub seen_more : {S C T : Type 0} (message : List ℕ → List ℕ) (f : T → Named) (xs : List T) (i : ℕ) (x : T) (name : List ℕ) (place : SourcePosition) (p q : Places) (w w₁ w₂ : ContextState S C)
     → i < length xs → x ≡ get_or xs i x → Seen message (map f (take i xs)) p w w₁
@@ -54,6 +55,6 @@ seen_all message f xs i p w w₁ h s = s.told ∙ ap (λ zs. with_errors w (repe
 
 -- with fewer than two names nothing repeats
 pub none_repeat : {S C T : Type 0} (message : List ℕ → List ℕ) (f : T → Named) (xs : List T) (w : ContextState S C) → length xs < 2 → w ≡ with_errors w (repeats message (map f xs))
-none_repeat message f [] w few = ap (λ zs. record w { errors = zs }) (sym (append-nil w.errors))
-none_repeat message f (x ∷ []) w few = ap (λ zs. record w { errors = zs }) (sym (append-nil w.errors))
+none_repeat message f [] w few = told_none w
+none_repeat message f (x ∷ []) w few = told_none w
 none_repeat message f (x ∷ y ∷ xs) w few = absurd (omega arith)

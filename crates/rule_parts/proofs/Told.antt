@@ -6,6 +6,10 @@ use Rattle.std.proofs.lemmas.Grind.{flat_map-append}
 use Rattle.walk.specs.ContextState.{ContextState, with_errors}
 use Rattle.walk.specs.ErrorValue.{ErrorValue}
 
+-- nothing was told
+pub told_none : {S C : Type 0} (w : ContextState S C) → w ≡ with_errors w []
+told_none w = ap (λ zs. record w { errors = zs }) (sym (append-nil w.errors))
+
 pub told_more : {S C T N : Type 0} (finds : N → List ErrorValue) (f : T → N) (xs : List T) (i : ℕ) (x d : T) (w w₁ w₂ : ContextState S C) → i < length xs → x ≡ get_or xs i d
     → w₁ ≡ with_errors w (flat_map finds (map f (take i xs))) → w₂ ≡ with_errors w₁ (finds (f x)) → w₂ ≡ with_errors w (flat_map finds (map f (take (i + 1) xs)))
 told_more finds f xs i x d w w₁ w₂ h e told more =

@@ -1,8 +1,8 @@
 //! The places where names were seen first.
 
-ghost use Rattle.std.specs.Prelude.{◌≡◌, IfOk};
+ghost use Rattle.std.specs.Prelude.{◌≡◌, ◌≤◌, ◌*◌, IfOk, min};
 ghost use Rattle.rule_parts.specs.Noting.{noted, nothing_noted};
-ghost use Rattle.rule_parts.specs.Places.{places_of};
+ghost use Rattle.rule_parts.specs.Places.{places_of, slots_for, HasNone};
 
 use language::error::OutOfMemory;
 use language::position::SourcePosition;
@@ -19,7 +19,8 @@ pub struct FirstPlaces<'a> {
 impl<'a> FirstPlaces<'a> {
     /// No names.
     pub fn new(alloc: Global) -> FirstPlaces<'a>
-        ensures { places_of result ≡ nothing_noted }
+        ensures places { places_of result ≡ nothing_noted }
+        ensures none { HasNone result }
     {
         FirstPlaces {
             alloc,
@@ -27,9 +28,10 @@ impl<'a> FirstPlaces<'a> {
         }
     }
 
-    /// Makes slots for so many names, if none was noted yet.
+    /// Makes slots for so many names, if none was noted yet: two for each, up to a million in all.
     pub fn make_room(&mut self, names: usize) -> Result<(), OutOfMemory>
-        ensures { places_of self.new ≡ places_of self.old }
+        ensures kept { places_of self.new ≡ places_of self.old }
+        ensures room { IfOk result (λ _. HasNone self.old → 2 * min names 524288 ≤ slots_for self.new) }
     {
         if self.places.len() == 0 {
             self.places = NameMap::with_slots(self.alloc, names)?;

@@ -10,7 +10,7 @@ returns-then-len-lt2-clause-ok g c =
     none_repeat _ g.N.HasName.named c.args.entries.now.items c.args.ctx.now few
 
 pub loop-entry-init : goal.loop-entry-init
-loop-entry-init g c = seen_none _ _ c.args.ctx.now (c.make_room.ensures ∙ c.new-names.ensures)
+loop-entry-init g c = seen_none _ _ c.args.ctx.now (c.make_room.ensures.kept ∙ c.new-names.ensures.places)
 
 pub loop-entry-preserved : goal.loop-entry-preserved
 loop-entry-preserved g c =

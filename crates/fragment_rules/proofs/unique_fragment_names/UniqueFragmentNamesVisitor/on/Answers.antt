@@ -1,5 +1,4 @@
-use Rattle.std.proofs.Common.{◌≡◌, [], refl, ap, sym, Bor}
-use Rattle.std.proofs.lemmas.List.{append-nil}
+use Rattle.std.proofs.Common.{◌≡◌, [], refl, Bor}
 use Rattle.language.specs.declared.tree.Fragment.{Fragment}
 use Rattle.events.specs.declared.event.Event.{Event}
 use Rattle.events.specs.declared.event.Event.TheVariants as event
@@ -9,6 +8,7 @@ use Rattle.events.specs.Typing.{Typing}
 use Rattle.walk.specs.ContextState.{DocumentScope, scope_of_context, typing}
 use Rattle.rule_parts.specs.Noting.{noting_step}
 use Rattle.rule_parts.specs.Places.{places_of}
+use Rattle.rule_parts.proofs.Told.{told_none}
 use Rattle.fragment_rules.specs.UniqueFragmentNames.{fragment_name, repeated_fragment_message}
 use Rattle.fragment_rules.specs.declared.unique_fragment_names.UniqueFragmentNames.{UniqueFragmentNames}
 use Rattle.fragment_rules.proofs.unique_fragment_names.UniqueFragmentNamesVisitor.on.Goals as goal
@@ -22,7 +22,4 @@ passed_over _ t scope a other = (refl, refl)
 pub returns-in_default : goal.returns-in_default
 returns-in_default g c =
     let w = c.args.ctx.now in
-    record {
-      stepped = ([], passed_over c.args.event.now (typing w) (scope_of_context w) c.args.self.now c.in_default.not-EnterFragmentDefinition, ap (λ zs. record w { errors = zs }) (sym (append-nil w.errors)));
-      err = tt;
-    }
+    record { stepped = ([], passed_over c.args.event.now (typing w) (scope_of_context w) c.args.self.now c.in_default.not-EnterFragmentDefinition, told_none w); err = tt }
