@@ -6,9 +6,10 @@ use Rattle.std.proofs.lemmas.List.{map-append, take_all}
 use Rattle.language.specs.declared.tree.Definition.{Definition}
 use Rattle.language.specs.declared.tree.Definition.TheVariants as definition
 use Rattle.fragment_cycles.specs.declared.numbers.Numbers.{Numbers}
-use Rattle.fragment_cycles.specs.Numbers.{number_of, names_of, defined_number, AddsDefinition, NumberedDefinitions, NumbersOf, Defines, IsNamed, HasNumber}
+use Rattle.fragment_cycles.specs.Numbers.{number_of, names_of, defined_index, defined_number, AddsDefinition, NumberedDefinitions, NumbersOf, Defines, IsNamed, HasNumber}
+use Rattle.name_maps.specs.declared.map.NameMap.{NameMap}
 use Rattle.fragment_cycles.proofs.Lists.{none_some, get_snoc, contains_at, contains_get}
-use Rattle.fragment_cycles.proofs.Numbering.{number_split, number_keep, number_there, well_more}
+use Rattle.fragment_cycles.proofs.Numbering.{adds_name, by_map, number_is, number_keep, number_split, number_there, well_more, AddsName}
 
 same_each : {X Y : Type 0} (f g : X → Y) (xs : List X) → ((x : X) → Contains xs x → f x ≡ g x) → map f xs ≡ map g xs
 same_each f g [] h = refl
@@ -37,7 +38,20 @@ module _ {S : Type 0} where
     defined = λ name. (λ g. absurd (none_some g.0 (sym (h name) ∙ g.1)), λ d. let l = d.1.1 in absurd (omega (arith, l)));
   }
 
-  pub names_more : (xs : List (Definition S)) (d : Definition S) (old new : Numbers) → AddsDefinition d old new → NumbersOf xs old → NumbersOf (xs ++ d ∷ []) new
+  -- a definition's name got a number, if it is a fragment's
+  abbrev Numbered : Definition S → Numbers → Numbers → Type 0
+  Numbered (definition.Operation o) old new = new ≡ old
+  Numbered (definition.Fragment f) old new = AddsName old new f.item.name.item.now
+
+  pub numbered_by : (d : Definition S) (n : Numbers) (old new : NameMap (Unit {0})) → AddsDefinition d old new → Numbered d (by_map n old) (by_map n new)
+  numbered_by (definition.Operation o) n old new e = ap (by_map n) e
+  numbered_by (definition.Fragment f) n old new a = adds_name (by_map n old) (by_map n new) f.item.name.item tt a
+
+  pub index_is_number : (d : Definition S) (n : Numbers) (m : NameMap (Unit {0})) → defined_index m d ≡ defined_number (by_map n m) d
+  index_is_number (definition.Operation o) n m = refl
+  index_is_number (definition.Fragment f) n m = sym (number_is (by_map n m) f.item.name.item.now)
+
+  pub names_more : (xs : List (Definition S)) (d : Definition S) (old new : Numbers) → Numbered d old new → NumbersOf xs old → NumbersOf (xs ++ d ∷ []) new
   names_more xs (definition.Operation o) old new e h =
       subst (λ (n : Numbers). NumbersOf (xs ++ definition.Operation o ∷ []) n) (sym e) record {
         numbered = h.numbered;
@@ -61,7 +75,7 @@ module _ {S : Type 0} where
   }
 
   -- a definition that has a number keeps it
-  number_kept : (xs : List (Definition S)) (d e : Definition S) (old new : Numbers) → AddsDefinition d old new → NumbersOf xs old → Contains xs e → defined_number new e ≡ defined_number old e
+  number_kept : (xs : List (Definition S)) (d e : Definition S) (old new : Numbers) → Numbered d old new → NumbersOf xs old → Contains xs e → defined_number new e ≡ defined_number old e
   number_kept xs (definition.Operation o) e old new a h c = ap (λ n. defined_number n e) a
   number_kept xs (definition.Fragment f) (definition.Operation p) old new a h c = refl
   number_kept xs (definition.Fragment f) (definition.Fragment p) old new a h c =
@@ -69,7 +83,7 @@ module _ {S : Type 0} where
       number_keep old new f.item.name.item.now a p.item.name.item.now k is ∙ sym is
 
   pub definitions_more : (xs : List (Definition S)) (d : Definition S) (old new : Numbers) (before after : List (Option ℕ)) (number : Option ℕ)
-      → AddsDefinition d old new → number ≡ defined_number new d → after ≡ before ++ number ∷ []
+      → Numbered d old new → number ≡ defined_number new d → after ≡ before ++ number ∷ []
       → NumberedDefinitions xs old before → NumberedDefinitions (xs ++ d ∷ []) new after
   definitions_more xs d old new before after number a is more h = record {
     numbers = names_more xs d old new a h.numbers;

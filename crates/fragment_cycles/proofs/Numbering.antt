@@ -6,32 +6,42 @@ use Rattle.std.proofs.lemmas.Slice.Eq.{bytes_eq-Decides}
 use Rattle.std.proofs.lemmas.List.{length-map, map-append}
 use Rattle.std.proofs.lemmas.Option.{slice_get_within}
 use denote.Ref.{Bor}
-use Rattle.name_maps.specs.Adding.{Adds}
+use Rattle.name_maps.specs.declared.map.NameMap.{NameMap}
+use Rattle.name_maps.specs.Adding.{Adds, or_else}
 use Rattle.name_maps.specs.Maps.{entries_of, index_of}
 use Rattle.fragment_cycles.specs.declared.numbers.Numbers.{Numbers}
-use Rattle.fragment_cycles.specs.Numbers.{or_else, number_of, names_of, AddsName, WellNumbered}
+use Rattle.fragment_cycles.specs.Numbers.{number_of, names_of, WellNumbered}
 use Rattle.fragment_cycles.proofs.Lists.{same_item, same_some, none_some, get_more, get_snoc, get_end, get_some}
 
-names_by_case : (b : Bool) (n : Numbers) (name : Bor (List ℕ)) (x : Unit {0}) → map (λ e. e.0.now) (cond b (entries_of n.map) (entries_of n.map ++ (name, x) ∷ [])) ≡ cond b (names_of n) (names_of n ++ name.now ∷ [])
+names_by_case : (b : Bool) (n : Numbers) (name : Bor (List ℕ)) (x : Unit {0}) → map (λ e. e.0.now) (cond b (entries_of n.map.value) (entries_of n.map.value ++ (name, x) ∷ [])) ≡ cond b (names_of n) (names_of n ++ name.now ∷ [])
 names_by_case true n name x = refl
-names_by_case false n name x = map-append (λ e. e.0.now) (entries_of n.map) ((name, x) ∷ [])
+names_by_case false n name x = map-append (λ e. e.0.now) (entries_of n.map.value) ((name, x) ∷ [])
 
 -- a name's number is its index
-pub number_is : (n : Numbers) (name : List ℕ) → number_of n name ≡ index_of n.map name
+pub number_is : (n : Numbers) (name : List ℕ) → number_of n name ≡ index_of n.map.value name
 unfolding number_of
 number_is n name = refl
 
+-- the numbers that a map gives, in place of those that these names have
+abbrev pub by_map : Numbers → NameMap (Unit {0}) → Numbers
+by_map n m = record { map = record { ptr = n.map.ptr; value = m } }
+
+-- the name got the next number, if it had none
+pub record AddsName (old new : Numbers) (name : List ℕ) : Type 0 where
+  pub numbers : (other : List ℕ) → number_of new other ≡ or_else (number_of old other) (cond (bytes_eq name other) (Some (length (names_of old))) None)
+  pub names : names_of new ≡ cond (is_some (number_of old name)) (names_of old) (names_of old ++ name ∷ [])
+
 -- a map with one name more
-pub adds_name : (old new : Numbers) (name : Bor (List ℕ)) (x : Unit {0}) → Adds name x old.map new.map → AddsName old new name.now
+pub adds_name : (old new : Numbers) (name : Bor (List ℕ)) (x : Unit {0}) → Adds name x old.map.value new.map.value → AddsName old new name.now
 adds_name old new name x a = record {
   numbers = λ other.
       number_is new other
       ∙ a.indices other
-      ∙ ap (λ k. or_else (index_of old.map other) (cond (bytes_eq name.now other) (Some k) None)) (sym (length-map (entries_of old.map) (λ e. e.0.now)))
+      ∙ ap (λ k. or_else (index_of old.map.value other) (cond (bytes_eq name.now other) (Some k) None)) (sym (length-map (entries_of old.map.value) (λ e. e.0.now)))
       ∙ ap (λ o. or_else o (cond (bytes_eq name.now other) (Some (length (names_of old))) None)) (sym (number_is old other));
   names =
       ap (map (λ e. e.0.now)) a.entries
-      ∙ names_by_case (is_some (index_of old.map name.now)) old name x
+      ∙ names_by_case (is_some (index_of old.map.value name.now)) old name x
       ∙ ap (λ o. cond (is_some o) (names_of old) (names_of old ++ name.now ∷ [])) (sym (number_is old name.now));
 }
 
@@ -40,7 +50,7 @@ split b (Some j) c k h = inl h
 split true None c k h = inr (refl, refl, same_some c k h)
 split false None c k h = absurd (none_some k h)
 
-yes_self : (name : List ℕ) → bytes_eq name name ≡ true
+pub yes_self : (name : List ℕ) → bytes_eq name name ≡ true
 yes_self name = (bytes_eq-Decides name name).1 refl
 
 module _ (n : Numbers) (w : WellNumbered n) where

@@ -1,28 +1,29 @@
 -- The names of a document's fragments, by number.
-use Rattle.std.specs.Prelude.{ℕ, List, [], ◌∷◌, ◌++◌, length, map, ◌≡◌, ◌↔◌, Option, None, Some, slice_get, if◌then◌else◌}
+use Rattle.std.specs.Prelude.{ℕ, List, map, ◌≡◌, ◌↔◌, Option, None, Some, slice_get}
 use Rattle.std.specs.List.{Contains}
-use Rattle.std.specs.Option.{is_some}
-use Rattle.std.specs.Str.{bytes_eq}
+use Rattle.name_maps.specs.declared.map.NameMap.{NameMap}
 use Rattle.name_maps.specs.Maps.{entries_of, index_of}
+use Rattle.name_maps.specs.Adding.{Adds}
 pub use Rattle.name_maps.specs.Adding.{or_else}
 use Rattle.language.specs.declared.tree.Definition.{Definition}
 use Rattle.language.specs.declared.tree.Definition.TheVariants as definition
 use Rattle.fragment_cycles.specs.declared.numbers.Numbers.{Numbers}
 
 unfoldable pub number_of : Numbers → List ℕ → Option ℕ
-number_of n name = index_of n.map name
+number_of n name = index_of n.map.value name
 
 abbrev pub names_of : Numbers → List (List ℕ)
-names_of n = map (λ e. e.0.now) (entries_of n.map)
+names_of n = map (λ e. e.0.now) (entries_of n.map.value)
 
--- The name got the next number, if it had none.
-pub record AddsName (old new : Numbers) (name : List ℕ) : Type 0 where
-  pub numbers : (other : List ℕ) → number_of new other ≡ or_else (number_of old other) (if bytes_eq name other then Some (length (names_of old)) else None)
-  pub names : names_of new ≡ (if is_some (number_of old name) then names_of old else names_of old ++ name ∷ [])
-
-abbrev pub AddsDefinition : {S : Type 0} → Definition S → Numbers → Numbers → Type 0
+-- The name of a fragment is there, with the next index if it was not; an operation adds none.
+abbrev pub AddsDefinition : {S : Type 0} → Definition S → NameMap (Unit {0}) → NameMap (Unit {0}) → Type 0
 AddsDefinition (definition.Operation o) old new = new ≡ old
-AddsDefinition (definition.Fragment f) old new = AddsName old new f.item.name.item.now
+AddsDefinition (definition.Fragment f) old new = Adds f.item.name.item tt old new
+
+-- The index of a fragment's name; an operation has none.
+abbrev pub defined_index : {S : Type 0} → NameMap (Unit {0}) → Definition S → Option ℕ
+defined_index m (definition.Operation o) = None
+defined_index m (definition.Fragment f) = index_of m f.item.name.item.now
 
 abbrev pub HasNumber : Numbers → List ℕ → Type 0
 HasNumber n name = (k : ℕ) × (number_of n name ≡ Some k)

@@ -56,12 +56,12 @@ impl<'a> KeptNames<'a> {
     }
 }
 
-// A copy of the numbers of names.
-fn copied_numbers<'a>(alloc: Global, numbers: &Numbers<'a>) -> Result<Numbers<'a>, AllocError>
+// The same numbers, in the same map.
+fn shared_numbers<'a>(numbers: &Numbers<'a>) -> Result<Numbers<'a>, AllocError>
     ensures numbers { IfOk result (λ n. (name : List ℕ) → number_of n name ≡ number_of numbers.now name) }
     ensures names { IfOk result (λ n. names_of n ≡ names_of numbers.now) }
 {
-    let map = numbers.map.copied(alloc)?;
+    let map = numbers.map.clone()?;
     Ok(Numbers { map })
 }
 
@@ -69,7 +69,7 @@ fn copied_numbers<'a>(alloc: Global, numbers: &Numbers<'a>) -> Result<Numbers<'a
 fn copied<'a>(alloc: Global, names: &NumberedNames<'a>) -> Result<NumberedNames<'a>, AllocError>
     ensures { IfOk result (IsCopy names.now) }
 {
-    let numbers = copied_numbers(alloc, &names.numbers)?;
+    let numbers = shared_numbers(&names.numbers)?;
     let defined = Vec::from_slice(alloc, names.defined.as_slice())?;
     Ok(NumberedNames { numbers, defined })
 }

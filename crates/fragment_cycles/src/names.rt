@@ -1,12 +1,15 @@
 //! How the names of a document's fragments are numbered and looked up.
-ghost use Rattle.std.specs.Prelude.{◌≡◌, [], length, OnOk, IfOk, List, ℕ, None, Some, slice_get};
+ghost use Rattle.std.specs.Prelude.{◌≡◌, [], length, OnOk, IfOk, Some, slice_get};
 ghost use Rattle.std.specs.Option.{unwrap_or};
-ghost use Rattle.fragment_cycles.specs.Numbers.{number_of, names_of, defined_number, AddsName, AddsDefinition, NumberedDefinitions};
+ghost use Rattle.name_maps.specs.Adding.{Adds};
+ghost use Rattle.name_maps.specs.Maps.{index_of};
+ghost use Rattle.fragment_cycles.specs.Numbers.{number_of, names_of, defined_index, AddsDefinition, NumberedDefinitions};
 
 use crate::numbers::{NumberedNames, Numbers};
 use language::tree::Definition;
 use name_maps::map::NameMap;
 use std::alloc::{AllocError, Global};
+use std::rc::Rc;
 
 /// The number of a name.
 pub fn number(numbers: &Numbers<'_>, name: &str) -> Option<usize>
@@ -32,39 +35,30 @@ pub fn name_count(numbers: &Numbers<'_>) -> usize
     numbers.map.len()
 }
 
-// No numbers, with slots for so many names.
-fn no_numbers<'a>(alloc: Global, names: usize) -> Result<Numbers<'a>, AllocError>
-    ensures none { IfOk result (λ n. (name : List ℕ) → number_of n name ≡ None) }
-    ensures names { IfOk result (λ n. names_of n ≡ []) }
+// Adds a name, unless it is there; the index that it has now.
+fn add_name<'a>(map: &mut NameMap<'a, ()>, name: &'a str) -> Result<usize, AllocError>
+    ensures adds { OnOk result (Adds name.entry tt map.old map.new) }
+    ensures index { IfOk result (λ k. index_of map.new name.now ≡ Some k) }
 {
-    let map = NameMap::with_slots(alloc, names)?;
-    Ok(Numbers { map })
-}
-
-// Numbers a name, unless it has a number; the number that it has now.
-fn add_name<'a>(numbers: &mut Numbers<'a>, name: &'a str) -> Result<usize, AllocError>
-    ensures adds { OnOk result (AddsName numbers.old numbers.new name.now) }
-    ensures number { IfOk result (λ k. number_of numbers.new name.now ≡ Some k) }
-{
-    let next = name_count(numbers);
-    match numbers.map.insert(name, ())? {
+    let next = map.len();
+    match map.insert(name, ())? {
         Some(earlier) => Ok(earlier),
         None => Ok(next),
     }
 }
 
-// Numbers the name of a definition, if it is a fragment's; the number.
+// Adds the name of a definition, if it is a fragment's; the index that it has now.
 fn add_definition<'a, S>(
-    numbers: &mut Numbers<'a>,
+    map: &mut NameMap<'a, ()>,
     definition: &'a Definition<'_, S>,
 ) -> Result<Option<usize>, AllocError>
-    ensures adds { OnOk result (AddsDefinition definition.now numbers.old numbers.new) }
-    ensures number { IfOk result (λ o. o ≡ defined_number numbers.new definition.now) }
+    ensures adds { OnOk result (AddsDefinition definition.now map.old map.new) }
+    ensures index { IfOk result (λ o. o ≡ defined_index map.new definition.now) }
 {
     match definition {
         Definition::Fragment(fragment) => {
-            let number = add_name(numbers, fragment.item.name.item)?;
-            Ok(Some(number))
+            let index = add_name(map, fragment.item.name.item)?;
+            Ok(Some(index))
         }
         Definition::Operation(_) => Ok(None),
     }
@@ -77,10 +71,14 @@ pub fn number_names<'a, S>(
 ) -> Result<NumberedNames<'a>, AllocError>
     ensures { IfOk result (λ n. NumberedDefinitions document.now n.numbers n.defined.items) }
 {
-    let mut numbers = no_numbers(alloc, document.len())?;
+    let mut map = NameMap::with_slots(alloc, document.len())?;
     let mut defined = Vec::with_capacity(alloc, document.len())?;
     for definition in document {
-        defined.push(add_definition(&mut numbers, definition)?)?;
+        defined.push(add_definition(&mut map, definition)?)?;
     }
-    Ok(NumberedNames { numbers, defined })
+    let shared = Rc::new(alloc, map)?;
+    Ok(NumberedNames {
+        numbers: Numbers { map: shared },
+        defined,
+    })
 }

@@ -55,21 +55,6 @@ impl<'a, T: Copy> NameMap<'a, T> {
         })
     }
 
-    /// The same names, with the same indices.
-    pub fn copied(&self, alloc: Global) -> Result<NameMap<'a, T>, AllocError>
-        ensures entries { IfOk result (λ m. entries_of m ≡ entries_of self.now) }
-        ensures indices { IfOk result (λ m. (name : List ℕ) → index_of m name ≡ index_of self.now name) }
-    {
-        let entries = Vec::from_slice(alloc, self.entries.as_slice())?;
-        let slots = Vec::from_slice(alloc, self.slots.as_slice())?;
-        let others = copied_others(&self.others)?;
-        Ok(NameMap {
-            entries,
-            slots,
-            others,
-        })
-    }
-
     /// How many names there are.
     pub fn len(&self) -> usize
         ensures { result ≡ length (entries_of self.now) }
@@ -215,13 +200,4 @@ impl<'a, T: Copy> NameMap<'a, T> {
             }
         }
     }
-}
-
-// The same ordered map.
-fn copied_others<'a>(
-    others: &BTreeMap<&'a str, usize>,
-) -> Result<BTreeMap<&'a str, usize>, AllocError>
-    ensures { IfOk result (λ o. (name : List ℕ) → other_index o name ≡ other_index others.now name) }
-{
-    Ok(others.clone()?)
 }

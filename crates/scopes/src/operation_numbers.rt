@@ -1,5 +1,6 @@
 //! Numbers of the names of operations.
-ghost use Rattle.std.specs.Prelude.{◌≡◌, ℕ, List, None, Option, Some, IfOk, OnOk, option_map, if◌then◌else◌};
+ghost use Rattle.std.specs.Prelude.{◌≡◌, ◌≤◌, ◌*◌, ℕ, List, min, None, Option, Some, IfOk, OnOk, option_map, if◌then◌else◌};
+ghost use Rattle.name_maps.specs.Maps.{slots_in};
 ghost use Rattle.fragment_cycles.specs.Numbers.{or_else};
 ghost use Rattle.reachability.specs.Reach.{same_name};
 ghost use Rattle.scopes.specs.OperationNumbers.{number_at};
@@ -16,7 +17,8 @@ pub struct OperationNumbers<'a> {
 
 /// No numbers, with slots for so many names.
 pub fn no_operations<'a>(alloc: Global, names: usize) -> Result<OperationNumbers<'a>, AllocError>
-    ensures { IfOk result (λ n. (name : Option (List ℕ)) → number_at n name ≡ None) }
+    ensures slots { IfOk result (λ n. 2 * min names 524288 ≤ slots_in n.named) }
+    ensures none { IfOk result (λ n. (name : Option (List ℕ)) → number_at n name ≡ None) }
 {
     let named = NameMap::with_slots(alloc, names)?;
     Ok(OperationNumbers {

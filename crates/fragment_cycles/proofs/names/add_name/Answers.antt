@@ -1,20 +1,20 @@
-use Rattle.std.proofs.Common.{◌∙◌, ap, sym, Some}
-use Rattle.fragment_cycles.proofs.Numbering.{adds_name, number_is, number_keep, number_new}
+use Rattle.std.proofs.Common.{◌∙◌, ap, cond, length, None, Some, sym}
+use Rattle.std.specs.Str.{bytes_eq}
+use Rattle.name_maps.specs.Adding.{or_else}
+use Rattle.name_maps.specs.Maps.{entries_of}
+use Rattle.fragment_cycles.proofs.Numbering.{yes_self}
 use Rattle.fragment_cycles.proofs.names.add_name.Goals as goal
 
-pub returns-in-None-clause-adds : goal.returns-in-None-clause-adds
-returns-in-None-clause-adds c = adds_name c.args.numbers.now _ c.args.name _ c.in_ok-earlier.ensures.adds
+pub returns-in-Some-clause-index : goal.returns-in-Some-clause-index
+returns-in-Some-clause-index c =
+    let name = c.args.name.now in
+    c.in_ok-earlier.ensures.adds.indices name
+    ∙ ap (λ o. or_else o (cond (bytes_eq name name) (Some (length (entries_of c.args.map.now))) None)) (sym c.in_ok-earlier.ensures.earlier ∙ c.in-Some.is)
 
-pub returns-in-None-clause-number : goal.returns-in-None-clause-number
-returns-in-None-clause-number c =
-    number_new c.args.numbers.now _ c.args.name.now (adds_name c.args.numbers.now _ c.args.name _ c.in_ok-earlier.ensures.adds)
-    (number_is c.args.numbers.now c.args.name.now ∙ sym (sym c.in-None.is ∙ c.in_ok-earlier.ensures.earlier))
-    ∙ ap Some (sym c.name_count-next.ensures)
-
-pub returns-in-Some-clause-adds : goal.returns-in-Some-clause-adds
-returns-in-Some-clause-adds c = adds_name c.args.numbers.now _ c.args.name _ c.in_ok-earlier.ensures.adds
-
-pub returns-in-Some-clause-number : goal.returns-in-Some-clause-number
-returns-in-Some-clause-number c =
-    number_keep c.args.numbers.now _ c.args.name.now (adds_name c.args.numbers.now _ c.args.name _ c.in_ok-earlier.ensures.adds) c.args.name.now c.in-Some.earlier
-    (number_is c.args.numbers.now c.args.name.now ∙ sym (sym c.in-Some.is ∙ c.in_ok-earlier.ensures.earlier))
+pub returns-in-None-clause-index : goal.returns-in-None-clause-index
+returns-in-None-clause-index c =
+    let name = c.args.name.now in
+    let next = length (entries_of c.args.map.now) in
+    c.in_ok-earlier.ensures.adds.indices name
+    ∙ ap (λ o. or_else o (cond (bytes_eq name name) (Some next) None)) (sym c.in_ok-earlier.ensures.earlier ∙ c.in-None.is)
+    ∙ ap (λ b. cond b (Some next) None) (yes_self name) ∙ ap Some (sym c.len-next.ensures)
