@@ -8,10 +8,10 @@ use Rattle.language.specs.declared.tree.Directive.{Directive}
 use Rattle.language.specs.declared.tree.OperationType.{OperationType}
 use Rattle.language.specs.declared.tree.OperationType.TheVariants as kind
 use Rattle.schema.specs.Catalog.{Catalog, directive_in}
-use Rattle.schema.specs.Locations.{location_words}
-use Rattle.schema.specs.declared.model.directives.DirectiveLocation.{DirectiveLocation}
-use Rattle.schema.specs.declared.model.directives.DirectiveLocation.TheVariants as l
-use Rattle.schema.specs.declared.model.directives.DirectiveType.{DirectiveType}
+use Rattle.type_lists.specs.Locations.{location_words}
+use Rattle.type_lists.specs.declared.directives.DirectiveLocation.{DirectiveLocation}
+use Rattle.type_lists.specs.declared.directives.DirectiveLocation.TheVariants as l
+use Rattle.type_lists.specs.declared.directives.DirectiveType.{DirectiveType}
 use Rattle.walk.specs.ContextState.{DocumentScope}
 use Rattle.walk.specs.ErrorValue.{ErrorValue}
 use Rattle.events.specs.Node.{Node, Placed, operation_definition, fragment_definition, variable_definition, field, fragment_spread, inline_fragment}

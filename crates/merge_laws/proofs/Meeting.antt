@@ -12,9 +12,9 @@ use Rattle.language.specs.declared.tree.OperationType.TheVariants as kind
 use Rattle.meta.specs.declared.fields.Field as metadata
 use Rattle.meta.specs.declared.kinds.MetaTypeOf.{MetaTypeOf}
 use Rattle.meta.specs.Kinds.{name_of_meta}
-use Rattle.schema.specs.Accepted.{is_named}
+use Rattle.type_lists.specs.Accepted.{is_named}
 use Rattle.schema.specs.Catalog.{Catalog, type_in, root_in}
-use Rattle.schema.proofs.Finds.{found-passes}
+use Rattle.type_lists.proofs.Finds.{found-passes}
 use Rattle.field_pairs.specs.OwnFields.{entry_under, metadata_under, type_inside, type_below}
 use Rattle.merge_documents.specs.Definitions.{root_type, type_round}
 use Rattle.events.specs.Node.{Name, Placed}

@@ -1,13 +1,13 @@
 -- What changes of a schema leave, and which directives are refused.
 use Rattle.std.specs.Prelude.{◌≡◌, ⊤, ℕ, List, [], ◌∷◌, false, true, Contains, map, string_bytes, if◌then◌else◌}
-use Rattle.schema.specs.declared.error.SchemaError.{SchemaError}
-use Rattle.schema.specs.declared.error.SchemaError.TheVariants as e
+use Rattle.type_lists.specs.declared.error.SchemaError.{SchemaError}
+use Rattle.type_lists.specs.declared.error.SchemaError.TheVariants as e
 use Rattle.meta.specs.declared.kinds.MetaTypeOf.{MetaTypeOf}
-use Rattle.schema.specs.declared.model.directives.DirectiveType.{DirectiveType}
-use Rattle.schema.specs.Accepted.{is_listed, is_input_listed}
-use Rattle.schema.specs.Directives.{directive_name}
-use Rattle.schema.specs.Named.{is_called}
-use Rattle.schema.specs.Names.{argument_type}
+use Rattle.type_lists.specs.declared.directives.DirectiveType.{DirectiveType}
+use Rattle.type_lists.specs.Accepted.{is_listed, is_input_listed}
+use Rattle.type_lists.specs.Directives.{directive_name}
+use Rattle.type_lists.specs.Named.{is_called}
+use Rattle.type_lists.specs.Names.{argument_type}
 
 -- the types of the arguments of a directive
 abbrev pub directive_types : {S : Type 0} → DirectiveType S → List (List ℕ)

@@ -1,12 +1,10 @@
 //! Schemas.
 
-pub mod directives;
 mod made;
-pub(crate) mod places;
 pub mod schemas;
 mod type_calls;
 pub mod types;
 
-pub use directives::{DirectiveLocation, DirectiveType};
 pub use schemas::{SchemaType, SchemaTypeOf};
+pub use type_lists::directives::{DirectiveLocation, DirectiveType};
 pub use types::{TypeType, TypeTypeOf};

@@ -2,11 +2,11 @@
 ghost use Rattle.std.specs.Prelude.{◌≡◌, ◌<◌, true, length, option_map, string_bytes};
 ghost use Rattle.std.specs.List.{list_all};
 ghost use Rattle.indexmap.specs.IndexMap.{values};
-ghost use Rattle.schema.specs.Accepted.{IsAccepted, is_input_listed};
-ghost use Rattle.schema.specs.Directives.{directive_name, directive_inputs};
+ghost use Rattle.type_lists.specs.Accepted.{IsAccepted, is_input_listed};
+ghost use Rattle.type_lists.specs.Directives.{directive_name, directive_inputs};
 ghost use Rattle.meta.specs.Kinds.{name_of_meta};
-ghost use Rattle.schema.specs.InputOrders.{AreOrders};
-ghost use Rattle.schema.specs.Named.{are_distinct, are_keyed};
+ghost use Rattle.type_lists.specs.InputOrders.{AreOrders};
+ghost use Rattle.type_lists.specs.Named.{are_distinct, are_keyed};
 
 mod changes;
 mod inputs;
@@ -15,15 +15,6 @@ mod ordered;
 mod possible;
 mod subtypes;
 
-use crate::build::accept::check_types;
-use crate::build::directives::directives_by_name;
-use crate::build::extend::with_added_fields;
-use crate::build::keyed::map_by_name;
-use crate::build::orders::{InputOrders, input_orders};
-use crate::build::roots::RootNames;
-use crate::build::slots::type_slots;
-use crate::error::SchemaError;
-use crate::model::directives::DirectiveType;
 use crate::model::types::TypeTypeOf;
 use indexmap::IndexMap;
 use language::value::DefaultScalarValue;
@@ -33,6 +24,15 @@ use meta::texts::copy_text;
 use name_slots::slots::slot_of;
 use std::alloc::Global;
 use std::marker::Model;
+use type_lists::accept::check_types;
+use type_lists::directives::DirectiveType;
+use type_lists::error::SchemaError;
+use type_lists::extend::with_added_fields;
+use type_lists::keyed::map_by_name;
+use type_lists::orders::{InputOrders, input_orders};
+use type_lists::roots::RootNames;
+use type_lists::slots::type_slots;
+use type_lists::standard_directives::directives_by_name;
 
 /// A schema (section 3.3). Its types all have different names, and so have its directives.
 #[derive(Drop)]
@@ -81,10 +81,10 @@ impl<S, C> Model for SchemaTypeOf<S, C> {
 
 impl<S: Drop, C: Drop> SchemaTypeOf<S, C> {
     ghost use Rattle.std.specs.Prelude.{◌≡◌, None, IfErr, IfOk, IsOkUnless, OnOk, map};
-    ghost use Rattle.schema.specs.Accepted.{IsAccepted, IsTrueRefusal, roots_of};
-    ghost use Rattle.schema.specs.Added.{directive_shape, standard_directives};
+    ghost use Rattle.type_lists.specs.Accepted.{IsAccepted, IsTrueRefusal, roots_of};
+    ghost use Rattle.type_lists.specs.Added.{directive_shape, standard_directives};
     ghost use Rattle.schema.specs.Built.{IsSchemaOf};
-    ghost use Rattle.schema.specs.RootNames.{roots_asked};
+    ghost use Rattle.type_lists.specs.RootNames.{roots_asked};
 
     /// The schema of a list of types with these roots (section 3.3), to which the fields `__schema`
     /// and `__type` of the root of queries and the directives `skip`, `include`, `deprecated` and

@@ -1,7 +1,7 @@
 use Rattle.std.proofs.Common.{refl, subst, sym, drop_of_length-le}
 use Rattle.lint_run.specs.Told.{JoinsFiles}
 use Rattle.lint_parts.specs.Places.{JoinsFile}
-use Rattle.schema.proofs.Finds.{rest_at}
+use Rattle.type_lists.proofs.Finds.{rest_at}
 use Rattle.lint_run.proofs.files.joined_of.Goals as goal
 
 -- one more file

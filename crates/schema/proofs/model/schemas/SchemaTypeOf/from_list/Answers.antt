@@ -1,7 +1,7 @@
 use Rattle.std.proofs.Common.{subst}
-use Rattle.schema.specs.Accepted.{IsAccepted}
-use Rattle.schema.specs.RootNames.{roots_asked}
-use Rattle.schema.proofs.SwapLemmas.{accepted-extended}
+use Rattle.type_lists.specs.Accepted.{IsAccepted}
+use Rattle.type_lists.specs.RootNames.{roots_asked}
+use Rattle.type_lists.proofs.SwapLemmas.{accepted-extended}
 use Rattle.schema.proofs.model.schemas.SchemaTypeOf.from_list.Goals as goal
 
 pub from_accepted-requires : goal.from_accepted-requires

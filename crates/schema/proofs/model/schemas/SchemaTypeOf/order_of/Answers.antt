@@ -1,6 +1,6 @@
 use Rattle.std.proofs.Common.{ap, subst}
-use Rattle.schema.specs.InputOrders.{AreOrders}
-use Rattle.schema.proofs.InputOrderLemmas.{order-found}
+use Rattle.type_lists.specs.InputOrders.{AreOrders}
+use Rattle.schema.proofs.InputLookups.{order-found}
 use Rattle.schema.proofs.model.schemas.SchemaTypeOf.order_of.Goals as goal
 
 pub returns-then-len-gt-FEW : goal.returns-then-len-gt-FEW

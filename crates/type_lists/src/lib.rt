@@ -1,0 +1,17 @@
+//! Lists of types: which make a schema, which are refused and why, and the parts of which a schema is made (GraphQL, October 2021, section 3).
+#![tactic(auto)]
+
+pub mod accept;
+mod added;
+pub mod directives;
+pub mod error;
+pub mod extend;
+pub mod first;
+pub mod keyed;
+pub mod listed;
+pub mod orders;
+pub mod places;
+mod repeated;
+pub mod roots;
+pub mod slots;
+pub mod standard_directives;
