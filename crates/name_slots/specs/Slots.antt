@@ -1,17 +1,13 @@
 -- The slot of a name.
-use Rattle.std.specs.Prelude.{ℕ, List, length, ◌+◌, ◌-◌, ◌*◌, ◌/◌, ◌%◌, slice_get, bit_and}
-use Rattle.std.specs.Option.{unwrap_or}
+use Rattle.std.specs.Prelude.{ℕ, List, ◌+◌, ◌-◌, ◌*◌, ◌%◌, bit_and, fold}
 
--- The byte at a place, and 0 where there is none.
-abbrev pub byte_at : List ℕ → ℕ → ℕ
-byte_at bytes at = unwrap_or (slice_get bytes at) 0
+-- A name as a number: its bytes are the digits, of base 15.
+abbrev pub as_number : List ℕ → ℕ
+as_number name = fold (λ number byte. number * 15 + byte) 0 name
 
--- What the length of a name and six of its bytes weigh.
+-- What a name weighs: what is left of that number modulo 2 to the power of 32.
 abbrev pub weight : List ℕ → ℕ
-weight name =
-    length name % 64 * 135 + byte_at name 0 * 6573 + byte_at name (length name / 2) * 8511
-    + byte_at name (length name - 4) * 1543 + byte_at name (length name - 3) * 137 + byte_at name (length name - 2) * 11
-    + byte_at name (length name - 1)
+weight name = as_number name % 4294967296
 
 -- The slot of a name among so many, which are a power of two.
 abbrev pub slot_number : List ℕ → ℕ → ℕ
