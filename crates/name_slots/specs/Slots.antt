@@ -1,9 +1,9 @@
 -- The slot of a name.
 use Rattle.std.specs.Prelude.{ℕ, List, ◌+◌, ◌-◌, ◌*◌, ◌%◌, bit_and, fold}
 
--- A name as a number: its bytes are the digits, of base 15.
+-- A name as a number: its bytes are the digits, of base 11.
 abbrev pub as_number : List ℕ → ℕ
-as_number name = fold (λ number byte. number * 15 + byte) 0 name
+as_number name = fold (λ number byte. number * 11 + byte) 0 name
 
 -- What a name weighs: what is left of that number modulo 2 to the power of 32.
 abbrev pub weight : List ℕ → ℕ
