@@ -9,7 +9,7 @@ ghost use Rattle.name_slots.specs.Slots.{slot_number, weight};
 const MOST: usize = 1 << 20;
 
 /// What the place of a byte weighs against the one behind it. A little above ten it keeps names apart that count up by a number in
-/// them; other names of types and fragments it spreads as well as any of a hundred and fifty odd numbers that were tried.
+/// them; other names of types and fragments it spreads about as well as the best of a hundred and fifty odd numbers that were tried.
 const BASE: u32 = 11;
 
 /// How many slots serve so many names: two to four for each, up to a million.
