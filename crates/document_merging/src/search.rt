@@ -1,12 +1,11 @@
 //! The search for the fields of a document that can't be merged.
 ghost use Rattle.std.specs.Prelude.{◌≡◌, ◌≤◌, ◌*◌, ◌-◌, ◌↔◌, ℕ, List, IfOk, IfSome, IsSome, length};
-ghost use Rattle.fragment_cycles.specs.DocumentCycles.{HasNoCycle};
-ghost use Rattle.fragment_cycles.specs.Numbers.{NumberedDefinitions};
+ghost use Rattle.fragment_cycles.specs.DocumentCycles.{HasNoCycle, SearchedDocument};
 ghost use Rattle.merge_documents.specs.Definitions.{fragment_count};
 ghost use Rattle.document_merging.specs.Found.{IsJudged, AreTogether};
 
 use field_pairs::entry::Entry;
-use fragment_cycles::numbers::NumberedNames;
+use fragment_cycles::cycles::DocumentCycles;
 use language::error::OutOfMemory;
 use language::scalar::ScalarValue;
 use language::tree::Document;
@@ -53,7 +52,8 @@ fn found_in<'a, S, C>(
     }
 }
 
-/// The fields that can't be merged of a document whose names are numbered; none exactly where some fragment leads back to itself.
+/// The fields that can't be merged of a document whose fragments were searched for cycles; none exactly where some fragment leads back to
+/// itself.
 ///
 /// What is found is true. Where no field repeats an argument, nor a key in one, nothing is missed. Of `n` definitions of fragments
 /// at most `n (n - 1)` pairs are compared, and at least those of which some set spreads both; no search opens more than `n`.
@@ -61,16 +61,16 @@ pub fn search_fields<'a, S: ScalarValue, C>(
     alloc: Global,
     schema: &'a SchemaTypeOf<S, C>,
     document: Document<'a, S>,
-    names: NumberedNames<'a>,
+    cycles: DocumentCycles<'a>,
 ) -> Result<Option<FoundConflicts<'a, S, C>>, OutOfMemory>
-    requires { NumberedDefinitions document.now names.numbers names.defined.items }
+    requires { SearchedDocument document.now cycles }
     ensures none { IfOk result (λ r. IsSome r ↔ HasNoCycle document.now) }
     ensures judged { IfOk result (λ r. IfSome r (IsJudged S.eq schema.now document.now)) }
     ensures few { IfOk result (λ r. IfSome r (λ f. f.compared ≤ fragment_count document.now * (fragment_count document.now - 1))) }
     ensures enough { IfOk result (λ r. IfSome r (λ f. (ps : List (List ℕ × List ℕ)) → AreTogether schema.now document.now ps → length ps ≤ f.compared)) }
     ensures opened { IfOk result (λ r. IfSome r (λ f. f.opened ≤ fragment_count document.now * f.lists)) }
 {
-    match graph_of_document(alloc, schema, document, names)? {
+    match graph_of_document(alloc, schema, document, cycles)? {
         Some(graph) => {
             let search = search_all(alloc, &graph)?;
             Ok(Some(found_in(graph, search)))

@@ -74,7 +74,7 @@ fn empty_nodes(alloc: Global, count: usize) -> Result<Vec<Node>, AllocError>
     ensures empty { IfOk result (λ v. (k : ℕ) → spreads_of v.items k ≡ []) }
     ensures counted { IfOk result (λ v. spread_count v.items ≡ 0) }
 {
-    let mut nodes = Vec::new(alloc);
+    let mut nodes = Vec::with_capacity(alloc, count)?;
     for _number in 0..count {
         nodes.push(Node {
             spreads: Vec::new(alloc),
@@ -83,11 +83,22 @@ fn empty_nodes(alloc: Global, count: usize) -> Result<Vec<Node>, AllocError>
     Ok(nodes)
 }
 
+// Adds spreads to a node's. The first get just the room that they want, since few fragments are defined twice.
+fn join_spreads(spreads: &[Spread], node: &mut Node) -> Result<(), AllocError>
+    ensures { OnOk result (node.new.spreads.items ≡ node.old.spreads.items ++ spreads.now) }
+{
+    if node.spreads.is_empty() {
+        node.spreads.reserve_exact(spreads.len())?;
+    }
+    node.spreads.extend_from_slice(spreads)
+}
+
 // Adds the spreads of a definition to the node of its name, whose number this is.
 fn join_fragment<S>(
     numbers: &Numbers<'_>,
     fragment: &Spanning<Fragment<'_, S>>,
     place: usize,
+    found: &mut Vec<Spread>,
     nodes: &mut Vec<Node>,
 ) -> Result<(), AllocError>
     requires numbered { WellNumbered numbers.now }
@@ -95,11 +106,9 @@ fn join_fragment<S>(
     requires sized { length nodes.old.items ≡ length (names_of numbers.now) }
     ensures { OnOk result (JoinsDefinition numbers.now (Definition.Fragment fragment.now) nodes.old.items nodes.new.items) }
 {
-    add_spreads(
-        numbers,
-        fragment.item.selection_set.as_slice(),
-        &mut nodes[place].spreads,
-    )
+    found.clear();
+    add_spreads(numbers, fragment.item.selection_set.as_slice(), found)?;
+    join_spreads(found.as_slice(), &mut nodes[place])
 }
 
 // Adds the spreads of a definition, if it is a fragment's and has a number.
@@ -107,6 +116,7 @@ fn join_definition<S>(
     numbers: &Numbers<'_>,
     definition: &Definition<'_, S>,
     defined: Option<usize>,
+    found: &mut Vec<Spread>,
     nodes: &mut Vec<Node>,
 ) -> Result<(), AllocError>
     requires numbered { WellNumbered numbers.now }
@@ -117,7 +127,7 @@ fn join_definition<S>(
 {
     match definition {
         Definition::Fragment(fragment) => match defined {
-            Some(place) => join_fragment(numbers, fragment, place, nodes),
+            Some(place) => join_fragment(numbers, fragment, place, found, nodes),
             None => Ok(()),
         },
         Definition::Operation(_) => Ok(()),
@@ -135,8 +145,15 @@ fn join_all<S>(
     ensures { IfOk result (λ v. Joined numbers.now document.now v.items) }
 {
     let mut nodes = empty_nodes(alloc, name_count(numbers))?;
+    let mut found = Vec::new(alloc);
     for place in 0..document.len() {
-        join_definition(numbers, &document[place], defined[place], &mut nodes)?;
+        join_definition(
+            numbers,
+            &document[place],
+            defined[place],
+            &mut found,
+            &mut nodes,
+        )?;
     }
     Ok(nodes)
 }

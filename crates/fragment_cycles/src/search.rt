@@ -161,7 +161,7 @@ fn new_colours(alloc: Global, graph: &[Node]) -> Result<Vec<Colour>, AllocError>
     ensures len { IfOk result (λ v. length v.items ≡ length graph.now) }
     ensures new { IfOk result (λ v. All (λ c. c ≡ New) v.items) }
 {
-    let mut colours = Vec::new(alloc);
+    let mut colours = Vec::with_capacity(alloc, graph.len())?;
     for _node in graph {
         colours.push(Colour::New)?;
     }
@@ -192,7 +192,7 @@ pub fn search_graph(alloc: Global, graph: &[Node]) -> Result<Outcome, AllocError
     let mut search = Search {
         colours: new_colours(alloc, graph)?,
         path: Vec::new(alloc),
-        order: Vec::new(alloc),
+        order: Vec::with_capacity(alloc, graph.len())?,
         reports: Vec::new(alloc),
         looked: 0,
     };

@@ -7,6 +7,7 @@ ghost use Rattle.walk.specs.Rule.{any_value};
 ghost use Rattle.walk.specs.Step.{KeepsPlace};
 ghost use Rattle.reach.specs.AtDocument.{document_step, given_at_end};
 ghost use Rattle.reach.specs.AtDocumentLaws.{document_keeps};
+ghost use Rattle.fragment_cycles.specs.DocumentCycles.{SearchedDocument};
 ghost use Rattle.field_pairs.specs.Entries.{PlainEntry, plain};
 ghost use Rattle.merging.specs.declared.node.Entry.{Entry};
 ghost use Rattle.conflict_reports.specs.Reports.{Reports, postfix, AreReportsOf};
@@ -16,6 +17,7 @@ ghost use Rattle.merge.specs.OverlappingFieldsCanBeMerged.{MergeErrors, error_va
 
 use conflict_reports::conflict::{Conflict, conflicts_found};
 use document_merging::search::{FoundConflicts, search_fields};
+use fragment_cycles::cycles::{DocumentCycles, search_document};
 use language::error::OutOfMemory;
 use language::scalar::ScalarValue;
 use language::tree::Definition;
@@ -68,17 +70,18 @@ impl OverlappingFieldsCanBeMerged {
         self.lists
     }
 
-    // Judges the document.
-    fn judge<'a, S: CheckedScalar>(
+    /// Leaves a document whose fragments were searched for cycles.
+    pub fn leave<'a, S: CheckedScalar>(
         &mut self,
         ctx: &mut ValidatorContext<'a, S>,
         document: &'a [Definition<'a, S>],
+        cycles: DocumentCycles<'a>,
     ) -> Result<(), OutOfMemory>
+        requires { SearchedDocument document.now cycles }
         ensures ok { IfOk result (λ _. (es : List ErrorValue) × MergeErrors S.eq ctx.old.schema document.now self.new es × (ctx.new ≡ with_errors ctx.old es)) }
         ensures err { OnErr result (KeepsPlace ctx.old ctx.new) }
     {
-        let names = ctx.numbered_names(document)?;
-        match search_fields(self.alloc, ctx.schema, document, names)? {
+        match search_fields(self.alloc, ctx.schema, document, cycles)? {
             Some(found) => {
                 self.compared = found.compared;
                 self.opened = found.opened;
@@ -116,7 +119,11 @@ impl<'a, S: CheckedScalar> Visitor<'a, S> for OverlappingFieldsCanBeMerged {
         event: &Event<'a, S>,
     ) -> Result<(), OutOfMemory> {
         match *event {
-            Event::ExitDocument(document) => self.judge(ctx, document),
+            Event::ExitDocument(document) => {
+                let names = ctx.numbered_names(document)?;
+                let cycles = search_document(self.alloc, document, names)?;
+                self.leave(ctx, document, cycles)
+            }
             _ => Ok(()),
         }
     }

@@ -33,15 +33,19 @@ fn no_stretches(alloc: Global, count: usize) -> Result<Vec<Option<(usize, usize)
     vec![in alloc; None; count]
 }
 
-/// Nothing, with so many places.
-pub fn no_building<'a, S, C>(alloc: Global, count: usize) -> Result<Building<'a, S, C>, AllocError>
+/// Nothing, with so many places, each of which brings a set at least, and with room for so many fragments.
+pub fn no_building<'a, S, C>(
+    alloc: Global,
+    count: usize,
+    fragments: usize,
+) -> Result<Building<'a, S, C>, AllocError>
     ensures { IfOk result (IsNothing count) }
 {
     let stretches = no_stretches(alloc, count)?;
     Ok(Building {
-        table: no_table(alloc),
-        fragments: Vec::new(alloc),
-        order: Vec::new(alloc),
+        table: no_table(alloc, count)?,
+        fragments: Vec::with_capacity(alloc, fragments)?,
+        order: Vec::with_capacity(alloc, count)?,
         stretches,
     })
 }

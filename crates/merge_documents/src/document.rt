@@ -1,8 +1,7 @@
 //! The graph of a document.
 ghost use Rattle.std.specs.Prelude.{◌≡◌, ◌<◌, ◌+◌, ◌↔◌, ℕ, List, [], Some, Option, OnOk, IfOk, IfSome, IsSome, length, map, option_and_then, slice_get};
 ghost use Rattle.std.specs.List.{flat_map};
-ghost use Rattle.fragment_cycles.specs.DocumentCycles.{HasNoCycle};
-ghost use Rattle.fragment_cycles.specs.Numbers.{NumberedDefinitions};
+ghost use Rattle.fragment_cycles.specs.DocumentCycles.{HasNoCycle, SearchedDocument};
 ghost use Rattle.field_pairs.specs.Entries.{plain};
 ghost use Rattle.field_pairs.specs.Numbered.{AreTidy};
 ghost use Rattle.merging.specs.Judgement.{Lawful};
@@ -19,8 +18,7 @@ use crate::building::{Building, add_definition, add_fragment, no_building};
 use crate::definitions::last_places;
 use crate::judge::FieldJudge;
 use crate::table_graph::graph_of_table;
-use fragment_cycles::cycles::{DocumentCycles, search_document};
-use fragment_cycles::numbers::NumberedNames;
+use fragment_cycles::cycles::DocumentCycles;
 use language::error::OutOfMemory;
 use language::scalar::ScalarValue;
 use language::tree::Document;
@@ -148,7 +146,7 @@ fn build<'a, S, C>(
     ensures { IfOk result (IsComplete schema.now document.now (rank_in cycles.now)) }
 {
     let last = last_places(alloc, document, &cycles.graph)?;
-    let mut building = no_building(alloc, document.len())?;
+    let mut building = no_building(alloc, document.len(), cycles.outcome.order.len())?;
     add_fragments(
         alloc,
         schema,
@@ -213,7 +211,7 @@ fn graph_of_searched<'a, S: ScalarValue, C>(
     Ok(graph)
 }
 
-/// The graph of a document, whose names are numbered, and none exactly where some fragment leads back to itself.
+/// The graph of a document, whose fragments were searched for cycles, and none exactly where some fragment leads back to itself.
 ///
 /// Each definition's set is in the graph. The set of a fragment is that of its last definition. Where no field repeats an
 /// argument, nor a key in one, the judgement of the fields is lawful.
@@ -221,14 +219,13 @@ pub fn graph_of_document<'a, S: ScalarValue, C>(
     alloc: Global,
     schema: &'a SchemaTypeOf<S, C>,
     document: Document<'a, S>,
-    names: NumberedNames<'a>,
+    cycles: DocumentCycles<'a>,
 ) -> Result<Option<Graph<FieldJudge<'a, S, C>>>, OutOfMemory>
-    requires { NumberedDefinitions document.now names.numbers names.defined.items }
+    requires { SearchedDocument document.now cycles }
     ensures none { IfOk result (λ g. IsSome g ↔ HasNoCycle document.now) }
     ensures graph { IfOk result (λ g. IfSome g (IsGraphOf schema.now document.now)) }
     ensures lawful { IfOk result (λ g. IfSome g (λ x. AreTidy (map plain x.judge.fields.items) → Lawful (judgement_of S.eq x.judge))) }
 {
-    let cycles = search_document(alloc, document, names)?;
     if !cycles.outcome.reports.is_empty() {
         return Ok(None);
     }

@@ -1,5 +1,6 @@
 //! What a search finds in the graph of a document, in words.
 
+use fragment_cycles::cycles::search_document;
 use fragment_cycles::numbers::number_names;
 use language::error::OutOfMemory;
 use language::scalar::ScalarValue;
@@ -68,7 +69,8 @@ pub fn found<'a, S: ScalarValue, C>(
     document: Document<'a, S>,
 ) -> Result<String, OutOfMemory> {
     let names = number_names(alloc, document)?;
-    match graph_of_document(alloc, schema, document, names)? {
+    let cycles = search_document(alloc, document, names)?;
+    match graph_of_document(alloc, schema, document, cycles)? {
         Some(graph) => lines_of_graph(alloc, &graph),
         None => Ok(String::from_str(alloc, "cycle")?),
     }

@@ -1,11 +1,12 @@
 //! What is made of a document's selection sets.
+ghost use Rattle.std.specs.Prelude.{IfOk};
 ghost use Rattle.numbered_sets.specs.Adding.{IsEmptyTable};
 
 use crate::names::no_names;
 use crate::responses::ResponseNames;
 use field_pairs::entry::Entry;
 use merging::node::Entry as OwnField;
-use std::alloc::Global;
+use std::alloc::{AllocError, Global};
 
 /// A set: its own fields, and the numbers of the fragments that it spreads.
 #[derive(Debug, Drop)]
@@ -23,14 +24,14 @@ pub struct Table<'a, S, C> {
     pub order: Vec<usize>,
 }
 
-/// A table of nothing.
-pub fn no_table<'a, S, C>(alloc: Global) -> Table<'a, S, C>
-    ensures { IsEmptyTable result }
+/// A table of nothing, with room for so many sets.
+pub fn no_table<'a, S, C>(alloc: Global, room: usize) -> Result<Table<'a, S, C>, AllocError>
+    ensures { IfOk result IsEmptyTable }
 {
-    Table {
+    Ok(Table {
         fields: Vec::new(alloc),
         responses: no_names(alloc),
-        sets: Vec::new(alloc),
+        sets: Vec::with_capacity(alloc, room)?,
         order: Vec::new(alloc),
-    }
+    })
 }

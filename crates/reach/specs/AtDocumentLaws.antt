@@ -2,10 +2,12 @@
 use Rattle.std.proofs.Common.{◌≡◌, List, [], ◌∷◌, ◌++◌, false, ap, sym, ◌∙◌, subst}
 use Rattle.std.proofs.lemmas.List.{append-nil}
 use Rattle.language.specs.declared.tree.Definition.{Definition}
+use Rattle.schema.specs.Catalog.{Catalog}
 use Rattle.events.specs.Node.{Node}
 use Rattle.events.specs.Occurrence.{is_document}
 use Rattle.events.specs.Outline.{Outline, empty, entry, each, outline_of_definition}
-use Rattle.events.specs.TypedEvent.{leaving, TypedEvent, events_of}
+use Rattle.events.specs.TypedEvent.{leaving, TypedEvent, events_of, typed_events}
+use Rattle.events.specs.Typing.{Typing}
 use Rattle.events.proofs.Occurrences.{Inner, inner-document}
 use Rattle.walk.specs.ErrorValue.{ErrorValue}
 use Rattle.walk.specs.ContextState.{DocumentScope, scope_of}
@@ -29,10 +31,10 @@ module _ {S C V : Type 0} (gives : Gives S C V) (scope : DocumentScope S C) wher
       ∙ e' ∙ ap (λ z. z ++ hs) (idle_at (gives scope) node c d none i left) ∙ idle_inside after d b hs k q
 
 module _ {S C V : Type 0} where
-  -- it reports what is given of the document
-  pub document_keeps : (gives : Gives S C V) → AllowsFrom (document_step gives) any_value (given_at_end gives)
-  document_keeps gives start fresh schema t doc end es (mid, first, rest, s, r, e) =
-      let scope : DocumentScope S C = scope_of schema doc in
+  -- what it reports is given of the document, in whatever context
+  pub document_given : (gives : Gives S C V) (scope : DocumentScope S C) (schema : Catalog S C) (t : Typing S C) (doc : List (Definition S)) (start end : V) (es : List ErrorValue)
+      → Run (document_step gives scope) (typed_events schema t doc) start end es → gives scope doc end es
+  document_given gives scope schema t doc start end es (mid, first, rest, s, r, e) =
       let inside : Outline S C = each (outline_of_definition schema t) doc in
       let leave : TypedEvent S C = record { side = leaving; node = Node.document doc; types = t } in
       let (c, fs, gs, p, (d, late, hs, left, (same, none), e'), e'') = Run-split (document_step gives scope) (events_of inside) (leave ∷ []) mid end rest r in
@@ -41,3 +43,7 @@ module _ {S C V : Type 0} where
       ∙ e' ∙ ap (λ z. late ++ z) none ∙ append-nil late
       in
       subst (λ z. gives scope doc end z) (sym all) (subst (λ z. gives scope doc z late) (sym same) left)
+
+  -- so in one that was made for it
+  pub document_keeps : (gives : Gives S C V) → AllowsFrom (document_step gives) any_value (given_at_end gives)
+  document_keeps gives start fresh schema t doc end es r = document_given gives (scope_of schema doc) schema t doc start end es r

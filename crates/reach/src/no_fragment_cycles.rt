@@ -1,6 +1,6 @@
 //! No fragment spreads itself, nor leads back to itself through others (GraphQL, section 5.5.2.2).
 
-ghost use Rattle.std.specs.Prelude.{◌≡◌, List, IfOk, OnErr, map, string_bytes};
+ghost use Rattle.std.specs.Prelude.{◌≡◌, List, None, IfOk, OnErr, map, string_bytes};
 ghost use Rattle.language.specs.declared.tree.Definition.{Definition};
 ghost use Rattle.walk.specs.ContextState.{with_errors};
 ghost use Rattle.walk.specs.Rule.{any_value, Appended};
@@ -11,7 +11,7 @@ ghost use Rattle.reach.specs.AtDocument.{document_step, given_at_end};
 ghost use Rattle.reach.specs.NoFragmentCycles.{cycle_error, cycle_errors, cycle_message, CycleErrors};
 ghost use Rattle.reach.specs.AtDocumentLaws.{document_keeps};
 
-use fragment_cycles::cycles::{CycleReport, search_named};
+use fragment_cycles::cycles::{CycleReport, DocumentCycles, GraphCycles, search_named};
 use fragment_cycles::document_graph::{DocumentGraph, graph_of};
 use language::error::OutOfMemory;
 use meta::check::CheckedScalar;
@@ -19,21 +19,26 @@ use std::alloc::{AllocError, Global};
 use walk::{Event, Fresh, Machine, Rule, ValidatorContext, Visitor};
 
 /// Reports, where the document ends, fragments that lead back to themselves, so many that each cycle has one, at spreads inside
-/// them that start a way back.
+/// them that start a way back. It keeps what its search found, for those who look at fragments after it.
 #[derive(Drop)]
-pub struct NoFragmentCycles {
+pub struct NoFragmentCycles<'a> {
     alloc: Global,
     looked: u128,
+    found: Option<DocumentCycles<'a>>,
 }
 
 /// The rule, made ready for one document.
-pub fn factory(alloc: Global) -> NoFragmentCycles
-    ensures { ⟦<NoFragmentCycles as Fresh>⟧.fresh result }
+pub fn factory<'a>(alloc: Global) -> NoFragmentCycles<'a>
+    ensures { ⟦<NoFragmentCycles<'a> as Fresh>⟧.fresh result }
 {
-    NoFragmentCycles { alloc, looked: 0 }
+    NoFragmentCycles {
+        alloc,
+        looked: 0,
+        found: None,
+    }
 }
 
-impl NoFragmentCycles {
+impl<'a> NoFragmentCycles<'a> {
     /// How many spreads inside definitions of fragments were looked at, in the document that was left last.
     pub fn looked(&self) -> u128
         ensures { result ≡ self.now.looked }
@@ -41,37 +46,52 @@ impl NoFragmentCycles {
         self.looked
     }
 
+    /// What its search found, in the document that was left last.
+    pub fn into_found(self) -> Option<DocumentCycles<'a>>
+        ensures { result ≡ self.entry.found }
+    {
+        self.found
+    }
+
     /// Leaves the document of a graph.
-    pub fn leave<'a, S: CheckedScalar>(
+    pub fn leave<S: CheckedScalar>(
         &mut self,
         ctx: &mut ValidatorContext<'a, S>,
-        graph: &DocumentGraph<'_>,
+        graph: DocumentGraph<'a>,
     ) -> Result<(), OutOfMemory>
-        ensures ok { IfOk result (λ _. (document : List (Definition S)) → IsGraphOf document graph.now → Appended (CycleErrors document self.new) ctx.old ctx.new) }
+        ensures ok { IfOk result (λ _. (document : List (Definition S)) → IsGraphOf document graph.entry → Appended (CycleErrors document self.new) ctx.old ctx.new) }
         ensures err { OnErr result (KeepsPlace ctx.old ctx.new) }
     {
         self.looked = 0;
-        let cycles = search_named(self.alloc, graph)?;
-        self.looked = cycles.outcome.looked;
-        report_all(self.alloc, ctx, cycles.reports.as_slice())
+        self.found = None;
+        let GraphCycles { outcome, reports } = search_named(self.alloc, &graph)?;
+        report_all(self.alloc, ctx, reports.as_slice())?;
+        let found = DocumentCycles {
+            graph,
+            outcome,
+            reports,
+        };
+        self.looked = found.outcome.looked;
+        self.found = Some(found);
+        Ok(())
     }
 }
 
-impl Fresh for NoFragmentCycles {
+impl<'a> Fresh for NoFragmentCycles<'a> {
     ghost fresh = { any_value };
 }
 
-impl<S, C> Machine<S, C> for NoFragmentCycles {
+impl<'a, S, C> Machine<S, C> for NoFragmentCycles<'a> {
     ghost step = { document_step cycle_errors };
 }
 
-impl<S, C> Rule<S, C> for NoFragmentCycles {
+impl<'a, S, C> Rule<S, C> for NoFragmentCycles<'a> {
     ghost allows = { given_at_end cycle_errors };
 
     ghost keeps = { document_keeps cycle_errors };
 }
 
-impl<'a, S: CheckedScalar> Visitor<'a, S> for NoFragmentCycles {
+impl<'a, S: CheckedScalar> Visitor<'a, S> for NoFragmentCycles<'a> {
     fn on(
         &mut self,
         ctx: &mut ValidatorContext<'a, S>,
@@ -81,7 +101,7 @@ impl<'a, S: CheckedScalar> Visitor<'a, S> for NoFragmentCycles {
             Event::ExitDocument(document) => {
                 let names = ctx.numbered_names(document)?;
                 let graph = graph_of(self.alloc, document, names)?;
-                self.leave(ctx, &graph)
+                self.leave(ctx, graph)
             }
             _ => Ok(()),
         }

@@ -4,12 +4,12 @@ ghost use Rattle.scopes.specs.Places.{numbered_places, AddsAt};
 
 use std::alloc::{AllocError, Global};
 
-/// So many lists without places. They ask for no memory of their own.
+/// So many lists without places. None has room of its own.
 pub fn empty_lists(alloc: Global, count: usize) -> Result<Vec<Vec<usize>>, AllocError>
     ensures len { IfOk result (λ v. length v.items ≡ count) }
     ensures empty { IfOk result (λ v. (k : ℕ) → numbered_places v.items k ≡ []) }
 {
-    let mut lists = Vec::new(alloc);
+    let mut lists = Vec::with_capacity(alloc, count)?;
     for _number in 0..count {
         lists.push(Vec::new(alloc))?;
     }

@@ -3,6 +3,7 @@ pub mod Clean
 pub mod Distinct
 pub mod Found
 pub mod Groups
+pub mod Kept
 pub mod Occurring
 pub mod Silent
 pub mod Values

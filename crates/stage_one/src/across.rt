@@ -1,11 +1,12 @@
 //! The rules that look across the document, with one index for all of them.
 
-ghost use Rattle.std.specs.Prelude.{IfOk, OnErr};
+ghost use Rattle.std.specs.Prelude.{◌≡◌, IfOk, OnErr};
 ghost use Rattle.walk.specs.ContextState.{typing};
 ghost use Rattle.walk.specs.Step.{KeepsPlace, Stepped};
 ghost use Rattle.stage_one.specs.Across.{across_allows, across_fresh, across_step, leaving_document};
 ghost use Rattle.stage_one.specs.AcrossLaws.{across_keeps};
 
+use fragment_cycles::cycles::DocumentCycles;
 use language::error::OutOfMemory;
 use language::tree::Definition;
 use meta::check::CheckedScalar;
@@ -28,7 +29,7 @@ pub struct AcrossDocument<'a> {
     unused_variables: NoUnusedVariables<'a>,
     unused_fragments: NoUnusedFragments,
     undefined_variables: NoUndefinedVariables<'a>,
-    cycles: NoFragmentCycles,
+    cycles: NoFragmentCycles<'a>,
 }
 
 /// The rules, made ready for one document.
@@ -57,12 +58,18 @@ impl<'a> AcrossDocument<'a> {
     {
         let names = ctx.numbered_names(document)?;
         let index = index_document(self.alloc, document, names)?;
-        let graph = &index.scopes.graph;
         self.positions.leave(ctx, document, &index.scopes)?;
         no_unused_variables::report_unused(self.alloc, ctx, document, &index)?;
         no_unused_fragments::report_unused(self.alloc, ctx, document, &index.scopes)?;
         report_undefined(self.alloc, ctx, document, &index)?;
-        self.cycles.leave(ctx, graph)
+        self.cycles.leave(ctx, index.scopes.graph)
+    }
+
+    /// What the search for cycles of fragments found, in the document that was left last.
+    pub fn into_found(self) -> Option<DocumentCycles<'a>>
+        ensures { result ≡ self.entry.cycles.found }
+    {
+        self.cycles.into_found()
     }
 }
 

@@ -1,15 +1,17 @@
 //! The rules of the first stage, and the call that tries them all.
 
-ghost use Rattle.std.specs.Prelude.{◌≡◌, ◌↔◌, OnOk, OnErr, IsErr, true};
+ghost use Rattle.std.specs.Prelude.{◌≡◌, ◌↔◌, IfOk, OnOk, OnErr, IsErr, true};
 ghost use Rattle.language.specs.ValuesPrinted.{printed_value};
 ghost use Rattle.walk.specs.ContextState.{typing, scope_of};
 ghost use Rattle.walk.specs.Names.{fragment_names};
 ghost use Rattle.walk.specs.Rule.{Appended, any_value, sum_of};
 ghost use Rattle.walk.specs.Step.{KeepsPlace};
+ghost use Rattle.fragment_cycles.specs.DocumentCycles.{SearchedDocument};
 ghost use Rattle.stage_one.specs.NothingFound.{NothingFound};
 ghost use Rattle.stage_one.specs.StageOne.{stage_one};
 
 use crate::across;
+use crate::across::AcrossDocument;
 use argument_rules::known_argument_names::KnownArgumentNames;
 use argument_rules::known_directives::KnownDirectives;
 use argument_rules::provided_non_null_arguments::ProvidedNonNullArguments;
@@ -22,9 +24,11 @@ use argument_rules::{
 use field_rules::fields_on_correct_type::FieldsOnCorrectType;
 use field_rules::scalar_leafs::ScalarLeafs;
 use field_rules::{fields_on_correct_type, scalar_leafs};
+use fragment_cycles::cycles::DocumentCycles;
 use fragment_rules::fragments_on_composite_types::FragmentsOnCompositeTypes;
 use fragment_rules::known_fragment_names::KnownFragmentNames;
 use fragment_rules::known_type_names::KnownTypeNames;
+use fragment_rules::possible_fragment_spreads::PossibleFragmentSpreads;
 use fragment_rules::unique_fragment_names::UniqueFragmentNames;
 use fragment_rules::{
     fragments_on_composite_types, known_fragment_names, known_type_names,
@@ -44,6 +48,7 @@ use operation_rules::{
     variables_are_input_types,
 };
 use std::alloc::Global;
+use walk::laws::pair_runs;
 use walk::{Fresh, MultiVisitorCons, MultiVisitorNil, ValidatorContext, visit_rules};
 
 // A list of rules, the newest first. One long list of all rules is dear to prove, so they come in groups.
@@ -91,6 +96,18 @@ type OfFragments<'a> = MultiVisitorCons<
 type OfValues = MultiVisitorCons<
     DefaultValuesOfCorrectType,
     MultiVisitorCons<ArgumentsOfCorrectType, MultiVisitorNil>,
+>;
+
+// The rules that look at one place, in groups.
+type Groups<'a> = MultiVisitorCons<
+    OfValues,
+    MultiVisitorCons<
+        OfFragments<'a>,
+        MultiVisitorCons<
+            OfArguments,
+            MultiVisitorCons<OfFields, MultiVisitorCons<OfOperations<'a>, MultiVisitorNil>>,
+        >,
+    >,
 >;
 
 // The rules on operations and their variables.
@@ -148,11 +165,12 @@ fn of_values(alloc: Global) -> OfValues
 /// Tries every rule of the first stage on a document, and appends the errors of the rules, in a context that was made for it: none just if every collection of a
 /// rule is empty, no value has a fault, no fragment leads back to itself and none is unused, and each variable is defined, used, and where its type may stand. In any other context it appends errors alone.
 ///
-/// It walks over the document once.
+/// It walks over the document once. The answer is what it found of the cycles of the document's fragments, in any context.
 pub fn visit_stage_one<'a, 't, S: CheckedScalar>(
     ctx: &mut ValidatorContext<'a, S>,
     document: &'a [Definition<'t, S>],
-) -> Result<(), OutOfMemory>
+) -> Result<DocumentCycles<'a>, OutOfMemory>
+    ensures searched { IfOk result (SearchedDocument document.now) }
     ensures appended { OnOk result (ctx.old.known ≡ fragment_names document.now → Appended (sum_of (stage_one S.may_answer (printed_value S.text S.str_of)) (scope_of ctx.old.schema document.now) (typing ctx.old) document.now) ctx.old ctx.new) }
     ensures silent { OnOk result (ctx.old.known ≡ fragment_names document.now → (ctx.new.errors ≡ ctx.old.errors) ↔ NothingFound S.may_answer (printed_value S.text S.str_of) (scope_of ctx.old.schema document.now) (typing ctx.old) document.now) }
     ensures only { OnOk result (Appended any_value ctx.old ctx.new) }
@@ -170,5 +188,18 @@ pub fn visit_stage_one<'a, 't, S: CheckedScalar>(
         .with_rule(across::factory(alloc))
         .with_rule(possible_fragment_spreads::factory(alloc));
     visit_rules(&mut rules, ctx, document)?;
-    Ok(())
+    // A run of the list is one of the rules across the document.
+    pair_runs::<
+        S,
+        S::Check,
+        PossibleFragmentSpreads<'a, S>,
+        MultiVisitorCons<AcrossDocument<'a>, Groups<'a>>,
+    >();
+    pair_runs::<S, S::Check, AcrossDocument<'a>, Groups<'a>>();
+    let (_, others) = rules.into_parts();
+    let (across, _) = others.into_parts();
+    match across.into_found() {
+        Some(cycles) => Ok(cycles),
+        None => unreachable!(),
+    }
 }

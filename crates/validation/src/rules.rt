@@ -7,6 +7,7 @@ ghost use Rattle.walk.specs.ErrorValue.{ErrorValue};
 ghost use Rattle.walk.specs.Names.{fragment_names};
 ghost use Rattle.walk.specs.Rule.{Appended, any_value};
 ghost use Rattle.walk.specs.Step.{KeepsPlace};
+ghost use Rattle.fragment_cycles.specs.DocumentCycles.{SearchedDocument};
 ghost use Rattle.merge_documents.specs.Definitions.{fragment_count};
 ghost use Rattle.merge.specs.declared.overlapping_fields_can_be_merged.OverlappingFieldsCanBeMerged.{OverlappingFieldsCanBeMerged as MergeRule};
 ghost use Rattle.merge.specs.OverlappingFieldsCanBeMerged.{MergeErrors};
@@ -17,11 +18,13 @@ pub use argument_rules::{
     unique_input_field_names,
 };
 pub use field_rules::{disable_introspection, fields_on_correct_type, scalar_leafs};
+use fragment_cycles::cycles::DocumentCycles;
 pub use fragment_rules::{
     fragments_on_composite_types, known_fragment_names, known_type_names,
     possible_fragment_spreads, unique_fragment_names,
 };
 use language::error::OutOfMemory;
+use language::shorten::shorten;
 use language::tree::Definition;
 pub use literal_rules::{arguments_of_correct_type, default_values_of_correct_type};
 pub use merge::overlapping_fields_can_be_merged;
@@ -35,7 +38,7 @@ pub use reach::{
 };
 use stage_one::visit_stage_one;
 pub use variable_positions::variables_in_allowed_position;
-use walk::{ValidatorContext, leave_document};
+use walk::ValidatorContext;
 
 /// Tries every rule on a document, in two stages, and appends the errors.
 ///
@@ -57,24 +60,31 @@ pub fn visit_all_rules<'a, 't, S: CheckedScalar>(
     ensures failed { OnErr result (ctx.new.failed ≡ true) }
     ensures stays { ctx.old.failed ≡ true → IsErr result }
 {
-    visit_stage_one(ctx, document)?;
+    let cycles = visit_stage_one(ctx, document)?;
     if ctx.has_errors() {
         return Ok(0);
     }
-    visit_stage_two(ctx, document)
+    visit_stage_two(ctx, document, cycles)
 }
 
-// Tries the rule on fields that can be merged, which acts only where the document is left.
+// Tries the rule on fields that can be merged, which acts only where the document is left, by what the first stage found of its fragments.
 fn visit_stage_two<'a, 't, S: CheckedScalar>(
     ctx: &mut ValidatorContext<'a, S>,
     document: &'a [Definition<'t, S>],
+    cycles: DocumentCycles<'a>,
 ) -> Result<u128, OutOfMemory>
+    requires { SearchedDocument document.now cycles }
     ensures appended { IfOk result (λ pairs. ctx.old.known ≡ fragment_names document.now → (es : List ErrorValue) × (end : MergeRule) × MergeErrors S.eq ctx.old.schema document.now end es × (end.compared ≡ pairs) × (ctx.new ≡ with_errors ctx.old es)) }
     ensures only { OnOk result (Appended any_value ctx.old ctx.new) }
     ensures err { OnErr result (KeepsPlace ctx.old ctx.new) }
     ensures failed { OnErr result (ctx.new.failed ≡ true) }
 {
     let mut rule = overlapping_fields_can_be_merged::factory(ctx.allocator());
-    leave_document(&mut rule, ctx, document)?;
-    Ok(rule.compared())
+    match rule.leave(ctx, shorten(document), cycles) {
+        Ok(()) => Ok(rule.compared()),
+        Err(_) => {
+            ctx.fail();
+            Err(OutOfMemory)
+        }
+    }
 }

@@ -229,7 +229,7 @@ pub fn all_uses<'a, S>(
 ) -> Result<Vec<Vec<VariableUse<'a>>>, OutOfMemory>
     ensures { IfOk result (λ all. AllUses document.now all.items) }
 {
-    let mut all = Vec::new(alloc);
+    let mut all = Vec::with_capacity(alloc, document.len())?;
     for definition in document {
         all.push(variable_uses(alloc, definition)?)?;
     }

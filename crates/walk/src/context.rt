@@ -28,8 +28,8 @@ use std::marker::Model;
 
 /// The schema, the names of the document's fragments, the types at the node at hand, and the errors that were reported.
 ///
-/// A context that has failed, since memory was refused in one of its calls or in a walk over it, refuses each later call that
-/// reports, pushes or ends, and each later walk.
+/// A context that has failed, since memory was refused in one of its calls or in a walk over it, or since `fail` was called, refuses
+/// each later call that reports, pushes or ends, and each later walk.
 #[derive(Drop)]
 pub struct ValidatorContextOf<'a, S, C> {
     pub schema: &'a SchemaTypeOf<S, C>,
@@ -260,8 +260,8 @@ impl<'a, S, C> ValidatorContextOf<'a, S, C> {
         found
     }
 
-    // Refuses each later call.
-    pub(crate) fn fail(&mut self)
+    /// Makes the context fail, where memory was refused to work on its document that no call of the context did.
+    pub fn fail(&mut self)
         ensures { self.new ≡ failing self.old }
     {
         self.failed = true;

@@ -16,4 +16,4 @@ pub use multi_visitor::{MultiVisitorCons, MultiVisitorNil};
 pub use rule::Rule;
 pub use rule_error::RuleError;
 pub use visitor::{Fresh, Machine, Visitor};
-pub use walk::{leave_document, visit, visit_rules, walk_with};
+pub use walk::{visit, visit_rules, walk_with};

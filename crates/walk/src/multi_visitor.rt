@@ -73,6 +73,13 @@ impl<A, B> MultiVisitorCons<A, B> {
     {
         &self.1
     }
+
+    /// The visitor that was added last, and the others.
+    pub fn into_parts(self) -> (A, B)
+        ensures { result ≡ (self.0, self.1) }
+    {
+        (self.0, self.1)
+    }
 }
 
 impl<S, C> Machine<S, C> for MultiVisitorNil {

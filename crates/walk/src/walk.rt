@@ -8,8 +8,7 @@ ghost use Rattle.events.specs.EventValue.{typed_event, typing_of};
 ghost use Rattle.events.specs.Cursor.{events_left};
 ghost use Rattle.events.specs.Outline.{each, outline_of_definition};
 ghost use Rattle.walk.specs.Step.{Ran, Stepped, KeepsPlace};
-ghost use Rattle.events.specs.Node as Node;
-ghost use Rattle.events.specs.TypedEvent.{leaving, events_of, typed_events};
+ghost use Rattle.events.specs.TypedEvent.{events_of, typed_events};
 
 use crate::ValidatorContext;
 use crate::multi_visitor::MultiVisitorCons;
@@ -149,7 +148,7 @@ pub fn visit<'a, 't, A: Visitor<'a, S>, B: Visitor<'a, S>, S: CheckedScalar>(
 /// Walks over a document with rules that are fresh.
 ///
 /// In a context that was made for this document the rules append what they are allowed to, in the states that they end in. In any
-/// other they append errors alone.
+/// other they append errors alone. In both they go through the document's events, each by its step.
 pub fn visit_rules<'a, 't, S: CheckedScalar, R: Visitor<'a, S> + Rule<S, S::Check>>(
     rules: &mut R,
     ctx: &mut ValidatorContext<'a, S>,
@@ -157,27 +156,11 @@ pub fn visit_rules<'a, 't, S: CheckedScalar, R: Visitor<'a, S> + Rule<S, S::Chec
 ) -> Result<(), OutOfMemory>
     requires fresh { R.fresh rules.old }
     ensures appended { OnOk result (ctx.old.known ≡ fragment_names document.now → Appended (R.allows rules.new (scope_of ctx.old.schema document.now) (typing ctx.old) document.now) ctx.old ctx.new) }
+    ensures ran { OnOk result (Ran R.step (typed_events ctx.old.schema (typing ctx.old) document.now) rules.old rules.new ctx.old ctx.new) }
     ensures only { OnOk result (Appended any_value ctx.old ctx.new) }
     ensures err { OnErr result (KeepsPlace ctx.old ctx.new) }
     ensures failed { OnErr result (ctx.new.failed ≡ true) }
     ensures stays { ctx.old.failed ≡ true → IsErr result }
 {
     walk_with(rules, ctx, shorten(document))
-}
-
-/// Tells a visitor that a document is left, at the types at hand, and of no other event.
-///
-/// A visitor that is idle until then so needs no walk over the whole document.
-pub fn leave_document<'a, 't, S: CheckedScalar, V: Visitor<'a, S>>(
-    v: &mut V,
-    ctx: &mut ValidatorContext<'a, S>,
-    document: &'a [Definition<'t, S>],
-) -> Result<(), OutOfMemory>
-    ensures stepped { IfOk result (λ _. Stepped V.step (record { side = leaving; node = Node.document document.now; types = typing ctx.old }) v.old v.new ctx.old ctx.new) }
-    ensures err { OnErr result (KeepsPlace ctx.old ctx.new) }
-    ensures failed { OnErr result (ctx.new.failed ≡ true) }
-    ensures stays { ctx.old.failed ≡ true → IsErr result }
-{
-    let types = ctx.types();
-    tell_one(v, ctx, &Event::ExitDocument(shorten(document)), types)
 }

@@ -3,7 +3,7 @@ use Rattle.fragment_cycles.proofs.GraphGrowth.{none_at_all, empty_more, none_cou
 use Rattle.fragment_cycles.proofs.document_graph.empty_nodes.Goals as goal
 
 pub loop-number-init : goal.loop-number-init
-loop-number-init c = (ap length c.new-nodes.ensures.items, λ k. none_at_all c.new-nodes.result.items k c.new-nodes.ensures.items, none_counted c.new-nodes.result.items c.new-nodes.ensures.items)
+loop-number-init c = (ap length c.in_ok-nodes.ensures.items, λ k. none_at_all c.in_ok-nodes.nodes.items k c.in_ok-nodes.ensures.items, none_counted c.in_ok-nodes.nodes.items c.in_ok-nodes.ensures.items)
 
 pub loop-number-preserved : goal.loop-number-preserved
 loop-number-preserved c = (

@@ -19,10 +19,12 @@ returns g c =
     let n = c.args.numbers.now in
     let l = below n c.requires.numbered c.args.fragment.now.item.name.item.now c.args.place c.requires.has in
     let sized = c.requires.sized in
-    on_ok_weaker c.add_spreads.result
+    let set = ap (λ zs. map (resolved n) (placed_spreads_of_all zs)) c.as_slice.ensures.value in
+    let found = c.in_ok-add_spreads.ensures ∙ ap (λ zs. zs ++ map (resolved n) (placed_spreads_of_all c.as_slice.result.now)) c.clear.ensures.items ∙ set in
+    on_ok_weaker c.join_spreads.result
     (λ e.
-    joined_one n c.args.fragment.now c.args.nodes.now.items c.args.place c.index_mut.result.now (record { spreads = c.add_spreads.new.found })
+    joined_one n c.args.fragment.now c.args.nodes.now.items c.args.place c.index_mut.result.now c.join_spreads.new.node
     c.requires.numbered c.requires.has
     (slice_get_read c.args.nodes.now.items (length c.args.nodes.now.items) c.args.place c.index_mut.result.now refl (omega (arith, l, sized)) c.index_mut.ensures.value)
-    (e ∙ ap (λ zs. c.index_mut.result.now.spreads.items ++ map (resolved n) (placed_spreads_of_all zs)) c.as_slice.ensures.value))
-    c.add_spreads.ensures
+    (e ∙ ap (λ zs. c.index_mut.result.now.spreads.items ++ zs) (c.as_slice-2.ensures.value ∙ found)))
+    c.join_spreads.ensures

@@ -13,8 +13,8 @@ use Rattle.fragment_cycles.proofs.search.search_graph.Goals as goal
 pub loop-root-init : goal.loop-root-init
 loop-root-init c =
     let cs = c.in_ok-new_colours.field-0.items in (
-      subst (λ (zs : List ℕ). Sound c.args.graph.now [] [] cs zs c.new-3.result.items 0) (sym c.new-2.ensures.items)
-          (subst (λ (zs : List Report). Sound c.args.graph.now [] [] cs [] zs 0) (sym c.new-3.ensures.items)
+      subst (λ (zs : List ℕ). Sound c.args.graph.now [] [] cs zs c.new-2.result.items 0) (sym c.in_ok-with_capacity.ensures.items)
+          (subst (λ (zs : List Report). Sound c.args.graph.now [] [] cs [] zs 0) (sym c.new-2.ensures.items)
           (sound_start c.args.graph.now cs c.in_ok-new_colours.ensures.len
           (λ v k g. All-contains (λ z. z ≡ New) cs k c.in_ok-new_colours.ensures.new (contains_at cs v k g)))),
       c.new.ensures.items,

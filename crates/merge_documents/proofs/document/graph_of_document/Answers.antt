@@ -14,9 +14,9 @@ nothing (x ∷ xs) e = absurd (omega (arith, e))
 
 pub returns-clause-none : goal.returns-clause-none
 returns-clause-none g c =
-    let reports = c.in_ok-cycles.cycles.outcome.reports in
+    let reports = c.args.cycles.outcome.reports in
     let long = reports.ok.0 in
     let is = c.is_empty.ensures in
     let test = c.if-not-is_empty.false in
     let none : length reports.items ≡ 0 = grind (arith, long, is, test) in
-    (λ some. c.in_ok-cycles.ensures.none.0 (nothing reports.items none), λ none. refl)
+    (λ some. c.requires.none.0 (nothing reports.items none), λ none. refl)

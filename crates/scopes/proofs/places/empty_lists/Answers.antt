@@ -3,7 +3,7 @@ use Rattle.scopes.proofs.Growing.{none_at_all, none_more}
 use Rattle.scopes.proofs.places.empty_lists.Goals as goal
 
 pub loop-number-init : goal.loop-number-init
-loop-number-init c = (ap length c.new-lists.ensures.items, λ k. none_at_all c.new-lists.result.items k c.new-lists.ensures.items)
+loop-number-init c = (ap length c.in_ok-lists.ensures.items, λ k. none_at_all c.in_ok-lists.lists.items k c.in_ok-lists.ensures.items)
 
 pub loop-number-preserved : goal.loop-number-preserved
 loop-number-preserved c = (

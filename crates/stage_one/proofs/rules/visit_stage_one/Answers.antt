@@ -1,6 +1,7 @@
 use Rattle.std.proofs.Common.{[], ◌∷◌}
 use Rattle.language.specs.ValuesPrinted.{printed_value}
-use Rattle.walk.specs.ContextState.{typing, scope_of}
+use Rattle.events.specs.TypedEvent.{typed_events}
+use Rattle.walk.specs.ContextState.{typing, scope_of, scope_of_context}
 use Rattle.walk.specs.Rule.{always}
 use Rattle.walk.proofs.Sums.{silent_just_if}
 use Rattle.reach.specs.AtDocument.{given_at_end}
@@ -12,8 +13,27 @@ use Rattle.variable_positions.specs.VariableInAllowedPosition.{misplaced_variabl
 use Rattle.stage_one.specs.StageOne.{groups, of_reach, of_spreads, stage_one}
 use Rattle.stage_one.proofs.Found.{nothing_just_if}
 use Rattle.stage_one.proofs.Groups.{appended_all}
+use Rattle.stage_one.proofs.Kept.{is_searched, is_there}
 use Rattle.stage_one.proofs.Silent.{stage_one_settled}
 use Rattle.stage_one.proofs.rules.visit_stage_one.Goals as goal
+
+pub unreachable-requires : goal.unreachable-requires
+unreachable-requires g c =
+    let (es, r, e) = c.in_ok-visit_rules.ensures.ran in
+    let old = c.args.ctx.now in
+    let events = typed_events old.schema (typing old) c.args.document.now in
+    let others = c.pair_runs.ensures (scope_of_context old) events c.with_rule-rules.result c.visit_rules.new.rules es r in
+    let across = c.pair_runs-2.ensures (scope_of_context old) events c.with_rule-rules.result.1 c.visit_rules.new.rules.1 others.by_other others.other_runs in
+    is_there old c.args.document.now c.with_rule-rules.result.1.0 c.visit_rules.new.rules across.by_newer across.newer_runs _ c.into_parts-others.ensures _ c.into_parts-across.ensures _ c.into_found.ensures c.in-None.is
+
+pub returns-clause-searched : goal.returns-clause-searched
+returns-clause-searched g c =
+    let (es, r, e) = c.in_ok-visit_rules.ensures.ran in
+    let old = c.args.ctx.now in
+    let events = typed_events old.schema (typing old) c.args.document.now in
+    let others = c.pair_runs.ensures (scope_of_context old) events c.with_rule-rules.result c.visit_rules.new.rules es r in
+    let across = c.pair_runs-2.ensures (scope_of_context old) events c.with_rule-rules.result.1 c.visit_rules.new.rules.1 others.by_other others.other_runs in
+    is_searched old c.args.document.now c.with_rule-rules.result.1.0 c.visit_rules.new.rules across.by_newer across.newer_runs _ c.into_parts-others.ensures _ c.into_parts-across.ensures _ c.into_found.ensures c.in-Some.cycles c.in-Some.is
 
 pub returns-clause-appended : goal.returns-clause-appended
 returns-clause-appended g c =

@@ -10,15 +10,15 @@ pub returns-then-has_errors-clause-appended : goal.returns-then-has_errors-claus
 returns-then-has_errors-clause-appended g c =
     λ known.
     after_one g.S.CheckedScalar.may_answer (printed_value g.S.ScalarValue.text g.S.ScalarValue.str_of) g.S.PartialEq.eq c.args.ctx.now c.visit_stage_one.new.ctx c.args.document.now
-    (c.in_ok-visit_stage_one.ensures.appended known) (sym c.has_errors.ensures ∙ c.if-has_errors.true)
+    (c.in_ok-cycles.ensures.appended known) (sym c.has_errors.ensures ∙ c.if-has_errors.true)
 
 pub returns-clause-appended : goal.returns-clause-appended
 returns-clause-appended g c =
     IfOk-weaker c.visit_stage_two.result _ _
     (λ pairs two known.
     after_two g.S.CheckedScalar.may_answer (printed_value g.S.ScalarValue.text g.S.ScalarValue.str_of) g.S.PartialEq.eq c.args.ctx.now c.visit_stage_one.new.ctx c.visit_stage_two.new.ctx c.args.document.now
-    (c.in_ok-visit_stage_one.ensures.appended known) (c.in_ok-visit_stage_one.ensures.silent known) (sym c.has_errors.ensures ∙ c.if-has_errors.false) pairs
-    (two (ap (λ w. w.known) c.in_ok-visit_stage_one.ensures.only.2 ∙ known)))
+    (c.in_ok-cycles.ensures.appended known) (c.in_ok-cycles.ensures.silent known) (sym c.has_errors.ensures ∙ c.if-has_errors.false) pairs
+    (two (ap (λ w. w.known) c.in_ok-cycles.ensures.only.2 ∙ known)))
     c.visit_stage_two.ensures.appended
 
 pub returns-clause-valid : goal.returns-clause-valid
@@ -40,4 +40,4 @@ returns-clause-few g c =
 
 pub returns-clause-only : goal.returns-clause-only
 returns-clause-only g c =
-    on_ok_weaker c.visit_stage_two.result (λ two. only_more c.args.ctx.now c.visit_stage_one.new.ctx c.visit_stage_two.new.ctx c.in_ok-visit_stage_one.ensures.only two) c.visit_stage_two.ensures.only
+    on_ok_weaker c.visit_stage_two.result (λ two. only_more c.args.ctx.now c.visit_stage_one.new.ctx c.visit_stage_two.new.ctx c.in_ok-cycles.ensures.only two) c.visit_stage_two.ensures.only

@@ -8,5 +8,8 @@ returns-clause-appended g c =
     on_ok_weaker c.walk_with.result (λ r known. fresh_append g.R.Machine.step g.R.Fresh.fresh g.R.Rule.allows g.met.R.Rule.keeps _ _ _ _ _ c.requires.fresh known r)
     (rw (sym c.shorten.ensures) c.walk_with.ensures.ran)
 
+pub returns-clause-ran : goal.returns-clause-ran
+returns-clause-ran g c = rw (sym c.shorten.ensures) c.walk_with.ensures.ran
+
 pub returns-clause-only : goal.returns-clause-only
 returns-clause-only g c = on_ok_weaker c.walk_with.result (λ r. (r.0, tt, r.2)) c.walk_with.ensures.ran

@@ -7,7 +7,7 @@ use Rattle.document_merging.specs.Found.{AreTogether, IsJudged}
 use Rattle.document_merging.proofs.Searching.{at_some}
 use Rattle.merge.specs.OverlappingFieldsCanBeMerged.{error_value}
 use Rattle.merge.proofs.Judging.{of_none, of_some}
-use Rattle.merge.proofs.overlapping_fields_can_be_merged.OverlappingFieldsCanBeMerged.judge.Goals as goal
+use Rattle.merge.proofs.overlapping_fields_can_be_merged.OverlappingFieldsCanBeMerged.leave.Goals as goal
 
 pub returns-in-Some-clause-ok : goal.returns-in-Some-clause-ok
 returns-in-Some-clause-ok g c =
