@@ -1,5 +1,5 @@
 //! Why nothing is measured.
-use document_reader::ReadError;
+use sample_reader::ReadError;
 use std::alloc::{AllocError, AllocFailed};
 use std::{fmt, io};
 use validation::{OutOfMemory, SchemaError};

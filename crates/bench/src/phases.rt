@@ -2,7 +2,7 @@
 //! time.
 use crate::failure::Failure;
 use crate::times::{Stopwatch, median_of};
-use document_reader::read_document;
+use sample_reader::read_document;
 use std::alloc::Global;
 use std::rt::CpuClock;
 use std::time::Duration;

@@ -5,7 +5,7 @@ use crate::readers::{kind_named, time_reader};
 use crate::schemas::{root_fields, wide_input};
 use crate::times::Stopwatch;
 use crate::values::{first_operation, judge, time_values, values_of};
-use document_reader::read_document;
+use sample_reader::read_document;
 use samples::build::{Checks, common, object, scalar};
 use samples::checks::{
     check_boolean, check_complex_input, check_dog_command, check_id, check_int, check_pair_input,

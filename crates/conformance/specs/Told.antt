@@ -4,8 +4,8 @@ use Rattle.std.specs.List.{flat_map}
 use Rattle.language.specs.declared.tree.Definition.{Definition}
 use Rattle.language.specs.declared.tree.Operation.{Operation}
 use Rattle.language.specs.declared.value.InputValue.{InputValue}
-use Rattle.merge.specs.declared.overlapping_fields_can_be_merged.OverlappingFieldsCanBeMerged.{OverlappingFieldsCanBeMerged}
-use Rattle.merge.specs.OverlappingFieldsCanBeMerged.{MergeErrors}
+use Rattle.rules_merge.specs.declared.overlapping_fields_can_be_merged.OverlappingFieldsCanBeMerged.{OverlappingFieldsCanBeMerged}
+use Rattle.rules_merge.specs.OverlappingFieldsCanBeMerged.{MergeErrors}
 use Rattle.meta.specs.Answers.{Answers}
 use Rattle.schema.specs.Catalog.{Catalog}
 use Rattle.validation.specs.RootRules.{IsRootReport}

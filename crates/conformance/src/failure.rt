@@ -1,7 +1,7 @@
 //! Why a file of vectors can't be judged.
 ghost use Rattle.std.specs.Prelude.{◌≤◌};
 
-use document_reader::ReadError;
+use sample_reader::ReadError;
 use std::alloc::{AllocError, AllocFailed};
 use std::{fmt, io};
 use validation::parser::SourcePosition;

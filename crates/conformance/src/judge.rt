@@ -6,7 +6,7 @@ ghost use Rattle.conformance.specs.Told.{TellsConflicts, TellsErrors, error_line
 use crate::failure::Failure;
 use crate::variables::errors_of_values;
 use crate::vectors::{Mode, Vector};
-use document_reader::read_document;
+use sample_reader::read_document;
 use std::alloc::Global;
 use validation::rules::overlapping_fields_can_be_merged;
 use validation::walk::visit_rules;

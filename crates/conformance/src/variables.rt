@@ -6,7 +6,7 @@ ghost use Rattle.variable_values.specs.Inputs.{HasInputTypes};
 use crate::failure::Failure;
 use crate::judge::lines_of;
 use crate::lines::Lines;
-use document_reader::{read_document, read_type, read_value};
+use sample_reader::{read_document, read_type, read_value};
 use std::alloc::Global;
 use std::collections::BTreeMap;
 use validation::ast::{Operation, VariableDefinition};

@@ -5,7 +5,7 @@ ghost use Rattle.std.specs.Prelude.{codes};
 ghost use Rattle.meta.specs.Answers.{AnswersBy};
 ghost use Rattle.example.specs.Scalars.{is_boolean, is_string};
 
-use document_reader::read_document;
+use sample_reader::read_document;
 use std::alloc::Global;
 use std::io;
 use validation::meta::{Argument, DefaultCheck, Field, MetaType, ObjectMeta, ScalarMetaOf};

@@ -12,7 +12,7 @@ use language::tree::{
     Definition, Fragment, Operation, OperationType, VariableDefinition, VariableDefinitions,
 };
 use language::value::InputValue;
-use source_scalars::scalar::SourceScalar;
+use sdl_scalars::scalar::SourceScalar;
 use std::alloc::Global;
 
 /// Reads an executable document, whose names are slices of the text: operations and fragments, one at least. Where the text is

@@ -13,6 +13,6 @@ mod values;
 
 pub use definitions::read_document;
 pub use graphql_lexer::error::{Found, ReadError, SyntaxError};
-pub use source_scalars::scalar::SourceScalar;
+pub use sdl_scalars::scalar::SourceScalar;
 pub use type_system_reader::read_type_system;
 pub use values::{NESTING_LIMIT, read_constant};

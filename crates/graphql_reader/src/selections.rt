@@ -5,7 +5,7 @@ use graphql_lexer::lexer::Punctuator;
 use graphql_lexer::tokens::Tokens;
 use language::position::{SourcePosition, Spanning};
 use language::tree::{Field, FragmentSpread, InlineFragment, Selection};
-use source_scalars::scalar::SourceScalar;
+use sdl_scalars::scalar::SourceScalar;
 
 type Nodes<'a> = Vec<Selection<'a, SourceScalar>>;
 

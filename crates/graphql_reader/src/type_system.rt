@@ -4,7 +4,7 @@ use language::position::Spanning;
 use language::tree::OperationType;
 use language::types::Type;
 use language::value::InputValue;
-use source_scalars::scalar::SourceScalar;
+use sdl_scalars::scalar::SourceScalar;
 
 /// A description (section 3.4.1), with the place of its string.
 pub type Description = Option<Spanning<String>>;

@@ -7,7 +7,7 @@ use language::error::OutOfMemory;
 use language::position::{SourcePosition, Spanning};
 use language::tree::{Arguments, Directive};
 use language::value::InputValue;
-use source_scalars::scalar::SourceScalar;
+use sdl_scalars::scalar::SourceScalar;
 use std::alloc::Global;
 
 /// How many levels of selection sets, and of lists and objects of a value, may stand in one another.

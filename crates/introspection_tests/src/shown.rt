@@ -4,8 +4,8 @@ use meta::enum_values::EnumValue;
 use meta::fields::Field;
 use meta::kinds::MetaTypeOf;
 use schema::model::{DirectiveType, SchemaTypeOf};
-use schema_reader::{SourceScalar, read_schema};
-use source_scalars::check::SourceCheck;
+use sdl_reader::{SourceScalar, read_schema};
+use sdl_scalars::check::SourceCheck;
 use std::alloc::{AllocError, Global};
 
 type SourceSchema = SchemaTypeOf<SourceScalar, SourceCheck>;

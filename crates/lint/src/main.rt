@@ -1,7 +1,7 @@
 //! The program `lint`: tells whether files of GraphQL queries fit a schema.
 #![tactic(auto)]
 
-use lint_run::machine;
+use lint_app::machine;
 use std::process::ExitCode;
 
 fn main(rt: HostRuntime) -> ExitCode {

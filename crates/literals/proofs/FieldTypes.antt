@@ -7,10 +7,10 @@ use Rattle.std.proofs.lemmas.List.Elements.{Contains-append_left, Contains-appen
 use Rattle.meta.specs.declared.arguments.Argument.{Argument}
 use Rattle.meta.specs.declared.kinds.MetaTypeOf.{MetaTypeOf}
 use Rattle.meta.specs.Kinds.{fields_of, input_fields_of, input_field_named}
-use Rattle.type_lists.specs.Accepted.{is_listed, is_named}
+use Rattle.schema_validation.specs.Accepted.{is_listed, is_named}
 use Rattle.schema.specs.Catalog.{Catalog, type_in}
-use Rattle.type_lists.specs.Names.{argument_type, field_names, interfaces_of, members_of, names_in, all_names, added_names}
-use Rattle.type_lists.proofs.Finds.{all-at, found-among}
+use Rattle.schema_validation.specs.Names.{argument_type, field_names, interfaces_of, members_of, names_in, all_names, added_names}
+use Rattle.schema_validation.proofs.Finds.{all-at, found-among}
 
 -- an element of what an element gives
 within_part : {A B : Type 0} (f : A → List B) (xs : List A) (i : ℕ) (d x : A) (b : B) → i < length xs → get_or xs i d ≡ x → Contains (f x) b → Contains (flat_map f xs) b

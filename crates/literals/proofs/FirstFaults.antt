@@ -1,6 +1,6 @@
 -- The first fault of a list, element by element.
 use Rattle.std.proofs.Common.{◌≡◌, ℕ, ◌+◌, ◌<◌, List, [], Option, Some, None, length, get_or, drop, refl, sym, inl, inr, subst}
-use Rattle.type_lists.proofs.Finds.{rest_at}
+use Rattle.schema_validation.proofs.Finds.{rest_at}
 use Rattle.literals.specs.FirstFault.{Telling, FirstFault}
 
 module _ {X : Type 0} (tells : Telling X) (at_end : Option (List ℕ) → Type 0) where

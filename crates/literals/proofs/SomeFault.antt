@@ -17,7 +17,7 @@ use Rattle.meta.specs.declared.kinds.MetaTypeOf.{MetaTypeOf}
 use Rattle.meta.specs.Answers.{Answers, Accepts, RefusesWith}
 use Rattle.meta.specs.Kinds.{check_of_meta, input_field_named, name_of_meta}
 use Rattle.schema.specs.Catalog.{Catalog, type_in}
-use Rattle.type_lists.specs.Names.{argument_type}
+use Rattle.schema_validation.specs.Names.{argument_type}
 use Rattle.schema.specs.Wrapped.{WrappedMeta}
 use Rattle.schema.proofs.AcceptedLemmas.{find-called}
 use Rattle.literals.specs.FirstFault.{Telling, FirstFault}

@@ -2,8 +2,8 @@
 ghost use Rattle.std.specs.Prelude.{◌≡◌, IfSome, Some, option_map, true, fold};
 ghost use Rattle.std.specs.Fmt.{WritesOnOk};
 ghost use Rattle.language.specs.Types.{borrowed_shape, shape, with_modifier};
-ghost use Rattle.type_lists.specs.Accepted.{is_listed};
-ghost use Rattle.type_lists.specs.Names.{argument_type};
+ghost use Rattle.schema_validation.specs.Accepted.{is_listed};
+ghost use Rattle.schema_validation.specs.Names.{argument_type};
 ghost use Rattle.schema.specs.Wrapped.{wrapped_of};
 ghost use Rattle.literals.specs.Expected.{expected_type, IsLayerOf};
 ghost use Rattle.literals.specs.InSchema.{IsInSchema};

@@ -7,14 +7,14 @@ use Rattle.std.specs.Str.{bytes_eq}
 use Rattle.std.proofs.lemmas.Bool.{and_parts, or_parts}
 use Rattle.std.proofs.lemmas.List.Sums.{sum_by-cons}
 use Rattle.std.proofs.lemmas.Slice.Eq.{bytes_eq-Decides}
-use Rattle.type_lists.specs.declared.error.SchemaError.{SchemaError}
-use Rattle.type_lists.specs.declared.error.SchemaError.TheVariants as e
+use Rattle.schema_validation.specs.declared.error.SchemaError.{SchemaError}
+use Rattle.schema_validation.specs.declared.error.SchemaError.TheVariants as e
 use Rattle.meta.specs.declared.kinds.MetaTypeOf.{MetaTypeOf}
-use Rattle.type_lists.specs.Accepted.{Roots, root_names, IsAccepted, IsTrueRefusal, is_named, is_listed, is_object_listed, is_input_listed}
+use Rattle.schema_validation.specs.Accepted.{Roots, root_names, IsAccepted, IsTrueRefusal, is_named, is_listed, is_object_listed, is_input_listed}
 use Rattle.meta.specs.Kinds.{name_of_meta}
-use Rattle.type_lists.specs.Named.{is_called, is_any_called, are_distinct}
-use Rattle.type_lists.specs.Names.{all_names, all_inputs, all_members}
-use Rattle.type_lists.proofs.Finds.{not-true, all-at}
+use Rattle.schema_validation.specs.Named.{is_called, is_any_called, are_distinct}
+use Rattle.schema_validation.specs.Names.{all_names, all_inputs, all_members}
+use Rattle.schema_validation.proofs.Finds.{not-true, all-at}
 
 false_step : (b : Bool) (n : ℕ) → b ≡ false → n ≡ 0 → cond b 1 0 + n ≡ 0
 false_step true n h k = cc

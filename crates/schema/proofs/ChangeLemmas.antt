@@ -9,21 +9,21 @@ use Rattle.std.specs.String.{string_eq}
 use Rattle.std.proofs.lemmas.Bool.{and_parts, and_from, or_parts, or_from}
 use Rattle.std.proofs.lemmas.Slice.Eq.{bytes_eq-Decides}
 use Rattle.indexmap.specs.IndexMap.{insert_entry}
-use Rattle.type_lists.specs.declared.error.SchemaError.{SchemaError}
-use Rattle.type_lists.specs.declared.error.SchemaError.TheVariants as e
+use Rattle.schema_validation.specs.declared.error.SchemaError.{SchemaError}
+use Rattle.schema_validation.specs.declared.error.SchemaError.TheVariants as e
 use Rattle.meta.specs.declared.kinds.MetaTypeOf.{MetaTypeOf}
-use Rattle.type_lists.specs.declared.directives.DirectiveType.{DirectiveType}
-use Rattle.type_lists.specs.Accepted.{Roots, IsAccepted, is_listed, is_input_listed}
+use Rattle.schema_validation.specs.declared.directives.DirectiveType.{DirectiveType}
+use Rattle.schema_validation.specs.Accepted.{Roots, IsAccepted, is_listed, is_input_listed}
 use Rattle.schema.specs.Catalog.{Catalog}
 use Rattle.schema.specs.Changes.{directive_types, with_directive, IsTrueOfArguments}
-use Rattle.type_lists.specs.Directives.{directive_name, directive_inputs}
+use Rattle.schema_validation.specs.Directives.{directive_name, directive_inputs}
 use Rattle.meta.specs.Kinds.{name_of_meta, is_input_meta}
-use Rattle.type_lists.specs.Named.{is_called, is_any_called, are_distinct, are_keyed}
+use Rattle.schema_validation.specs.Named.{is_called, is_any_called, are_distinct, are_keyed}
 use Rattle.schema.proofs.AcceptedLemmas.{first-alone}
-use Rattle.type_lists.proofs.Finds.{all-at}
-use Rattle.type_lists.proofs.KeyedLemmas.{bytes_eq-sym}
+use Rattle.schema_validation.proofs.Finds.{all-at}
+use Rattle.schema_validation.proofs.KeyedLemmas.{bytes_eq-sym}
 use Rattle.schema.proofs.PossibleLemmas.{or-false, weaker-all}
-use Rattle.type_lists.proofs.Refusals.{all-front, all-back, all-joined}
+use Rattle.schema_validation.proofs.Refusals.{all-front, all-back, all-joined}
 use Rattle.std.specs.Coded.{codes}
 use mathlib.Core.HLevel.{is_prop→PathP}
 

@@ -7,15 +7,15 @@ use Rattle.std.proofs.lemmas.Bool.{and_parts, and_from}
 use Rattle.std.proofs.lemmas.List.Sorted.{sum_by-IsPermutation}
 use Rattle.std.proofs.lemmas.List.Sums.{sum_by-cons}
 use Rattle.std.proofs.lemmas.Slice.Eq.{bytes_eq-Decides}
-use Rattle.type_lists.specs.declared.directives.DirectiveType.{DirectiveType}
+use Rattle.schema_validation.specs.declared.directives.DirectiveType.{DirectiveType}
 use Rattle.schema.specs.Changes.{with_directive}
-use Rattle.type_lists.specs.Directives.{directive_name}
-use Rattle.type_lists.specs.Named.{is_called, is_any_called, are_distinct}
+use Rattle.schema_validation.specs.Directives.{directive_name}
+use Rattle.schema_validation.specs.Named.{is_called, is_any_called, are_distinct}
 use Rattle.schema.proofs.AcceptedLemmas.{at-most-one}
-use Rattle.type_lists.proofs.Finds.{not-true}
-use Rattle.type_lists.proofs.KeyedLemmas.{bytes_eq-sym}
+use Rattle.schema_validation.proofs.Finds.{not-true}
+use Rattle.schema_validation.proofs.KeyedLemmas.{bytes_eq-sym}
 use Rattle.schema.proofs.PossibleLemmas.{or-false}
-use Rattle.type_lists.proofs.Refusals.{any-count}
+use Rattle.schema_validation.proofs.Refusals.{any-count}
 
 module _ {T : Type 0} (name_of : T → Option (List ℕ)) where
   -- where each name stands at most once, no other entry has the first one's name

@@ -8,10 +8,10 @@ use Rattle.std.specs.Str.{bytes_eq}
 use Rattle.std.proofs.lemmas.Slice.Eq.{bytes_eq-Decides}
 use Rattle.meta.specs.declared.inputs.InputObjectMetaOf.{InputObjectMetaOf}
 use Rattle.meta.specs.declared.kinds.MetaTypeOf.TheVariants as m
-use Rattle.type_lists.specs.Accepted.{is_named}
+use Rattle.schema_validation.specs.Accepted.{is_named}
 use Rattle.schema.specs.Catalog.{Catalog, type_in}
-use Rattle.type_lists.specs.InputOrders.{IsOrderOf, AreOrders}
-use Rattle.type_lists.proofs.Finds.{found-passes}
+use Rattle.schema_validation.specs.InputOrders.{IsOrderOf, AreOrders}
+use Rattle.schema_validation.proofs.Finds.{found-passes}
 
 -- what is looked up by the name of an input object of a schema is its order
 pub order-found : {S C : Type 0} (c : Catalog S C) (x : InputObjectMetaOf S C) (es : List (String Global × Vec ℕ Global)) (k n : List ℕ) (o : Option (Bor (Vec ℕ Global))) → AreOrders c.types es → k ≡ string_bytes x.name → type_in n c ≡ Some (m.InputObject x) → option_copied o ≡ lookup (λ q. bytes_eq k (string_bytes q)) es

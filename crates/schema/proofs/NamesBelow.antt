@@ -11,13 +11,13 @@ use Rattle.std.proofs.lemmas.Slice.Eq.{bytes_eq-Decides}
 use Rattle.std.proofs.Common.{inl, inr}
 use Rattle.meta.specs.declared.kinds.MetaTypeOf.{MetaTypeOf}
 use Rattle.meta.specs.declared.kinds.MetaTypeOf.TheVariants as k
-use Rattle.type_lists.specs.Accepted.{Roots, IsAccepted, is_named, is_listed, is_object_listed}
+use Rattle.schema_validation.specs.Accepted.{Roots, IsAccepted, is_named, is_listed, is_object_listed}
 use Rattle.meta.specs.Kinds.{name_of_meta, is_object_meta, is_abstract_meta}
-use Rattle.type_lists.specs.Names.{interfaces_of, members_of, all_members}
+use Rattle.schema_validation.specs.Names.{interfaces_of, members_of, all_members}
 use Rattle.schema.specs.Possible.{is_among, is_implementer, possible_names}
 use Rattle.schema.specs.Subtype.{may_be, is_name_below}
 use Rattle.schema.proofs.AcceptedLemmas.{find-kind}
-use Rattle.type_lists.proofs.Finds.{all-at, found-among}
+use Rattle.schema_validation.proofs.Finds.{all-at, found-among}
 use Rattle.schema.proofs.PossibleLemmas.{among-filter}
 
 -- an element of one of the parts of a list

@@ -13,7 +13,7 @@ use Rattle.std.proofs.lemmas.List.Sorted.{ranks_by, answers_always}
 use denote.Param.Members.{Mut}
 use Rattle.std.specs.Prelude.{string_bytes}
 use Rattle.meta.specs.declared.kinds.MetaTypeOf.{MetaTypeOf}
-use Rattle.type_lists.specs.declared.directives.DirectiveType.{DirectiveType}
+use Rattle.schema_validation.specs.declared.directives.DirectiveType.{DirectiveType}
 use Rattle.schema.specs.declared.model.types.TypeTypeOf.{TypeTypeOf}
 use Rattle.schema.specs.Ordered.{kind_rank, name_bytes, type_cmp, directive_cmp, metas_of}
 use Rattle.schema.specs.Wrapped.{WrappedMeta, plain_meta, wrapped_of}

@@ -12,16 +12,16 @@ use Rattle.std.proofs.lemmas.List.Folds.{Any-from_list_any, list_any-from_Any}
 use Rattle.std.proofs.lemmas.Slice.Eq.{bytes_eq-Decides}
 use Rattle.meta.specs.declared.kinds.MetaTypeOf.{MetaTypeOf}
 use Rattle.meta.specs.declared.kinds.MetaTypeOf.TheVariants as k
-use Rattle.type_lists.specs.Accepted.{is_named, is_listed}
+use Rattle.schema_validation.specs.Accepted.{is_named, is_listed}
 use Rattle.schema.specs.Catalog.{Catalog, type_in}
 use Rattle.meta.specs.Kinds.{name_of_meta, is_abstract_meta}
-use Rattle.type_lists.specs.Named.{is_called, is_any_called, are_named, are_distinct}
-use Rattle.type_lists.specs.Names.{members_of}
+use Rattle.schema_validation.specs.Named.{is_called, is_any_called, are_named, are_distinct}
+use Rattle.schema_validation.specs.Names.{members_of}
 use Rattle.schema.specs.Possible.{is_among, do_meet, is_implementer, possible_names, types_named, have_one_name, do_overlap}
 use Rattle.schema.proofs.AcceptedLemmas.{first-alone, find-called}
-use Rattle.type_lists.proofs.Finds.{found-passes, found-among}
-use Rattle.type_lists.proofs.KeyedLemmas.{bytes_eq-sym}
-use Rattle.type_lists.proofs.Refusals.{all-front, all-back, all-members}
+use Rattle.schema_validation.proofs.Finds.{found-passes, found-among}
+use Rattle.schema_validation.proofs.KeyedLemmas.{bytes_eq-sym}
+use Rattle.schema_validation.proofs.Refusals.{all-front, all-back, all-members}
 
 pub or-false : (b : Bool) → (b || false) ≡ b
 or-false true = refl

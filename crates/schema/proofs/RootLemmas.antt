@@ -3,11 +3,11 @@ use Rattle.std.proofs.Common.{◌≡◌, ℕ, List, [], ◌∷◌, ◌++◌, Boo
 use Rattle.std.specs.List.{list_all}
 use Rattle.std.proofs.lemmas.Bool.{and_parts}
 use Rattle.meta.specs.declared.kinds.MetaTypeOf.{MetaTypeOf}
-use Rattle.type_lists.specs.Accepted.{listed, is_listed}
+use Rattle.schema_validation.specs.Accepted.{listed, is_listed}
 use Rattle.schema.specs.Catalog.{Catalog, type_in, root_in}
 use Rattle.meta.specs.Kinds.{name_of_meta}
 use Rattle.schema.proofs.AcceptedLemmas.{find-called}
-use Rattle.type_lists.proofs.Refusals.{all-front, all-back}
+use Rattle.schema_validation.proofs.Refusals.{all-front, all-back}
 
 pub copied_some : {T : Type 0} (o : Option (Bor T)) → is_some (option_copied o) ≡ is_some o
 copied_some None = refl

@@ -6,7 +6,7 @@ use Rattle.language.specs.declared.types.TypeModifier.{TypeModifier}
 use Rattle.language.specs.declared.types.TypeModifier.TheVariants as m
 use Rattle.language.specs.Types.{TypeShape, nullable_named, wrapped_by, list_of, outermost, IsNonNull}
 use Rattle.meta.specs.declared.kinds.MetaTypeOf.{MetaTypeOf}
-use Rattle.type_lists.specs.Accepted.{Roots, IsAccepted}
+use Rattle.schema_validation.specs.Accepted.{Roots, IsAccepted}
 use Rattle.schema.specs.Layers.{are_layers_below}
 use Rattle.schema.specs.Subtype.{is_name_below, IsSubtype, equal, names, both_non_null, both_lists, non_null}
 use Rattle.schema.proofs.NamesBelow.{names-same, names-trans}

@@ -1,8 +1,8 @@
 -- The schema that a list of types makes.
 use Rattle.std.specs.Prelude.{◌≡◌, List, None, map}
 use Rattle.meta.specs.declared.kinds.MetaTypeOf.{MetaTypeOf}
-use Rattle.type_lists.specs.Accepted.{Roots}
-use Rattle.type_lists.specs.Added.{IsExtended, directive_shape, standard_directives}
+use Rattle.schema_validation.specs.Accepted.{Roots}
+use Rattle.schema_validation.specs.Added.{IsExtended, directive_shape, standard_directives}
 use Rattle.schema.specs.Catalog.{Catalog}
 
 -- The types are those of the list, with the two fields added; the directives are the four that every schema has.

@@ -2,10 +2,10 @@
 use Rattle.std.specs.Prelude.{◌≡◌, ℕ, List, true, Option, find, option_and_then}
 use Rattle.std.specs.List.{list_all}
 use Rattle.meta.specs.declared.kinds.MetaTypeOf.{MetaTypeOf}
-use Rattle.type_lists.specs.declared.directives.DirectiveType.{DirectiveType}
-use Rattle.type_lists.specs.Accepted.{Roots, IsAccepted, is_named, is_input_listed}
-use Rattle.type_lists.specs.Directives.{directive_name, directive_inputs}
-use Rattle.type_lists.specs.Named.{is_called, are_distinct}
+use Rattle.schema_validation.specs.declared.directives.DirectiveType.{DirectiveType}
+use Rattle.schema_validation.specs.Accepted.{Roots, IsAccepted, is_named, is_input_listed}
+use Rattle.schema_validation.specs.Directives.{directive_name, directive_inputs}
+use Rattle.schema_validation.specs.Named.{is_called, are_distinct}
 
 -- The types in their order, the names of the roots, the directives in their order and the description. The types are
 -- accepted, each argument of a directive has an input type, and the directives all have different names.

@@ -1,13 +1,13 @@
 -- What changes of a schema leave, and which directives are refused.
 use Rattle.std.specs.Prelude.{◌≡◌, ⊤, ℕ, List, [], ◌∷◌, false, true, Contains, map, string_bytes, if◌then◌else◌}
-use Rattle.type_lists.specs.declared.error.SchemaError.{SchemaError}
-use Rattle.type_lists.specs.declared.error.SchemaError.TheVariants as e
+use Rattle.schema_validation.specs.declared.error.SchemaError.{SchemaError}
+use Rattle.schema_validation.specs.declared.error.SchemaError.TheVariants as e
 use Rattle.meta.specs.declared.kinds.MetaTypeOf.{MetaTypeOf}
-use Rattle.type_lists.specs.declared.directives.DirectiveType.{DirectiveType}
-use Rattle.type_lists.specs.Accepted.{is_listed, is_input_listed}
-use Rattle.type_lists.specs.Directives.{directive_name}
-use Rattle.type_lists.specs.Named.{is_called}
-use Rattle.type_lists.specs.Names.{argument_type}
+use Rattle.schema_validation.specs.declared.directives.DirectiveType.{DirectiveType}
+use Rattle.schema_validation.specs.Accepted.{is_listed, is_input_listed}
+use Rattle.schema_validation.specs.Directives.{directive_name}
+use Rattle.schema_validation.specs.Named.{is_called}
+use Rattle.schema_validation.specs.Names.{argument_type}
 
 -- the types of the arguments of a directive
 abbrev pub directive_types : {S : Type 0} → DirectiveType S → List (List ℕ)

@@ -5,7 +5,7 @@ use Rattle.std.specs.Cmp.Lexicographic.{slice_cmp}
 use Rattle.std.specs.declared.cmp.Ordering.{Ordering}
 use Rattle.meta.specs.declared.kinds.MetaTypeOf.{MetaTypeOf}
 use Rattle.meta.specs.declared.kinds.MetaTypeOf.TheVariants as m
-use Rattle.type_lists.specs.declared.directives.DirectiveType.{DirectiveType}
+use Rattle.schema_validation.specs.declared.directives.DirectiveType.{DirectiveType}
 use Rattle.schema.specs.declared.model.types.TypeTypeOf.{TypeTypeOf}
 use Rattle.meta.specs.Kinds.{name_of_meta}
 use Rattle.schema.specs.Wrapped.{wrapped_of}

@@ -5,9 +5,9 @@ use Rattle.std.specs.Option.{option_map_or}
 use Rattle.std.specs.Str.{bytes_eq}
 use Rattle.meta.specs.declared.kinds.MetaTypeOf.{MetaTypeOf}
 use Rattle.meta.specs.declared.kinds.MetaTypeOf.TheVariants as m
-use Rattle.type_lists.specs.Accepted.{is_named}
+use Rattle.schema_validation.specs.Accepted.{is_named}
 use Rattle.meta.specs.Kinds.{name_of_meta, is_object_meta}
-use Rattle.type_lists.specs.Names.{interfaces_of}
+use Rattle.schema_validation.specs.Names.{interfaces_of}
 
 -- the name is one of the list
 abbrev pub is_among : List (List ℕ) → List ℕ → Bool

@@ -5,7 +5,7 @@ use Rattle.std.specs.Str.{bytes_eq}
 use Rattle.language.specs.declared.types.TypeModifier.TheVariants as m
 use Rattle.language.specs.Types.{TypeShape, nullable_named, wrapped_by, list_of, IsNonNull}
 use Rattle.meta.specs.declared.kinds.MetaTypeOf.{MetaTypeOf}
-use Rattle.type_lists.specs.Accepted.{is_named, is_listed}
+use Rattle.schema_validation.specs.Accepted.{is_named, is_listed}
 use Rattle.meta.specs.Kinds.{is_abstract_meta}
 use Rattle.schema.specs.Possible.{is_among, possible_names}
 

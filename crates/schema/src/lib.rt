@@ -4,4 +4,4 @@
 pub mod model;
 
 pub use meta;
-pub use type_lists::error;
+pub use schema_validation::error;

@@ -5,6 +5,6 @@ pub mod schemas;
 mod type_calls;
 pub mod types;
 
+pub use schema_validation::directives::{DirectiveLocation, DirectiveType};
 pub use schemas::{SchemaType, SchemaTypeOf};
-pub use type_lists::directives::{DirectiveLocation, DirectiveType};
 pub use types::{TypeType, TypeTypeOf};

@@ -12,9 +12,9 @@ use Rattle.walk.specs.ErrorValue.{ErrorValue}
 use Rattle.walk.specs.Names.{fragment_names}
 use Rattle.walk.specs.Rule.{Appended, Collection, any_value, exactly, nothing, together}
 use Rattle.walk.specs.Step.{KeepsPlace}
-use Rattle.reach.specs.AtDocument.{given_at_end}
-use Rattle.merge.specs.declared.overlapping_fields_can_be_merged.OverlappingFieldsCanBeMerged.{OverlappingFieldsCanBeMerged}
-use Rattle.merge.specs.OverlappingFieldsCanBeMerged.{MergeErrors, merge_errors}
+use Rattle.rules_document.specs.AtDocument.{given_at_end}
+use Rattle.rules_merge.specs.declared.overlapping_fields_can_be_merged.OverlappingFieldsCanBeMerged.{OverlappingFieldsCanBeMerged}
+use Rattle.rules_merge.specs.OverlappingFieldsCanBeMerged.{MergeErrors, merge_errors}
 use Rattle.validation.specs.Stages.{Reported}
 use Rattle.validation.specs.RootRules.{IsRootReport, RootReported, introspection}
 use Rattle.validation.proofs.Stages.{merge_permuted}

@@ -11,8 +11,8 @@ use Rattle.events.specs.Typing.{Typing, untyped}
 use Rattle.walk.specs.ContextState.{DocumentScope, scope_of}
 use Rattle.walk.specs.Entering.{found}
 use Rattle.walk.specs.ErrorValue.{ErrorValue}
-use Rattle.field_rules.specs.DisableIntrospection.{introspection_fields}
-use Rattle.stage_one.proofs.Distinct.{left_none, right_none}
+use Rattle.rules_fields.specs.DisableIntrospection.{introspection_fields}
+use Rattle.rules_first_stage.proofs.Distinct.{left_none, right_none}
 use Rattle.validation.specs.RootRules.{IsRootReport, IsRootValid, introspection}
 use Rattle.validation.proofs.Stages.{none_just_if, permuted_none}
 

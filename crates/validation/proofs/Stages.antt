@@ -8,28 +8,28 @@ use Rattle.language.specs.declared.value.InputValue.{InputValue}
 use Rattle.literals.specs.Laws.{OneAnswer}
 use Rattle.meta.specs.Answers.{Answers}
 use Rattle.schema.specs.Catalog.{Catalog}
-use Rattle.fragment_cycles.specs.DocumentCycles.{HasNoCycle}
+use Rattle.fragment_graph.specs.DocumentCycles.{HasNoCycle}
 use Rattle.events.specs.Typing.{Typing}
-use Rattle.field_pairs.specs.Entries.{PlainEntry}
-use Rattle.merge_documents.specs.Definitions.{fragment_count}
-use Rattle.conflict_reports.specs.Reports.{Reports, none, direct, nested}
-use Rattle.conflict_reports.specs.Texts.{errors_of}
-use Rattle.document_merging.specs.Merging.{DocumentMerges}
-use Rattle.document_merging.specs.Conflicts.{IsTidyDocument}
-use Rattle.merge.specs.declared.overlapping_fields_can_be_merged.OverlappingFieldsCanBeMerged.{OverlappingFieldsCanBeMerged}
-use Rattle.merge.specs.OverlappingFieldsCanBeMerged.{MergeErrors, error_value}
+use Rattle.merge_field_pairs.specs.Entries.{PlainEntry}
+use Rattle.merge_graph.specs.Definitions.{fragment_count}
+use Rattle.merge_conflicts.specs.Reports.{Reports, none, direct, nested}
+use Rattle.merge_conflicts.specs.Texts.{errors_of}
+use Rattle.merge_document.specs.Merging.{DocumentMerges}
+use Rattle.merge_document.specs.Conflicts.{IsTidyDocument}
+use Rattle.rules_merge.specs.declared.overlapping_fields_can_be_merged.OverlappingFieldsCanBeMerged.{OverlappingFieldsCanBeMerged}
+use Rattle.rules_merge.specs.OverlappingFieldsCanBeMerged.{MergeErrors, error_value}
 use Rattle.walk.specs.ContextState.{ContextState, DocumentScope, has_some, scope_of, typing, with_errors}
 use Rattle.walk.specs.ErrorValue.{ErrorValue}
 use Rattle.walk.specs.Rule.{Appended, sum_of}
-use Rattle.stage_one.specs.NothingFound.{NothingFound}
-use Rattle.stage_one.specs.StageOne.{stage_one}
+use Rattle.rules_first_stage.specs.NothingFound.{NothingFound}
+use Rattle.rules_first_stage.specs.StageOne.{stage_one}
 use Rattle.walk.proofs.Sums.{sum_settled}
 use Rattle.events.specs.Node.{field}
-use Rattle.merge_laws.proofs.Agreeing.{fields_are_tidy, tidy_arguments}
-use Rattle.stage_one.proofs.Clean.{clean}
-use Rattle.stage_one.proofs.Distinct.{left_none}
-use Rattle.stage_one.proofs.Found.{nothing_just_if}
-use Rattle.stage_one.proofs.Silent.{stage_one_settled}
+use Rattle.merge_walk_laws.proofs.Agreeing.{fields_are_tidy, tidy_arguments}
+use Rattle.rules_first_stage.proofs.Clean.{clean}
+use Rattle.rules_first_stage.proofs.Distinct.{left_none}
+use Rattle.rules_first_stage.proofs.Found.{nothing_just_if}
+use Rattle.rules_first_stage.proofs.Silent.{stage_one_settled}
 use Rattle.validation.specs.Stages.{Reported, of_stage_one, of_stage_two, IsValid}
 
 pub permuted_none : {X : Type 0} (xs : List X) → IsPermutation [] xs → xs ≡ []

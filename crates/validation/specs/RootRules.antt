@@ -9,7 +9,7 @@ use Rattle.walk.specs.ContextState.{DocumentScope, scope_of}
 use Rattle.walk.specs.Entering.{found}
 use Rattle.walk.specs.ErrorValue.{ErrorValue}
 use Rattle.walk.specs.Rule.{Allowance, exactly, nothing}
-use Rattle.field_rules.specs.DisableIntrospection.{introspection_fields}
+use Rattle.rules_fields.specs.DisableIntrospection.{introspection_fields}
 use Rattle.validation.specs.Stages.{Reported, IsValid}
 
 module _ {S C : Type 0} where

@@ -7,11 +7,11 @@ use Rattle.events.specs.Typing.{Typing}
 use Rattle.walk.specs.ContextState.{DocumentScope}
 use Rattle.walk.specs.ErrorValue.{ErrorValue}
 use Rattle.walk.specs.Rule.{sum_of}
-use Rattle.document_merging.specs.Merging.{DocumentMerges}
-use Rattle.merge.specs.declared.overlapping_fields_can_be_merged.OverlappingFieldsCanBeMerged.{OverlappingFieldsCanBeMerged}
-use Rattle.merge.specs.OverlappingFieldsCanBeMerged.{MergeErrors}
-use Rattle.stage_one.specs.NothingFound.{NothingFound}
-use Rattle.stage_one.specs.StageOne.{stage_one}
+use Rattle.merge_document.specs.Merging.{DocumentMerges}
+use Rattle.rules_merge.specs.declared.overlapping_fields_can_be_merged.OverlappingFieldsCanBeMerged.{OverlappingFieldsCanBeMerged}
+use Rattle.rules_merge.specs.OverlappingFieldsCanBeMerged.{MergeErrors}
+use Rattle.rules_first_stage.specs.NothingFound.{NothingFound}
+use Rattle.rules_first_stage.specs.StageOne.{stage_one}
 
 module _ {S C : Type 0} (may : Answers (InputValue S) C) (shown : InputValue S → List ℕ) (E : S → S → Bool) where
   -- In a context with these errors before, and with what count of pairs that were compared. Where it holds an error after the first stage, those of the

@@ -22,10 +22,10 @@ pub use language::value::{DefaultScalarValue, InputValue, Variables};
 pub use literals::validate_literal_value;
 pub use meta;
 pub use meta::check::CheckedScalar;
+pub use rules_first_stage::laws;
 pub use schema;
 pub use schema::error::SchemaError;
 pub use schema::model::SchemaType;
-pub use stage_one::laws;
 pub use variable_values::{has_input_types, validate_input_values};
 pub use walk;
 pub use walk::{

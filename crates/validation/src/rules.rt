@@ -7,37 +7,37 @@ ghost use Rattle.walk.specs.ErrorValue.{ErrorValue};
 ghost use Rattle.walk.specs.Names.{fragment_names};
 ghost use Rattle.walk.specs.Rule.{Appended, any_value};
 ghost use Rattle.walk.specs.Step.{KeepsPlace};
-ghost use Rattle.fragment_cycles.specs.DocumentCycles.{SearchedDocument};
-ghost use Rattle.merge_documents.specs.Definitions.{fragment_count};
-ghost use Rattle.merge.specs.declared.overlapping_fields_can_be_merged.OverlappingFieldsCanBeMerged.{OverlappingFieldsCanBeMerged as MergeRule};
-ghost use Rattle.merge.specs.OverlappingFieldsCanBeMerged.{MergeErrors};
+ghost use Rattle.fragment_graph.specs.DocumentCycles.{SearchedDocument};
+ghost use Rattle.merge_graph.specs.Definitions.{fragment_count};
+ghost use Rattle.rules_merge.specs.declared.overlapping_fields_can_be_merged.OverlappingFieldsCanBeMerged.{OverlappingFieldsCanBeMerged as MergeRule};
+ghost use Rattle.rules_merge.specs.OverlappingFieldsCanBeMerged.{MergeErrors};
 ghost use Rattle.validation.specs.Stages.{Reported, IsValid};
 
-pub use argument_rules::{
-    known_argument_names, known_directives, provided_non_null_arguments, unique_argument_names,
-    unique_input_field_names,
-};
-pub use field_rules::{disable_introspection, fields_on_correct_type, scalar_leafs};
-use fragment_cycles::cycles::DocumentCycles;
-pub use fragment_rules::{
-    fragments_on_composite_types, known_fragment_names, known_type_names,
-    possible_fragment_spreads, unique_fragment_names,
-};
+use fragment_graph::cycles::DocumentCycles;
 use language::error::OutOfMemory;
 use language::shorten::shorten;
 use language::tree::Definition;
-pub use literal_rules::{arguments_of_correct_type, default_values_of_correct_type};
-pub use merge::overlapping_fields_can_be_merged;
 use meta::check::CheckedScalar;
-pub use operation_rules::{
+pub use rules_arguments::{
+    known_argument_names, known_directives, provided_non_null_arguments, unique_argument_names,
+    unique_input_field_names,
+};
+pub use rules_document::{
+    no_fragment_cycles, no_undefined_variables, no_unused_fragments, no_unused_variables,
+};
+pub use rules_fields::{disable_introspection, fields_on_correct_type, scalar_leafs};
+use rules_first_stage::visit_stage_one;
+pub use rules_fragments::{
+    fragments_on_composite_types, known_fragment_names, known_type_names,
+    possible_fragment_spreads, unique_fragment_names,
+};
+pub use rules_merge::overlapping_fields_can_be_merged;
+pub use rules_operations::{
     lone_anonymous_operation, unique_operation_names, unique_variable_names,
     variables_are_input_types,
 };
-pub use reach::{
-    no_fragment_cycles, no_undefined_variables, no_unused_fragments, no_unused_variables,
-};
-use stage_one::visit_stage_one;
-pub use variable_positions::variables_in_allowed_position;
+pub use rules_positions::variables_in_allowed_position;
+pub use rules_values::{arguments_of_correct_type, default_values_of_correct_type};
 use walk::ValidatorContext;
 
 /// Tries every rule on a document, in two stages, and appends the errors.

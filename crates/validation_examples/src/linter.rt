@@ -1,8 +1,8 @@
 //! A linter, which tries rules of its choice on a document by the calls that are there for any visitor.
 
 ghost use Rattle.std.specs.Prelude.{◌≡◌, ◌∷◌, [], OnOk};
-ghost use Rattle.fragment_rules.specs.KnownFragmentNames.{unknown_fragments};
-ghost use Rattle.operation_rules.specs.LoneAnonymousOperation.{anonymous_among, has_several};
+ghost use Rattle.rules_fragments.specs.KnownFragmentNames.{unknown_fragments};
+ghost use Rattle.rules_operations.specs.LoneAnonymousOperation.{anonymous_among, has_several};
 ghost use Rattle.walk.specs.ContextState.{typing, scope_of};
 ghost use Rattle.walk.specs.Entering.{found, found_by};
 ghost use Rattle.walk.specs.Names.{fragment_names};

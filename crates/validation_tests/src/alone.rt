@@ -1,7 +1,7 @@
 //! Rules that are tried alone on a text.
 
 use crate::pets::schema;
-use document_reader::read_document;
+use sample_reader::read_document;
 use std::alloc::Global;
 use validation::ast::Definition;
 use validation::rules::{

@@ -1,8 +1,11 @@
-//! What `validation` says of texts: the rows, rules that are tried alone, root nodes, values against types with sizes, and a linter.
+//! What `validation` reports for texts: the rows, rules that are tried alone, root nodes, values against types with sizes, and documents
+//! that are made to hurt.
 #![tactic(auto)]
 
 #[cfg(test)]
 mod alone;
+#[cfg(test)]
+mod judged;
 #[cfg(test)]
 mod looked;
 #[cfg(test)]
@@ -12,6 +15,10 @@ mod roots;
 #[cfg(test)]
 mod rows;
 #[cfg(test)]
+mod singly;
+#[cfg(test)]
 mod sized_types;
+#[cfg(test)]
+mod texts;
 #[cfg(test)]
 mod values_rows;

@@ -1,7 +1,7 @@
 //! A root node allows introspection or forbids it.
 
 use crate::pets::schema;
-use document_reader::read_document;
+use sample_reader::read_document;
 use std::alloc::Global;
 use std::process::Abort;
 use validation::ast::Definition;

@@ -1,7 +1,7 @@
 //! What each document is told by all rules, and by those that a linter chose.
 
 use crate::pets::schema;
-use document_reader::{ReadError, read_document};
+use sample_reader::{ReadError, read_document};
 use std::alloc::Global;
 use validation::ast::Definition;
 use validation::{CheckedScalar, OutOfMemory, SchemaType, ValidatorContext};

@@ -1,8 +1,8 @@
 //! Values for the variables of documents that a validation passes, and of one that it does not.
 
 use crate::pets::schema;
-use document_reader::read_document;
 use language::value::Variables;
+use sample_reader::read_document;
 use std::alloc::Global;
 use validation::{CheckedScalar, Definition, OutOfMemory, SchemaType};
 use validation_examples::told::lines;

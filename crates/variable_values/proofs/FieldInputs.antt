@@ -9,11 +9,11 @@ use Rattle.meta.specs.declared.inputs.InputObjectMetaOf.{InputObjectMetaOf}
 use Rattle.meta.specs.declared.kinds.MetaTypeOf.{MetaTypeOf}
 use Rattle.meta.specs.declared.kinds.MetaTypeOf.TheVariants as k
 use Rattle.meta.specs.Kinds.{name_of_meta, is_input_meta}
-use Rattle.type_lists.specs.Accepted.{is_input_listed, is_named}
+use Rattle.schema_validation.specs.Accepted.{is_input_listed, is_named}
 use Rattle.schema.specs.Catalog.{Catalog, type_in}
-use Rattle.type_lists.specs.Names.{argument_type, added_inputs, inputs_in}
+use Rattle.schema_validation.specs.Names.{argument_type, added_inputs, inputs_in}
 use Rattle.schema.proofs.AcceptedLemmas.{find-kind}
-use Rattle.type_lists.proofs.Finds.{found-among}
+use Rattle.schema_validation.proofs.Finds.{found-among}
 use Rattle.variable_values.specs.Inputs.{is_input_in}
 
 module _ {B : Type 0} (p : B → Bool) where

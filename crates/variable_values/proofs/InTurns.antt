@@ -1,7 +1,7 @@
 -- What the elements of a list give, as a loop goes on.
 use Rattle.std.proofs.Common.{◌≡◌, ℕ, ◌+◌, ◌<◌, List, [], ◌++◌, append_assoc, length, get_or, drop, refl, sym, subst}
 use Rattle.std.proofs.lemmas.List.{append-nil}
-use Rattle.type_lists.proofs.Finds.{rest_at}
+use Rattle.schema_validation.proofs.Finds.{rest_at}
 use Rattle.variable_values.specs.InTurn.{InTurn}
 
 module _ {X R : Type 0} (gives : ℕ → X → List R → Type 0) where

@@ -5,7 +5,7 @@ use Rattle.std.specs.Str.{bytes_eq}
 use Rattle.std.proofs.lemmas.List.{get_or-reverse, length-reverse}
 use Rattle.language.specs.Values.{Entry, last_value}
 use Rattle.language.specs.Each.{Each}
-use Rattle.type_lists.proofs.Finds.{found-among}
+use Rattle.schema_validation.proofs.Finds.{found-among}
 
 Contains-reversed : {A : Type 0} (xs : List A) (x : A) → Contains (reverse xs) x → Contains xs x
 Contains-reversed xs x (i, here, is) =

@@ -1,7 +1,7 @@
 //! Which row of a value and a type stands.
 ghost use Rattle.std.specs.Prelude.{◌≡◌, List, Some, true};
 ghost use Rattle.language.specs.Types.{borrowed_shape, shape};
-ghost use Rattle.type_lists.specs.Names.{argument_type};
+ghost use Rattle.schema_validation.specs.Names.{argument_type};
 ghost use Rattle.meta.specs.Kinds.{is_input_meta};
 ghost use Rattle.schema.specs.Catalog.{Catalog, type_in};
 ghost use Rattle.variable_values.specs.Faults.{Fault};

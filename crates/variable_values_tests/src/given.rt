@@ -1,8 +1,8 @@
 //! Values that are handed in.
 
-use document_reader::{ReadError, read_value};
 use language::error::OutOfMemory;
 use language::value::{DefaultScalarValue, InputValue, Variables};
+use sample_reader::{ReadError, read_value};
 use std::alloc::Global;
 use std::collections::BTreeMap;
 

@@ -3,8 +3,8 @@
 use crate::given::values;
 use crate::operations::said;
 use crate::pets::schema;
-use document_reader::{ReadError, read_document};
 use language::value::DefaultScalarValue;
+use sample_reader::{ReadError, read_document};
 use schema::model::SchemaType;
 use std::alloc::Global;
 

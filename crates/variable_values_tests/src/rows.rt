@@ -3,7 +3,7 @@
 use crate::given::values;
 use crate::operations::says;
 use crate::pets::schema;
-use document_reader::read_document;
+use sample_reader::read_document;
 
 const COMPLEX: &str =
     "query ($c: ComplexInput!) { complicatedArgs { complexArgField(complexArg: $c) } }";

@@ -3,10 +3,10 @@
 use crate::given::values;
 use crate::operations::says;
 use crate::pets::schema;
-use document_reader::{read_document, read_type};
 use language::position::Spanning;
 use language::tree::{Definition, VariableDefinition};
 use language::value::DefaultScalarValue;
+use sample_reader::{read_document, read_type};
 use std::alloc::Global;
 use std::process::Abort;
 

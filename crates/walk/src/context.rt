@@ -8,14 +8,14 @@ ghost use Rattle.walk.specs.ContextState.{typing, pushed, popped, with_errors, f
 ghost use Rattle.walk.specs.ErrorValue.{error_cmp};
 ghost use Rattle.events.specs.EventValue.{typing_of};
 ghost use Rattle.events.specs.Cursor.{IsNextLeft};
-ghost use Rattle.fragment_cycles.specs.Kept.{is_among};
-ghost use Rattle.fragment_cycles.specs.Numbers.{NumberedDefinitions};
+ghost use Rattle.fragment_graph.specs.Kept.{is_among};
+ghost use Rattle.fragment_graph.specs.Numbers.{NumberedDefinitions};
 ghost use Rattle.events.specs.Typing.{at_type, at_input, at_set};
 
 use crate::RuleError;
 use events::{Event, EventCursorOf, TypesOf};
-use fragment_cycles::kept::KeptNames;
-use fragment_cycles::numbers::NumberedNames;
+use fragment_graph::kept::KeptNames;
+use fragment_graph::numbers::NumberedNames;
 use language::error::OutOfMemory;
 use language::position::SourcePosition;
 use language::tree::Definition;
@@ -48,7 +48,7 @@ impl<'a, S, C> Model for ValidatorContextOf<'a, S, C> {
     ghost use Rattle.walk.specs.Codes.{coded_state};
     ghost use Rattle.walk.specs.ContextState.{ContextState};
     ghost use Rattle.events.specs.EventValue.{typing_of};
-    ghost use Rattle.fragment_cycles.specs.KeptNames.{kept_by};
+    ghost use Rattle.fragment_graph.specs.KeptNames.{kept_by};
 
     ghost Value = { ContextState S C };
 

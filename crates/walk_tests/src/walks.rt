@@ -2,12 +2,12 @@
 
 use crate::recorder::{Recorder, show_types};
 use crate::sample::{DOCUMENT, sample_schema};
-use document_reader::read_document;
 use language::error::OutOfMemory;
 use language::position::SourcePosition;
 use language::tree::Definition;
 use language::types::BorrowedType;
 use language::value::DefaultScalarValue;
+use sample_reader::read_document;
 use schema::model::SchemaType;
 use std::alloc::Global;
 use std::process::Abort;

@@ -1,7 +1,7 @@
 //! The types of a schema as a document names them.
 ghost use Rattle.std.specs.Prelude.{◌≡◌, [], IfOk, IsOk, Some, true};
 ghost use Rattle.language.specs.Types.{borrowed_shape};
-ghost use Rattle.type_lists.specs.Accepted.{is_listed};
+ghost use Rattle.schema_validation.specs.Accepted.{is_listed};
 ghost use Rattle.schema.specs.Catalog.{type_in};
 ghost use Rattle.schema.specs.Wrapped.{wrapped_of};
 

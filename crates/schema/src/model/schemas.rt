@@ -2,11 +2,11 @@
 ghost use Rattle.std.specs.Prelude.{◌≡◌, ◌<◌, true, length, option_map, string_bytes};
 ghost use Rattle.std.specs.List.{list_all};
 ghost use Rattle.indexmap.specs.IndexMap.{values};
-ghost use Rattle.type_lists.specs.Accepted.{IsAccepted, is_input_listed};
-ghost use Rattle.type_lists.specs.Directives.{directive_name, directive_inputs};
+ghost use Rattle.schema_validation.specs.Accepted.{IsAccepted, is_input_listed};
+ghost use Rattle.schema_validation.specs.Directives.{directive_name, directive_inputs};
 ghost use Rattle.meta.specs.Kinds.{name_of_meta};
-ghost use Rattle.type_lists.specs.InputOrders.{AreOrders};
-ghost use Rattle.type_lists.specs.Named.{are_distinct, are_keyed};
+ghost use Rattle.schema_validation.specs.InputOrders.{AreOrders};
+ghost use Rattle.schema_validation.specs.Named.{are_distinct, are_keyed};
 
 mod changes;
 mod inputs;
@@ -21,18 +21,18 @@ use language::value::DefaultScalarValue;
 use meta::check::CheckedScalar;
 use meta::kinds::MetaTypeOf;
 use meta::texts::copy_text;
-use name_slots::slots::slot_of;
+use name_tables::slots::slot_of;
+use schema_validation::accept::check_types;
+use schema_validation::directives::DirectiveType;
+use schema_validation::error::SchemaError;
+use schema_validation::extend::with_added_fields;
+use schema_validation::keyed::map_by_name;
+use schema_validation::orders::{InputOrders, input_orders};
+use schema_validation::roots::RootNames;
+use schema_validation::slots::type_slots;
+use schema_validation::standard_directives::directives_by_name;
 use std::alloc::Global;
 use std::marker::Model;
-use type_lists::accept::check_types;
-use type_lists::directives::DirectiveType;
-use type_lists::error::SchemaError;
-use type_lists::extend::with_added_fields;
-use type_lists::keyed::map_by_name;
-use type_lists::orders::{InputOrders, input_orders};
-use type_lists::roots::RootNames;
-use type_lists::slots::type_slots;
-use type_lists::standard_directives::directives_by_name;
 
 /// A schema (section 3.3). Its types all have different names, and so have its directives.
 #[derive(Drop)]
@@ -81,10 +81,10 @@ impl<S, C> Model for SchemaTypeOf<S, C> {
 
 impl<S: Drop, C: Drop> SchemaTypeOf<S, C> {
     ghost use Rattle.std.specs.Prelude.{◌≡◌, None, IfErr, IfOk, IsOkUnless, OnOk, map};
-    ghost use Rattle.type_lists.specs.Accepted.{IsAccepted, IsTrueRefusal, roots_of};
-    ghost use Rattle.type_lists.specs.Added.{directive_shape, standard_directives};
+    ghost use Rattle.schema_validation.specs.Accepted.{IsAccepted, IsTrueRefusal, roots_of};
+    ghost use Rattle.schema_validation.specs.Added.{directive_shape, standard_directives};
     ghost use Rattle.schema.specs.Built.{IsSchemaOf};
-    ghost use Rattle.type_lists.specs.RootNames.{roots_asked};
+    ghost use Rattle.schema_validation.specs.RootNames.{roots_asked};
 
     /// The schema of a list of types with these roots (section 3.3), to which the fields `__schema`
     /// and `__type` of the root of queries and the directives `skip`, `include`, `deprecated` and

@@ -1,6 +1,6 @@
 use Rattle.std.proofs.Common.{◌≡◌, true, false, is_some, ap, sym, ◌∙◌, option_copied}
 use Rattle.schema.specs.Catalog.{type_in}
-use Rattle.type_lists.specs.Names.{argument_type}
+use Rattle.schema_validation.specs.Names.{argument_type}
 use Rattle.meta.specs.Kinds.{name_of_meta}
 use Rattle.schema.proofs.AcceptedLemmas.{find-called}
 use Rattle.literals.proofs.expected.type_of_field.Goals as goal

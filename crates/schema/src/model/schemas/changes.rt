@@ -2,22 +2,22 @@
 ghost use Rattle.std.specs.Prelude.{◌≡◌, if◌then◌else◌, is_ok, IfErr, IsOkUnless, OnErr, OnOk, Some, not, true, map, option_map, string_bytes};
 ghost use Rattle.std.specs.List.{list_all};
 ghost use Rattle.indexmap.specs.IndexMap.{values};
-ghost use Rattle.type_lists.specs.Accepted.{is_listed, is_input_listed};
+ghost use Rattle.schema_validation.specs.Accepted.{is_listed, is_input_listed};
 ghost use Rattle.schema.specs.Changes.{directive_types, with_directive, IsTrueOfArguments};
-ghost use Rattle.type_lists.specs.Directives.{directive_name};
-ghost use Rattle.type_lists.specs.Named.{are_keyed};
-ghost use Rattle.type_lists.specs.Names.{argument_type};
+ghost use Rattle.schema_validation.specs.Directives.{directive_name};
+ghost use Rattle.schema_validation.specs.Named.{are_keyed};
+ghost use Rattle.schema_validation.specs.Names.{argument_type};
 
 use crate::model::schemas::SchemaTypeOf;
 use indexmap::IndexMap;
 use language::error::OutOfMemory;
 use meta::arguments::Argument;
 use meta::texts::as_text;
+use schema_validation::directives::DirectiveType;
+use schema_validation::error::SchemaError;
+use schema_validation::first::first_argument;
+use schema_validation::listed::NameTest;
 use std::alloc::Global;
-use type_lists::directives::DirectiveType;
-use type_lists::error::SchemaError;
-use type_lists::first::first_argument;
-use type_lists::listed::NameTest;
 
 /// The schema has no type of the name.
 #[derive_where(Clone, Copy)]

@@ -2,13 +2,13 @@
 ghost use Rattle.std.specs.Prelude.{◌≡◌, ℕ, List, IfSome, Some, option_copied};
 ghost use Rattle.meta.specs.Kinds.{input_field_named};
 ghost use Rattle.schema.specs.Catalog.{type_in};
-ghost use Rattle.type_lists.specs.InputOrders.{IsOrderOf};
+ghost use Rattle.schema_validation.specs.InputOrders.{IsOrderOf};
 
 use crate::model::schemas::SchemaTypeOf;
 use meta::arguments::Argument;
 use meta::inputs::InputObjectMetaOf;
 use meta::kinds::MetaTypeOf;
-use type_lists::places::{FEW, first_at};
+use schema_validation::places::{FEW, first_at};
 
 impl<S, C> SchemaTypeOf<S, C> {
     /// The first input field of the name, where the metadata is an input object (section 3.10).

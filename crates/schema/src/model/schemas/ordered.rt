@@ -1,8 +1,8 @@
 //! The types and the directives of a schema in order.
 ghost use Rattle.std.specs.Prelude.{◌≡◌, IfOk, OnOk, true, map, IsPermutation, IsSorted};
 ghost use Rattle.meta.specs.Kinds.{name_of_meta};
-ghost use Rattle.type_lists.specs.Directives.{directive_name};
-ghost use Rattle.type_lists.specs.Named.{are_distinct};
+ghost use Rattle.schema_validation.specs.Directives.{directive_name};
+ghost use Rattle.schema_validation.specs.Named.{are_distinct};
 ghost use Rattle.schema.specs.Ordered.{kind_rank, name_bytes, type_cmp, directive_cmp, metas_of};
 ghost use Rattle.schema.specs.Wrapped.{plain_meta, wrapped_of};
 
@@ -10,9 +10,9 @@ use crate::model::schemas::SchemaTypeOf;
 use crate::model::types::TypeTypeOf;
 use language::error::OutOfMemory;
 use meta::kinds::MetaTypeOf;
+use schema_validation::directives::DirectiveType;
 use std::alloc::Global;
 use std::cmp::Ordering;
-use type_lists::directives::DirectiveType;
 
 /// The place of the kind in a list of types.
 fn rank_of<S, C>(meta: &MetaTypeOf<S, C>) -> u8

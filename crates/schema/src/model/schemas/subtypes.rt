@@ -1,7 +1,7 @@
 //! Which types stand below which.
 ghost use Rattle.std.specs.Prelude.{◌≡◌, ◌↔◌, IsTrue, ◌&&◌, reverse};
 ghost use Rattle.language.specs.Types.{TypeShape, borrowed_shape};
-ghost use Rattle.type_lists.specs.Accepted.{is_listed};
+ghost use Rattle.schema_validation.specs.Accepted.{is_listed};
 ghost use Rattle.meta.specs.Kinds.{is_abstract_meta};
 ghost use Rattle.schema.specs.Possible.{is_among, possible_names};
 ghost use Rattle.schema.specs.Layers.{are_layers_below};

@@ -1,5 +1,5 @@
 use Rattle.walk.specs.Entering.{found}
-use Rattle.field_rules.specs.DisableIntrospection.{introspection_fields}
+use Rattle.rules_fields.specs.DisableIntrospection.{introspection_fields}
 use Rattle.validation.proofs.Reports.{appended_alone}
 use Rattle.validation.proofs.root_node.visit_introspection.Goals as goal
 

@@ -1,5 +1,5 @@
 use Rattle.std.proofs.Common.{subst, sym}
-use Rattle.merge.specs.OverlappingFieldsCanBeMerged.{MergeErrors}
+use Rattle.rules_merge.specs.OverlappingFieldsCanBeMerged.{MergeErrors}
 use Rattle.validation.proofs.rules.visit_stage_two.Goals as goal
 
 pub returns-in-Ok-clause-appended : goal.returns-in-Ok-clause-appended

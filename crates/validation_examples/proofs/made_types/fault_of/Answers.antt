@@ -2,7 +2,7 @@ use Rattle.std.proofs.Common.{◌≡◌, ◌∙◌, ◌||◌, Bool, true, false,
 use Rattle.std.specs.Prelude.{find}
 use Rattle.std.specs.List.{list_any}
 use Rattle.language.specs.Types.{shape}
-use Rattle.type_lists.specs.Accepted.{is_listed, is_named}
+use Rattle.schema_validation.specs.Accepted.{is_listed, is_named}
 use Rattle.schema.specs.Catalog.{type_in}
 use Rattle.validation_examples.proofs.made_types.fault_of.Goals as goal
 

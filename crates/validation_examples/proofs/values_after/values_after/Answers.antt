@@ -7,8 +7,8 @@ use Rattle.language.specs.declared.tree.Definition.TheVariants as definition
 use Rattle.language.specs.declared.tree.Operation.{Operation}
 use Rattle.language.specs.ValuesPrinted.{printed_value}
 use Rattle.events.specs.Typing.{untyped}
-use Rattle.fragment_cycles.proofs.Lists.{contains_at}
-use Rattle.stage_one.proofs.Clean.{clean}
+use Rattle.fragment_graph.proofs.Lists.{contains_at}
+use Rattle.rules_first_stage.proofs.Clean.{clean}
 use Rattle.validation_examples.proofs.Fresh.{none_by_all}
 use Rattle.validation_examples.specs.ValuesAfter.{first_operation}
 use Rattle.validation_examples.proofs.values_after.values_after.Goals as goal

@@ -3,7 +3,7 @@ use Rattle.std.specs.List.{list_all}
 use Rattle.std.specs.BTreeMap.{get_by_text}
 use Rattle.language.specs.Types.{shape}
 use Rattle.events.specs.Node.{VariableEntry}
-use Rattle.type_lists.proofs.Finds.{all-at}
+use Rattle.schema_validation.proofs.Finds.{all-at}
 use Rattle.variable_values.specs.InTurn.{InTurn}
 use Rattle.variable_values.specs.Inputs.{has_input_type, is_input_in}
 use Rattle.variable_values.specs.Messages.{OfDefinition, OfVariable, error_at, given, texts_of}

@@ -2,7 +2,7 @@ use Rattle.std.proofs.Common.{map, refl, ap, sym, ◌∙◌, subst, IfOk}
 use Rattle.events.specs.EventValue.{typing_of}
 use Rattle.events.specs.Cursor.{IsNextLeft}
 use Rattle.walk.specs.ContextState.{popped, failing}
-use Rattle.fragment_cycles.specs.KeptNames.{kept_by}
+use Rattle.fragment_graph.specs.KeptNames.{kept_by}
 use Rattle.walk.proofs.Runs.{OnErr-from, OnOk-from}
 use Rattle.walk.proofs.Replaced.{popped-replaced, typing-replaced}
 use Rattle.walk.proofs.context.ValidatorContextOf.next_event.Goals as goal

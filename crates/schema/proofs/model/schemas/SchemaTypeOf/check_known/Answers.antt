@@ -1,8 +1,8 @@
 use Rattle.std.proofs.Common.{◌≡◌, map, string_bytes}
-use Rattle.type_lists.specs.Accepted.{is_listed}
-use Rattle.type_lists.specs.Names.{argument_type}
-use Rattle.type_lists.proofs.Finds.{all-if_none}
-use Rattle.type_lists.proofs.Refusals.{failing-among, failing-test}
+use Rattle.schema_validation.specs.Accepted.{is_listed}
+use Rattle.schema_validation.specs.Names.{argument_type}
+use Rattle.schema_validation.proofs.Finds.{all-if_none}
+use Rattle.schema_validation.proofs.Refusals.{failing-among, failing-test}
 use Rattle.schema.proofs.model.schemas.SchemaTypeOf.check_known.Goals as goal
 
 pub returns-in_ok-from_str-in-Some-clause-err : goal.returns-in_ok-from_str-in-Some-clause-err

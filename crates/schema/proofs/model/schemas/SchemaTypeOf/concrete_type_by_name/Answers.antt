@@ -1,6 +1,6 @@
 use Rattle.std.proofs.Common.{◌∙◌}
 use Rattle.meta.specs.Kinds.{name_of_meta}
-use Rattle.type_lists.proofs.KeyedLemmas.{lookup-find}
+use Rattle.schema_validation.proofs.KeyedLemmas.{lookup-find}
 use Rattle.schema.proofs.model.schemas.SchemaTypeOf.concrete_type_by_name.Goals as goal
 
 pub returns-in-None : goal.returns-in-None

@@ -1,6 +1,6 @@
 use Rattle.std.proofs.Common.{◌∙◌}
-use Rattle.type_lists.specs.Directives.{directive_name}
-use Rattle.type_lists.proofs.KeyedLemmas.{lookup-find}
+use Rattle.schema_validation.specs.Directives.{directive_name}
+use Rattle.schema_validation.proofs.KeyedLemmas.{lookup-find}
 use Rattle.schema.proofs.model.schemas.SchemaTypeOf.directive_by_name.Goals as goal
 
 pub returns : goal.returns

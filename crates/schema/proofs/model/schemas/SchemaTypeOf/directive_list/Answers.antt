@@ -1,6 +1,6 @@
 use Rattle.std.proofs.Common.{map, subst}
 use Rattle.std.specs.Prelude.{IsPermutation}
-use Rattle.type_lists.specs.Directives.{directive_name}
+use Rattle.schema_validation.specs.Directives.{directive_name}
 use Rattle.schema.proofs.DistinctLemmas.{distinct-permuted}
 use Rattle.schema.proofs.model.schemas.SchemaTypeOf.directive_list.Goals as goal
 

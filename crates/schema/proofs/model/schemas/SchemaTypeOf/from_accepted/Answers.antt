@@ -1,9 +1,9 @@
 use Rattle.std.proofs.Common.{option_map, string_bytes, subst, sym, ◌∙◌}
 use Rattle.std.proofs.lemmas.Result.{err_from_is_err_and}
 use Rattle.indexmap.specs.IndexMap.{values}
-use Rattle.type_lists.specs.InputOrders.{AreOrders}
-use Rattle.type_lists.specs.RootNames.{roots_asked}
-use Rattle.type_lists.proofs.DirectiveLemmas.{directives-distinct, directives-input, accepted-at}
+use Rattle.schema_validation.specs.InputOrders.{AreOrders}
+use Rattle.schema_validation.specs.RootNames.{roots_asked}
+use Rattle.schema_validation.proofs.DirectiveLemmas.{directives-distinct, directives-input, accepted-at}
 use Rattle.schema.proofs.model.schemas.SchemaTypeOf.from_accepted.Goals as goal
 
 pub invariant_of-result : goal.invariant_of-result

@@ -1,7 +1,7 @@
 use Rattle.std.proofs.Common.{subst}
-use Rattle.type_lists.specs.Accepted.{IsAccepted}
-use Rattle.type_lists.specs.RootNames.{roots_asked}
-use Rattle.type_lists.proofs.SwapLemmas.{accepted-extended}
+use Rattle.schema_validation.specs.Accepted.{IsAccepted}
+use Rattle.schema_validation.specs.RootNames.{roots_asked}
+use Rattle.schema_validation.proofs.SwapLemmas.{accepted-extended}
 use Rattle.schema.proofs.model.schemas.SchemaTypeOf.from_list.Goals as goal
 
 pub from_accepted-requires : goal.from_accepted-requires

@@ -1,5 +1,5 @@
 use Rattle.std.proofs.Common.{ap, sym, ◌∙◌, is_some}
-use Rattle.type_lists.specs.Accepted.{is_named}
+use Rattle.schema_validation.specs.Accepted.{is_named}
 use Rattle.schema.proofs.RootLemmas.{copied_some}
 use Rattle.schema.proofs.NamesBelow.{any-found}
 use Rattle.schema.proofs.model.schemas.SchemaTypeOf.is_known.Goals as goal

@@ -1,6 +1,6 @@
 use Rattle.std.proofs.Common.{subst}
 use Rattle.std.specs.Prelude.{OnOk, IfOk, IfErr}
-use Rattle.type_lists.specs.Accepted.{IsAccepted, IsTrueRefusal, roots_of}
+use Rattle.schema_validation.specs.Accepted.{IsAccepted, IsTrueRefusal, roots_of}
 use Rattle.schema.proofs.AcceptedLemmas.{refused-memory, ok-memory}
 use Rattle.schema.specs.Built.{IsSchemaOf}
 use Rattle.schema.proofs.model.schemas.SchemaTypeOf.new.Goals as goal

@@ -1,5 +1,5 @@
 use Rattle.std.proofs.Common.{ap, subst}
-use Rattle.type_lists.specs.InputOrders.{AreOrders}
+use Rattle.schema_validation.specs.InputOrders.{AreOrders}
 use Rattle.schema.proofs.InputLookups.{order-found}
 use Rattle.schema.proofs.model.schemas.SchemaTypeOf.order_of.Goals as goal
 

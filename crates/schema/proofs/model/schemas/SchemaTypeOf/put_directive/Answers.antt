@@ -3,7 +3,7 @@ use Rattle.std.specs.Prelude.{is_ok}
 use Rattle.std.specs.List.{list_all}
 use Rattle.std.proofs.lemmas.Result.{on_err_weaker}
 use Rattle.indexmap.specs.IndexMap.{values}
-use Rattle.type_lists.specs.Accepted.{is_input_listed}
+use Rattle.schema_validation.specs.Accepted.{is_input_listed}
 use Rattle.schema.specs.Changes.{directive_types, with_directive}
 use Rattle.schema.proofs.ChangeLemmas.{catalog-same, on-err-from, inputs-either}
 use Rattle.schema.proofs.DistinctLemmas.{distinct-either}

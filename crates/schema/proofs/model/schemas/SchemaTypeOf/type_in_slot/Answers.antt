@@ -3,7 +3,7 @@ use Rattle.std.specs.Map.{lookup}
 use Rattle.std.specs.Str.{bytes_eq}
 use Rattle.std.proofs.lemmas.Slice.Eq.{bytes_eq-Decides}
 use Rattle.meta.specs.Kinds.{name_of_meta}
-use Rattle.type_lists.proofs.KeyedLemmas.{lookup-find}
+use Rattle.schema_validation.proofs.KeyedLemmas.{lookup-find}
 use Rattle.schema.proofs.model.schemas.SchemaTypeOf.type_in_slot.Goals as goal
 
 -- the look-up of the name is that of the key, which has its bytes

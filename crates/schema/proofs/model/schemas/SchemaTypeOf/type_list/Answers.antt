@@ -2,7 +2,7 @@ use Rattle.std.proofs.Common.{◌≡◌, true, map, ap, sym, subst, ◌∙◌}
 use Rattle.std.specs.Prelude.{IsPermutation, IsSorted}
 use Rattle.std.proofs.lemmas.Result.{IfOk-weaker}
 use Rattle.meta.specs.Kinds.{name_of_meta}
-use Rattle.type_lists.specs.Named.{are_distinct}
+use Rattle.schema_validation.specs.Named.{are_distinct}
 use Rattle.schema.specs.Ordered.{type_cmp, metas_of}
 use Rattle.schema.specs.Wrapped.{plain_meta, wrapped_of}
 use Rattle.schema.proofs.DistinctLemmas.{distinct-permuted}

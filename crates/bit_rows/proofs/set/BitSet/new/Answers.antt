@@ -1,8 +1,0 @@
-use Rattle.std.proofs.Common.{ℕ, List, [], ap, ◌∙◌, arith}
-use Rattle.bit_rows.specs.Set.{has, bit_of}
-use Rattle.bit_rows.proofs.Bits.{bit_of_past}
-use Rattle.bit_rows.proofs.set.BitSet.new.Goals as goal
-
-pub returns : goal.returns
-unfolding has
-returns c = λ n. ap (λ (ws : List ℕ). bit_of ws n) c.new.ensures.items ∙ bit_of_past [] n (omega arith)

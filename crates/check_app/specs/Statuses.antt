@@ -1,0 +1,10 @@
+-- The statuses that the program ends with where it tells nothing of a document.
+use Rattle.std.specs.Prelude.{ℕ}
+use Rattle.check_app.specs.declared.failure.Failure.{Failure}
+use Rattle.check_app.specs.declared.failure.Failure.TheVariants as f
+
+abbrev pub status_of : Failure → ℕ
+status_of (f.Syntax place) = 2
+status_of f.OutOfMemory = 3
+status_of f.Usage = 4
+status_of f.InputOutput = 5

@@ -1,0 +1,201 @@
+//! Runs in which memory, a read or a write is refused.
+use crate::words_failure;
+use check_app::program::{run, tell};
+use std::alloc::{AllocError, Global};
+use std::io::{self, Read, Write};
+use std::test::Fail;
+
+const FAILED: &str = "check: input or output failed\n";
+
+const NO_MEMORY: &str = "check: out of memory\n";
+
+const USAGE: &str = "check: usage: check demo or check <pets, boxes> [merge, closed]\n";
+
+/// Gives so many braces, a byte at a time, and then fails.
+#[derive(Drop)]
+struct BrokenReader {
+    left: usize,
+    kind: io::ErrorKind,
+}
+
+impl Read for BrokenReader {
+    fn read(&mut self, buf: &mut [u8]) -> io::Result<usize> {
+        if self.left == 0 {
+            return Err(io::Error::from(self.kind));
+        }
+        self.left -= 1;
+        match buf.first_mut() {
+            Some(byte) => {
+                *byte = b'{';
+                Ok(1)
+            }
+            None => Ok(0),
+        }
+    }
+}
+
+/// Takes so many bytes, and then fails; or takes all and fails as it is flushed.
+#[derive(Drop)]
+struct BrokenWriter {
+    left: usize,
+}
+
+impl Write for BrokenWriter {
+    fn write(&mut self, buf: &[u8]) -> io::Result<usize> {
+        let taken = self.left.min(buf.len());
+        if taken == 0 {
+            return Err(io::Error::from(io::ErrorKind::StorageFull));
+        }
+        self.left -= taken;
+        Ok(taken)
+    }
+
+    fn flush(&mut self) -> io::Result<()> {
+        Err(io::Error::from(io::ErrorKind::StorageFull))
+    }
+}
+
+fn one_word(alloc: Global, word: &str) -> Result<Vec<String>, AllocError> {
+    let mut words = Vec::new(alloc);
+    words.push(String::from_str(alloc, word)?)?;
+    Ok(words)
+}
+
+/// The words are asked for before `run`; those that are no text come as invalid data.
+#[test]
+fn words_that_are_no_text_are_told(rt: HostRuntime) -> Result<(), Fail> {
+    let kinds = [
+        (io::ErrorKind::InvalidData, 4, USAGE),
+        (io::ErrorKind::OutOfMemory, 3, NO_MEMORY),
+    ];
+    for (kind, wanted, line) in kinds {
+        let mut faults = Vec::new(rt.alloc());
+        let failure = words_failure(&io::Error::from(kind));
+        assert_eq!(rt; tell(failure, &mut faults), wanted);
+        assert_eq!(rt; faults.as_slice(), line.as_bytes());
+    }
+    Ok(())
+}
+
+#[test]
+fn a_failed_read_is_told(rt: HostRuntime) -> Result<(), Fail> {
+    let alloc = rt.alloc();
+    let words = one_word(alloc, "pets")?;
+    let kinds = [
+        (io::ErrorKind::BrokenPipe, 5, FAILED),
+        (io::ErrorKind::OutOfMemory, 3, NO_MEMORY),
+    ];
+    for (kind, wanted, line) in kinds {
+        for left in [0, 3, 100] {
+            let mut input = BrokenReader { left, kind };
+            let mut output = Vec::new(alloc);
+            let mut faults = Vec::new(alloc);
+            let status = run(
+                alloc,
+                words.as_slice(),
+                &mut input,
+                &mut output,
+                &mut faults,
+            );
+            assert_eq!(rt; status, wanted);
+            assert!(rt; output.is_empty());
+            assert_eq!(rt; faults.as_slice(), line.as_bytes());
+        }
+    }
+    Ok(())
+}
+
+#[test]
+fn a_failed_write_is_told(rt: HostRuntime) -> Result<(), Fail> {
+    let alloc = rt.alloc();
+    let words = one_word(alloc, "demo")?;
+    for left in [0, 5, 1000] {
+        let mut output = BrokenWriter { left };
+        let mut faults = Vec::new(alloc);
+        let status = run(
+            alloc,
+            words.as_slice(),
+            &mut io::empty(),
+            &mut output,
+            &mut faults,
+        );
+        assert_eq!(rt; status, 5);
+        assert_eq!(rt; faults.as_slice(), FAILED.as_bytes());
+    }
+    Ok(())
+}
+
+#[test]
+fn a_failed_line_of_faults_ends_with_5(rt: HostRuntime) -> Result<(), Fail> {
+    let alloc = rt.alloc();
+    for (word, text) in [("nope", b"".as_slice()), ("pets", b"}".as_slice())] {
+        let words = one_word(alloc, word)?;
+        for left in [0, 5, 1000] {
+            let mut output = Vec::new(alloc);
+            let mut faults = BrokenWriter { left };
+            let mut input = text;
+            let status = run(
+                alloc,
+                words.as_slice(),
+                &mut input,
+                &mut output,
+                &mut faults,
+            );
+            assert_eq!(rt; status, 5);
+            assert!(rt; output.is_empty());
+        }
+    }
+    Ok(())
+}
+
+/// Documents with faults of several kinds, and what is told of each.
+const REFUSED: [(&[u8], &str); 4] = [
+    (
+        b"query Q { dog { ...A } } query Q { dog { name } }",
+        "There can only be one operation named Q. At 0:0, 0:25\nUnknown fragment: \"A\". At 0:19\ncompared 0\n",
+    ),
+    (
+        b"{ dog { name(surname: true, surname: 1) } }",
+        "There can only be one argument named \"surname\". At 0:13, 0:28\nInvalid value for argument \"surname\", reason: Invalid value \"1\" for type \"Boolean\". At 0:37\ncompared 0\n",
+    ),
+    (
+        b"{ dog { ...F } } fragment F on Int { x }",
+        "Fragment \"F\" cannot be spread here as objects of type \"Dog\" can never be of type \"Int\". At 0:8\nFragment \"F\" cannot condition non composite type \"Int. At 0:31\nUnknown field \"x\" on type \"Int\". At 0:37\ncompared 0\n",
+    ),
+    (
+        b"{ complicatedArgs { pairArgField(pairArg: {}) } }",
+        "Invalid value for argument \"pairArg\", reason: \"PairInput\" is missing fields: \"b\", \"a\". At 0:42\ncompared 0\n",
+    ),
+];
+
+/// Whether the program tells of a text what is wanted, or that memory was refused.
+fn is_told_or_refused(alloc: Global, text: &[u8], wanted: &str) -> bool {
+    let (Ok(words), Ok(mut output), Ok(mut faults)) = (
+        one_word(alloc, "pets"),
+        Vec::with_capacity(alloc, 400),
+        Vec::with_capacity(alloc, 200),
+    ) else {
+        return true;
+    };
+    let mut input = text;
+    let status = run(
+        alloc,
+        words.as_slice(),
+        &mut input,
+        &mut output,
+        &mut faults,
+    );
+    if status == 3 {
+        return output.is_empty() && faults.as_slice() == NO_MEMORY.as_bytes();
+    }
+    status == 1 && output.as_slice() == wanted.as_bytes() && faults.is_empty()
+}
+
+/// Run with each request for memory refused in turn, the program answers as the row says, or with status 3.
+#[test]
+fn a_refused_request_is_told(rt: HostRuntime) {
+    let alloc = rt.alloc();
+    for (text, wanted) in REFUSED {
+        assert!(rt; is_told_or_refused(alloc, text, wanted));
+    }
+}

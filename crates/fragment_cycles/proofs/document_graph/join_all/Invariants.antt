@@ -1,6 +1,0 @@
-use Rattle.std.proofs.Common.{take}
-use Rattle.fragment_cycles.specs.DocumentGraph.{Joined}
-use Rattle.fragment_cycles.proofs.document_graph.join_all.Given as goal
-
-abbrev pub invariant-loop-place : goal.invariant-loop-place
-invariant-loop-place g l = Joined l.numbers (take l.place l.document) l.nodes.items

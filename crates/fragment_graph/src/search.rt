@@ -1,0 +1,216 @@
+//! The search: each node is new, in work or finished.
+ghost use Rattle.std.specs.Prelude.{◌≡◌, ◌≢◌, ◌<◌, ◌++◌, ◌∷◌, [], length, Some, OnOk, IfOk, slice_get, map};
+ghost use Rattle.std.specs.List.{All};
+ghost use Rattle.fragment_graph.specs.Graph.{spreads_of};
+ghost use Rattle.fragment_graph.specs.Sound.{SoundAlong, Keeps, steps_left};
+ghost use Rattle.fragment_graph.specs.Searched.{Searched, rank_of};
+ghost use Rattle.fragment_graph.specs.declared.search.Colour.TheVariants.{New};
+
+use crate::graph::{Node, Spread, spread_at, spreads};
+use std::alloc::{AllocError, Global};
+
+/// A node that lies on a cycle, and the spread in it at which the cycle goes on.
+#[derive(Clone, Copy, Debug)]
+pub struct Report {
+    pub node: usize,
+    pub spread: Spread,
+}
+
+// How far a node is: in work it has a place on the path, finished it has a rank.
+#[derive(Clone, Copy, Debug)]
+enum Colour {
+    New,
+    InWork(usize),
+    Finished(usize),
+}
+
+// A node on the path, and how many of its spreads were looked at.
+#[derive(Clone, Copy, Debug)]
+struct Step {
+    node: usize,
+    looked: usize,
+}
+
+// The search as far as it has come.
+#[derive(Debug, Drop)]
+struct Search {
+    colours: Vec<Colour>,
+    path: Vec<Step>,
+    order: Vec<usize>,
+    reports: Vec<Report>,
+    looked: u128,
+}
+
+/// What a search found.
+#[derive(Debug, Drop)]
+pub struct Outcome {
+    /// The cycles that were met.
+    pub reports: Vec<Report>,
+    /// The nodes in the order in which they were finished.
+    pub order: Vec<usize>,
+    /// The place of each node in that order.
+    pub ranks: Vec<usize>,
+    /// How many spreads were looked at.
+    pub looked: u128,
+}
+
+// The colour of a node, if the number is one's.
+fn colour_at(colours: &[Colour], node: usize) -> Option<Colour>
+    ensures { result ≡ slice_get colours.now node }
+{
+    colours.get(node).copied()
+}
+
+// Puts a new node at the end of the path.
+fn enter(graph: &[Node], node: usize, search: &mut Search) -> Result<(), AllocError>
+    requires sound { SoundAlong graph.now search.old.path.items (node ∷ []) search.old }
+    requires new { slice_get search.old.colours.items node ≡ Some New }
+    ensures sound { OnOk result (SoundAlong graph.now search.new.path.items [] search.new) }
+    ensures begun { OnOk result (slice_get search.new.colours.items node ≢ Some New) }
+    ensures keeps { OnOk result (Keeps search.old search.new) }
+    ensures left { OnOk result (steps_left graph.now search.new ≡ steps_left graph.now search.old) }
+{
+    search.colours[node] = Colour::InWork(search.path.len());
+    search.path.push(Step { node, looked: 0 })?;
+    Ok(())
+}
+
+// Reports a node in work, at the spread in it from which the path goes on.
+fn report_cycle(
+    graph: &[Node],
+    node: usize,
+    depth: usize,
+    search: &mut Search,
+) -> Result<(), AllocError>
+    requires sound { SoundAlong graph.now search.old.path.items (node ∷ []) search.old }
+    requires in_work { slice_get search.old.colours.items node ≡ Some (Colour.InWork depth) }
+    ensures sound { OnOk result (SoundAlong graph.now search.new.path.items [] search.new) }
+    ensures same { search.new.colours.items ≡ search.old.colours.items }
+    ensures looked { search.new.looked ≡ search.old.looked }
+{
+    let step = search.path[depth];
+    let spread = spreads(graph, step.node)[step.looked - 1];
+    search.reports.push(Report { node, spread })?;
+    Ok(())
+}
+
+// Goes on from the end of the path to a node.
+fn meet(graph: &[Node], node: usize, search: &mut Search) -> Result<(), AllocError>
+    requires { SoundAlong graph.now search.old.path.items (node ∷ []) search.old }
+    ensures sound { OnOk result (SoundAlong graph.now search.new.path.items [] search.new) }
+    ensures begun { OnOk result (slice_get search.new.colours.items node ≢ Some New) }
+    ensures keeps { OnOk result (Keeps search.old search.new) }
+    ensures left { OnOk result (steps_left graph.now search.new ≡ steps_left graph.now search.old) }
+{
+    match colour_at(search.colours.as_slice(), node) {
+        None => Ok(()),
+        Some(Colour::New) => enter(graph, node, search),
+        Some(Colour::InWork(depth)) => report_cycle(graph, node, depth, search),
+        Some(Colour::Finished(_)) => Ok(()),
+    }
+}
+
+// Finishes the node that was taken off the path.
+fn finish(graph: &[Node], step: Step, search: &mut Search) -> Result<(), AllocError>
+    requires sound { SoundAlong graph.now (search.old.path.items ++ step ∷ []) [] search.old }
+    requires none { slice_get (spreads_of graph.now step.node) step.looked ≡ None }
+    ensures sound { OnOk result (SoundAlong graph.now search.new.path.items [] search.new) }
+    ensures keeps { OnOk result (Keeps search.old search.new) }
+    ensures left { OnOk result (steps_left graph.now search.new < steps_left graph.now search.old) }
+{
+    search.colours[step.node] = Colour::Finished(search.order.len());
+    search.order.push(step.node)?;
+    Ok(())
+}
+
+// Looks at the next spread of the node that was taken off the path.
+fn follow(graph: &[Node], step: Step, search: &mut Search) -> Result<(), AllocError>
+    requires { SoundAlong graph.now (search.old.path.items ++ step ∷ []) [] search.old }
+    ensures sound { OnOk result (SoundAlong graph.now search.new.path.items [] search.new) }
+    ensures keeps { OnOk result (Keeps search.old search.new) }
+    ensures left { OnOk result (steps_left graph.now search.new < steps_left graph.now search.old) }
+{
+    match spread_at(graph, step.node, step.looked) {
+        None => finish(graph, step, search),
+        Some(spread) => {
+            search.path.push(Step {
+                node: step.node,
+                looked: step.looked + 1,
+            })?;
+            search.looked += 1;
+            meet(graph, spread.target, search)
+        }
+    }
+}
+
+// Follows the path until it is empty.
+fn run(graph: &[Node], search: &mut Search) -> Result<(), AllocError>
+    requires { SoundAlong graph.now search.old.path.items [] search.old }
+    ensures sound { OnOk result (SoundAlong graph.now [] [] search.new) }
+    ensures empty { OnOk result (search.new.path.items ≡ []) }
+    ensures keeps { OnOk result (Keeps search.old search.new) }
+{
+    while let Some(step) = search.path.pop() {
+        follow(graph, step, search)?;
+    }
+    Ok(())
+}
+
+// A colour for each node.
+fn new_colours(alloc: Global, graph: &[Node]) -> Result<Vec<Colour>, AllocError>
+    ensures len { IfOk result (λ v. length v.items ≡ length graph.now) }
+    ensures new { IfOk result (λ v. All (λ c. c ≡ New) v.items) }
+{
+    let mut colours = Vec::with_capacity(alloc, graph.len())?;
+    for _node in graph {
+        colours.push(Colour::New)?;
+    }
+    Ok(colours)
+}
+
+// The rank of a finished node.
+fn rank(colour: &Colour) -> usize
+    ensures { result ≡ rank_of colour.now }
+{
+    match *colour {
+        Colour::Finished(rank) => rank,
+        _ => 0,
+    }
+}
+
+// The rank of each node.
+fn all_ranks(alloc: Global, colours: &[Colour]) -> Result<Vec<usize>, AllocError>
+    ensures { IfOk result (λ v. v.items ≡ map rank_of colours.now) }
+{
+    colours.iter().map(|colour| rank(colour)).collect(alloc)
+}
+
+/// Searches a graph, looking at each spread once.
+pub fn search_graph(alloc: Global, graph: &[Node]) -> Result<Outcome, AllocError>
+    ensures { IfOk result (Searched graph.now) }
+{
+    let mut search = Search {
+        colours: new_colours(alloc, graph)?,
+        path: Vec::new(alloc),
+        order: Vec::with_capacity(alloc, graph.len())?,
+        reports: Vec::new(alloc),
+        looked: 0,
+    };
+    for root in 0..graph.len() {
+        meet(graph, root, &mut search)?;
+        run(graph, &mut search)?;
+    }
+    let ranks = all_ranks(alloc, search.colours.as_slice())?;
+    let Search {
+        order,
+        reports,
+        looked,
+        ..
+    } = search;
+    Ok(Outcome {
+        reports,
+        order,
+        ranks,
+        looked,
+    })
+}

@@ -1,0 +1,13 @@
+-- The spreads inside a document's operations, definition by definition.
+use Rattle.std.specs.Prelude.{List, map}
+use Rattle.language.specs.declared.tree.Definition.{Definition}
+use Rattle.fragment_graph.specs.declared.graph.Spread.{Spread}
+use Rattle.fragment_graph.specs.declared.numbers.Numbers.{Numbers}
+use Rattle.fragment_graph.specs.DocumentGraph.{resolved}
+use Rattle.fragment_reach.specs.Reach.{definition_spreads}
+
+abbrev pub resolved_spreads : {S : Type 0} → Numbers → Definition S → List Spread
+resolved_spreads numbers d = map (resolved numbers) (definition_spreads d)
+
+abbrev pub resolved_lists : {S : Type 0} → Numbers → List (Definition S) → List (List Spread)
+resolved_lists numbers document = map (resolved_spreads numbers) document

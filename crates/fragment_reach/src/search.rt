@@ -1,0 +1,110 @@
+//! The search for the nodes of a graph that are reached from some spreads.
+ghost use Rattle.std.specs.Prelude.{◌≡◌, ◌∷◌, [], length, false, Some, OnOk, IfOk, IsTrue, ◌↔◌, slice_get, slice_set};
+ghost use Rattle.fragment_reach.specs.Search.{IsClear, IsMarked, Marks, MarksReached, WellMarked};
+
+use fragment_graph::graph::{Node, Spread, spreads};
+use std::alloc::{AllocError, Global};
+
+// Whether the number is a node's that has no mark.
+fn is_unmarked(marks: &[bool], node: usize) -> bool
+    ensures { IsTrue result ↔ (slice_get marks.now node ≡ Some false) }
+{
+    match marks.get(node) {
+        Some(mark) => !*mark,
+        None => false,
+    }
+}
+
+/// Whether the number is that of a node with a mark.
+pub fn is_marked(marks: &[bool], node: usize) -> bool
+    ensures { IsTrue result ↔ IsMarked marks.now node }
+{
+    match marks.get(node) {
+        Some(mark) => *mark,
+        None => false,
+    }
+}
+
+// Marks the target of a spread, if it is a node, and lists it, unless it has a mark.
+fn mark(spread: Spread, order: &mut Vec<usize>, marks: &mut Vec<bool>) -> Result<(), AllocError>
+    requires { WellMarked order.old.items marks.old.items }
+    ensures marks { OnOk result (Marks (spread ∷ []) order.old.items marks.old.items order.new.items marks.new.items) }
+    ensures well { OnOk result (WellMarked order.new.items marks.new.items) }
+{
+    if is_unmarked(marks.as_slice(), spread.target) {
+        marks[spread.target] = true;
+        order.push(spread.target)?;
+    }
+    Ok(())
+}
+
+// Marks the targets of these.
+fn mark_all(
+    spreads: &[Spread],
+    order: &mut Vec<usize>,
+    marks: &mut Vec<bool>,
+) -> Result<(), AllocError>
+    requires { WellMarked order.old.items marks.old.items }
+    ensures marks { OnOk result (Marks spreads.now order.old.items marks.old.items order.new.items marks.new.items) }
+    ensures well { OnOk result (WellMarked order.new.items marks.new.items) }
+{
+    for spread in spreads {
+        mark(*spread, order, marks)?;
+    }
+    Ok(())
+}
+
+/// Marks the nodes that are reached from these spreads, where no node has a mark, and lists them; the spreads of each are looked at
+/// once.
+pub fn explore(
+    graph: &[Node],
+    starts: &[Spread],
+    order: &mut Vec<usize>,
+    marks: &mut Vec<bool>,
+) -> Result<(), AllocError>
+    requires { IsClear (length graph.now) order.old.items marks.old.items }
+    ensures reached { OnOk result (MarksReached graph.now starts.now marks.new.items) }
+    ensures listed { OnOk result (WellMarked order.new.items marks.new.items) }
+{
+    mark_all(starts, order, marks)?;
+    let mut next: usize = 0;
+    while next < order.len() {
+        let node = order[next];
+        mark_all(spreads(graph, node), order, marks)?;
+        next += 1;
+    }
+    Ok(())
+}
+
+// Takes the mark from a node.
+fn unmark(marks: &mut Vec<bool>, node: usize)
+    ensures { marks.new.items ≡ slice_set marks.old.items node false }
+{
+    if node < marks.len() {
+        marks[node] = false;
+    }
+}
+
+/// Takes the marks from the nodes that are listed, and lists none.
+pub fn forget(order: &mut Vec<usize>, marks: &mut Vec<bool>)
+    requires { WellMarked order.old.items marks.old.items }
+    ensures { IsClear (length marks.old.items) order.new.items marks.new.items }
+{
+    while let Some(node) = order.pop() {
+        unmark(marks, node);
+    }
+}
+
+/// Marks the nodes that are reached from these spreads; the spreads of each are looked at once.
+pub fn mark_reached(
+    alloc: Global,
+    graph: &[Node],
+    starts: &[Spread],
+) -> Result<Vec<bool>, AllocError>
+    ensures { IfOk result (λ marks. MarksReached graph.now starts.now marks.items) }
+{
+    let mut order: Vec<usize> = Vec::new(alloc);
+    let mut marks = vec![in alloc; false; graph.len()]?;
+    explore(graph, starts, &mut order, &mut marks)?;
+    Ok(marks)
+}

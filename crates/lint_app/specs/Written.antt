@@ -1,0 +1,33 @@
+-- What is written of documents, and which words ask for help.
+use Rattle.std.specs.Prelude.{◌≡◌, ◌||◌, Bool, true, ℕ, List, Option, String, codes, if◌then◌else◌, nat_eq, string_bytes}
+use Rattle.std.specs.declared.alloc.Global.{Global}
+use Rattle.std.specs.Io.KnownBytes.{Appends}
+use Rattle.std.specs.List.{list_any, starts_with}
+use Rattle.std.specs.Str.{bytes_eq}
+use Rattle.lint_app.specs.declared.program.Told.{Told}
+use Rattle.lint_app.specs.Tasks.{TellsTask}
+use Rattle.lint_app.specs.Told.{Files}
+use Rattle.lint_args.specs.Asks.{AsksFor, word_texts}
+use Rattle.lint_args.specs.declared.task.Task.{Task}
+use Rattle.sdl_scalars.specs.declared.scalar.SourceScalar.{SourceScalar}
+
+-- a word that is answered with help: `--help`, and one that begins with `-h`
+abbrev pub begins_help : List ℕ → Bool
+begins_help word = bytes_eq word (codes "--help") || starts_with nat_eq word (codes "-h")
+
+abbrev pub asks_for_help : List (String Global) → Bool
+asks_for_help = list_any (λ word. begins_help (string_bytes word))
+
+-- Which scalars are the same.
+module _ (same : SourceScalar → SourceScalar → Bool) where
+  -- what is told of a task's files was written in one piece, every file was judged, and the status says whether there are errors
+  pub record WritesTask (files : Files) (task : Task) (old new : Option (List ℕ)) (status : ℕ) : Type 0 where
+    pub told : Told
+    pub tells : TellsTask same files task told
+    pub whole : told.is_whole ≡ true
+    pub status_is : status ≡ (if told.has_errors then 1 else 0)
+    pub written : Appends old new (string_bytes told.text)
+
+  -- of the task that the words ask for
+  abbrev pub WritesAsked : List (String Global) → Files → Option (List ℕ) → Option (List ℕ) → ℕ → Type 0
+  WritesAsked words files old new status = (task : Task) × AsksFor (word_texts words) task × WritesTask files task old new status

@@ -1,0 +1,250 @@
+//! The files of queries, judged one by one or as one document.
+ghost use Rattle.std.specs.Prelude.{◌≡◌, ◌∷◌, [], IfOk, OnOk, Some};
+ghost use Rattle.std.specs.Option.{option_copied};
+ghost use Rattle.lint_app.specs.Told.{Adds, AddsIf, AreToldAs, HasKnownTypes, IsErrorFree, TellsDocument, TellsEach, TellsFaultsAt, TellsFaultsIn, TellsFiles, TellsRead, TellsTogether};
+
+use crate::failure::Failure;
+use crate::files::joined_of;
+use graphql_reader::{ReadError, SourceScalar, read_document};
+use lint_report::issues::Issue;
+use lint_report::sources::{Joined, Place, Source};
+use lint_report::text_report::write_fault;
+use std::alloc::Global;
+use validation::{Definition, OutOfMemory, RootNode, RuleError, Variables, validate_input_values};
+
+/// What files of queries are judged by, and the files.
+#[derive(Clone, Copy)]
+pub struct Judge<'j> {
+    pub root: &'j RootNode<SourceScalar>,
+    /// Values of variables, which are judged where a document has no error.
+    pub values: Option<&'j Variables<SourceScalar>>,
+    pub sources: &'j [Source],
+}
+
+/// What is said of files.
+#[derive(Drop)]
+pub struct Report {
+    /// The errors of the documents.
+    pub issues: Vec<Issue>,
+    /// How many files are documents, or in one.
+    pub judged: usize,
+}
+
+impl Judge<'_> {
+    /// Judges each file by itself. A file with a fault of syntax is told of, and the others are judged.
+    pub fn each(&self, alloc: Global, faults: &mut String) -> Result<Report, Failure>
+        ensures { IfOk result (TellsEach ⟦<SourceScalar as PartialEq>⟧.eq self.now.root.now (option_copied self.now.values) self.now.sources.now) }
+    {
+        let mut issues = Vec::new(alloc);
+        let mut judged: usize = 0;
+        let sources = self.sources;
+        for (file, source) in sources.iter().enumerate() {
+            let is_document = self.judge_file(alloc, file, source, &mut issues, faults)?;
+            judged += usize::from(is_document);
+        }
+        Ok(Report { issues, judged })
+    }
+
+    // Judges the document of a file, if it is one; else it is told why not.
+    fn judge_file(
+        &self,
+        alloc: Global,
+        file: usize,
+        source: &Source,
+        issues: &mut Vec<Issue>,
+        faults: &mut String,
+    ) -> Result<bool, Failure>
+        ensures { IfOk result (λ is_document. AddsIf is_document (TellsFiles ⟦<SourceScalar as PartialEq>⟧.eq self.now.root.now (option_copied self.now.values) file (source.now ∷ [])) issues.old.items issues.new.items) }
+    {
+        let mut joined = Joined::new(alloc);
+        joined.add(file, source.text.as_str())?;
+        let is_document = self.judge_joined(alloc, &joined, file, issues, faults)?;
+        Ok(is_document)
+    }
+
+    /// Judges all files as one document, if none has a fault of syntax; else these are told.
+    pub fn together(&self, alloc: Global, faults: &mut String) -> Result<Report, Failure>
+        ensures { IfOk result (TellsTogether ⟦<SourceScalar as PartialEq>⟧.eq self.now.root.now (option_copied self.now.values) self.now.sources.now) }
+    {
+        if !self.are_documents(alloc, faults)? {
+            return Ok(Report::empty(alloc));
+        }
+        let joined = joined_of(alloc, self.sources)?;
+        let mut issues = Vec::new(alloc);
+        if !self.judge_joined(alloc, &joined, 0, &mut issues, faults)? {
+            return Ok(Report::empty(alloc));
+        }
+        Ok(Report {
+            issues,
+            judged: self.sources.len(),
+        })
+    }
+
+    // Whether each of several files is a document by itself, so that no token reaches from one into the next. One file is read later.
+    fn are_documents(&self, alloc: Global, faults: &mut String) -> Result<bool, Failure> {
+        let mut are_all = true;
+        if self.sources.len() > 1 {
+            for (file, source) in self.sources.iter().enumerate() {
+                if !self.is_document(alloc, file, source, faults)? {
+                    are_all = false;
+                }
+            }
+        }
+        Ok(are_all)
+    }
+
+    fn is_document(
+        &self,
+        alloc: Global,
+        file: usize,
+        source: &Source,
+        faults: &mut String,
+    ) -> Result<bool, Failure> {
+        match read_document(alloc, source.text.as_str()) {
+            Ok(_) => Ok(true),
+            Err(ReadError::Syntax(error)) => {
+                let position = error.position;
+                write_fault(faults, self.sources, Place { file, position }, &error)?;
+                Ok(false)
+            }
+            Err(ReadError::OutOfMemory) => Err(Failure::OutOfMemory),
+        }
+    }
+
+    // Judges the document of a joined text, if it is one; else it is told why not.
+    fn judge_joined(
+        &self,
+        alloc: Global,
+        joined: &Joined,
+        file: usize,
+        issues: &mut Vec<Issue>,
+        faults: &mut String,
+    ) -> Result<bool, Failure>
+        ensures { IfOk result (λ is_document. AddsIf is_document (TellsRead ⟦<SourceScalar as PartialEq>⟧.eq self.now.root.now (option_copied self.now.values) joined.now file) issues.old.items issues.new.items) }
+    {
+        match read_document(alloc, joined.text()) {
+            Ok(document) => {
+                self.add_issues(alloc, joined, file, document.as_slice(), issues)?;
+                Ok(true)
+            }
+            Err(ReadError::Syntax(error)) => {
+                let place = joined.place_of(error.position);
+                write_fault(faults, self.sources, place, &error)?;
+                Ok(false)
+            }
+            Err(ReadError::OutOfMemory) => Err(Failure::OutOfMemory),
+        }
+    }
+
+    // Adds the errors of a document, and where it has none the faults of values.
+    fn add_issues(
+        &self,
+        alloc: Global,
+        joined: &Joined,
+        file: usize,
+        document: &[Definition<'_, SourceScalar>],
+        issues: &mut Vec<Issue>,
+    ) -> Result<(), OutOfMemory>
+        ensures { OnOk result (Adds (TellsDocument ⟦<SourceScalar as PartialEq>⟧.eq self.now.root.now (option_copied self.now.values) joined.now file document.now) issues.old.items issues.new.items) }
+    {
+        let found = self.root.validate(alloc, document)?;
+        let errors = found.as_slice();
+        add_errors(alloc, joined, file, errors, issues)?;
+        if !errors.is_empty() {
+            return Ok(());
+        }
+        self.add_faults(alloc, joined, file, document, issues)?;
+        Ok(())
+    }
+
+    // Adds the faults of values for a document without errors, if there are values.
+    fn add_faults(
+        &self,
+        alloc: Global,
+        joined: &Joined,
+        file: usize,
+        document: &[Definition<'_, SourceScalar>],
+        issues: &mut Vec<Issue>,
+    ) -> Result<(), OutOfMemory>
+        requires { IsErrorFree ⟦<SourceScalar as PartialEq>⟧.eq self.now.root.now document.now }
+        ensures { OnOk result (Adds (TellsFaultsIn self.now.root.now (option_copied self.now.values) joined.now file document.now) issues.old.items issues.new.items) }
+    {
+        match self.values {
+            Some(values) => {
+                self.add_faults_of_values(alloc, joined, file, document, values, issues)
+            }
+            None => Ok(()),
+        }
+    }
+
+    fn add_faults_of_values(
+        &self,
+        alloc: Global,
+        joined: &Joined,
+        file: usize,
+        document: &[Definition<'_, SourceScalar>],
+        values: &Variables<SourceScalar>,
+        issues: &mut Vec<Issue>,
+    ) -> Result<(), OutOfMemory>
+        requires { IsErrorFree ⟦<SourceScalar as PartialEq>⟧.eq self.now.root.now document.now }
+        ensures { OnOk result (Adds (TellsFaultsIn self.now.root.now (Some values.now) joined.now file document.now) issues.old.items issues.new.items) }
+    {
+        for definition in document {
+            self.add_faults_at(alloc, joined, file, definition, values, issues)?;
+        }
+        Ok(())
+    }
+
+    // Adds the faults of values for the variables of a definition.
+    fn add_faults_at(
+        &self,
+        alloc: Global,
+        joined: &Joined,
+        file: usize,
+        definition: &Definition<'_, SourceScalar>,
+        values: &Variables<SourceScalar>,
+        issues: &mut Vec<Issue>,
+    ) -> Result<(), OutOfMemory>
+        requires { HasKnownTypes self.now.root.now definition.now }
+        ensures { OnOk result (Adds (TellsFaultsAt self.now.root.now values.now joined.now file definition.now) issues.old.items issues.new.items) }
+    {
+        match definition {
+            Definition::Operation(operation) => {
+                let found = validate_input_values(alloc, values, operation, &self.root.schema)?;
+                add_errors(alloc, joined, file, found.as_slice(), issues)?;
+                Ok(())
+            }
+            Definition::Fragment(_) => Ok(()),
+        }
+    }
+}
+
+impl Report {
+    /// Of no file.
+    pub fn empty(alloc: Global) -> Report
+        ensures issues { result.issues.items ≡ [] }
+        ensures judged { result.judged ≡ 0 }
+    {
+        Report {
+            issues: Vec::new(alloc),
+            judged: 0,
+        }
+    }
+}
+
+// Adds errors with their places led back to the files.
+fn add_errors(
+    alloc: Global,
+    joined: &Joined,
+    file: usize,
+    errors: &[RuleError],
+    issues: &mut Vec<Issue>,
+) -> Result<(), OutOfMemory>
+    ensures { OnOk result (Adds (AreToldAs joined.now file errors.now) issues.old.items issues.new.items) }
+{
+    for error in errors {
+        let issue = Issue::of_joined(alloc, joined, file, error.message(), error.locations())?;
+        issues.push(issue)?;
+    }
+    Ok(())
+}

@@ -1,0 +1,99 @@
+//! Files by the words that name them.
+ghost use Rattle.std.specs.Prelude.{◌≡◌, ◌++◌, IfOk, IfSome, OnOk};
+ghost use Rattle.std.specs.Option.{option_to_list};
+ghost use Rattle.lint_app.specs.Told.{AreReadOf, HasText, IsFileOf, IsJoined};
+
+use crate::failure::Failure;
+use lint_report::sources::{Joined, Source};
+use lint_report::text_places::position_at;
+use lint_report::text_report::write_place;
+use std::alloc::Global;
+use std::{io, str};
+
+/// Where files come from.
+pub trait Inputs {
+    ghost use Rattle.std.specs.Prelude.{ℕ, List, None, Option};
+
+    // The bytes of the file of a name, where they are known.
+    ghost file: { Self → List ℕ → Option (List ℕ) } = { λ _ _. None };
+
+    /// The bytes of the file that a word names.
+    fn read(&self, alloc: Global, path: &str) -> io::Result<Vec<u8>>
+        ensures { IfOk result (λ bytes. IfSome (file self.now path.now) (λ known. bytes.items ≡ known)) };
+}
+
+/// The files of these paths that can be read. Of each other one it is told why it can't.
+pub fn read_sources<I: Inputs>(
+    alloc: Global,
+    inputs: &I,
+    paths: &[&str],
+    faults: &mut String,
+) -> Result<Vec<Source>, Failure>
+    ensures { IfOk result (λ sources. AreReadOf (I.file inputs.now) paths.now sources.items) }
+{
+    let mut sources = Vec::new(alloc);
+    for path in paths {
+        let read = read_source(alloc, inputs, path, faults)?;
+        add_read(&mut sources, read)?;
+    }
+    Ok(sources)
+}
+
+fn add_read(sources: &mut Vec<Source>, read: Option<Source>) -> Result<(), Failure>
+    ensures { OnOk result (sources.new.items ≡ sources.old.items ++ option_to_list read) }
+{
+    if let Some(source) = read {
+        sources.push(source)?;
+    }
+    Ok(())
+}
+
+// The file of this path, if it can be read; else it is told why not.
+fn read_source<I: Inputs>(
+    alloc: Global,
+    inputs: &I,
+    path: &str,
+    faults: &mut String,
+) -> Result<Option<Source>, Failure>
+    ensures { IfOk result (λ read. IfSome read (IsFileOf (I.file inputs.now) path.now)) }
+{
+    match inputs.read(alloc, path) {
+        Ok(bytes) => source_of(alloc, path, bytes.as_slice(), faults),
+        Err(error) => {
+            writeln!(faults, "{path}: error: {error}")?;
+            Ok(None)
+        }
+    }
+}
+
+fn source_of(
+    alloc: Global,
+    path: &str,
+    bytes: &[u8],
+    faults: &mut String,
+) -> Result<Option<Source>, Failure>
+    ensures { IfOk result (λ read. IfSome read (HasText path.now bytes.now)) }
+{
+    match str::from_utf8(bytes) {
+        Ok(text) => Ok(Some(Source {
+            path: String::from_str(alloc, path)?,
+            text: String::from_str(alloc, text)?,
+        })),
+        Err(error) => {
+            write_place(faults, path, position_at(bytes, error.valid_up_to()))?;
+            faults.push_str("error: bytes that are no UTF-8\n")?;
+            Ok(None)
+        }
+    }
+}
+
+/// All files as one text.
+pub fn joined_of(alloc: Global, sources: &[Source]) -> Result<Joined, Failure>
+    ensures { IfOk result (IsJoined 0 sources.now) }
+{
+    let mut joined = Joined::new(alloc);
+    for (file, source) in sources.iter().enumerate() {
+        joined.add(file, source.text.as_str())?;
+    }
+    Ok(joined)
+}

@@ -1,0 +1,25 @@
+use Rattle.std.proofs.Common.{◌≡◌, ◌∙◌, ap, ap₂, false}
+use Rattle.std.proofs.lemmas.Result.{IfOk-weaker}
+use Rattle.clap.specs.Built.{AddsArg}
+use Rattle.clap.specs.Simple.{App, app_of, app_of_fields, with_rule}
+use Rattle.clap.specs.Walk.{Rule, rule_of}
+use Rattle.clap.specs.declared.builder.arg.Arg.{Arg}
+use Rattle.clap.specs.declared.builder.command.Command.{Command}
+use Rattle.lint_args.proofs.command_line.command_line.Goals as goal
+
+-- one more argument
+more : (app : App) (rule : Rule) (command : Command) (arg : Arg) (next : Command) → app_of command ≡ app → rule_of arg ≡ rule → arg.global ≡ false
+    → AddsArg command arg next → app_of next ≡ with_rule app rule
+more app rule command arg next is rule_is local adds = adds.shape local ∙ ap₂ with_rule is rule_is
+
+-- all arguments in turn
+pub returns : goal.returns
+returns c =
+    let none = ap app_of_fields c.after_help.ensures ∙ ap app_of_fields c.about.ensures ∙ c.new.ensures.app in
+    let format = c.format_argument.ensures.rule in
+    let schema = more _ _ _ _ c.in_ok-arg.field-0 none c.schema_argument.ensures.rule c.schema_argument.ensures.local c.in_ok-arg.ensures in
+    let formed = more _ _ _ _ c.in_ok-arg-2.field-0 schema format.2 c.format_argument.ensures.local c.in_ok-arg-2.ensures in
+    let closed = more _ _ _ _ c.in_ok-arg-3.field-0 formed c.closed_argument.ensures.rule c.closed_argument.ensures.local c.in_ok-arg-3.ensures in
+    let varied = more _ _ _ _ c.in_ok-arg-4.field-0 closed c.variables_argument.ensures.rule c.variables_argument.ensures.local c.in_ok-arg-4.ensures in
+    let joined = more _ _ _ _ c.in_ok-arg-5.field-0 varied c.together_argument.ensures.rule c.together_argument.ensures.local c.in_ok-arg-5.ensures in
+    IfOk-weaker c.arg-6.result _ _ (λ command adds. (format.0, format.1, more _ _ _ _ command joined c.query_argument.ensures.rule c.query_argument.ensures.local adds)) c.arg-6.ensures

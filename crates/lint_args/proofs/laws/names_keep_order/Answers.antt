@@ -1,0 +1,29 @@
+use Rattle.std.proofs.Common.{◌≡◌, ◌∙◌, ◌∷◌, Bor, List, ap, codes, true}
+use Rattle.std.specs.List.{list_all}
+use Rattle.clap.specs.Simple.{matches_of}
+use Rattle.clap.specs.Walk.{Row, Text, finished, first_of}
+use Rattle.lint_args.specs.Asks.{files_of, is_value}
+use Rattle.lint_args.specs.CommandLine.{lint}
+use Rattle.lint_args.specs.Laws.{is_name}
+use Rattle.lint_args.proofs.Names.{lint_rules, queries_met, walk_known}
+use Rattle.lint_args.proofs.laws.names_keep_order.Goals as goal
+
+module _ (forms : Bor (List (Bor Text))) (schema query : Text) (queries : List Text) where
+  abbrev rows : List Row
+  rows = finished (lint_rules forms) (queries_met forms schema (query ∷ queries)).held
+
+  matched : list_all is_name (schema ∷ query ∷ queries) ≡ true → matches_of (lint forms) (codes "lint" ∷ codes "--schema" ∷ schema ∷ query ∷ queries) ≡ rows
+  matched names = ap (λ w. finished (lint_rules forms) w.held) (walk_known forms schema query queries names)
+
+-- what the words match is known
+pub returns : goal.returns
+returns c = λ schema query queries task names asked.
+    let rows = matched asked.forms schema query queries names in
+    record {
+      schemas = asked.matched.schemas ∙ ap (files_of (codes "schema")) rows;
+      queries = asked.matched.queries ∙ ap (files_of (codes "query")) rows;
+      variables = asked.matched.variables ∙ ap (first_of (codes "variables")) rows;
+      json = asked.matched.json ∙ ap (is_value (codes "format") (codes "json")) rows;
+      closed = asked.matched.closed ∙ ap (is_value (codes "closed") (codes "true")) rows;
+      together = asked.matched.together ∙ ap (is_value (codes "together") (codes "true")) rows;
+    }

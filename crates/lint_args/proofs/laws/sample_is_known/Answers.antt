@@ -1,0 +1,44 @@
+use Rattle.std.proofs.Common.{◌≡◌, ◌∙◌, ◌∷◌, [], Bor, List, Some, codes, false, refl, true}
+use Rattle.clap.proofs.OnLiterals.{clap_on_literals}
+use Rattle.clap.specs.Simple.{matches_of}
+use Rattle.clap.specs.Walk.{Text, first_of}
+use Rattle.lint_args.specs.Asks.{files_of, is_value}
+use Rattle.lint_args.specs.CommandLine.{lint}
+use Rattle.lint_args.specs.Laws.{sample_words}
+use Rattle.lint_args.proofs.laws.sample_is_known.Goals as goal
+
+module _ (forms : Bor (List (Bor Text))) where
+  schemas : files_of (codes "schema") (matches_of (lint forms) sample_words) ≡ codes "types.graphql" ∷ codes "more.graphql" ∷ []
+  unfolding clap_on_literals
+  schemas = refl
+
+  queries : files_of (codes "query") (matches_of (lint forms) sample_words) ≡ codes "first.graphql" ∷ codes "second.graphql" ∷ codes "--third" ∷ []
+  unfolding clap_on_literals
+  queries = refl
+
+  variables : first_of (codes "variables") (matches_of (lint forms) sample_words) ≡ Some (codes "values.json")
+  unfolding clap_on_literals
+  variables = refl
+
+  json : is_value (codes "format") (codes "json") (matches_of (lint forms) sample_words) ≡ true
+  unfolding clap_on_literals
+  json = refl
+
+  closed : is_value (codes "closed") (codes "true") (matches_of (lint forms) sample_words) ≡ true
+  unfolding clap_on_literals
+  closed = refl
+
+  together : is_value (codes "together") (codes "true") (matches_of (lint forms) sample_words) ≡ false
+  unfolding clap_on_literals
+  together = refl
+
+-- each by computing what the words match
+pub returns : goal.returns
+returns c = λ task asked. record {
+  schemas = asked.matched.schemas ∙ schemas asked.forms;
+  queries = asked.matched.queries ∙ queries asked.forms;
+  variables = asked.matched.variables ∙ variables asked.forms;
+  json = asked.matched.json ∙ json asked.forms;
+  closed = asked.matched.closed ∙ closed asked.forms;
+  together = asked.matched.together ∙ together asked.forms;
+}

@@ -1,0 +1,64 @@
+use Rattle.std.proofs.Common.{◌≡◌, ◌∙◌, Bor, Err, IfErr, List, Ok, Result, ap, codes, inl, inr, refl, subst, sym, true}
+use Rattle.std.specs.Result.{IsErrAnd}
+use Rattle.clap.proofs.OnLiterals.{clap_on_literals}
+use Rattle.clap.proofs.WalkLemmas.{first_value-rows}
+use Rattle.clap.specs.Faults.{fault_of, is_simple_and_free}
+use Rattle.clap.specs.Kinds.{HasKind}
+use Rattle.clap.specs.Simple.{is_simple, matches_of}
+use Rattle.clap.specs.Walk.{Text, first_of}
+use Rattle.clap.specs.Words.{found_of}
+use Rattle.clap.specs.declared.error.Error.{Error}
+use Rattle.lint_args.specs.Asks.{IsRefusal, files_of, is_value, word_texts}
+use Rattle.lint_args.specs.CommandLine.{HasForms, lint}
+use Rattle.lint_args.proofs.task.Task.of.Goals as goal
+
+-- the command is one whose matches are known
+simple : (forms : Bor (List (Bor Text))) → is_simple (lint forms) ≡ true
+unfolding clap_on_literals
+simple forms = refl
+
+-- and whose faults are
+free : (forms : Bor (List (Bor Text))) → is_simple_and_free (lint forms) ≡ true
+unfolding clap_on_literals
+free forms = refl
+
+-- what an error tells of
+told : {T : Type 0} (words : List Text) (result : Result T Error) (error : Error) → IsErrAnd result (λ e. e ≡ error) → IsRefusal words error
+    → IfErr result (IsRefusal words)
+told words (Ok task) error is refused = tt
+told words (Err e) error is refused = subst (IsRefusal words) (sym is) refused
+
+-- memory was refused, or a fault is told of
+faulty : (forms : Bor (List (Bor Text))) (words : List Text) (error : Error) → HasForms forms → HasKind (fault_of (lint forms) words) error → IsRefusal words error
+faulty forms words error known (inl memory) = inl memory
+faulty forms words error known (inr fault) = inr (forms, known, fault)
+
+-- the words have a fault
+pub returns-in_err-matches-clause-refused : goal.returns-in_err-matches-clause-refused
+returns-in_err-matches-clause-refused c =
+    let words = word_texts c.args.words.now in
+    let error = c.in_err-matches.field-0.0 in
+    let (forms, known, is) = c.in_ok-command_line.ensures in
+    let kinds = subst (λ app. HasKind (fault_of app words) error) is (c.in_err-matches.ensures.kinds (ap is_simple_and_free is ∙ free forms)) in
+    told words c.from_residual-in_err-matches.result error c.from_residual-in_err-matches.ensures.1 (faulty forms words error known kinds)
+
+-- the task has what the words match
+pub returns-clause-asked : goal.returns-clause-asked
+returns-clause-asked c =
+    let words = word_texts c.args.words.now in
+    let found = found_of c.in_ok-matches.matches in
+    let (forms, known, is) = c.in_ok-command_line.ensures in
+    let rows = (c.in_ok-matches.ensures.matches (ap is_simple is ∙ simple forms)).0 ∙ ap (λ app. matches_of app words) is in
+    record {
+      forms = forms;
+      known = known;
+      accepted = ap (λ app. fault_of app words) (sym is) ∙ c.in_ok-matches.ensures.kinds (ap is_simple_and_free is ∙ free forms);
+      matched = record {
+        schemas = c.in_ok-files_of.ensures ∙ ap (files_of (codes "schema")) rows;
+        queries = c.in_ok-files_of-2.ensures ∙ ap (files_of (codes "query")) rows;
+        variables = c.get_str.ensures ∙ first_value-rows found (codes "variables") ∙ ap (first_of (codes "variables")) rows;
+        json = c.is_value.ensures ∙ ap (is_value (codes "format") (codes "json")) rows;
+        closed = c.is_value-2.ensures ∙ ap (is_value (codes "closed") (codes "true")) rows;
+        together = c.is_value-3.ensures ∙ ap (is_value (codes "together") (codes "true")) rows;
+      };
+    }

@@ -1,0 +1,67 @@
+-- Which task the words ask for.
+use Rattle.std.specs.Prelude.{◌≡◌, ◌+◌, ◌⊎◌, ℕ, [], Bool, false, List, String, codes, cond, count_by, map, option_map, string_bytes, unwrap_or}
+use Rattle.std.specs.declared.alloc.Global.{Global}
+use Rattle.std.specs.Borrow.{Bor}
+use Rattle.std.specs.Option.{option_map_or}
+use Rattle.std.specs.Str.{bytes_eq}
+use Rattle.clap.specs.Faults.{fault_of}
+use Rattle.clap.specs.Kinds.{IsAmong}
+use Rattle.clap.specs.Simple.{matches_of}
+use Rattle.clap.specs.Values.{kind_of}
+use Rattle.clap.specs.Walk.{Row, Text, all_of, first_of, texts}
+use Rattle.clap.specs.declared.error.Error.{Error}
+use Rattle.clap.specs.declared.error.kind.ErrorKind.{ErrorKind}
+use Rattle.clap.specs.declared.error.kind.ErrorKind.TheVariants.{DisplayHelp, OutOfMemory}
+use Rattle.lint_args.specs.CommandLine.{HasForms, lint}
+use Rattle.lint_args.specs.declared.task.Task.{Task}
+
+abbrev pub word_texts : List (String Global) → List Text
+word_texts = map string_bytes
+
+-- the values of an argument that names files, which are none where it is not used
+abbrev pub files_of : Text → List Row → List Text
+files_of id rows = unwrap_or (all_of id rows) []
+
+-- an argument has this value; a flag has the value `true` where it is used
+abbrev pub is_value : Text → Text → List Row → Bool
+is_value id value rows = option_map_or (λ v. bytes_eq v value) (first_of id rows) false
+
+-- the task has what was found for each argument
+pub record IsOfRows (rows : List Row) (task : Task) : Type 0 where
+  pub schemas : texts task.schemas.items ≡ files_of (codes "schema") rows
+  pub queries : texts task.queries.items ≡ files_of (codes "query") rows
+  pub variables : option_map (λ path. path.now) task.variables ≡ first_of (codes "variables") rows
+  pub json : task.is_json ≡ is_value (codes "format") (codes "json") rows
+  pub closed : task.is_closed ≡ is_value (codes "closed") (codes "true") rows
+  pub together : task.is_together ≡ is_value (codes "together") (codes "true") rows
+
+-- a path that stands for the standard input
+abbrev pub is_input : Text → Bool
+is_input path = bytes_eq path (codes "-")
+
+-- how many of some paths do
+abbrev pub inputs_among : List (Bor Text) → ℕ
+inputs_among = count_by (λ path. is_input path.now)
+
+-- how often a task names it
+abbrev pub input_count : Task → ℕ
+input_count task =
+    (inputs_among task.schemas.items + inputs_among task.queries.items) + option_map_or (λ path. cond (is_input path.now) 1 0) task.variables 0
+
+-- the words have no fault, and the task has what they match
+pub record AsksFor (words : List Text) (task : Task) : Type 0 where
+  pub forms : Bor (List (Bor Text))
+  pub known : HasForms forms
+  pub accepted : fault_of (lint forms) words ≡ []
+  pub matched : IsOfRows (matches_of (lint forms) words) task
+
+-- the words have a fault of this kind; to ask for help counts as one
+abbrev pub HasFault : List Text → ErrorKind → Type 0
+HasFault words kind = (forms : Bor (List (Bor Text))) × HasForms forms × IsAmong kind (fault_of (lint forms) words)
+
+abbrev pub WantsHelp : List Text → Type 0
+WantsHelp words = HasFault words DisplayHelp
+
+-- the words have the fault that the error tells of, or memory was refused
+abbrev pub IsRefusal : List Text → Error → Type 0
+IsRefusal words error = (kind_of error ≡ OutOfMemory) ⊎ HasFault words (kind_of error)

@@ -1,0 +1,101 @@
+//! What the words ask for.
+ghost use Rattle.std.specs.Prelude.{◌≡◌, ◌+◌, ◌-◌, ◌^◌, IfErr, IfOk, cond, min};
+ghost use Rattle.clap.specs.Walk.{texts};
+ghost use Rattle.clap.specs.Words.{found_of, rows_of};
+ghost use Rattle.lint_args.specs.Asks.{AsksFor, IsRefusal, files_of, input_count, inputs_among, is_input, is_value, word_texts};
+
+use crate::command_line::command_line;
+use clap::{ArgMatches, Error};
+use std::alloc::{AllocError, Global};
+
+/// The word for the standard input.
+pub const INPUT: &str = "-";
+
+/// What the words ask for.
+#[derive(Drop)]
+pub struct Task<'w> {
+    /// The files that are the schema.
+    pub schemas: Vec<&'w str>,
+    /// The files that are judged.
+    pub queries: Vec<&'w str>,
+    /// The file of values of variables.
+    pub variables: Option<&'w str>,
+    /// Whether errors are told as JSON.
+    pub is_json: bool,
+    /// Whether introspection is an error.
+    pub is_closed: bool,
+    /// Whether all files are one document.
+    pub is_together: bool,
+}
+
+impl<'w> Task<'w> {
+    /// What these words ask for, of which the first is the program's own name.
+    pub fn of(alloc: Global, words: &'w [String]) -> Result<Task<'w>, Error>
+        ensures asked { IfOk result (AsksFor (word_texts words.now)) }
+        ensures refused { IfErr result (IsRefusal (word_texts words.now)) }
+    {
+        let matches = command_line(alloc)?.try_get_matches_from(words)?;
+        Ok(Task {
+            schemas: files_of(alloc, &matches, "schema")?,
+            queries: files_of(alloc, &matches, "query")?,
+            variables: matches.get_str("variables"),
+            is_json: is_value(&matches, "format", "json"),
+            is_closed: is_value(&matches, "closed", "true"),
+            is_together: is_value(&matches, "together", "true"),
+        })
+    }
+
+    /// How often the words name the standard input, or the largest number where that is more.
+    pub fn inputs(&self) -> usize
+        ensures { result ≡ min (input_count self.now) (2 ^ 64 - 1) }
+    {
+        let files = inputs_among(self.schemas.as_slice(), 0);
+        let files = inputs_among(self.queries.as_slice(), files);
+        match self.variables {
+            Some(path) => inputs_with(path, files),
+            None => files,
+        }
+    }
+}
+
+// The files that an argument names.
+fn files_of<'w>(
+    alloc: Global,
+    matches: &ArgMatches<'w>,
+    id: &str,
+) -> Result<Vec<&'w str>, AllocError>
+    ensures { IfOk result (λ files. texts files.items ≡ files_of id.now (rows_of (found_of matches.now))) }
+{
+    let mut files = Vec::new(alloc);
+    files.extend_from_slice(matches.get_strs(id).unwrap_or(&[]))?;
+    Ok(files)
+}
+
+// Whether an argument has this value. A flag has the value `true` where the words have it.
+fn is_value(matches: &ArgMatches<'_>, id: &str, value: &str) -> bool
+    ensures { result ≡ is_value id.now value.now (rows_of (found_of matches.now)) }
+{
+    matches.get_str(id) == Some(value)
+}
+
+// One more where the path stands for the standard input.
+fn inputs_with(path: &str, before: usize) -> usize
+    ensures { result ≡ min (before + cond (is_input path.now) 1 0) (2 ^ 64 - 1) }
+{
+    if path == INPUT {
+        before.saturating_add(1)
+    } else {
+        before
+    }
+}
+
+// As many more as paths stand for the standard input.
+fn inputs_among(paths: &[&str], before: usize) -> usize
+    ensures { result ≡ min (before + inputs_among paths.now) (2 ^ 64 - 1) }
+{
+    let mut found = before;
+    for path in paths {
+        found = inputs_with(*path, found);
+    }
+    found
+}

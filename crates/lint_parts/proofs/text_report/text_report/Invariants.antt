@@ -1,7 +1,0 @@
-use Rattle.std.proofs.Common.{[], string_bytes, take}
-use Rattle.lint_parts.specs.Texts.{Adds, AreTexts, IsIssueText}
-use Rattle.lint_parts.proofs.text_report.text_report.Given as goal
-
--- the errors so far were written
-abbrev pub invariant-loop-issue : goal.invariant-loop-issue
-invariant-loop-issue l = Adds (AreTexts (IsIssueText l.sources) (take l.issue-index l.issues)) [] (string_bytes l.text)

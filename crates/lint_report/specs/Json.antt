@@ -1,0 +1,45 @@
+-- Errors as JSON: the tokens of the text, which the kit's crate `json` lays out and escapes (RFC 8259).
+use Rattle.std.specs.Prelude.{◌==◌, ℕ, List, [], ◌∷◌, ◌++◌, codes, flat_map, if◌then◌else◌, string_bytes}
+use Rattle.std.specs.Fmt.{decimal}
+use Rattle.json.specs.Layout.{pretty}
+use Rattle.json.specs.Token.{Token, begin_array, begin_object, end_array, end_object, key, number, string}
+use Rattle.language.specs.declared.position.SourcePosition.{SourcePosition}
+use Rattle.language.specs.Position.{line_of, column_of}
+use Rattle.lint_report.specs.declared.issues.Issue.{Issue}
+use Rattle.lint_report.specs.declared.sources.Place.{Place}
+use Rattle.lint_report.specs.declared.sources.Source.{Source}
+use Rattle.lint_report.specs.Texts.{from_one, line, path_in}
+
+-- a member with a text, and one with a number
+abbrev pub text_member : List ℕ → List ℕ → List Token
+text_member name text = key name ∷ string text ∷ []
+
+abbrev pub number_member : List ℕ → ℕ → List Token
+number_member name value = key name ∷ number (decimal value) ∷ []
+
+-- `{ line, column }`, counted from 1
+abbrev pub location_tokens : SourcePosition → List Token
+location_tokens p =
+    begin_object ∷ number_member (codes "line") (from_one (line_of p)) ++ number_member (codes "column") (from_one (column_of p)) ++ end_object ∷ []
+
+-- a place that lies in the file
+abbrev pub told_locations : ℕ → Place → List Token
+told_locations file place = if place.file == file then location_tokens place.position else []
+
+-- the places that do, as a list
+abbrev pub locations_tokens : ℕ → List Place → List Token
+locations_tokens file places = begin_array ∷ flat_map (told_locations file) places ++ end_array ∷ []
+
+-- `{ path, message, locations }`
+abbrev pub issue_tokens : List Source → Issue → List Token
+issue_tokens sources issue =
+    begin_object ∷ text_member (codes "path") (path_in sources issue.file) ++ text_member (codes "message") (string_bytes issue.message)
+    ++ key (codes "locations") ∷ locations_tokens issue.file issue.places.items ++ end_object ∷ []
+
+-- the errors in order, as a list
+abbrev pub report_tokens : List Source → List Issue → List Token
+report_tokens sources issues = begin_array ∷ flat_map (issue_tokens sources) issues ++ end_array ∷ []
+
+-- the text: a line for each item and member, two spaces deeper for each bracket
+abbrev pub json_text : List Source → List Issue → List ℕ
+json_text sources issues = line (pretty (report_tokens sources issues))

@@ -1,0 +1,110 @@
+-- Errors as text for a reader.
+use Rattle.std.specs.Prelude.{◌≡◌, ◌==◌, ◌+◌, ◌-◌, ◌^◌, ℕ, List, [], ◌∷◌, ◌++◌, codes, length, min, slice_get, string_bytes, if◌then◌else◌}
+use Rattle.std.specs.Fmt.{decimal}
+use Rattle.std.specs.List.{AllZip, concat}
+use Rattle.std.specs.Option.{option_map_or}
+use Rattle.language.specs.declared.position.SourcePosition.{SourcePosition}
+use Rattle.language.specs.Position.{line_of, column_of}
+use Rattle.lint_report.specs.declared.issues.Issue.{Issue}
+use Rattle.lint_report.specs.declared.sources.Place.{Place}
+use Rattle.lint_report.specs.declared.sources.Source.{Source}
+use Rattle.lint_report.specs.Issues.{file_count}
+use Rattle.lint_report.specs.ShownLines.{IsLineOf, IsBefore, blanks}
+
+-- a text and the end of its line
+abbrev pub line : List ℕ → List ℕ
+line text = text ++ 10 ∷ []
+
+-- a number that is counted from 0, counted from 1; the largest word stays
+abbrev pub from_one : ℕ → ℕ
+from_one n = min (n + 1) (2 ^ 64 - 1)
+
+-- the path of a file and its text, where there is such a file
+abbrev pub path_in : List Source → ℕ → List ℕ
+path_in sources file = option_map_or (λ s. string_bytes s.path) (slice_get sources file) []
+
+abbrev pub text_in : List Source → ℕ → List ℕ
+text_in sources file = option_map_or (λ s. string_bytes s.text) (slice_get sources file) []
+
+-- what stands before a message: `path:line:column: `
+abbrev pub place_text : List ℕ → SourcePosition → List ℕ
+place_text path p = path ++ codes ":" ++ decimal (from_one (line_of p)) ++ codes ":" ++ decimal (from_one (column_of p)) ++ codes ": "
+
+abbrev pub told_place : List Source → Place → List ℕ
+told_place sources place = place_text (path_in sources place.file) place.position
+
+-- the line of a place, and below it blanks up to the place and a mark
+pub record ShowsLine (sources : List Source) (place : Place) (text : List ℕ) : Type 0 where
+  pub shown : List ℕ
+  pub before : List ℕ
+  pub is_line : IsLineOf (text_in sources place.file) place.position shown
+  pub is_before : IsBefore shown (column_of place.position) before
+  pub text_is : text ≡ line shown ++ line (blanks before ++ codes "^")
+
+-- an error at a place: the place, the message, and the line of the place
+pub record IsErrorText (sources : List Source) (place : Place) (message : List ℕ) (text : List ℕ) : Type 0 where
+  pub below : List ℕ
+  pub shows : ShowsLine sources place below
+  pub text_is : text ≡ told_place sources place ++ codes "error: " ++ line message ++ below
+
+-- a note that tells of a further place, and its line
+pub record IsNoteText (sources : List Source) (place : Place) (text : List ℕ) : Type 0 where
+  pub below : List ℕ
+  pub shows : ShowsLine sources place below
+  pub text_is : text ≡ told_place sources place ++ line (codes "note: also here") ++ below
+
+-- a text for each item, one after the other
+pub record AreTexts {X : Type 0} (P : X → List ℕ → Type 0) (items : List X) (text : List ℕ) : Type 0 where
+  pub texts : List (List ℕ)
+  pub each : AllZip P items texts
+  pub text_is : text ≡ concat texts
+
+-- a note for each place
+abbrev pub AreNotes : List Source → List Place → List ℕ → Type 0
+AreNotes sources places text = AreTexts (IsNoteText sources) places text
+
+-- the error at its first place, and a note for each further one
+pub record IsPlacedText (sources : List Source) (first : Place) (others : List Place) (message text : List ℕ) : Type 0 where
+  pub error : List ℕ
+  pub notes : List ℕ
+  pub is_error : IsErrorText sources first message error
+  pub are_notes : AreNotes sources others notes
+  pub text_is : text ≡ error ++ notes
+
+-- an error at some places; one without a place has the path of its file alone
+abbrev pub IsTextAt : List Source → ℕ → List ℕ → List Place → List ℕ → Type 0
+IsTextAt sources file message [] text = text ≡ path_in sources file ++ codes ": error: " ++ line message
+IsTextAt sources file message (first ∷ others) text = IsPlacedText sources first others message text
+
+abbrev pub IsIssueText : List Source → Issue → List ℕ → Type 0
+IsIssueText sources issue text = IsTextAt sources issue.file (string_bytes issue.message) issue.places.items text
+
+-- how many of something there are: `no errors`, `1 error`, `2 errors`
+abbrev pub count_text : ℕ → List ℕ → List ℕ
+count_text number one =
+    if number == 0 then codes "no " ++ one ++ codes "s"
+    else if number == 1 then codes "1 " ++ one
+    else decimal number ++ codes " " ++ one ++ codes "s"
+
+-- `3 errors in 2 of 5 files`, and `no errors in 5 files`
+abbrev pub counts_text : ℕ → ℕ → ℕ → List ℕ
+counts_text errors files judged =
+    count_text errors (codes "error") ++ codes " in "
+    ++ (if files == 0 then [] else decimal files ++ codes " of ")
+    ++ count_text judged (codes "file")
+
+-- `, 1 file not judged`, where there is such a file, and the end of the line
+abbrev pub unjudged_text : ℕ → List ℕ
+unjudged_text unjudged = line (if unjudged == 0 then [] else codes ", " ++ count_text unjudged (codes "file") ++ codes " not judged")
+
+-- what was added to a text has the property
+pub record Adds (P : List ℕ → Type 0) (old new : List ℕ) : Type 0 where
+  pub added : List ℕ
+  pub new_is : new ≡ old ++ added
+  pub holds : P added
+
+-- the errors in order, and a line of their counts
+pub record IsTextReport (sources : List Source) (issues : List Issue) (judged unjudged : ℕ) (text : List ℕ) : Type 0 where
+  pub texts : List (List ℕ)
+  pub each : AllZip (IsIssueText sources) issues texts
+  pub text_is : text ≡ concat texts ++ counts_text (length issues) (file_count issues) judged ++ unjudged_text unjudged

@@ -1,0 +1,150 @@
+//! Errors as text and as JSON.
+use language::error::OutOfMemory;
+use language::position::SourcePosition;
+use lint_report::issues::Issue;
+use lint_report::json_report::json_report;
+use lint_report::sources::{Joined, Source};
+use lint_report::text_places::position_at;
+use lint_report::text_report::text_report;
+use std::alloc::Global;
+
+const FILES: &[(&str, &str)] = &[
+    ("a.graphql", "{\n\tdog { nme }\n}\n"),
+    ("b.graphql", "{ a(x: \"\u{e9}\") b }"),
+];
+
+// The message of each error, and the places that it has in the joined text.
+const ERRORS: &[(&str, &[usize])] = &[("One \"place\"", &[9]), ("Two", &[31, 0]), ("None", &[])];
+
+const TEXT: &str = "a.graphql:2:8: error: One \"place\"
+\tdog { nme }
+\t      ^
+b.graphql:1:14: error: Two
+{ a(x: \"\u{e9}\") b }
+            ^
+a.graphql:1:1: note: also here
+{
+^
+b.graphql: error: None
+";
+
+const JSON: &str = "[
+  {
+    \"path\": \"a.graphql\",
+    \"message\": \"One \\\"place\\\"\",
+    \"locations\": [
+      {
+        \"line\": 2,
+        \"column\": 8
+      }
+    ]
+  },
+  {
+    \"path\": \"b.graphql\",
+    \"message\": \"Two\",
+    \"locations\": [
+      {
+        \"line\": 1,
+        \"column\": 14
+      }
+    ]
+  },
+  {
+    \"path\": \"b.graphql\",
+    \"message\": \"None\",
+    \"locations\": []
+  }
+]
+";
+
+// How many of the errors there are, files that were judged, those that were not, and the line of counts.
+const COUNTS: &[(usize, usize, usize, &str)] = &[
+    (3, 5, 0, "3 errors in 2 of 5 files\n"),
+    (1, 1, 0, "1 error in 1 of 1 file\n"),
+    (1, 2, 1, "1 error in 1 of 2 files, 1 file not judged\n"),
+    (0, 5, 0, "no errors in 5 files\n"),
+    (0, 0, 2, "no errors in no files, 2 files not judged\n"),
+];
+
+fn sources(alloc: Global) -> Result<Vec<Source>, OutOfMemory> {
+    let mut sources = Vec::new(alloc);
+    for (path, text) in FILES {
+        sources.push(Source {
+            path: String::from_str(alloc, path)?,
+            text: String::from_str(alloc, text)?,
+        })?;
+    }
+    Ok(sources)
+}
+
+fn joined(alloc: Global) -> Result<Joined, OutOfMemory> {
+    let mut joined = Joined::new(alloc);
+    for (file, (_, text)) in FILES.iter().enumerate() {
+        joined.add(file, text)?;
+    }
+    Ok(joined)
+}
+
+fn places(
+    alloc: Global,
+    text: &str,
+    indices: &[usize],
+) -> Result<Vec<SourcePosition>, OutOfMemory> {
+    let mut places = Vec::new(alloc);
+    for index in indices {
+        places.push(position_at(text.as_bytes(), *index))?;
+    }
+    Ok(places)
+}
+
+// An error without a place is one of the second file.
+fn issues(alloc: Global, joined: &Joined) -> Result<Vec<Issue>, OutOfMemory> {
+    let mut issues = Vec::new(alloc);
+    for (message, indices) in ERRORS {
+        let places = places(alloc, joined.text(), indices)?;
+        issues.push(Issue::of_joined(alloc, joined, 1, message, places.as_slice())?)?;
+    }
+    Ok(issues)
+}
+
+#[test]
+fn json(rt: HostRuntime) {
+    let alloc = rt.alloc();
+    let sources = sources(alloc).expect(&rt, "memory");
+    let joined = joined(alloc).expect(&rt, "memory");
+    let issues = issues(alloc, &joined).expect(&rt, "memory");
+    let told = json_report(alloc, sources.as_slice(), issues.as_slice()).expect(&rt, "memory");
+    assert_eq!(rt; told.as_str(), JSON);
+    let none = json_report(alloc, sources.as_slice(), &[]).expect(&rt, "memory");
+    assert_eq!(rt; none.as_str(), "[]\n");
+}
+
+#[test]
+fn text(rt: HostRuntime) {
+    let alloc = rt.alloc();
+    let sources = sources(alloc).expect(&rt, "memory");
+    let joined = joined(alloc).expect(&rt, "memory");
+    let issues = issues(alloc, &joined).expect(&rt, "memory");
+    let told = text_report(alloc, sources.as_slice(), issues.as_slice(), 2, 0).expect(
+        &rt, "memory",
+    );
+    assert_eq!(rt;
+        told.as_str().strip_prefix(TEXT),
+        Some("3 errors in 2 of 2 files\n")
+    );
+}
+
+#[test]
+fn counts(rt: HostRuntime) {
+    let alloc = rt.alloc();
+    let sources = sources(alloc).expect(&rt, "memory");
+    let joined = joined(alloc).expect(&rt, "memory");
+    let issues = issues(alloc, &joined).expect(&rt, "memory");
+    for (errors, judged, unjudged, wanted) in COUNTS {
+        let shown = issues.as_slice().get(..*errors).unwrap_or(&[]);
+        let told = text_report(alloc, sources.as_slice(), shown, *judged, *unjudged).expect(
+            &rt, "memory",
+        );
+        assert!(rt; told.ends_with(*wanted));
+    }
+}

@@ -1,5 +1,0 @@
-use Rattle.merge_documents.proofs.Lasts.{Seen}
-use Rattle.merge_documents.proofs.definitions.last_places.Given as goal
-
-abbrev pub invariant-loop-place : goal.invariant-loop-place
-invariant-loop-place g l = Seen l.document l.graph.numbers l.place l.places.items

@@ -1,0 +1,11 @@
+use Rattle.std.proofs.Common.{ap, ◌∙◌, map, slice_get, option_map, option_copied}
+use Rattle.merge_field_pairs.specs.Entries.{plain}
+use Rattle.merge_field_pairs.specs.Numbered.{exclusive_between}
+use Rattle.merge_field_pairs.proofs.NumberedLaws.{field_there}
+use Rattle.merge_field_pairs.proofs.numbered.are_exclusive_at.Goals as goal
+
+pub returns : goal.returns
+returns g c =
+    c.are_exclusive_if_there.ensures
+    ∙ ap (λ o. exclusive_between c.args.exclusive o (option_map plain (option_copied c.field_at-2.result))) (field_there c.args.fields.now c.args.left _ c.field_at.ensures)
+    ∙ ap (exclusive_between c.args.exclusive (slice_get (map plain c.args.fields.now) c.args.left)) (field_there c.args.fields.now c.args.right _ c.field_at-2.ensures)

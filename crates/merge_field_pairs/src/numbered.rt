@@ -1,0 +1,94 @@
+//! Fields by number: what stands between two of them.
+ghost use Rattle.std.specs.Prelude.{◌≡◌, map, option_copied, option_map, slice_get};
+ghost use Rattle.std.specs.Bool.{Decides};
+ghost use Rattle.merge_field_pairs.specs.Alike.{AreAlikeBetween, AreAlikeAt};
+ghost use Rattle.merge_field_pairs.specs.Entries.{plain};
+ghost use Rattle.merge_field_pairs.specs.Numbered.{exclusive_between, exclusive_at, direct_between, direct_at};
+
+use crate::alike::are_alike;
+use crate::direct::{DirectReason, direct_reason};
+use crate::entry::{Entry, are_exclusive};
+use language::scalar::ScalarValue;
+use schema::model::SchemaTypeOf;
+
+/// Whether no answer holds two fields. A number past the last is no field's, and adds nothing to `exclusive`.
+pub fn are_exclusive_at<S, C>(
+    fields: &[Entry<'_, S, C>],
+    exclusive: bool,
+    left: usize,
+    right: usize,
+) -> bool
+    ensures { result ≡ exclusive_at (map plain fields.now) exclusive left right }
+{
+    are_exclusive_if_there(exclusive, field_at(fields, left), field_at(fields, right))
+}
+
+/// Why two fields can't be merged. A number past the last is no field's, and there is no reason.
+pub fn direct_reason_at<S: ScalarValue, C>(
+    schema: &SchemaTypeOf<S, C>,
+    fields: &[Entry<'_, S, C>],
+    exclusive: bool,
+    left: usize,
+    right: usize,
+) -> Option<DirectReason>
+    ensures { result ≡ direct_at S.eq schema.now (map plain fields.now) exclusive left right }
+{
+    direct_reason_if_there(
+        schema,
+        exclusive,
+        field_at(fields, left),
+        field_at(fields, right),
+    )
+}
+
+/// Whether two fields are plainly alike. A number past the last is no field's, and like no other.
+pub fn are_alike_at<S, C>(fields: &[Entry<'_, S, C>], left: usize, right: usize) -> bool
+    ensures { Decides result (AreAlikeAt (map plain fields.now) left right) }
+{
+    are_alike_if_there(field_at(fields, left), field_at(fields, right))
+}
+
+fn field_at<'e, 'a, S, C>(
+    fields: &'e [Entry<'a, S, C>],
+    number: usize,
+) -> Option<&'e Entry<'a, S, C>>
+    ensures { option_copied result ≡ slice_get fields.now number }
+{
+    fields.get(number)
+}
+
+fn are_exclusive_if_there<S, C>(
+    exclusive: bool,
+    left: Option<&Entry<'_, S, C>>,
+    right: Option<&Entry<'_, S, C>>,
+) -> bool
+    ensures { result ≡ exclusive_between exclusive (option_map plain (option_copied left.entry)) (option_map plain (option_copied right.entry)) }
+{
+    match (left, right) {
+        (Some(l), Some(r)) => are_exclusive(exclusive, l, r),
+        _ => exclusive,
+    }
+}
+
+fn direct_reason_if_there<S: ScalarValue, C>(
+    schema: &SchemaTypeOf<S, C>,
+    exclusive: bool,
+    left: Option<&Entry<'_, S, C>>,
+    right: Option<&Entry<'_, S, C>>,
+) -> Option<DirectReason>
+    ensures { result ≡ direct_between S.eq schema.now exclusive (option_map plain (option_copied left.entry)) (option_map plain (option_copied right.entry)) }
+{
+    match (left, right) {
+        (Some(l), Some(r)) => direct_reason(schema, exclusive, l, r),
+        _ => None,
+    }
+}
+
+fn are_alike_if_there<S, C>(left: Option<&Entry<'_, S, C>>, right: Option<&Entry<'_, S, C>>) -> bool
+    ensures { Decides result (AreAlikeBetween (option_map plain (option_copied left.entry)) (option_map plain (option_copied right.entry))) }
+{
+    match (left, right) {
+        (Some(l), Some(r)) => are_alike(l, r),
+        _ => false,
+    }
+}

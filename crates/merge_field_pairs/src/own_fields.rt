@@ -1,0 +1,119 @@
+//! The own fields of a selection set, and the names that it spreads itself: inline fragments are opened, in order.
+ghost use Rattle.std.specs.Prelude.{◌≡◌, ◌++◌, OnOk, map, option_copied};
+ghost use Rattle.merge_field_pairs.specs.Entries.{plain};
+ghost use Rattle.merge_field_pairs.specs.OwnFields.{metadata_under, entry_under, type_inside, type_below, own_fields_of, own_fields, own_spreads_of, own_spreads};
+
+use crate::entry::Entry;
+use language::error::OutOfMemory;
+use language::position::Spanning;
+use language::tree::{Field, Selection};
+use meta::Field as FieldMeta;
+use meta::kinds::MetaTypeOf;
+use schema::model::SchemaTypeOf;
+
+/// The type of the set below a field: the innermost of the field's type, where that is known.
+pub fn type_below_field<'a, S, C>(
+    schema: &'a SchemaTypeOf<S, C>,
+    entry: &Entry<'a, S, C>,
+) -> Option<&'a MetaTypeOf<S, C>>
+    ensures { option_copied result ≡ type_below schema.now (plain entry.now) }
+{
+    match entry.metadata {
+        Some(metadata) => schema.concrete_type_by_name(metadata.field_type.innermost_name()),
+        None => None,
+    }
+}
+
+/// Adds the own fields of a set under a type behind those that are there, and likewise the names that it spreads itself.
+///
+/// On an error some may have been added.
+#[cycle(own_fields)]
+pub fn add_own_fields<'a, S, C>(
+    schema: &'a SchemaTypeOf<S, C>,
+    parent: Option<&'a MetaTypeOf<S, C>>,
+    set: &'a [Selection<'a, S>],
+    fields: &mut Vec<Entry<'a, S, C>>,
+    names: &mut Vec<&'a str>,
+) -> Result<(), OutOfMemory>
+    ensures fields { OnOk result (map plain fields.new.items ≡ map plain fields.old.items ++ own_fields schema.now (option_copied parent.entry) set.now) }
+    ensures names { OnOk result (map (λ n. n.now) names.new.items ≡ map (λ n. n.now) names.old.items ++ own_spreads set.now) }
+{
+    for selection in set {
+        add_own_fields_of(schema, parent, selection, fields, names)?;
+    }
+    Ok(())
+}
+
+#[cycle(own_fields)]
+fn add_own_fields_of<'a, S, C>(
+    schema: &'a SchemaTypeOf<S, C>,
+    parent: Option<&'a MetaTypeOf<S, C>>,
+    selection: &'a Selection<'a, S>,
+    fields: &mut Vec<Entry<'a, S, C>>,
+    names: &mut Vec<&'a str>,
+) -> Result<(), OutOfMemory>
+    ensures fields { OnOk result (map plain fields.new.items ≡ map plain fields.old.items ++ own_fields_of schema.now (option_copied parent.entry) selection.now) }
+    ensures names { OnOk result (map (λ n. n.now) names.new.items ≡ map (λ n. n.now) names.old.items ++ own_spreads_of selection.now) }
+{
+    match selection {
+        Selection::Field(field) => {
+            fields.push(entry_of_field(parent, field))?;
+            Ok(())
+        }
+        Selection::FragmentSpread(spread) => {
+            names.push(spread.item.name.item)?;
+            Ok(())
+        }
+        Selection::InlineFragment(inline) => {
+            let inside = type_inside_fragment(schema, parent, &inline.item.type_condition);
+            add_own_fields(
+                schema,
+                inside,
+                inline.item.selection_set.as_slice(),
+                fields,
+                names,
+            )
+        }
+    }
+}
+
+/// A field under the type of its set.
+pub fn entry_of_field<'a, S, C>(
+    parent: Option<&'a MetaTypeOf<S, C>>,
+    field: &'a Spanning<Field<'a, S>>,
+) -> Entry<'a, S, C>
+    ensures { plain result ≡ entry_under (option_copied parent.entry) field.now }
+{
+    let metadata = metadata_of_field(parent, field.item.name.item);
+    Entry {
+        parent,
+        field,
+        metadata,
+    }
+}
+
+fn metadata_of_field<'a, S, C>(
+    parent: Option<&'a MetaTypeOf<S, C>>,
+    name: &str,
+) -> Option<&'a FieldMeta<S>>
+    ensures { option_copied result ≡ metadata_under (option_copied parent.entry) name.now }
+{
+    parent?.field_by_name(name)
+}
+
+/// The type inside an inline fragment: that of its condition where it is known, else that round it.
+pub fn type_inside_fragment<'a, S, C>(
+    schema: &'a SchemaTypeOf<S, C>,
+    parent: Option<&'a MetaTypeOf<S, C>>,
+    condition: &Option<Spanning<&str>>,
+) -> Option<&'a MetaTypeOf<S, C>>
+    ensures { option_copied result ≡ type_inside schema.now (option_copied parent.entry) condition.now }
+{
+    match condition {
+        Some(name) => match schema.concrete_type_by_name(name.item) {
+            Some(meta) => Some(meta),
+            None => parent,
+        },
+        None => parent,
+    }
+}

@@ -1,0 +1,24 @@
+-- What a search asks of the fields of a document.
+use Rattle.std.specs.Prelude.{ℕ, List, map, Bool}
+use Rattle.std.specs.Option.{is_some}
+use Rattle.schema.specs.Catalog.{Catalog}
+use Rattle.merge_field_pairs.specs.Entries.{PlainEntry, plain}
+use Rattle.merge_field_pairs.specs.Alike.{AreAlikeAt}
+use Rattle.merge_field_pairs.specs.Numbered.{exclusive_at, direct_at}
+use Rattle.merge_search.specs.Judgement.{Judgement}
+use Rattle.merge_graph.specs.declared.judge.FieldJudge.{FieldJudge}
+
+module _ {S C : Type 0} where
+  -- of fields by number, under an equality of scalars: in conflict are those that have a reason by themselves
+  abbrev pub judgement_by : (S → S → Bool) → Catalog S C → List (PlainEntry S C) → Judgement
+  judgement_by E schema fields = record {
+    exclusive = λ e left right. exclusive_at fields e left right;
+    conflict = λ e left right. is_some (direct_at E schema fields e left right);
+  }
+
+  abbrev pub judgement_of : (S → S → Bool) → FieldJudge S C → Judgement
+  judgement_of E judge = judgement_by E judge.schema.now (map plain judge.fields.items)
+
+  -- one field, and another that is plainly like it
+  abbrev pub alike_of : FieldJudge S C → ℕ → ℕ → Type 0
+  alike_of judge one other = AreAlikeAt (map plain judge.fields.items) one other

@@ -1,0 +1,52 @@
+//! The judgement of a document's fields.
+ghost use Rattle.std.specs.Prelude.{◌≡◌, map};
+ghost use Rattle.merge_field_pairs.specs.Entries.{plain};
+ghost use Rattle.merge_field_pairs.specs.Numbered.{AreTidy};
+ghost use Rattle.merge_search.specs.Judgement.{Lawful};
+ghost use Rattle.merge_graph.specs.AlikeLaw.{alike_agree};
+ghost use Rattle.merge_graph.specs.Judging.{judgement_of, alike_of};
+
+use language::scalar::ScalarValue;
+use merge_field_pairs::entry::Entry;
+use merge_field_pairs::numbered::{are_alike_at, are_exclusive_at, direct_reason_at};
+use merge_search::judge::Judge;
+use schema::model::SchemaTypeOf;
+
+/// Fields by number, and the schema that they are judged under. Of a number past the last there is no conflict.
+#[derive(Drop)]
+pub struct FieldJudge<'a, S, C> {
+    pub schema: &'a SchemaTypeOf<S, C>,
+    pub fields: Vec<Entry<'a, S, C>>,
+}
+
+impl<'a, S: ScalarValue, C> Judge for FieldJudge<'a, S, C> {
+    ghost judgement = { judgement_of S.eq };
+
+    ghost are_alike = { alike_of };
+
+    ghost agree = { λ j. alike_agree S.eq j.schema.now (map plain j.fields.items) };
+
+    fn are_exclusive(&self, exclusive: bool, left: usize, right: usize) -> bool {
+        are_exclusive_at(self.fields.as_slice(), exclusive, left, right)
+    }
+
+    fn is_plainly_like(&self, one: usize, other: usize) -> bool {
+        are_alike_at(self.fields.as_slice(), one, other)
+    }
+
+    fn are_in_conflict(&self, exclusive: bool, left: usize, right: usize) -> bool {
+        direct_reason_at(self.schema, self.fields.as_slice(), exclusive, left, right).is_some()
+    }
+}
+
+/// The judge of some fields. Where none of them repeats an argument, nor a key in one, its judgement is lawful.
+pub fn judge_fields<'a, S: ScalarValue, C>(
+    schema: &'a SchemaTypeOf<S, C>,
+    fields: Vec<Entry<'a, S, C>>,
+) -> FieldJudge<'a, S, C>
+    ensures schema { result.schema.now ≡ schema.now }
+    ensures fields { result.fields ≡ fields.entry }
+    ensures lawful { AreTidy (map plain fields.entry.items) → Lawful (judgement_of S.eq result) }
+{
+    FieldJudge { schema, fields }
+}

@@ -1,5 +1,0 @@
-use Rattle.merge_laws.proofs.Agreeing
-use Rattle.merge_laws.proofs.laws.fields_occur.Goals as goal
-
-pub returns : goal.returns
-returns g c = Agreeing.fields_occur

@@ -1,0 +1,188 @@
+-- What follows once all sets were searched.
+use Rattle.std.proofs.Common.{◌≡◌, ◌==◌, ℕ, ◌+◌, ◌<◌, ◌≤◌, List, [], length, get_or, refl, sym, subst, ap, ◌∙◌, arith, Some, inl, inr, ◌⊎◌, false, true, slice_get, below_more}
+use Rattle.std.specs.List.{All, Contains}
+use Rattle.std.specs.Option.{option_map_or}
+use Rattle.std.proofs.lemmas.Option.{get_or_from_slice_get, slice_get_within, slice_get_past, slice_get-get_or}
+use Rattle.std.proofs.lemmas.Bool.{cases_order}
+use Rattle.std.proofs.lemmas.List.{get_or_default}
+use Rattle.std.proofs.lemmas.List.Elements.{All-contains}
+use Rattle.std.proofs.lemmas.Map.Views.{Contains-from_any}
+use Rattle.merge_search.specs.declared.node.Entry.{Entry}
+use Rattle.merge_search.specs.declared.state.Search.{Search}
+use Rattle.merge_search.specs.declared.state.Finding.{Finding}
+use Rattle.merge_search.specs.declared.state.Finding.TheVariants.{Direct}
+use Rattle.merge_search.specs.Judgement.{Lawful}
+use Rattle.merge_search.specs.Graph.{Falling, IsWhole}
+use Rattle.merge_search.specs.World.{World, own_of, spreads_of, set_of, conflict_of, Same}
+use Rattle.merge_search.specs.Opening.{Opens}
+use Rattle.merge_search.specs.Work.{pair_in, search_in, OwnPairs, Done, AllClosed, Grows, Did}
+use Rattle.merge_search.specs.Merging.{Stands, own, spread, Apart, own_own, own_spread, spread_own, two_spreads, one_spread, SetMerges, Merges, Top, OwnWritten}
+use Rattle.merge_search.specs.Reports.{Root, Judged, Real, AddsAll, AtOwn, AtPlaces, IsRoot}
+use Rattle.merge_search.specs.State.{Begins}
+use Rattle.merge_search.specs.Tops.{AtTop, AtWithin, AtWritten, AtListed}
+use Rattle.merge_search.proofs.Adding.{Upto, refuted, roots_of, no_root}
+use Rattle.merge_search.proofs.Laws.{clash, conflict_self, same_some}
+use Rattle.merge_search.proofs.Work.{grows_same, grows_then}
+use Rattle.merge_search.proofs.Core.{set_merges, ways, failing}
+
+place_of : {X : Type 0} (xs : List X) (x : X) (p : Contains xs x) → slice_get xs p.0 ≡ Some x
+place_of xs x p = slice_get-get_or xs p.0 x p.1 ∙ ap (λ y. Some y) p.2
+
+contains_at : {X : Type 0} (xs : List X) (k : ℕ) (x : X) → slice_get xs k ≡ Some x → Contains xs x
+contains_at xs k x p = (k, slice_get_within xs k x p, get_or_from_slice_get xs k x x p)
+
+apart_stands : {w : World} {s : ℕ} {a b : Entry} → Apart w s a b → Stands w s a × Stands w s b
+apart_stands {w} {s} {a} {b} (own_own {k = k} {l = l} p q ne) = (own (contains_at (own_of w s) k a p), own (contains_at (own_of w s) l b q))
+apart_stands (own_spread p v q) = (own p, spread v q)
+apart_stands (spread_own v p q) = (spread v p, own q)
+apart_stands {w} {s} (two_spreads {f = f} {g = g} {k = k} {l = l} v z ne p q) = (spread (contains_at (spreads_of w s) k f v) p, spread (contains_at (spreads_of w s) l g z) q)
+apart_stands (one_spread v p) = let h = apart_stands p in (spread v h.0, spread v h.1)
+
+-- where the roots lie
+pub places_within : (w : World) (s : ℕ) (r : Root) → AtWithin w s r → AtPlaces w s r
+places_within w s r h = (own_own h.0.3 h.0.4 (λ eq. omega (arith, h.0.2, eq)), h.1)
+
+pub places_written : (w : World) (s f : ℕ) → Contains (spreads_of w s) f → (r : Root) → AtWritten w s f r → AtPlaces w s r
+places_written w s f v r h = (own_spread h.0 v h.1, h.2)
+
+pub places_listed : (w : World) (s f : ℕ) (xs : List ℕ) → xs ≡ spreads_of w s → Contains xs f → (r : Root) → AtListed w f xs r → AtPlaces w s r
+places_listed w s f xs eq c r h = (
+  two_spreads (at c) (at h.1) (λ same. h.2.0 (same_some f h.0 (slice_get (spreads_of w s) c.0) (at c) (subst (λ k. slice_get (spreads_of w s) k ≡ Some h.0) (sym same) (at h.1)))) h.2.1 h.2.2,
+  h.2.3,
+)
+  where
+    at : {x : ℕ} (p : Contains xs x) → slice_get (spreads_of w s) p.0 ≡ Some x
+    at {x} p = subst (λ ys. slice_get ys p.0 ≡ Some x) eq (place_of xs x p)
+
+pub no_own : (w : World) (s : ℕ) → length w.sets ≤ s → length (own_of w s) ≡ 0
+no_own w s le = ap (λ o. length (option_map_or (λ n. n.own.items) o [])) (slice_get_past w.sets s le)
+
+no_spreads : (w : World) (s : ℕ) → length w.sets ≤ s → length (spreads_of w s) ≡ 0
+no_spreads w s le = ap (λ o. length (option_map_or (λ n. n.spreads.items) o [])) (slice_get_past w.sets s le)
+
+past_end : (w : World) (M : Search) (s : ℕ) → length w.sets ≤ s → Top w M s
+past_end w M s le = (
+  λ k l a b lt p q same. absurd (omega (arith, slice_get_within (own_of w s) k a p, no_own w s le)),
+  λ k d lt. absurd (omega (arith, lt, no_spreads w s le)),
+  λ k l f g lt p q. absurd (omega (arith, slice_get_within (spreads_of w s) k f p, no_spreads w s le)),
+)
+
+lt_or_le : (s n : ℕ) → (s < n) ⊎ (n ≤ s)
+lt_or_le s n = elim (cases_order s n) [ inl eq ↦ inr (omega (arith, eq)) | inr o ↦ elim o [ inl l ↦ inl l | inr g ↦ inr (omega (arith, g)) ] ]
+
+eq_from : (m n : ℕ) → (m == n) ≡ true → m ≡ n
+eq_from m n h = grind arith
+
+in_order : (w : World) (order : List ℕ) → IsWhole w.sets order → (s : ℕ) → s < length w.sets → Contains order s
+in_order w order whole s lt = Contains-from_any {eq = λ x y. x == y} eq_from s order (whole s lt)
+
+at_order : (order : List ℕ) (n : ℕ) (P : ℕ → Type 0) → length order ≤ n → ((i : ℕ) → i < n → P (get_or order i 0)) → (s : ℕ) → Contains order s → P s
+at_order order n P le h s c = subst P (get_or_default order c.0 0 s c.1 ∙ c.2) (h c.0 (omega (arith, c.1, le)))
+
+pub all_tops : (w : World) (M : Search) (order : List ℕ) (n : ℕ) → IsWhole w.sets order → length order ≤ n → ((i : ℕ) → i < n → Top w M (get_or order i 0)) → (s : ℕ) → Top w M s
+all_tops w M order n whole le h s = elim (lt_or_le s (length w.sets)) [
+  | inl l ↦ at_order order n (λ t. Top w M t) le h s (in_order w order whole s l)
+  | inr g ↦ past_end w M s g
+]
+
+nothing_in : {X : Type 0} (xs : List X) (x : X) → xs ≡ [] → Contains xs x → ⊥
+nothing_in xs x eq c = omega (arith, c.1, ap length eq)
+
+refuses_all : (w : World) (laws : Lawful w.judgement) (found : List Finding) → Real w found → 0 < length found → ((s : ℕ) → SetMerges w s) → ⊥
+refuses_all w laws found d l all =
+    let long : 0 < length d.more = subst (λ (z : List Finding). 0 < length z) d.grown l in
+    let some = roots_of d.shown long in
+    let at = d.placed 0 no_root some in
+    (refuted w laws d.shown) 0 no_root some (all at.0 (get_or d.roots 0 no_root).left (get_or d.roots 0 no_root).right at.1.0 at.1.1)
+
+-- Each pair that a set asks for at the top is a root.
+abbrev pub TopsTold : World → List ℕ → List Root → Type 0
+TopsTold w order roots = (s : ℕ) → Contains order s → (r : Root) → AtTop w s r → conflict_of w false r.left r.right ≡ true → Contains roots r
+
+module _ (w : World) (laws : Lawful w.judgement) (order : List ℕ) (whole : IsWhole w.sets order) (roots : List Root) (told : TopsTold w order roots) where
+  own_root : (s : ℕ) → Contains order s → (a b : Entry) → Contains (own_of w s) a → Contains (own_of w s) b → Same a b → conflict_of w false a b ≡ true → IsRoot roots a b
+  own_root s c a b p q same fails = elim (cases_order p.0 q.0) [
+    | inl eq ↦
+        let is : a ≡ b = same_some a b (slice_get (own_of w s) p.0) (place_of (own_of w s) a p) (subst (λ k. slice_get (own_of w s) k ≡ Some b) (sym eq) (place_of (own_of w s) b q)) in
+        absurd (clash (conflict_of w false a b) fails (subst (λ y. conflict_of w false a y ≡ false) is (conflict_self w laws false a)))
+    | inr o ↦ elim o [
+      | inl l ↦ inl (told s c (record { left = a; right = b }) (inl ((p.0, q.0, l, place_of (own_of w s) a p, place_of (own_of w s) b q), same)) fails)
+      | inr l ↦ inr (told s c (record { left = b; right = a }) (inl ((q.0, p.0, l, place_of (own_of w s) b q, place_of (own_of w s) a p), sym same)) (laws.conflict_flip false a.field b.field ∙ fails))
+    ]
+  ]
+
+  root_in : (s : ℕ) → Contains order s → (a b : Entry) → Contains (own_of w s) a → Stands w s b → Same a b → conflict_of w false a b ≡ true → IsRoot roots a b
+  root_in s c a b p (own q) same fails = own_root s c a b p q same fails
+  root_in s c a b p (spread {f = f} v q) same fails = inl (told s c (record { left = a; right = b }) (inr (f, v, (p, q, same))) fails)
+
+  pub top_root : (s : ℕ) (a b : Entry) → Contains (own_of w s) a → Stands w s b → Same a b → conflict_of w false a b ≡ true → IsRoot roots a b
+  top_root s a b p q same fails = elim (lt_or_le s (length w.sets)) [
+    | inl l ↦ root_in s (in_order w order whole s l) a b p q same fails
+    | inr g ↦ absurd (omega (arith, p.1, no_own w s g))
+  ]
+
+all_of_merged : (w : World) → ((s : ℕ) (a b : Entry) → Stands w s a → Stands w s b → Same a b → Merges w false a b) → (s : ℕ) → SetMerges w s
+all_of_merged w h s a b apart same = let at = apart_stands apart in h s a b at.0 at.1 same
+
+judged : (w : World) (M : Search) (order : List ℕ) → Falling w.sets w.fragments → IsWhole w.sets order → AllClosed w M M → ((s : ℕ) → Top w M s)
+    → (real : Real w M.found.items) → TopsTold w order real.roots → Judged w M.found.items
+judged w M order falling whole closed top real told = record {
+  real = real;
+  complete = λ laws.
+      let quiet : M.found.items ≡ [] → (s : ℕ) (a b : Entry) → Stands w s a → Stands w s b → Same a b → Merges w false a b =
+      λ none s a b p q same. set_merges w M falling closed top laws (λ c d e r. nothing_in M.found.items (Direct c d e) none r) p q same in
+      record {
+        exact = quiet;
+        merges = λ none. all_of_merged w (quiet none);
+        refuses = refuses_all w laws M.found.items real;
+        ways = λ s a b p q same v. ways w M falling closed top laws p q same v;
+        failing = λ s a b p q same h. failing w M falling closed top laws p q same h;
+        at_the_top = top_root w laws order whole real.roots told;
+      };
+}
+
+-- The first k sets of the order were searched, and all that was recorded is followed up.
+abbrev pub TopsDone : World → List ℕ → ℕ → Search → Type 0
+TopsDone w order k s = (M : Search) → Grows s M → AllClosed w M s × ((i : ℕ) → i < k → Top w M (get_or order i 0))
+
+pub next_tops : (w : World) (order : List ℕ) (k : ℕ) {s t : Search} → TopsDone w order k s → Did w (λ M. Top w M (get_or order k 0)) s t → TopsDone w order (k + 1) t
+next_tops w order k had d M g =
+    let before = had M (grows_then d.grows g) in
+    (d.closes M g before.0, below_more (λ i. Top w M (get_or order i 0)) k before.1 (d.holds M g))
+
+pub no_tops : (w : World) (order : List ℕ) (s : Search) → Begins s → TopsDone w order 0 s
+no_tops w order s b M g = (
+  record {
+    pairs_closed = λ x f h z. absurd (clash (pair_in s x f h) z (b.pairs x f h));
+    searches_closed = λ x i h z. absurd (clash (search_in s x i h) z (b.searched x i h));
+  },
+  λ i l. absurd (omega (arith, l)),
+)
+
+pub judged_at : (w : World) (M : Search) (order items : List ℕ) (n : ℕ) → items ≡ order → length items ≤ n → Falling w.sets w.fragments → IsWhole w.sets order
+    → TopsDone w items n M → AddsAll w false (λ r. (s : ℕ) × AtPlaces w s r) (Upto items n 0 (λ s. AtTop w s)) [] M.found.items → Judged w M.found.items
+judged_at w M order items n eq le falling whole had real =
+    let all : IsWhole w.sets items = subst (λ zs. IsWhole w.sets zs) (sym eq) whole in
+    let end = had M (grows_same M) in
+    judged w M items falling all end.0 (all_tops w M items n all le end.1) real.adds
+    (λ s c r at fails. real.tells r (c.0, omega (arith, c.1, le), subst (λ t. AtTop w t r) (sym (get_or_default items c.0 0 s c.1 ∙ c.2)) at) fails)
+
+-- all of a fragment, from the own fields of those that a search opens
+own_in : (w : World) (M : Search) (s t g : ℕ) (hs : List ℕ) → t ≡ set_of w g → ((h k : ℕ) → Contains hs h → Contains (spreads_of w (set_of w h)) k → Contains hs k)
+    → All (λ h. OwnPairs w M false s (set_of w h)) hs → Contains hs g → (a b : Entry) → Contains (own_of w s) a → Stands w t b → Same a b → Done w M false a b
+own_in w M s t g hs is followed all c a b p (own q) same =
+    All-contains (λ h. OwnPairs w M false s (set_of w h)) hs g all c a b p (subst (λ u. Contains (own_of w u) b) is q) same
+own_in w M s t g hs is followed all c a b p (spread {f = h} v q) same =
+    own_in w M s (set_of w h) h hs refl followed all (followed g h c (subst (λ u. Contains (spreads_of w u) h) is v)) a b p q same
+
+pub own_written : (w : World) (M : Search) (s g : ℕ) (hs : List ℕ) → Opens w g hs → All (λ h. OwnPairs w M false s (set_of w h)) hs → OwnWritten w M s g
+own_written w M s g hs o all a b p q same = own_in w M s (set_of w g) g hs refl o.followed all o.first a b p q same
+
+-- what stands in a fragment is an own field of one that a search opens
+tell_in : (w : World) (t g : ℕ) (hs : List ℕ) → t ≡ set_of w g → ((h k : ℕ) → Contains hs h → Contains (spreads_of w (set_of w h)) k → Contains hs k)
+    → Contains hs g → (b : Entry) → Stands w t b → (h : ℕ) × Contains hs h × Contains (own_of w (set_of w h)) b
+tell_in w t g hs is followed c b (own q) = (g, c, subst (λ u. Contains (own_of w u) b) is q)
+tell_in w t g hs is followed c b (spread {f = h} v q) = tell_in w (set_of w h) h hs refl followed (followed g h c (subst (λ u. Contains (spreads_of w u) h) is v)) b q
+
+pub tell_written : (w : World) (s g : ℕ) (hs : List ℕ) → Opens w g hs → (r : Root) → AtWritten w s g r → (h : ℕ) × Contains hs h × AtOwn w s (set_of w h) r
+tell_written w s g hs o r at = let z = tell_in w (set_of w g) g hs refl o.followed o.first r.right at.1 in (z.0, z.1, (at.0, z.2, at.2))

@@ -1,0 +1,142 @@
+-- How fields are found by their response names.
+use Rattle.std.proofs.Common.{◌≡◌, ◌==◌, ℕ, ◌+◌, ◌-◌, ◌<◌, ◌≤◌, List, [], ◌∷◌, ◌++◌, length, take, drop, get_or, refl, sym, subst, ap, ◌∙◌, arith, Bool, true, false, cond, not, ◌&&◌, ltb, leb, ltb-true, ltb-false, leb-true, leb-false, None, Some, append-nil}
+use Rattle.std.specs.Bool.{OnTrue}
+use Rattle.std.specs.List.{All, Contains, IsAllAdjacentAnswer, filter, list_any, slice_get}
+use Rattle.std.specs.List.Sorted.{IsStableByKey, ties, IsPartitionPoint}
+use Rattle.std.specs.Option.{option_map_or}
+use Rattle.std.specs.Ordering.{is_lt, nat_cmp}
+use Rattle.std.proofs.lemmas.Bool.Decides.{nat_tests}
+use Rattle.std.proofs.lemmas.Bool.{or_left, or_right}
+use Rattle.std.proofs.lemmas.Option.{slice_get-get_or}
+use Rattle.std.proofs.lemmas.List.{take_all, take_rest, length-take, length-drop, get_or-take, get_or-drop, take-append-drop}
+use Rattle.std.proofs.lemmas.List.Folds.{list_any-append, list_any_at}
+use Rattle.std.proofs.lemmas.List.Sorted.{IsNonDecreasingBy-from_all_adjacent}
+use Rattle.std.proofs.lemmas.List.Elements.{filter_agree, filter-append, All-head, All-tail, All-more, All-weaker, All-contains, Contains-get_or}
+use Rattle.merge_search.specs.declared.node.Entry.{Entry}
+use Rattle.merge_search.specs.Names.{named, AreListed, AreSorted, HaveSameGroups, is_first}
+use Rattle.merge_search.proofs.Rows.{named_own, named_is, named_in}
+use Rattle.merge_search.proofs.Work.{no_entry}
+
+tied_is : (m n : ℕ) → (not (is_lt (nat_cmp m n)) && not (is_lt (nat_cmp n m))) ≡ (n == m)
+tied_is m n = grind (arith, nat_tests)
+
+-- a stable sort keeps the groups
+pub stays_grouped : (xs ys : List Entry) → IsStableByKey (λ (a : Entry). a.response) nat_cmp xs ys → HaveSameGroups ys xs
+stays_grouped xs ys h n =
+    let x : Entry = record { response = n; field = 0; below = None } in
+    let test : Entry → Bool = ties (λ (a b : Entry). is_lt (nat_cmp a.response b.response)) x in
+    let same : (zs : List Entry) → filter test zs ≡ named n zs = filter_agree test (λ a. a.response == n) (λ a. tied_is n a.response) in
+    sym (same ys) ∙ (h x ∙ same xs)
+
+module _ (test : Entry → Bool) where
+  all_kept : (xs : List Entry) → All (λ a. test a ≡ true) xs → filter test xs ≡ xs
+  all_kept [] h = refl
+  all_kept (x ∷ xs) h =
+      subst (λ b. cond b (x ∷ filter test xs) (filter test xs) ≡ x ∷ xs) (sym (All-head (λ a. test a ≡ true) x xs h))
+      (ap (λ (l : List Entry). x ∷ l) (all_kept xs (All-tail (λ a. test a ≡ true) x xs h)))
+
+  none_kept : (xs : List Entry) → All (λ a. test a ≡ false) xs → filter test xs ≡ []
+  none_kept [] h = refl
+  none_kept (x ∷ xs) h =
+      subst (λ b. cond b (x ∷ filter test xs) (filter test xs) ≡ []) (sym (All-head (λ a. test a ≡ false) x xs h))
+      (none_kept xs (All-tail (λ a. test a ≡ false) x xs h))
+
+  -- the rest begins with what is kept, and nothing else is
+  begins_kept : (j : ℕ) (xs : List Entry) → All (λ a. test a ≡ true) (take j xs) → All (λ a. test a ≡ false) (drop j xs) → filter test xs ≡ take j xs
+  begins_kept j xs inside after =
+      ap (filter test) (sym (take-append-drop j xs)) ∙ (filter-append test (take j xs) (drop j xs)
+      ∙ (ap (λ (l : List Entry). filter test (take j xs) ++ l) (none_kept (drop j xs) after)
+      ∙ (append-nil (filter test (take j xs)) ∙ all_kept (take j xs) inside)))
+
+  ends_kept : (i : ℕ) (xs : List Entry) → All (λ a. test a ≡ false) (take i xs) → filter test xs ≡ filter test (drop i xs)
+  ends_kept i xs before =
+      ap (filter test) (sym (take-append-drop i xs)) ∙ (filter-append test (take i xs) (drop i xs)
+      ∙ ap (λ (l : List Entry). l ++ filter test (drop i xs)) (none_kept (take i xs) before))
+
+below_not : (m n : ℕ) → ltb m n ≡ true → (m == n) ≡ false
+below_not m n h = let l = ltb-true m n h in grind (arith, nat_tests)
+
+above_not : (m n : ℕ) → leb m n ≡ false → (m == n) ≡ false
+above_not m n h = let l = leb-false m n h in grind (arith, nat_tests)
+
+between_is : (m n : ℕ) → ltb m n ≡ false → leb m n ≡ true → (m == n) ≡ true
+between_is m n g h = let l = ltb-false m n g in let k = leb-true m n h in grind (arith, nat_tests)
+
+module _ (n i j : ℕ) (xs : List Entry) (start : IsPartitionPoint (λ (a : Entry). ltb a.response n ≡ true) (λ a. ltb a.response n ≡ false) xs i) where
+  run_in : IsPartitionPoint (λ (a : Entry). leb a.response n ≡ true) (λ a. leb a.response n ≡ false) (drop i xs) j → named n xs ≡ take j (drop i xs)
+  run_in end = ends_kept (λ a. a.response == n) i xs before ∙ begins_kept (λ a. a.response == n) j (drop i xs) inside after
+    where
+      before : All (λ (a : Entry). (a.response == n) ≡ false) (take i xs)
+      before k d l =
+          let long = length-take i xs in
+          let p : k < i = omega arith in
+          subst (λ (a : Entry). (a.response == n) ≡ false) (sym (get_or-take i xs k d p)) (below_not (get_or xs k d).response n (start.0 k d (omega arith) p))
+
+      inside : All (λ (a : Entry). (a.response == n) ≡ true) (take j (drop i xs))
+      inside k d l =
+          let long = length-take j (drop i xs) in
+          let rest = length-drop i xs in
+          let p : k < j = omega arith in
+          let same = get_or-drop i xs k d in
+          let high = subst (λ (a : Entry). ltb a.response n ≡ false) (sym same) (start.1 (i + k) d (omega arith) (omega arith)) in
+          subst (λ (a : Entry). (a.response == n) ≡ true) (sym (get_or-take j (drop i xs) k d p)) (between_is (get_or (drop i xs) k d).response n high (end.0 k d (omega arith) p))
+
+      after : All (λ (a : Entry). (a.response == n) ≡ false) (drop j (drop i xs))
+      after k d l =
+          let rest = length-drop j (drop i xs) in
+          subst (λ (a : Entry). (a.response == n) ≡ false) (sym (get_or-drop j (drop i xs) k d))
+          (above_not (get_or (drop i xs) (j + k) d).response n (end.1 (j + k) d (omega arith) (omega arith)))
+
+  -- the fields of a name stand from the first that is not below it up to the first above it
+  pub run_named : IsPartitionPoint (λ (a : Entry). leb a.response n ≡ true) (λ a. leb a.response n ≡ false) (take (length xs - i) (drop i xs)) j
+      → take j (take (length xs - i) (drop i xs)) ≡ named n xs
+  run_named end =
+      ap (take j) (take_rest xs i)
+      ∙ sym (run_in (subst (λ (l : List Entry). IsPartitionPoint (λ (a : Entry). leb a.response n ≡ true) (λ a. leb a.response n ≡ false) l j) (take_rest xs i) end))
+
+-- each field that is the first of its name has one of its name listed
+abbrev pub AreFirstListed : List Entry → List Entry → List Entry → Type 0
+AreFirstListed by_name firsts own = All (λ a. is_first by_name a ≡ true → list_any (λ f. a.response == f.response) firsts ≡ true) own
+
+eq_self : (m : ℕ) → (m == m) ≡ true
+eq_self m = grind arith
+
+module _ (by_name : List Entry) where
+  first_is : (b : Entry) (n : ℕ) → b.response ≡ n → slice_get (named n by_name) 0 ≡ Some b → is_first by_name b ≡ true
+  first_is b n same h =
+      ap (λ o. option_map_or (λ (a : Entry). a.field == b.field) o false) (subst (λ m. slice_get (named m by_name) 0 ≡ Some b) (sym same) h) ∙ eq_self b.field
+
+  module _ (own : List Entry) (k : ℕ) (inside : k < length own) (firsts : List Entry) (had : AreFirstListed by_name firsts (take k own)) where
+    pub first_passed : is_first by_name (get_or own k no_entry) ≡ false → AreFirstListed by_name firsts (take (k + 1) own)
+    first_passed other =
+        All-more (λ a. is_first by_name a ≡ true → list_any (λ f. a.response == f.response) firsts ≡ true) own k no_entry inside had (λ yes. cc)
+
+    pub first_listed : AreFirstListed by_name (firsts ++ get_or own k no_entry ∷ []) (take (k + 1) own)
+    first_listed =
+        let x : Entry = get_or own k no_entry in
+        All-more (λ a. is_first by_name a ≡ true → list_any (λ f. a.response == f.response) (firsts ++ x ∷ []) ≡ true) own k no_entry inside
+        (All-weaker (λ a. is_first by_name a ≡ true → list_any (λ f. a.response == f.response) firsts ≡ true) (λ a. is_first by_name a ≡ true → list_any (λ f. a.response == f.response) (firsts ++ x ∷ []) ≡ true)
+        (λ a h yes. list_any-append (λ f. a.response == f.response) firsts (x ∷ []) ∙ or_left (list_any (λ f. a.response == f.response) firsts) (list_any (λ f. a.response == f.response) (x ∷ [])) (h yes)) (take k own) had)
+        (λ yes. list_any-append (λ f. x.response == f.response) firsts (x ∷ []) ∙ or_right (list_any (λ f. x.response == f.response) firsts) (list_any (λ f. x.response == f.response) (x ∷ [])) (or_left (x.response == x.response) false (eq_self x.response)))
+
+  pub all_listed : (own : List Entry) (k : ℕ) (firsts : List Entry) → length own ≤ k → HaveSameGroups by_name own → AreFirstListed by_name firsts (take k own) → AreListed firsts own
+  all_listed own k firsts all grouped had i d l =
+      let a : Entry = get_or own i d in
+      let m : ℕ = a.response in
+      let group : List Entry = named m by_name in
+      let there : Contains group a = subst (λ xs. Contains xs a) (sym (grouped m)) (named_in m own a (Contains-get_or own i d l) refl) in
+      let some : 0 < length group = omega (arith, there.1) in
+      let b : Entry = get_or group 0 a in
+      let of_own : Contains (named m own) b = subst (λ xs. Contains xs b) (grouped m) (Contains-get_or group 0 a some) in
+      let same : b.response ≡ m = named_is m own b of_own in
+      subst (λ (r : ℕ). list_any (λ f. r == f.response) firsts ≡ true) same
+      (All-contains (λ x. is_first by_name x ≡ true → list_any (λ f. x.response == f.response) firsts ≡ true) own b (subst (AreFirstListed by_name firsts) (take_all k own all) had)
+      (named_own m own b of_own) (first_is b m same (slice_get-get_or group 0 a some)))
+
+-- where the response names rise the own fields serve
+pub rising_sorted : (xs : List Entry) (r : Bool) → IsAllAdjacentAnswer (λ (x : Entry) y b. b ≡ ltb x.response y.response) xs r → OnTrue r (AreSorted xs)
+rising_sorted xs true h = IsNonDecreasingBy-from_all_adjacent (λ (a : Entry). a.response) xs (λ k d l. let below = ltb-true (get_or xs k d).response (get_or xs (k + 1) d).response (sym (h k d l)) in omega arith)
+rising_sorted xs false h = tt
+
+pub listed_itself : (own : List Entry) → AreListed own own
+listed_itself own k d l = list_any_at (λ f. (get_or own k d).response == f.response) own k d l (eq_self (get_or own k d).response)

@@ -1,0 +1,253 @@
+-- How pieces of work join.
+use Rattle.std.proofs.Common.{◌≡◌, ℕ, ◌+◌, ◌*◌, ◌<◌, ◌≤◌, List, [], ◌∷◌, length, take, get_or, refl, sym, subst, arith, Bool, true, false, None, inl, inr, ◌⊎◌, min, max, ◌||◌, ◌&&◌, below_more}
+use Rattle.std.specs.List.{All, Contains}
+use Rattle.std.proofs.lemmas.List.{take_all, length-take}
+use Rattle.std.proofs.lemmas.List.Elements.{All-more, Contains-push, Contains-append_left}
+use Rattle.merge_search.specs.declared.node.Entry.{Entry}
+use Rattle.merge_search.specs.declared.state.Search.{Search}
+use Rattle.merge_search.specs.declared.state.Finding.{Finding}
+use Rattle.merge_search.specs.World.{World, spreads_of, set_of}
+use Rattle.merge_search.specs.Log.{in_log, covers_of, Covers}
+use Rattle.merge_search.specs.Work.{pair_in, search_in, Searched, Pair, OwnPairs, ClosedSearch, ClosedPair, Grows, Did, Owes}
+use Rattle.merge_search.specs.Plain.{IsPlain, IsOnePlain}
+use Rattle.merge_search.specs.State.{NotesBelow, NotesPair, NotesSearch, Reports, CountsList, Keeps}
+use Rattle.std.proofs.lemmas.Bool.{cases_lt}
+use Rattle.merge_search.proofs.Tallying.{tally_same, tally_pair, tally_list}
+use Rattle.merge_search.proofs.TallyingBelow.{tally_below}
+
+abbrev pub no_entry : Entry
+no_entry = record { response = 0; field = 0; below = None }
+
+pub grows_same : (s : Search) → Grows s s
+grows_same s = record { more_pairs = λ x f g h. h; more_searched = λ x i g h. h; more_found = λ y h. h }
+
+pub grows_then : {a b c : Search} → Grows a b → Grows b c → Grows a c
+grows_then g h = record {
+  more_pairs = λ x i j z. h.more_pairs x i j (g.more_pairs x i j z);
+  more_searched = λ x i j z. h.more_searched x i j (g.more_searched x i j z);
+  more_found = λ y z. h.more_found y (g.more_found y z);
+}
+
+pair_from : (s t : Search) → t.pairs ≡ s.pairs → (x : Bool) (f g : ℕ) → pair_in s x f g ≡ true → pair_in t x f g ≡ true
+pair_from s t ps x f g h = subst (λ l. in_log l x (max f g) (min f g) ≡ true) (sym ps) h
+
+pair_back : (s t : Search) → t.pairs ≡ s.pairs → (x : Bool) (f g : ℕ) → pair_in t x f g ≡ true → pair_in s x f g ≡ true
+pair_back s t ps x f g h = subst (λ l. in_log l x (max f g) (min f g) ≡ true) ps h
+
+search_from : (s t : Search) → t.searched ≡ s.searched → (x : Bool) (i g : ℕ) → search_in s x i g ≡ true → search_in t x i g ≡ true
+search_from s t ps x i g h = subst (λ l. in_log l x i g ≡ true) (sym ps) h
+
+search_back : (s t : Search) → t.searched ≡ s.searched → (x : Bool) (i g : ℕ) → search_in t x i g ≡ true → search_in s x i g ≡ true
+search_back s t ps x i g h = subst (λ l. in_log l x i g ≡ true) ps h
+
+pub covers_yes : (asked : Bool → ℕ → ℕ → Bool) (e : Bool) (f g : ℕ) → covers_of asked e f g ≡ true → Covers asked e f g
+covers_yes asked e f g h = covered e (asked false f g) (asked true f g) h (λ z. (false, inr refl, z)) (λ is z. (true, inl (sym is), z))
+  where
+    covered : (e a b : Bool) → (a || (e && b)) ≡ true → {X : Type 0} → (a ≡ true → X) → (e ≡ true → b ≡ true → X) → X
+    covered e true b h p q = p refl
+    covered true false true h p q = q refl refl
+    covered true false false h p q = cc
+    covered false false b h p q = cc
+
+clash_left : (a b : Bool) → (a || b) ≡ false → a ≡ true → ⊥
+clash_left true b h z = cc
+clash_left false b h z = cc
+
+clash_right : (a b : Bool) → (a || b) ≡ false → b ≡ true → ⊥
+clash_right true b h z = cc
+clash_right false true h z = cc
+clash_right false false h z = cc
+
+pub covers_no : (asked : Bool → ℕ → ℕ → Bool) (e : Bool) (f g : ℕ) → covers_of asked e f g ≡ false → asked e f g ≡ true → ⊥
+covers_no asked true f g h z = clash_right (asked false f g) (asked true f g) h z
+covers_no asked false f g h z = clash_left (asked false f g) false h z
+
+module _ (w : World) where
+  pub did_none : (P : Search → Type 0) (s : Search) → ((M : Search) → Grows s M → P M) → Did w P s s
+  did_none P s f = record { grows = grows_same s; holds = f; closes = λ M g c. c; keeps = λ h. h }
+
+  pub did_start : {A : Type 0} (P : A → Search → Type 0) (xs : List A) (s : Search) → Did w (λ M. All (λ x. P x M) (take 0 xs)) s s
+  did_start P xs s = did_none _ s (λ M g i d l. absurd (omega (arith, length-take 0 xs, l)))
+
+  pub did_then : (P Q : Search → Type 0) {s t u : Search} → Did w P s t → Did w Q t u → Did w (λ M. P M × Q M) s u
+  did_then P Q d e = record {
+    grows = grows_then d.grows e.grows;
+    holds = λ M g. (d.holds M (grows_then e.grows g), e.holds M g);
+    closes = λ M g c. e.closes M g (d.closes M (grows_then e.grows g) c);
+    keeps = λ h. e.keeps (d.keeps h);
+  }
+
+  pub did_map : (P Q : Search → Type 0) {s t : Search} → ((M : Search) → P M → Q M) → Did w P s t → Did w Q s t
+  did_map P Q f d = record { grows = d.grows; holds = λ M g. f M (d.holds M g); closes = d.closes; keeps = d.keeps }
+
+  pub did_more : {A : Type 0} (P : A → Search → Type 0) (xs : List A) (k : ℕ) (d : A) {s t u : Search} → k < length xs
+      → Did w (λ M. All (λ x. P x M) (take k xs)) s t → Did w (P (get_or xs k d)) t u
+      → Did w (λ M. All (λ x. P x M) (take (k + 1) xs)) s u
+  did_more P xs k d l v z = did_map _ _ (λ M h. All-more (λ x. P x M) xs k d l h.0 h.1) (did_then _ _ v z)
+
+  pub did_all : {A : Type 0} (P : A → Search → Type 0) (xs ys : List A) (k : ℕ) {s t : Search} → length xs ≤ k → xs ≡ ys
+      → Did w (λ M. All (λ x. P x M) (take k xs)) s t → Did w (λ M. All (λ x. P x M) ys) s t
+  did_all P xs ys k l eq d = did_map _ _ (λ M h. subst (λ zs. All (λ x. P x M) zs) eq (subst (λ zs. All (λ x. P x M) zs) (take_all k xs l) h)) d
+
+  -- a list of searches is counted
+  pub did_list : {n : ℕ} {s t : Search} → CountsList n s t → n ≤ length w.fragments → 0 < length w.fragments → Did w (λ M. Unit {0}) s t
+  did_list {n} {s} {t} d le pos = record {
+    grows = record {
+      more_pairs = pair_from s t d.pairs;
+      more_searched = search_from s t d.searched;
+      more_found = λ y h. subst (λ zs. Contains zs y) (sym d.found) h;
+    };
+    holds = λ M g. tt;
+    closes = λ M g c. record {
+      pairs_closed = λ x f h z. c.pairs_closed x f h (pair_back s t d.pairs x f h z);
+      searches_closed = λ x i h z. c.searches_closed x i h (search_back s t d.searched x i h z);
+    };
+    keeps = tally_list d le pos;
+  }
+
+  closed_search : (M : Search) (e x : Bool) (i g j h : ℕ) → (x ≡ e) × (j ≡ i) × (h ≡ g) → ClosedSearch w M e i g → ClosedSearch w M x j h
+  closed_search M e x i g j h is z = subst (λ (y : Bool). ClosedSearch w M y j h) (sym is.0)
+      (subst (λ (k : ℕ). ClosedSearch w M e k h) (sym is.1) (subst (λ (k : ℕ). ClosedSearch w M e i k) (sym is.2) z))
+
+  -- a fragment that was recorded first, and compared; its spreads are owed
+  pub owes_search : (e : Bool) (i g : ℕ) {s t u : Search} → NotesSearch i g e s t → Did w (λ M. OwnPairs w M e i (set_of w g)) t u
+      → Owes w (λ M. All (λ h. Searched M e i h) (spreads_of w (set_of w g))) (λ M. Searched M e i g) s u
+  owes_search e i g {s} {t} {u} n d =
+      let up : Grows s t = record { more_pairs = pair_from s t n.pairs; more_searched = n.notes.kept; more_found = λ y h. subst (λ zs. Contains zs y) (sym n.found) h } in
+      record {
+        keeps = λ h. d.keeps (tally_same n.pairs n.compared (λ o. subst (λ (k : ℕ). k ≤ length w.fragments * t.lists) (sym n.opened) (subst (λ (k : ℕ). s.opened ≤ length w.fragments * k) (sym n.lists) o)) h);
+        grows = grows_then up d.grows;
+        holds = λ M k. (e, inl refl, k.more_searched e i g (d.grows.more_searched e i g n.notes.noted));
+        closes = λ M k owed c. d.closes M k record {
+          pairs_closed = λ x f h z. c.pairs_closed x f h (pair_back s t n.pairs x f h z);
+          searches_closed = λ x j h z. elim (n.notes.only x j h z) [ inl old ↦ c.searches_closed x j h old | inr is ↦ closed_search M e x i g j h is (d.holds M k, owed) ];
+        };
+      }
+
+  pub owes_none : (O P : Search → Type 0) (s : Search) → ((M : Search) → Grows s M → P M) → Owes w O P s s
+  owes_none O P s f = record { grows = grows_same s; holds = f; closes = λ M g o c. c; keeps = λ h. h }
+
+  pub owes_start : {A : Type 0} (O : Search → Type 0) (P : A → Search → Type 0) (xs : List A) {s t : Search} → Did w (λ M. Unit {0}) s t
+      → Owes w O (λ M. All (λ x. P x M) (take 0 xs)) s t
+  owes_start O P xs d = record { grows = d.grows; holds = λ M g i e l. absurd (omega (arith, length-take 0 xs, l)); closes = λ M g o c. d.closes M g c; keeps = d.keeps }
+
+  pub owes_more : {A : Type 0} (O Q : Search → Type 0) (P : A → Search → Type 0) (xs : List A) (k : ℕ) (d : A) {s t u : Search} → k < length xs
+      → ((M : Search) → O M → Q M)
+      → Owes w O (λ M. All (λ x. P x M) (take k xs)) s t → Owes w Q (P (get_or xs k d)) t u
+      → Owes w O (λ M. All (λ x. P x M) (take (k + 1) xs)) s u
+  owes_more O Q P xs k d l f v z = record {
+    grows = grows_then v.grows z.grows;
+    holds = λ M g. All-more (λ x. P x M) xs k d l (v.holds M (grows_then z.grows g)) (z.holds M g);
+    closes = λ M g o c. z.closes M g (f M o) (v.closes M (grows_then z.grows g) o c);
+    keeps = λ h. z.keeps (v.keeps h);
+  }
+
+  closed_pair : (M : Search) (e x : Bool) (f g i j : ℕ) → (x ≡ e) × (((i ≡ f) × (j ≡ g)) ⊎ ((i ≡ g) × (j ≡ f))) → ClosedPair w M e f g → ClosedPair w M x i j ⊎ ClosedPair w M x j i
+  closed_pair M e x f g i j (is, inl p) z = inl (subst (λ (y : Bool). ClosedPair w M y i j) (sym is)
+      (subst (λ (k : ℕ). ClosedPair w M e k j) (sym p.0) (subst (λ (k : ℕ). ClosedPair w M e f k) (sym p.1) z)))
+  closed_pair M e x f g i j (is, inr p) z = inr (subst (λ (y : Bool). ClosedPair w M y j i) (sym is)
+      (subst (λ (k : ℕ). ClosedPair w M e k i) (sym p.1) (subst (λ (k : ℕ). ClosedPair w M e f k) (sym p.0) z)))
+
+  -- a pair of fragments that was recorded first, and followed up
+  pub did_fragments : (e : Bool) (f g : ℕ) {s t u : Search} → NotesPair f g e s t → (f ≡ g → ⊥) → f < length w.fragments → g < length w.fragments
+      → (pair_in s e f g ≡ true → ⊥) → Did w (λ M. ClosedPair w M e f g) t u → Did w (λ M. Pair M e f g) s u
+  did_fragments e f g {s} {t} {u} n ne lf lg fresh d =
+      let up : Grows s t = record { more_pairs = n.notes.kept; more_searched = search_from s t n.searched; more_found = λ y h. subst (λ zs. Contains zs y) (sym n.found) h } in
+      record {
+        keeps = λ h. d.keeps (tally_pair n ne lf lg fresh h);
+        grows = grows_then up d.grows;
+        holds = λ M k. inr (e, inl refl, k.more_pairs e f g (d.grows.more_pairs e f g n.notes.noted));
+        closes = λ M k c. d.closes M k record {
+          searches_closed = λ x i h z. c.searches_closed x i h (search_back s t n.searched x i h z);
+          pairs_closed = λ x i j z. elim (n.notes.only x i j z) [ inl old ↦ c.pairs_closed x i j old | inr is ↦ inl (closed_pair M e x f g i j is (d.holds M k)) ];
+        };
+      }
+
+  one_plain : (e x : Bool) (f g i j : ℕ) → (x ≡ e) × (((i ≡ f) × (j ≡ g)) ⊎ ((i ≡ g) × (j ≡ f))) → IsOnePlain w f g → IsOnePlain w i j
+  one_plain e x f g i j (is, inl p) (inl h) = inl (subst (λ (k : ℕ). IsPlain w (set_of w k)) (sym p.0) h)
+  one_plain e x f g i j (is, inl p) (inr h) = inr (subst (λ (k : ℕ). IsPlain w (set_of w k)) (sym p.1) h)
+  one_plain e x f g i j (is, inr p) (inl h) = inr (subst (λ (k : ℕ). IsPlain w (set_of w k)) (sym p.1) h)
+  one_plain e x f g i j (is, inr p) (inr h) = inl (subst (λ (k : ℕ). IsPlain w (set_of w k)) (sym p.0) h)
+
+  -- a pair of fragments was recorded, of which one is plain
+  pub did_passed : (f g : ℕ) {s t : Search} → NotesPair f g false s t → (f ≡ g → ⊥) → f < length w.fragments → g < length w.fragments
+      → (pair_in s false f g ≡ true → ⊥) → IsOnePlain w f g → Did w (λ M. Pair M false f g) s t
+  did_passed f g {s} {t} n ne lf lg fresh one = record {
+    keeps = tally_pair n ne lf lg fresh;
+    grows = record { more_pairs = n.notes.kept; more_searched = search_from s t n.searched; more_found = λ y h. subst (λ zs. Contains zs y) (sym n.found) h };
+    holds = λ M k. inr (false, inl refl, k.more_pairs false f g n.notes.noted);
+    closes = λ M k c. record {
+      searches_closed = λ x i h z. c.searches_closed x i h (search_back s t n.searched x i h z);
+      pairs_closed = λ x i j z. elim (n.notes.only x i j z) [ inl old ↦ c.pairs_closed x i j old | inr is ↦ inr (one_plain false x f g i j is one) ];
+    };
+  }
+
+  below_plain : (f i j : ℕ) → max i j ≡ f → IsPlain w (set_of w f) → IsOnePlain w i j
+  below_plain f i j is h = elim (cases_lt j i) [
+    | inl more ↦ inl (subst (λ (k : ℕ). IsPlain w (set_of w k)) (omega (arith, more, is)) h)
+    | inr le ↦ inr (subst (λ (k : ℕ). IsPlain w (set_of w k)) (omega (arith, le, is)) h)
+  ]
+
+  -- a plain fragment was recorded with some of smaller numbers
+  pub did_below : (f : ℕ) (among : ℕ → Bool) {s t : Search} → NotesBelow f among s t → f < length w.fragments → IsPlain w (set_of w f)
+      → Did w (λ M. (g : ℕ) → among g ≡ true → g < f → Pair M false f g) s t
+  did_below f among {s} {t} n lf one = record {
+    keeps = tally_below f among n lf;
+    grows = record { more_pairs = n.kept; more_searched = search_from s t n.searched; more_found = λ y h. subst (λ zs. Contains zs y) (sym n.found) h };
+    holds = λ M k g there less. inr (false, inl refl, k.more_pairs false f g (n.noted g there less));
+    closes = λ M k c. record {
+      searches_closed = λ x i h z. c.searches_closed x i h (search_back s t n.searched x i h z);
+      pairs_closed = λ x i j z. elim (n.only x i j z) [ inl old ↦ c.pairs_closed x i j old | inr is ↦ inr (below_plain f i j is.1 one) ];
+    };
+  }
+
+  -- something was reported, after other work
+  pub did_report : (P : Search → Type 0) (y : Finding) {s t u : Search} → Reports y t u → Did w P s t → Did w (λ M. P M × Contains M.found.items y) s u
+  did_report P y {s} {t} {u} n d =
+      let up : Grows t u = record {
+        more_pairs = pair_from t u n.pairs;
+        more_searched = search_from t u n.searched;
+        more_found = λ z h. subst (λ zs. Contains zs z) (sym n.found) (Contains-append_left t.found.items (y ∷ []) z h);
+      } in
+      record {
+        keeps = λ h. tally_same n.pairs n.compared (λ o. subst (λ (k : ℕ). k ≤ length w.fragments * u.lists) (sym n.opened) (subst (λ (k : ℕ). t.opened ≤ length w.fragments * k) (sym n.lists) o)) (d.keeps h);
+        grows = grows_then d.grows up;
+        holds = λ M k. (d.holds M (grows_then up k), k.more_found y (subst (λ zs. Contains zs y) (sym n.found) (Contains-push t.found.items y)));
+        closes = λ M k c. let had = d.closes M (grows_then up k) c in record {
+          searches_closed = λ x i h z. had.searches_closed x i h (search_back t u n.searched x i h z);
+          pairs_closed = λ x i j z. had.pairs_closed x i j (pair_back t u n.pairs x i j z);
+        };
+      }
+
+  -- nothing that is spoken of changed, after other work
+  pub did_kept : (P : Search → Type 0) {s t u : Search} → Keeps t u → Did w P s t → Did w P s u
+  did_kept P {s} {t} {u} n d =
+      let up : Grows t u = record { more_pairs = pair_from t u n.pairs; more_searched = search_from t u n.searched; more_found = λ z h. subst (λ zs. Contains zs z) (sym n.found) h } in
+      record {
+        keeps = λ h. tally_same n.pairs n.compared (λ o. subst (λ (k : ℕ). k ≤ length w.fragments * u.lists) (sym n.opened) (subst (λ (k : ℕ). t.opened ≤ length w.fragments * k) (sym n.lists) o)) (d.keeps h);
+        grows = grows_then d.grows up;
+        holds = λ M k. d.holds M (grows_then up k);
+        closes = λ M k c. let had = d.closes M (grows_then up k) c in record {
+          searches_closed = λ x i h z. had.searches_closed x i h (search_back t u n.searched x i h z);
+          pairs_closed = λ x i j z. had.pairs_closed x i j (pair_back t u n.pairs x i j z);
+        };
+      }
+
+  -- the whole list is done
+  pub owes_full : {A : Type 0} (O : Search → Type 0) (P : A → Search → Type 0) (xs : List A) (k : ℕ) {s t : Search} → length xs ≤ k
+      → Owes w O (λ M. All (λ x. P x M) (take k xs)) s t → Owes w O (λ M. All (λ x. P x M) xs) s t
+  owes_full O P xs k l d = record { grows = d.grows; holds = λ M g. subst (λ zs. All (λ x. P x M) zs) (take_all k xs l) (d.holds M g); closes = d.closes; keeps = d.keeps }
+
+  -- what is owed is done itself
+  pub did_opened : {A : Type 0} (P : A → Search → Type 0) (xs : List A) {s t u : Search} → Did w (λ M. Unit {0}) s t
+      → Owes w (λ M. All (λ x. P x M) xs) (λ M. All (λ x. P x M) xs) t u → Did w (λ M. All (λ x. P x M) xs) s u
+  did_opened P xs d e = record {
+    grows = grows_then d.grows e.grows;
+    holds = e.holds;
+    closes = λ M g c. e.closes M g (e.holds M g) (d.closes M (grows_then e.grows g) c);
+    keeps = λ h. e.keeps (d.keeps h);
+  }
+
+  pub did_next : (P : ℕ → Search → Type 0) (k : ℕ) {s t u : Search}
+      → Did w (λ M. (i : ℕ) → i < k → P i M) s t → Did w (P k) t u → Did w (λ M. (i : ℕ) → i < k + 1 → P i M) s u
+  did_next P k a b = did_map _ _ (λ M h. below_more (λ i. P i M) k h.0 h.1) (did_then _ _ a b)

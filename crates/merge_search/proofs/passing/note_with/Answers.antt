@@ -1,0 +1,17 @@
+use Rattle.std.proofs.Common.{sym, ◌∙◌}
+use Rattle.std.proofs.lemmas.Result.{on_ok_weaker}
+use Rattle.bit_matrix.specs.Set.{has}
+use Rattle.merge_search.specs.World.{world}
+use Rattle.merge_search.proofs.Laws.{clash}
+use Rattle.merge_search.proofs.Work.{did_none, did_map, did_below}
+use Rattle.merge_search.proofs.passing.note_with.Goals as goal
+
+pub returns-then-is_plain-clause-done : goal.returns-then-is_plain-clause-done
+returns-then-is_plain-clause-done g c =
+    let v = world g.J.Judge.judgement c.args.graph.now in
+    on_ok_weaker c.note_below.result (λ n. did_map v _ _ (λ M h marked. h) (did_below v c.args.f (has c.args.list.now) n c.requires.first c.if-is_plain.ensures.plain)) c.note_below.ensures
+
+pub returns-else-is_plain-clause-done : goal.returns-else-is_plain-clause-done
+returns-else-is_plain-clause-done g c =
+    let v = world g.J.Judge.judgement c.args.graph.now in
+    did_none v _ c.args.search.now (λ M grown marked. absurd (clash _ marked (sym c.is_plain.ensures.marked ∙ c.if-is_plain.false)))

@@ -1,0 +1,11 @@
+use Rattle.std.proofs.Common.{◌+◌, ◌*◌, ◌≤◌}
+use Rattle.merge_search.proofs.repeats.+fields.Given as goal
+
+abbrev pub decreases-less_fields : goal.decreases-less_fields
+decreases-less_fields g l = 2 * l.number + 1
+
+abbrev pub decreases-less_field : goal.decreases-less_field
+decreases-less_field g l = 2 * l.number
+
+abbrev pub invariant-less_fields-loop-field : goal.invariant-less_fields-loop-field
+invariant-less_fields-loop-field g l = l.left ≤ l.number

@@ -1,0 +1,68 @@
+-- The single steps of a search.
+use Rattle.std.specs.Prelude.{ℕ, ◌+◌, ◌<◌, min, max, [], ◌∷◌, ◌++◌, Bool, true, false, not, ◌&&◌, ◌≡◌, ◌⊎◌}
+use Rattle.bit_matrix.specs.Count.{count_below}
+use Rattle.merge_search.specs.declared.state.Search.{Search}
+use Rattle.merge_search.specs.declared.state.Finding.{Finding}
+use Rattle.merge_search.specs.Log.{Notes, NotesBoth}
+use Rattle.merge_search.specs.Counts.{greatest}
+use Rattle.merge_search.specs.Work.{pair_in, search_in}
+
+pub record Begins (s : Search) : Type 0 where
+  pub pairs : (e : Bool) (f g : ℕ) → pair_in s e f g ≡ false
+  pub searched : (e : Bool) (i g : ℕ) → search_in s e i g ≡ false
+  pub found : s.found.items ≡ []
+  pub compared : s.compared ≡ 0
+  pub opened : s.opened ≡ 0
+
+pub record NotesPair (f g : ℕ) (e : Bool) (old new : Search) : Type 0 where
+  pub notes : NotesBoth e f g (pair_in old) (pair_in new)
+  pub compared : new.compared ≡ min (old.compared + 1) greatest
+  pub searched : new.searched ≡ old.searched
+  pub found : new.found.items ≡ old.found.items
+  pub opened : new.opened ≡ old.opened
+  pub lists : new.lists ≡ old.lists
+
+-- A fragment is noted with each of some that have smaller numbers, and how many of these pairs are new is counted.
+pub record NotesBelow (f : ℕ) (among : ℕ → Bool) (old new : Search) : Type 0 where
+  pub noted : (g : ℕ) → among g ≡ true → g < f → pair_in new false f g ≡ true
+  pub kept : (x : Bool) (i j : ℕ) → pair_in old x i j ≡ true → pair_in new x i j ≡ true
+  pub only : (x : Bool) (i j : ℕ) → pair_in new x i j ≡ true
+      → (pair_in old x i j ≡ true) ⊎ ((x ≡ false) × (max i j ≡ f) × (min i j < f) × (among (min i j) ≡ true))
+  pub compared : new.compared ≡ min (old.compared + count_below (λ g. pair_in new false f g && not (pair_in old false f g)) f) greatest
+  pub searched : new.searched ≡ old.searched
+  pub found : new.found.items ≡ old.found.items
+  pub opened : new.opened ≡ old.opened
+  pub lists : new.lists ≡ old.lists
+
+pub record NotesSearch (i g : ℕ) (e : Bool) (old new : Search) : Type 0 where
+  pub notes : Notes e i g (search_in old) (search_in new)
+  pub pairs : new.pairs ≡ old.pairs
+  pub found : new.found.items ≡ old.found.items
+  pub compared : new.compared ≡ old.compared
+  pub opened : new.opened ≡ old.opened
+  pub lists : new.lists ≡ old.lists
+
+pub record Reports (y : Finding) (old new : Search) : Type 0 where
+  pub found : new.found.items ≡ old.found.items ++ y ∷ []
+  pub pairs : new.pairs ≡ old.pairs
+  pub searched : new.searched ≡ old.searched
+  pub compared : new.compared ≡ old.compared
+  pub opened : new.opened ≡ old.opened
+  pub lists : new.lists ≡ old.lists
+
+pub record CountsList (n : ℕ) (old new : Search) : Type 0 where
+  pub lists : new.lists ≡ min (old.lists + 1) greatest
+  pub opened : new.opened ≡ min (old.opened + n) greatest
+  pub pairs : new.pairs ≡ old.pairs
+  pub searched : new.searched ≡ old.searched
+  pub found : new.found.items ≡ old.found.items
+  pub compared : new.compared ≡ old.compared
+
+-- Nothing changed but which searches may be made once more, and which room is used again.
+pub record Keeps (old new : Search) : Type 0 where
+  pub pairs : new.pairs ≡ old.pairs
+  pub searched : new.searched ≡ old.searched
+  pub found : new.found.items ≡ old.found.items
+  pub compared : new.compared ≡ old.compared
+  pub opened : new.opened ≡ old.opened
+  pub lists : new.lists ≡ old.lists

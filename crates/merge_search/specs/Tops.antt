@@ -1,0 +1,66 @@
+-- What is asked of the sets, one after another.
+use Rattle.std.specs.Prelude.{ℕ, ◌<◌, List, Some, true, false, ◌≡◌, ◌⊎◌, slice_get}
+use Rattle.std.specs.List.{All, Contains}
+use Rattle.bit_matrix.specs.Set.{has}
+use Rattle.bit_matrix.specs.declared.set.BitSet.{BitSet}
+use Rattle.merge_search.specs.declared.node.Entry.{Entry}
+use Rattle.merge_search.specs.declared.state.Search.{Search}
+use Rattle.merge_search.specs.World.{World, own_of, spreads_of, set_of, Same}
+use Rattle.merge_search.specs.Work.{Pair}
+use Rattle.merge_search.specs.Merging.{Stands, OwnWritten}
+use Rattle.merge_search.specs.Reports.{Root, AtFragments}
+
+abbrev pub AtRest : Entry → List Entry → Root → Type 0
+AtRest a rest r = (r.left ≡ a) × Contains rest r.right
+
+-- P of each two of a list, the first standing before the second.
+abbrev pub AllBefore : {X : Type 0} → (X → X → Type 0) → List X → Type 0
+AllBefore {X} P xs = (k l : ℕ) (a b : X) → k < l → slice_get xs k ≡ Some a → slice_get xs l ≡ Some b → P a b
+
+abbrev pub AtBefore : List Entry → Root → Type 0
+AtBefore xs r = (k : ℕ) × (l : ℕ) × (k < l) × (slice_get xs k ≡ Some (r.left)) × (slice_get xs l ≡ Some (r.right))
+
+-- Two own fields of one response name, the first before the second.
+abbrev pub AtWithin : World → ℕ → Root → Type 0
+AtWithin w s r = AtBefore (own_of w s) r × Same r.left r.right
+
+-- An own field, and one of a fragment.
+abbrev pub AtWritten : World → ℕ → ℕ → Root → Type 0
+AtWritten w s f r = Contains (own_of w s) r.left × Stands w (set_of w f) r.right × Same r.left r.right
+
+-- An own field, and one of a fragment that the set spreads.
+abbrev pub AtSpread : World → ℕ → Root → Type 0
+AtSpread w s r = (f : ℕ) × Contains (spreads_of w s) f × AtWritten w s f r
+
+-- An own field, and an own field after it or one that is spread.
+abbrev pub AtTop : World → ℕ → Root → Type 0
+AtTop w s r = AtWithin w s r ⊎ AtSpread w s r
+
+-- A fragment, and another one of a list.
+abbrev pub AtListed : World → ℕ → List ℕ → Root → Type 0
+AtListed w f list r = (g : ℕ) × Contains list g × AtFragments w f g r
+
+-- An own field and one of the fragment, or fields of the fragment and of another one of a list.
+abbrev pub AtWrittenOrListed : World → ℕ → ℕ → List ℕ → Root → Type 0
+AtWrittenOrListed w s f list r = AtWritten w s f r ⊎ AtListed w f list r
+
+-- All that is asked of a spread of a set: its own fields with it, and it with each of the spreads, but for what is marked as plain.
+abbrev pub SpreadDone : World → Search → BitSet → ℕ → List ℕ → ℕ → Type 0
+SpreadDone w M plain s list f = OwnWritten w M s f × ((has plain (set_of w f) ≡ true) ⊎ All (Pair M false f) list)
+
+-- Each marked one of some fragments was noted with all that have smaller numbers.
+abbrev pub MarkedDone : World → Search → BitSet → List ℕ → ℕ → Type 0
+MarkedDone w M plain list f = has plain (set_of w f) ≡ true → (g : ℕ) → Contains list g → g < f → Pair M false f g
+
+-- The same two fragments, in either order.
+abbrev pub SamePair : ℕ × ℕ → ℕ × ℕ → Type 0
+SamePair p q = ((p.0 ≡ q.0) × (p.1 ≡ q.1)) ⊎ ((p.0 ≡ q.1) × (p.1 ≡ q.0))
+
+-- Two different fragments that one set spreads.
+abbrev pub SpreadTogether : World → ℕ × ℕ → Type 0
+SpreadTogether w p = (p.0 ≡ p.1 → ⊥) × ((s : ℕ) × Contains (spreads_of w s) (p.0) × Contains (spreads_of w s) (p.1))
+
+-- Pairs of fragments that some set spreads together, each once.
+pub record Together (w : World) (ps : List (ℕ × ℕ)) : Type 0 where
+  pub spread : All (SpreadTogether w) ps
+  pub once : (k l : ℕ) (p q : ℕ × ℕ) → k < l → slice_get ps k ≡ Some p → slice_get ps l ≡ Some q → SamePair p q → ⊥

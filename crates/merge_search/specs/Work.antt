@@ -1,0 +1,83 @@
+-- What a search has done, seen from any later state M.
+use Rattle.std.specs.Prelude.{ℕ, min, max, length, Some, None, Bool, true, false, ◌≡◌, ◌⊎◌}
+use Rattle.std.specs.List.{All, Contains}
+use Rattle.merge_search.specs.declared.node.Entry.{Entry}
+use Rattle.merge_search.specs.declared.state.Search.{Search}
+use Rattle.merge_search.specs.declared.state.Finding.{Finding}
+use Rattle.merge_search.specs.declared.state.Finding.TheVariants.{Direct}
+use Rattle.merge_search.specs.World.{World, own_of, spreads_of, set_of, conflict_of, exclusive_of, Same}
+use Rattle.merge_search.specs.Log.{in_log, Covers}
+use Rattle.merge_search.specs.Plain.{Occurs, IsPlainField, IsOnePlain}
+use Rattle.merge_search.specs.Counts.{Tally}
+
+-- Two fragments were compared under the flag, in either order.
+abbrev pub pair_in : Search → Bool → ℕ → ℕ → Bool
+pair_in M x f g = in_log M.pairs x (max f g) (min f g)
+
+-- The own fields of a set were compared with a fragment's, below a field.
+abbrev pub search_in : Search → Bool → ℕ → ℕ → Bool
+search_in M x i g = in_log M.searched x i g
+
+abbrev pub Searched : Search → Bool → ℕ → ℕ → Type 0
+Searched M e i g = Covers (search_in M) e i g
+
+abbrev pub Pair : Search → Bool → ℕ → ℕ → Type 0
+Pair M e f g = (f ≡ g) ⊎ Covers (pair_in M) e f g
+
+abbrev pub Asked : World → Search → Bool → ℕ → ℕ → Type 0
+Asked w M x s t =
+    All (λ h. Searched M x s h) (spreads_of w t)
+    × All (λ h. Searched M x t h) (spreads_of w s)
+    × All (λ g. All (λ h. Pair M x g h) (spreads_of w t)) (spreads_of w s)
+
+-- The pair was compared: its fault is in the list, or all that stands below was asked for. Or one of the two is plain.
+pub data Done (w : World) (M : Search) : Bool → Entry → Entry → Type 0 where
+  stood : {e : Bool} {a b : Entry} → conflict_of w e a b ≡ true → Contains M.found.items (Direct a b e) → Done w M e a b
+  shallow : {e : Bool} {a b : Entry} → conflict_of w e a b ≡ false → (a.below ≡ None) ⊎ (b.below ≡ None) → Done w M e a b
+  deep : {e : Bool} {a b : Entry} {s t : ℕ} → conflict_of w e a b ≡ false → a.below ≡ Some s → b.below ≡ Some t
+      → ((c d : Entry) → Contains (own_of w s) c → Contains (own_of w t) d → Same c d → Done w M (exclusive_of w e a b) c d)
+      → Asked w M (exclusive_of w e a b) s t → Done w M e a b
+  clear : {e : Bool} {a b : Entry} → Same a b → Occurs w a → Occurs w b → IsPlainField w a ⊎ IsPlainField w b → Done w M e a b
+
+abbrev pub OwnPairs : World → Search → Bool → ℕ → ℕ → Type 0
+OwnPairs w M e s t = (c d : Entry) → Contains (own_of w s) c → Contains (own_of w t) d → Same c d → Done w M e c d
+
+abbrev pub SetsDone : World → Search → Bool → ℕ → ℕ → Type 0
+SetsDone w M e s t = OwnPairs w M e s t × Asked w M e s t
+
+abbrev pub ClosedSearch : World → Search → Bool → ℕ → ℕ → Type 0
+ClosedSearch w M x i g = OwnPairs w M x i (set_of w g) × All (λ h. Searched M x i h) (spreads_of w (set_of w g))
+
+abbrev pub ClosedPair : World → Search → Bool → ℕ → ℕ → Type 0
+ClosedPair w M x f g =
+    OwnPairs w M x (set_of w f) (set_of w g)
+    × All (λ h. Pair M x f h) (spreads_of w (set_of w g))
+    × All (λ h. Pair M x h g) (spreads_of w (set_of w f))
+
+-- Two fragments were compared, in either order, or one of them is plain.
+abbrev pub FollowedUp : World → Search → Bool → ℕ → ℕ → Type 0
+FollowedUp w M x f g = (ClosedPair w M x f g ⊎ ClosedPair w M x g f) ⊎ IsOnePlain w f g
+
+-- Everything that is recorded in s is followed up in M.
+pub record AllClosed (w : World) (M s : Search) : Type 0 where
+  pub pairs_closed : (x : Bool) (f g : ℕ) → pair_in s x f g ≡ true → FollowedUp w M x f g
+  pub searches_closed : (x : Bool) (i g : ℕ) → search_in s x i g ≡ true → ClosedSearch w M x i g
+
+pub record Grows (old new : Search) : Type 0 where
+  pub more_pairs : (x : Bool) (f g : ℕ) → pair_in old x f g ≡ true → pair_in new x f g ≡ true
+  pub more_searched : (x : Bool) (i g : ℕ) → search_in old x i g ≡ true → search_in new x i g ≡ true
+  pub more_found : (y : Finding) → Contains old.found.items y → Contains new.found.items y
+
+-- A piece of work from old to new, after which P holds at any later state; what it recorded is followed up where the later state has O.
+pub record Owes (w : World) (O P : Search → Type 0) (old new : Search) : Type 0 where
+  pub grows : Grows old new
+  pub holds : (M : Search) → Grows new M → P M
+  pub closes : (M : Search) → Grows new M → O M → AllClosed w M old → AllClosed w M new
+  pub keeps : Tally (pair_in old) (length w.fragments) old → Tally (pair_in new) (length w.fragments) new
+
+-- A piece of work from old to new, after which P holds at any later state.
+pub record Did (w : World) (P : Search → Type 0) (old new : Search) : Type 0 where
+  pub grows : Grows old new
+  pub holds : (M : Search) → Grows new M → P M
+  pub closes : (M : Search) → Grows new M → AllClosed w M old → AllClosed w M new
+  pub keeps : Tally (pair_in old) (length w.fragments) old → Tally (pair_in new) (length w.fragments) new

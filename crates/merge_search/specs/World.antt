@@ -1,0 +1,36 @@
+-- A graph as definitions see it.
+use Rattle.std.specs.Prelude.{ℕ, List, Bool, ◌≡◌, get_or}
+use Rattle.merge_search.specs.Judgement.{Judgement}
+use Rattle.merge_search.specs.Graph.{own_at, spreads_at}
+use Rattle.merge_search.specs.declared.node.Entry.{Entry}
+use Rattle.merge_search.specs.declared.node.SetNode.{SetNode}
+use Rattle.merge_search.specs.declared.graph.Graph.{Graph}
+
+pub record World : Type 0 where
+  pub judgement : Judgement
+  pub sets : List SetNode
+  pub fragments : List ℕ
+
+abbrev pub world : {J : Type 0} → (J → Judgement) → Graph J → World
+world judgement graph = record { judgement = judgement graph.judge; sets = graph.sets.items; fragments = graph.fragments.items }
+
+abbrev pub own_of : World → ℕ → List Entry
+own_of w s = own_at w.sets s
+
+-- The fragments that a set spreads.
+abbrev pub spreads_of : World → ℕ → List ℕ
+spreads_of w s = spreads_at w.sets s
+
+-- The set of a fragment.
+abbrev pub set_of : World → ℕ → ℕ
+set_of w f = get_or w.fragments f 0
+
+abbrev pub exclusive_of : World → Bool → Entry → Entry → Bool
+exclusive_of w e a b = w.judgement.exclusive e a.field b.field
+
+abbrev pub conflict_of : World → Bool → Entry → Entry → Bool
+conflict_of w e a b = w.judgement.conflict e a.field b.field
+
+-- One response name.
+abbrev pub Same : Entry → Entry → Type 0
+Same a b = a.response ≡ b.response

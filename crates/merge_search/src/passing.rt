@@ -1,0 +1,91 @@
+//! Fragments that a search passes over, since nothing in them can fail. Their pairs are noted all the same, and counted.
+ghost use Rattle.std.specs.Prelude.{◌≡◌, ◌<◌, ℕ, OnOk, IfOk, length, true, false};
+ghost use Rattle.std.specs.List.{All, Contains};
+ghost use Rattle.bit_matrix.specs.Set.{has};
+ghost use Rattle.merge_search.specs.World.{world, set_of};
+ghost use Rattle.merge_search.specs.Work.{Did, Pair};
+ghost use Rattle.merge_search.specs.Plain.{ArePlain, IsOnePlain};
+ghost use Rattle.merge_search.specs.Tops.{MarkedDone};
+
+use crate::graph::Graph;
+use crate::judge::Judge;
+use crate::plain::is_plain;
+use crate::state::{Search, is_compared, note_below, note_pair};
+use bit_matrix::set::BitSet;
+use std::alloc::{AllocError, Global};
+
+/// Two fragments of which one is plain: there is nothing to find, and it is only noted that they were compared.
+pub(crate) fn pass_over<J: Judge>(
+    graph: &Graph<J>,
+    f: usize,
+    g: usize,
+    search: &mut Search,
+) -> Result<(), AllocError>
+    requires first { f < length graph.now.fragments.items }
+    requires second { g < length graph.now.fragments.items }
+    requires plain { IsOnePlain (world J.judgement graph.now) f g }
+    ensures done { OnOk result (Did (world J.judgement graph.now) (λ M. Pair M false f g) search.old search.new) }
+    ensures real { OnOk result (search.new.found.items ≡ search.old.found.items) }
+{
+    if f == g {
+        return Ok(());
+    }
+    if is_compared(search, f, g, false) {
+        return Ok(());
+    }
+    note_pair(search, f, g, false)
+}
+
+// Some numbers as a set.
+fn set_of_numbers(alloc: Global, list: &[usize]) -> Result<BitSet, AllocError>
+    ensures all { IfOk result (λ set. All (λ g. has set g ≡ true) list.now) }
+    ensures only { IfOk result (λ set. (g : ℕ) → has set g ≡ true → Contains list.now g) }
+{
+    let mut set = BitSet::new(alloc);
+    for number in list {
+        set.insert(*number)?;
+    }
+    Ok(set)
+}
+
+// A fragment, where it is plain, with those of some others that have smaller numbers.
+fn note_with<J: Judge>(
+    graph: &Graph<J>,
+    f: usize,
+    list: &BitSet,
+    plain: &BitSet,
+    search: &mut Search,
+) -> Result<(), AllocError>
+    requires first { f < length graph.now.fragments.items }
+    requires plain { ArePlain (world J.judgement graph.now) plain.now }
+    ensures done { OnOk result (Did (world J.judgement graph.now) (λ M. has plain.now (set_of (world J.judgement graph.now) f) ≡ true → (g : ℕ) → has list.now g ≡ true → g < f → Pair M false f g) search.old search.new) }
+    ensures real { OnOk result (search.new.found.items ≡ search.old.found.items) }
+{
+    if is_plain(graph, f, plain) {
+        note_below(search, f, list)
+    } else {
+        Ok(())
+    }
+}
+
+/// The plain ones of a list, with all of the list: there is nothing to find, and many are noted at once.
+pub(crate) fn note_plain<J: Judge>(
+    graph: &Graph<J>,
+    list: &[usize],
+    plain: &BitSet,
+    search: &mut Search,
+) -> Result<(), AllocError>
+    requires list { All (λ g. g < length graph.now.fragments.items) list.now }
+    requires plain { ArePlain (world J.judgement graph.now) plain.now }
+    ensures done { OnOk result (Did (world J.judgement graph.now) (λ M. All (MarkedDone (world J.judgement graph.now) M plain.now list.now) list.now) search.old search.new) }
+    ensures real { OnOk result (search.new.found.items ≡ search.old.found.items) }
+{
+    if list.len() < 2 {
+        return Ok(());
+    }
+    let all = set_of_numbers(search.alloc, list)?;
+    for f in list {
+        note_with(graph, *f, &all, plain, search)?;
+    }
+    Ok(())
+}

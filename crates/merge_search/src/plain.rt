@@ -1,0 +1,121 @@
+//! Sets in which nothing can fail, so that a search passes over them.
+ghost use Rattle.std.specs.Prelude.{◌≡◌, IfOk};
+ghost use Rattle.std.specs.Bool.{OnTrue};
+ghost use Rattle.std.specs.List.{All};
+ghost use Rattle.bit_matrix.specs.Set.{has};
+ghost use Rattle.merge_search.specs.World.{world, set_of};
+ghost use Rattle.merge_search.specs.Plain.{ArePlain, ArePlainBut, IsPlain, IsPlainField};
+
+use crate::graph::Graph;
+use crate::judge::Judge;
+use crate::node::{Entry, SetNode};
+use crate::plain_names::mixed_names;
+use crate::view::{own, set, spreads};
+use bit_matrix::set::BitSet;
+use std::alloc::{AllocError, Global};
+
+/// Whether a fragment is marked as plain.
+pub fn is_plain<J: Judge>(graph: &Graph<J>, f: usize, sets: &BitSet) -> bool
+    requires { ArePlain (world J.judgement graph.now) sets.now }
+    ensures marked { result ≡ has sets.now (set_of (world J.judgement graph.now) f) }
+    ensures plain { OnTrue result (IsPlain (world J.judgement graph.now) (set_of (world J.judgement graph.now) f)) }
+{
+    sets.contains(set(graph, f))
+}
+
+// Whether a field is plain, by the names that aren't and the sets that are.
+fn is_plain_field<J: Judge>(graph: &Graph<J>, field: Entry, mixed: &BitSet, sets: &BitSet) -> bool
+    requires names { ArePlainBut (world J.judgement graph.now) mixed.now }
+    requires sets { ArePlain (world J.judgement graph.now) sets.now }
+    ensures { OnTrue result (IsPlainField (world J.judgement graph.now) field) }
+{
+    let is_below = match field.below {
+        Some(s) => sets.contains(s),
+        None => true,
+    };
+    is_below && !mixed.contains(field.response)
+}
+
+fn are_plain_fields<J: Judge>(
+    graph: &Graph<J>,
+    fields: &[Entry],
+    mixed: &BitSet,
+    sets: &BitSet,
+) -> bool
+    requires names { ArePlainBut (world J.judgement graph.now) mixed.now }
+    requires sets { ArePlain (world J.judgement graph.now) sets.now }
+    ensures { OnTrue result (All (IsPlainField (world J.judgement graph.now)) fields.now) }
+{
+    for field in fields {
+        if !is_plain_field(graph, *field, mixed, sets) {
+            return false;
+        }
+    }
+    true
+}
+
+fn are_plain_fragments<J: Judge>(graph: &Graph<J>, fragments: &[usize], sets: &BitSet) -> bool
+    requires { ArePlain (world J.judgement graph.now) sets.now }
+    ensures { OnTrue result (All (λ f. IsPlain (world J.judgement graph.now) (set_of (world J.judgement graph.now) f)) fragments.now) }
+{
+    for f in fragments {
+        if !is_plain(graph, *f, sets) {
+            return false;
+        }
+    }
+    true
+}
+
+// Whether a set is plain, by the smaller ones that are.
+fn is_plain_set<J: Judge>(graph: &Graph<J>, s: usize, mixed: &BitSet, sets: &BitSet) -> bool
+    requires names { ArePlainBut (world J.judgement graph.now) mixed.now }
+    requires sets { ArePlain (world J.judgement graph.now) sets.now }
+    ensures { OnTrue result (IsPlain (world J.judgement graph.now) s) }
+{
+    are_plain_fragments(graph, spreads(graph, s), sets)
+        && are_plain_fields(graph, own(graph, s), mixed, sets)
+}
+
+// The sets that are plain. Each refers to smaller ones, so one pass in the order of their numbers finds them.
+fn plain_sets<J: Judge>(alloc: Global, graph: &Graph<J>) -> Result<BitSet, AllocError>
+    ensures { IfOk result (λ sets. ArePlain (world J.judgement graph.now) sets) }
+{
+    let mixed = mixed_names(alloc, graph)?;
+    let mut sets = BitSet::new(alloc);
+    for s in 0..graph.sets.len() {
+        if is_plain_set(graph, s, &mixed, &sets) {
+            sets.insert(s)?;
+        }
+    }
+    Ok(sets)
+}
+
+/// Of fewer fragments so few pairs are compared that nothing is gained by passing some over.
+pub const MANY: usize = 8;
+
+// Whether some set may be met more than once: one spreads two fragments, or a fragment with fields of its own spreads another.
+fn is_worthwhile<J>(graph: &Graph<J>) -> bool {
+    let fragments = graph.fragments.as_slice();
+    let sets = graph.sets.as_slice();
+    fragments.len() >= MANY
+        && (sets.iter().any(|set| set.spreads.len() > 1)
+            || fragments.iter().any(|s| may_be_met_again(sets, *s)))
+}
+
+fn may_be_met_again(sets: &[SetNode], s: usize) -> bool {
+    match sets.get(s) {
+        Some(set) => !set.own.is_empty() && !set.spreads.is_empty(),
+        None => false,
+    }
+}
+
+/// The sets that a search passes over. They are plain, and none is told where little would be compared.
+pub fn passed_over<J: Judge>(alloc: Global, graph: &Graph<J>) -> Result<BitSet, AllocError>
+    ensures { IfOk result (λ sets. ArePlain (world J.judgement graph.now) sets) }
+{
+    if is_worthwhile(graph) {
+        plain_sets(alloc, graph)
+    } else {
+        Ok(BitSet::new(alloc))
+    }
+}

@@ -1,0 +1,62 @@
+//! Which searches below fields are made once more.
+//!
+//! A search that found nothing says nothing when it is made again. One that found a conflict is made again for the next pair of fields
+//! above it, so that each of them tells of what lies below it. Two bounds keep documents with many conflicts from taking long.
+ghost use Rattle.std.specs.Prelude.{◌≡◌, ◌≤◌, true};
+ghost use Rattle.merge_search.specs.Log.{covers_of};
+ghost use Rattle.merge_search.specs.Work.{search_in};
+
+use crate::graph::Graph;
+use crate::judge::Judge;
+use crate::node::Entry;
+use crate::state::{Search, is_searched};
+use crate::view::{own, set};
+
+/// How many searches below fields are made once more in one document, at most.
+pub const REPEATS: usize = 100;
+
+/// A search is made once more only if fewer fields stand in its two sets and below them, what they spread left out.
+pub const FEW: usize = 50;
+
+/// Whether a search below a field need not be made: it was made, under the flag or without one, and isn't made once more.
+pub fn is_settled<J: Judge>(graph: &Graph<J>, search: &Search, i: usize, g: usize, e: bool) -> bool
+    ensures { result ≡ true → covers_of (search_in search.now) e i g ≡ true }
+{
+    is_searched(search, i, g, e) && !may_repeat(graph, search, i, set(graph, g))
+}
+
+fn may_repeat<J: Judge>(graph: &Graph<J>, search: &Search, i: usize, j: usize) -> bool {
+    search.repeats > 0 && search.conflicting.contains(i) && are_few(graph, i, j)
+}
+
+fn are_few<J: Judge>(graph: &Graph<J>, i: usize, j: usize) -> bool {
+    less_fields(graph, j, less_fields(graph, i, FEW)) > 0
+}
+
+// A number less the fields of a set and of the sets below them, down to 0.
+#[cycle(fields)]
+fn less_fields<J: Judge>(graph: &Graph<J>, s: usize, number: usize) -> usize
+    ensures { result ≤ number }
+{
+    let mut left = number;
+    for field in own(graph, s) {
+        if left == 0 {
+            return 0;
+        }
+        left = less_field(graph, *field, left);
+    }
+    left
+}
+
+#[cycle(fields)]
+fn less_field<J: Judge>(graph: &Graph<J>, field: Entry, number: usize) -> usize
+    ensures { result ≤ number }
+{
+    if number == 0 {
+        return 0;
+    }
+    match field.below {
+        Some(s) => less_fields(graph, s, number - 1),
+        None => number - 1,
+    }
+}

@@ -1,0 +1,151 @@
+//! What a search has found and noted.
+ghost use Rattle.std.specs.Prelude.{◌≡◌, ◌≤◌, ◌++◌, ◌∷◌, [], OnOk, ℕ, Bool, false, max, min, length};
+ghost use Rattle.bit_matrix.specs.Set.{has};
+ghost use Rattle.merge_search.specs.Log.{covers_of};
+ghost use Rattle.merge_search.specs.Work.{pair_in, search_in};
+ghost use Rattle.merge_search.specs.State.{Begins, NotesBelow, NotesPair, NotesSearch, Reports, CountsList, Keeps};
+
+use crate::log::{Log, is_in, no_questions, note};
+use crate::node::Entry;
+use crate::opening::{Opening, no_opening};
+use crate::repeats::REPEATS;
+use bit_matrix::set::BitSet;
+use std::alloc::{AllocError, Global};
+
+/// What was found, in postfix order: a nested conflict stands after those below it, with their number.
+///
+/// A direct one has the flag under which its two fields fail.
+#[derive(Clone, Copy, Debug)]
+pub enum Finding {
+    Direct(Entry, Entry, bool),
+    Nested(Entry, Entry, usize),
+}
+
+/// A search as far as it has come.
+#[derive(Drop)]
+pub struct Search {
+    pub alloc: Global,
+    /// The pairs of fragments that were compared, the greater number first.
+    pub pairs: Log,
+    /// The sets whose own fields were compared with a fragment's, below a field.
+    pub searched: Log,
+    /// The sets whose own fields conflict with a fragment's, below a field.
+    pub conflicting: BitSet,
+    /// How many searches below a field may still be made once more.
+    pub repeats: usize,
+    pub found: Vec<Finding>,
+    /// How many pairs of fragments were compared.
+    pub compared: u128,
+    /// How many fragments the searches opened.
+    pub opened: u128,
+    /// How many searches there were.
+    pub lists: u128,
+    /// Openings of searches that ended, whose room is used again.
+    pub openings: Vec<Opening>,
+}
+
+/// A search that has found nothing.
+pub fn no_search(alloc: Global) -> Search
+    ensures { Begins result }
+{
+    Search {
+        alloc,
+        pairs: no_questions(alloc),
+        searched: no_questions(alloc),
+        conflicting: BitSet::new(alloc),
+        repeats: REPEATS,
+        found: Vec::new(alloc),
+        compared: 0,
+        opened: 0,
+        lists: 0,
+        openings: Vec::new(alloc),
+    }
+}
+
+/// An opening to write over: that of a search that ended, if there is one.
+pub fn take_opening(search: &mut Search) -> Opening
+    ensures { Keeps search.old search.new }
+{
+    match search.openings.pop() {
+        Some(opening) => opening,
+        None => no_opening(search.alloc),
+    }
+}
+
+/// Keeps the opening of a search that has ended, for the next.
+pub fn put_opening(search: &mut Search, opening: Opening) -> Result<(), AllocError>
+    ensures { OnOk result (Keeps search.old search.new) }
+{
+    search.openings.push(opening)?;
+    Ok(())
+}
+
+/// Whether two fragments were compared under the flag, or without one.
+pub fn is_compared(search: &Search, f: usize, g: usize, e: bool) -> bool
+    ensures { result ≡ covers_of (pair_in search.now) e f g }
+{
+    let high = f.max(g);
+    let low = f.min(g);
+    is_in(&search.pairs, false, high, low) || (e && is_in(&search.pairs, true, high, low))
+}
+
+/// Whether the own fields of a set were compared with a fragment's under the flag, or without one.
+pub fn is_searched(search: &Search, i: usize, g: usize, e: bool) -> bool
+    ensures { result ≡ covers_of (search_in search.now) e i g }
+{
+    is_in(&search.searched, false, i, g) || (e && is_in(&search.searched, true, i, g))
+}
+
+/// Notes that two fragments are compared.
+pub fn note_pair(search: &mut Search, f: usize, g: usize, e: bool) -> Result<(), AllocError>
+    ensures { OnOk result (NotesPair f g e search.old search.new) }
+{
+    note(&mut search.pairs, e, f.max(g), f.min(g))?;
+    search.compared = search.compared.saturating_add(1);
+    Ok(())
+}
+
+/// Notes that a fragment is compared with each of some that have smaller numbers, many at once.
+pub fn note_below(search: &mut Search, f: usize, among: &BitSet) -> Result<(), AllocError>
+    ensures { OnOk result (NotesBelow f (has among.now) search.old search.new) }
+{
+    let added = search.pairs.plain.insert_below(f, among)?;
+    search.compared = search.compared.saturating_add(added as u128);
+    Ok(())
+}
+
+/// Notes that the own fields of a set are compared with a fragment's. Where they were before, one repetition is taken.
+pub fn note_search(search: &mut Search, i: usize, g: usize, e: bool) -> Result<(), AllocError>
+    ensures { OnOk result (NotesSearch i g e search.old search.new) }
+{
+    if is_searched(search, i, g, e) {
+        search.repeats = search.repeats.saturating_sub(1);
+    }
+    note(&mut search.searched, e, i, g)
+}
+
+/// Notes that the own fields of a set conflict with a fragment's, where something was found since `start`.
+pub fn note_conflicts(search: &mut Search, i: usize, start: usize) -> Result<(), AllocError>
+    ensures { OnOk result (Keeps search.old search.new) }
+{
+    if search.found.len() > start {
+        search.conflicting.insert(i)?;
+    }
+    Ok(())
+}
+
+/// Keeps what was found.
+pub fn report(search: &mut Search, finding: Finding) -> Result<(), AllocError>
+    ensures { OnOk result (Reports finding search.old search.new) }
+{
+    search.found.push(finding)?;
+    Ok(())
+}
+
+/// Counts a search that opens some fragments.
+pub fn count_list(search: &mut Search, opened: usize)
+    ensures { CountsList opened search.old search.new }
+{
+    search.lists = search.lists.saturating_add(1);
+    search.opened = search.opened.saturating_add(opened as u128);
+}

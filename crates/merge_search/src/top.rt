@@ -1,0 +1,235 @@
+//! The search over all sets.
+ghost use Rattle.std.specs.Prelude.{◌≡◌, ◌<◌, ◌≤◌, ◌*◌, ◌-◌, ℕ, List, OnOk, IfOk, length, false};
+ghost use Rattle.std.specs.List.{All};
+ghost use Rattle.merge_search.specs.World.{world, set_of, spreads_of};
+ghost use Rattle.merge_search.specs.Opening.{Opens};
+ghost use Rattle.merge_search.specs.Work.{Did, Done, OwnPairs, Pair};
+ghost use Rattle.merge_search.specs.Merging.{Top, OwnWithin, OwnWritten};
+ghost use Rattle.merge_search.specs.Reports.{Adds, AddsAll, AtFragments, AtPlaces, Judged};
+ghost use Rattle.merge_search.specs.Plain.{ArePlain};
+ghost use Rattle.merge_search.specs.Tops.{AllBefore, AtBefore, AtListed, AtRest, AtSpread, AtTop, AtWithin, AtWritten, AtWrittenOrListed, MarkedDone, SpreadDone, Together};
+
+use crate::graph::Graph;
+use crate::judge::Judge;
+use crate::node::Entry;
+use crate::opening::opened;
+use crate::passing::{note_plain, pass_over};
+use crate::plain::{is_plain, passed_over};
+use crate::search::{compare_fields, compare_fragments, compare_own};
+use crate::state::{Search, no_search, put_opening};
+use crate::view::{are_plainly_alike, firsts, group, order, set, spreads};
+use bit_matrix::set::BitSet;
+use std::alloc::{AllocError, Global};
+
+// A field and those after it.
+fn compare_rest<J: Judge>(
+    graph: &Graph<J>,
+    a: Entry,
+    rest: &[Entry],
+    search: &mut Search,
+) -> Result<(), AllocError>
+    ensures done { OnOk result (Did (world J.judgement graph.now) (λ M. All (λ b. Done (world J.judgement graph.now) M false a b) rest.now) search.old search.new) }
+    ensures real { OnOk result (AddsAll (world J.judgement graph.now) false (AtRest a rest.now) (AtRest a rest.now) search.old.found.items search.new.found.items) }
+{
+    for b in rest {
+        compare_fields(graph, a, *b, false, search)?;
+    }
+    Ok(())
+}
+
+// Some fields, each with those after it. Many that are alike are looked at once, since there is nothing to find.
+fn compare_each<J: Judge>(
+    graph: &Graph<J>,
+    fields: &[Entry],
+    search: &mut Search,
+) -> Result<(), AllocError>
+    ensures done { OnOk result (Did (world J.judgement graph.now) (λ M. AllBefore (Done (world J.judgement graph.now) M false) fields.now) search.old search.new) }
+    ensures real { OnOk result (AddsAll (world J.judgement graph.now) false (AtBefore fields.now) (AtBefore fields.now) search.old.found.items search.new.found.items) }
+{
+    if fields.len() > 2 && are_plainly_alike(graph, fields, fields) {
+        return Ok(());
+    }
+    for k in 0..fields.len() {
+        compare_rest(graph, fields[k], &fields[k + 1..], search)?;
+    }
+    Ok(())
+}
+
+// The own fields of a set, by response names.
+fn compare_within<J: Judge>(
+    graph: &Graph<J>,
+    s: usize,
+    search: &mut Search,
+) -> Result<(), AllocError>
+    ensures done { OnOk result (Did (world J.judgement graph.now) (λ M. OwnWithin (world J.judgement graph.now) M s) search.old search.new) }
+    ensures real { OnOk result (AddsAll (world J.judgement graph.now) false (AtWithin (world J.judgement graph.now) s) (AtWithin (world J.judgement graph.now) s) search.old.found.items search.new.found.items) }
+{
+    for first in firsts(graph, s) {
+        compare_each(graph, group(graph, s, first.response), search)?;
+    }
+    Ok(())
+}
+
+// The own fields of a set, and those of each fragment that a search from `g` opens.
+fn write_all<J: Judge>(
+    graph: &Graph<J>,
+    s: usize,
+    g: usize,
+    opening: &[usize],
+    search: &mut Search,
+) -> Result<(), AllocError>
+    requires { Opens (world J.judgement graph.now) g opening.now }
+    ensures done { OnOk result (Did (world J.judgement graph.now) (λ M. All (λ h. OwnPairs (world J.judgement graph.now) M false s (set_of (world J.judgement graph.now) h)) opening.now) search.old search.new) }
+    ensures real { OnOk result (AddsAll (world J.judgement graph.now) false (AtWritten (world J.judgement graph.now) s g) (AtWritten (world J.judgement graph.now) s g) search.old.found.items search.new.found.items) }
+{
+    for h in opening {
+        compare_own(graph, s, set(graph, *h), false, search)?;
+    }
+    Ok(())
+}
+
+// The own fields of a set, and a fragment written out: a search that always runs.
+fn write_out<J: Judge>(
+    graph: &Graph<J>,
+    s: usize,
+    g: usize,
+    search: &mut Search,
+) -> Result<(), AllocError>
+    requires { g < length graph.now.fragments.items }
+    ensures done { OnOk result (Did (world J.judgement graph.now) (λ M. OwnWritten (world J.judgement graph.now) M s g) search.old search.new) }
+    ensures real { OnOk result (AddsAll (world J.judgement graph.now) false (AtWritten (world J.judgement graph.now) s g) (AtWritten (world J.judgement graph.now) s g) search.old.found.items search.new.found.items) }
+{
+    let opening = opened(graph, g, search)?;
+    write_all(graph, s, g, opening.order.as_slice(), search)?;
+    put_opening(search, opening)
+}
+
+// The same, where the set has fields of its own: without them there is nothing to hold against the fragment.
+fn write_own<J: Judge>(
+    graph: &Graph<J>,
+    s: usize,
+    g: usize,
+    search: &mut Search,
+) -> Result<(), AllocError>
+    requires { g < length graph.now.fragments.items }
+    ensures done { OnOk result (Did (world J.judgement graph.now) (λ M. OwnWritten (world J.judgement graph.now) M s g) search.old search.new) }
+    ensures real { OnOk result (AddsAll (world J.judgement graph.now) false (AtWritten (world J.judgement graph.now) s g) (AtWritten (world J.judgement graph.now) s g) search.old.found.items search.new.found.items) }
+{
+    if firsts(graph, s).is_empty() {
+        return Ok(());
+    }
+    write_out(graph, s, g, search)
+}
+
+// Two fragments.
+fn compare_pair<J: Judge>(
+    graph: &Graph<J>,
+    f: usize,
+    g: usize,
+    plain: &BitSet,
+    search: &mut Search,
+) -> Result<(), AllocError>
+    requires first { f < length graph.now.fragments.items }
+    requires second { g < length graph.now.fragments.items }
+    requires plain { ArePlain (world J.judgement graph.now) plain.now }
+    ensures done { OnOk result (Did (world J.judgement graph.now) (λ M. Pair M false f g) search.old search.new) }
+    ensures real { OnOk result (Adds (world J.judgement graph.now) false (AtFragments (world J.judgement graph.now) f g) search.old.found.items search.new.found.items) }
+{
+    if is_plain(graph, g, plain) {
+        return pass_over(graph, f, g, search);
+    }
+    compare_fragments(graph, f, g, false, search)
+}
+
+// A fragment, and each of a list.
+fn pair_all<J: Judge>(
+    graph: &Graph<J>,
+    f: usize,
+    list: &[usize],
+    plain: &BitSet,
+    search: &mut Search,
+) -> Result<(), AllocError>
+    requires first { f < length graph.now.fragments.items }
+    requires list { All (λ g. g < length graph.now.fragments.items) list.now }
+    requires plain { ArePlain (world J.judgement graph.now) plain.now }
+    ensures done { OnOk result (Did (world J.judgement graph.now) (λ M. All (λ g. Pair M false f g) list.now) search.old search.new) }
+    ensures real { OnOk result (Adds (world J.judgement graph.now) false (AtListed (world J.judgement graph.now) f list.now) search.old.found.items search.new.found.items) }
+{
+    for g in list {
+        compare_pair(graph, f, *g, plain, search)?;
+    }
+    Ok(())
+}
+
+// A spread of a set, with the own fields and with each spread. A plain one is left to `note_plain`.
+fn compare_spread<J: Judge>(
+    graph: &Graph<J>,
+    s: usize,
+    f: usize,
+    list: &[usize],
+    plain: &BitSet,
+    search: &mut Search,
+) -> Result<(), AllocError>
+    requires first { f < length graph.now.fragments.items }
+    requires list { All (λ g. g < length graph.now.fragments.items) list.now }
+    requires plain { ArePlain (world J.judgement graph.now) plain.now }
+    ensures done { OnOk result (Did (world J.judgement graph.now) (λ M. SpreadDone (world J.judgement graph.now) M plain.now s list.now f) search.old search.new) }
+    ensures real { OnOk result (AddsAll (world J.judgement graph.now) false (AtWrittenOrListed (world J.judgement graph.now) s f list.now) (AtWritten (world J.judgement graph.now) s f) search.old.found.items search.new.found.items) }
+{
+    if is_plain(graph, f, plain) {
+        return Ok(());
+    }
+    write_own(graph, s, f, search)?;
+    pair_all(graph, f, list, plain, search)
+}
+
+// The spreads of a set, each with the own fields and with the other spreads.
+fn compare_spreads<J: Judge>(
+    graph: &Graph<J>,
+    s: usize,
+    plain: &BitSet,
+    search: &mut Search,
+) -> Result<(), AllocError>
+    requires { ArePlain (world J.judgement graph.now) plain.now }
+    ensures done { OnOk result (Did (world J.judgement graph.now) (λ M. All (λ f. OwnWritten (world J.judgement graph.now) M s f) (spreads_of (world J.judgement graph.now) s) × AllBefore (Pair M false) (spreads_of (world J.judgement graph.now) s)) search.old search.new) }
+    ensures real { OnOk result (AddsAll (world J.judgement graph.now) false (AtPlaces (world J.judgement graph.now) s) (AtSpread (world J.judgement graph.now) s) search.old.found.items search.new.found.items) }
+{
+    let list = spreads(graph, s);
+    for f in list {
+        compare_spread(graph, s, *f, list, plain, search)?;
+    }
+    note_plain(graph, list, plain, search)
+}
+
+// All that one set asks for.
+fn compare_set<J: Judge>(
+    graph: &Graph<J>,
+    s: usize,
+    plain: &BitSet,
+    search: &mut Search,
+) -> Result<(), AllocError>
+    requires { ArePlain (world J.judgement graph.now) plain.now }
+    ensures done { OnOk result (Did (world J.judgement graph.now) (λ M. Top (world J.judgement graph.now) M s) search.old search.new) }
+    ensures real { OnOk result (AddsAll (world J.judgement graph.now) false (AtPlaces (world J.judgement graph.now) s) (AtTop (world J.judgement graph.now) s) search.old.found.items search.new.found.items) }
+{
+    compare_within(graph, s, search)?;
+    compare_spreads(graph, s, plain, search)
+}
+
+/// The search over all sets, in the graph's order.
+///
+/// What was found is true and nothing is missed. Of `n` fragments at most `n (n - 1)` pairs are compared, and at least those that
+/// some set spreads together; no search opens more than `n` fragments.
+pub fn search_all<J: Judge>(alloc: Global, graph: &Graph<J>) -> Result<Search, AllocError>
+    ensures judged { IfOk result (λ m. Judged (world J.judgement graph.now) m.found.items) }
+    ensures few { IfOk result (λ m. m.compared ≤ length graph.now.fragments.items * (length graph.now.fragments.items - 1)) }
+    ensures enough { IfOk result (λ m. (ps : List (ℕ × ℕ)) → Together (world J.judgement graph.now) ps → length ps ≤ m.compared) }
+    ensures opened { IfOk result (λ m. m.opened ≤ length graph.now.fragments.items * m.lists) }
+{
+    let plain = passed_over(alloc, graph)?;
+    let mut search = no_search(alloc);
+    for s in order(graph) {
+        compare_set(graph, *s, &plain, &mut search)?;
+    }
+    Ok(search)
+}

@@ -1,0 +1,111 @@
+-- What each step adds to a table.
+use Rattle.std.specs.Prelude.{◌≡◌, ◌<◌, ◌≤◌, ℕ, List, [], ◌∷◌, ◌++◌, map, Option, Some, length, slice_get, slice_set, true, option_to_list}
+use Rattle.std.specs.List.{All, Contains}
+use Rattle.language.specs.declared.tree.Selection.{Selection}
+use Rattle.meta.specs.declared.kinds.MetaTypeOf.{MetaTypeOf}
+use Rattle.schema.specs.Catalog.{Catalog}
+use Rattle.merge_field_pairs.specs.Entries.{PlainEntry, plain}
+use Rattle.merge_search.specs.declared.node.Entry.{Entry as OwnField}
+use Rattle.merge_set_table.specs.declared.table.NumberedSet.{NumberedSet}
+use Rattle.merge_set_table.specs.declared.table.Table.{Table}
+use Rattle.merge_set_table.specs.Names.{AreApart}
+use Rattle.merge_set_table.specs.Once.{IsEachOnce, is_among}
+use Rattle.merge_set_table.specs.Table.{numbered, Extends, IsOwnField, IsWithin, Falling, height}
+use Rattle.merge_set_table.specs.Represents.{Represents, IsSetOf}
+use Rattle.merge_set_table.specs.Inside.{IsInside, IsFieldInside}
+
+-- Every fragment that has a number is there, and its set has a number below the bound.
+abbrev pub AreWithin : (List ℕ → Option ℕ) → List ℕ → ℕ → Type 0
+AreWithin numbers fragments bound = (name : List ℕ) (g : ℕ) → numbers name ≡ Some g → IsWithin fragments bound g
+
+pub record IsEmptySet (part : NumberedSet) : Type 0 where
+  pub own : part.own.items ≡ []
+  pub spreads : part.spreads.items ≡ []
+
+-- The number was added, if there is one.
+pub record AddsSpread (number : Option ℕ) (old new : NumberedSet) : Type 0 where
+  pub own : new.own.items ≡ old.own.items
+  pub spreads : new.spreads.items ≡ old.spreads.items ++ option_to_list number
+
+-- What the set of the number has of its own was added.
+pub record TakesOver (sets : List NumberedSet) (n : ℕ) (old new : NumberedSet) : Type 0 where
+  pub row : NumberedSet
+  pub stored : slice_get sets n ≡ Some row
+  pub own : new.own.items ≡ old.own.items ++ row.own.items
+  pub spreads : new.spreads.items ≡ old.spreads.items ++ row.spreads.items
+
+module _ {S C : Type 0} where
+  pub record IsEmptyTable (t : Table S C) : Type 0 where
+    pub fields : t.fields.items ≡ []
+    pub sets : t.sets.items ≡ []
+    pub order : t.order.items ≡ []
+    pub responses : AreApart t.responses
+
+  -- The field got a number, and was added to its set.
+  pub record PushesField (o : PlainEntry S C) (below : Option ℕ) (part part' : NumberedSet) (t t' : Table S C) : Type 0 where
+    pub own_field : OwnField
+    pub fields : map plain t'.fields.items ≡ map plain t.fields.items ++ o ∷ []
+    pub is : IsOwnField (numbered t') o own_field
+    pub below_is : own_field.below ≡ below
+    pub own : part'.own.items ≡ part.own.items ++ own_field ∷ []
+    pub spreads : part'.spreads.items ≡ part.spreads.items
+    pub extends : Extends (numbered t) (numbered t')
+    pub sets : t'.sets.items ≡ t.sets.items
+    pub order : t'.order.items ≡ t.order.items
+    pub apart : AreApart t.responses → AreApart t'.responses
+
+  -- A place in the order was kept.
+  pub record OpensSet (place : ℕ) (t t' : Table S C) : Type 0 where
+    pub at : place ≡ length t.order.items
+    pub same : numbered t' ≡ numbered t
+    pub order : t'.order.items ≡ t.order.items ++ 0 ∷ []
+
+  -- The set was stored, each fragment once, and its number put at its place.
+  pub record ClosesSet (place : ℕ) (part : NumberedSet) (n : ℕ) (t t' : Table S C) : Type 0 where
+    pub row : NumberedSet
+    pub own : row.own.items ≡ part.own.items
+    pub once : IsEachOnce part.spreads.items row.spreads.items
+    pub number : n ≡ length t.sets.items
+    pub fields : t'.fields.items ≡ t.fields.items
+    pub responses : t'.responses ≡ t.responses
+    pub sets : t'.sets.items ≡ t.sets.items ++ row ∷ []
+    pub order : t'.order.items ≡ slice_set t.order.items place n
+
+  -- The numbers of the sets that were added stand in what was added to the order.
+  pub record AddsOrder (t t' : Table S C) : Type 0 where
+    pub more : List ℕ
+    pub order : t'.order.items ≡ t.order.items ++ more
+    pub whole : (k : ℕ) → length t.sets.items ≤ k → k < length t'.sets.items → is_among more k ≡ true
+
+  -- What holds whatever was added.
+  pub record Keeps (numbers : List ℕ → Option ℕ) (t t' : Table S C) : Type 0 where
+    pub extends : Extends (numbered t) (numbered t')
+    pub apart : AreApart t.responses → AreApart t'.responses
+    pub falls : (fragments : List ℕ) → AreWithin numbers fragments (length t.sets.items) → Falling t.sets.items fragments → Falling t'.sets.items fragments
+    pub order : AddsOrder t t'
+
+  -- What was added is from the set under the type: each set is one inside it, and each field stands in one.
+  pub record ComesFrom (schema : Catalog S C) (numbers : List ℕ → Option ℕ) (p : Option (MetaTypeOf S C)) (set : List (Selection S)) (t t' : Table S C) : Type 0 where
+    pub sets : (k : ℕ) → length t.sets.items ≤ k → k < length t'.sets.items
+        → (q : Option (MetaTypeOf S C)) × (inner : List (Selection S)) × IsInside schema p set q inner × IsSetOf schema numbers (numbered t') k q inner
+    pub fields : (k : ℕ) (a : PlainEntry S C) → length t.fields.items ≤ k → slice_get (map plain t'.fields.items) k ≡ Some a → IsFieldInside schema p set a
+
+  -- Own fields and spreads of the selections were added to a set.
+  pub record Adds (schema : Catalog S C) (numbers : List ℕ → Option ℕ) (p : Option (MetaTypeOf S C)) (xs : List (Selection S)) (part part' : NumberedSet) (t t' : Table S C) : Type 0 where
+    pub own_more : List OwnField
+    pub to_more : List ℕ
+    pub own : part'.own.items ≡ part.own.items ++ own_more
+    pub spreads : part'.spreads.items ≡ part.spreads.items ++ to_more
+    pub represents : Represents schema numbers (numbered t') p xs own_more to_more
+    pub below : All (λ a. height a ≤ length t'.sets.items) own_more
+    pub within : (fragments : List ℕ) (bound : ℕ) → AreWithin numbers fragments bound → All (IsWithin fragments bound) to_more
+    pub from : (p0 : Option (MetaTypeOf S C)) (set0 whole : List (Selection S)) → IsInside schema p0 set0 p whole → ((x : Selection S) → Contains xs x → Contains whole x) → ComesFrom schema numbers p0 set0 t t'
+    pub keeps : Keeps numbers t t'
+
+  -- The set and all sets in it were added.
+  pub record AddsSet (schema : Catalog S C) (numbers : List ℕ → Option ℕ) (p : Option (MetaTypeOf S C)) (set : List (Selection S)) (n : ℕ) (t t' : Table S C) : Type 0 where
+    pub is : IsSetOf schema numbers (numbered t') n p set
+    pub own : All (λ a. height a ≤ length t'.sets.items) is.row.own.items
+    pub within : (fragments : List ℕ) (bound : ℕ) → AreWithin numbers fragments bound → All (IsWithin fragments bound) is.row.spreads.items
+    pub from : ComesFrom schema numbers p set t t'
+    pub keeps : Keeps numbers t t'

@@ -1,0 +1,115 @@
+//! Adds a selection set to a table, with all sets in it.
+ghost use Rattle.std.specs.Prelude.{◌≡◌, ◌∷◌, [], OnOk, IfOk, option_copied};
+ghost use Rattle.merge_set_table.specs.Known.{known_rank};
+ghost use Rattle.merge_set_table.specs.Adding.{Adds, AddsSet, AddsSpread};
+
+use crate::known::{KnownFragments, rank_of_name};
+use crate::steps::{close_set, no_fields, open_set, push_field, take_over};
+use crate::table::{NumberedSet, Table};
+use language::error::OutOfMemory;
+use language::position::Spanning;
+use language::tree::{Field, Selection};
+use merge_field_pairs::own_fields::{entry_of_field, type_below_field, type_inside_fragment};
+use meta::kinds::MetaTypeOf;
+use schema::model::SchemaTypeOf;
+use std::alloc::Global;
+
+/// Adds a set under a type, behind the sets in it, and answers its number. `fragments` are those that may
+/// be spread; another counts as unknown.
+#[cycle(adding)]
+pub fn add_set<'a, S, C>(
+    alloc: Global,
+    schema: &'a SchemaTypeOf<S, C>,
+    fragments: &KnownFragments<'_, '_>,
+    parent: Option<&'a MetaTypeOf<S, C>>,
+    set: &'a [Selection<'a, S>],
+    table: &mut Table<'a, S, C>,
+) -> Result<usize, OutOfMemory>
+    ensures { IfOk result (λ n. AddsSet schema.now (known_rank fragments.now) (option_copied parent.entry) set.now n table.old table.new) }
+{
+    let place = open_set(table)?;
+    let mut part = no_fields(alloc, set.len())?;
+    add_selections(alloc, schema, fragments, parent, set, &mut part, table)?;
+    close_set(alloc, place, part, table)
+}
+
+#[cycle(adding)]
+fn add_selections<'a, S, C>(
+    alloc: Global,
+    schema: &'a SchemaTypeOf<S, C>,
+    fragments: &KnownFragments<'_, '_>,
+    parent: Option<&'a MetaTypeOf<S, C>>,
+    set: &'a [Selection<'a, S>],
+    part: &mut NumberedSet,
+    table: &mut Table<'a, S, C>,
+) -> Result<(), OutOfMemory>
+    ensures { OnOk result (Adds schema.now (known_rank fragments.now) (option_copied parent.entry) set.now part.old part.new table.old table.new) }
+{
+    for selection in set {
+        add_selection(alloc, schema, fragments, parent, selection, part, table)?;
+    }
+    Ok(())
+}
+
+#[cycle(adding)]
+fn add_selection<'a, S, C>(
+    alloc: Global,
+    schema: &'a SchemaTypeOf<S, C>,
+    fragments: &KnownFragments<'_, '_>,
+    parent: Option<&'a MetaTypeOf<S, C>>,
+    selection: &'a Selection<'a, S>,
+    part: &mut NumberedSet,
+    table: &mut Table<'a, S, C>,
+) -> Result<(), OutOfMemory>
+    ensures { OnOk result (Adds schema.now (known_rank fragments.now) (option_copied parent.entry) (selection.now ∷ []) part.old part.new table.old table.new) }
+{
+    match selection {
+        Selection::Field(field) => {
+            add_field(alloc, schema, fragments, parent, field, part, table)
+        }
+        Selection::FragmentSpread(spread) => add_spread(fragments, spread.item.name.item, part),
+        Selection::InlineFragment(inline) => {
+            let inside = type_inside_fragment(schema, parent, &inline.item.type_condition);
+            let set = inline.item.selection_set.as_slice();
+            let number = add_set(alloc, schema, fragments, inside, set, table)?;
+            take_over(table.sets.as_slice(), number, part)
+        }
+    }
+}
+
+#[cycle(adding)]
+fn add_field<'a, S, C>(
+    alloc: Global,
+    schema: &'a SchemaTypeOf<S, C>,
+    fragments: &KnownFragments<'_, '_>,
+    parent: Option<&'a MetaTypeOf<S, C>>,
+    field: &'a Spanning<Field<'a, S>>,
+    part: &mut NumberedSet,
+    table: &mut Table<'a, S, C>,
+) -> Result<(), OutOfMemory>
+    ensures { OnOk result (Adds schema.now (known_rank fragments.now) (option_copied parent.entry) (Selection.Field field.now ∷ []) part.old part.new table.old table.new) }
+{
+    let entry = entry_of_field(parent, field);
+    match &field.item.selection_set {
+        Some(set) => {
+            let below = type_below_field(schema, &entry);
+            let number = add_set(alloc, schema, fragments, below, set.as_slice(), table)?;
+            push_field(table, part, entry, Some(number))
+        }
+        None => push_field(table, part, entry, None),
+    }
+}
+
+// The number of the fragment, where it is known.
+fn add_spread(
+    fragments: &KnownFragments<'_, '_>,
+    name: &str,
+    part: &mut NumberedSet,
+) -> Result<(), OutOfMemory>
+    ensures { OnOk result (AddsSpread (known_rank fragments.now name.now) part.old part.new) }
+{
+    if let Some(number) = rank_of_name(fragments, name) {
+        part.spreads.push(number)?;
+    }
+    Ok(())
+}

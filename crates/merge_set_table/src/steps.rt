@@ -1,0 +1,85 @@
+//! The steps by which a table grows.
+ghost use Rattle.std.specs.Prelude.{◌<◌, OnOk, IfOk, length};
+ghost use Rattle.merge_field_pairs.specs.Entries.{plain};
+ghost use Rattle.merge_set_table.specs.Adding.{PushesField, TakesOver, OpensSet, ClosesSet, IsEmptySet};
+
+use crate::names::number_name;
+use crate::once::each_once;
+use crate::table::{NumberedSet, Table};
+use language::error::OutOfMemory;
+use merge_field_pairs::entry::Entry;
+use merge_search::node::Entry as OwnField;
+use std::alloc::Global;
+
+// A set without fields and spreads, with room for so many fields, so that its list seldom grows.
+pub fn no_fields(alloc: Global, room: usize) -> Result<NumberedSet, OutOfMemory>
+    ensures { IfOk result IsEmptySet }
+{
+    Ok(NumberedSet {
+        own: Vec::with_capacity(alloc, room)?,
+        spreads: Vec::new(alloc),
+    })
+}
+
+// Gives a field a number, and adds it to its set.
+pub fn push_field<'a, S, C>(
+    table: &mut Table<'a, S, C>,
+    part: &mut NumberedSet,
+    entry: Entry<'a, S, C>,
+    below: Option<usize>,
+) -> Result<(), OutOfMemory>
+    ensures { OnOk result (PushesField (plain entry.entry) below part.old part.new table.old table.new) }
+{
+    let response = number_name(&mut table.responses, entry.response_name())?;
+    let field = table.fields.len();
+    table.fields.push(entry)?;
+    part.own.push(OwnField {
+        response,
+        field,
+        below,
+    })?;
+    Ok(())
+}
+
+// Adds what an inner set has of its own.
+pub fn take_over(
+    sets: &[NumberedSet],
+    number: usize,
+    part: &mut NumberedSet,
+) -> Result<(), OutOfMemory>
+    requires { number < length sets.now }
+    ensures { OnOk result (TakesOver sets.now number part.old part.new) }
+{
+    let inner = &sets[number];
+    part.own.extend_from_slice(inner.own.as_slice())?;
+    part.spreads.extend_from_slice(inner.spreads.as_slice())?;
+    Ok(())
+}
+
+// Keeps a place in the order for a set that is begun.
+pub fn open_set<S, C>(table: &mut Table<'_, S, C>) -> Result<usize, OutOfMemory>
+    ensures { IfOk result (λ place. OpensSet place table.old table.new) }
+{
+    let place = table.order.len();
+    table.order.push(0)?;
+    Ok(place)
+}
+
+// Stores a set, each fragment that it spreads once, and puts its number at its place in the order.
+pub fn close_set<S, C>(
+    alloc: Global,
+    place: usize,
+    part: NumberedSet,
+    table: &mut Table<'_, S, C>,
+) -> Result<usize, OutOfMemory>
+    requires { place < length table.old.order.items }
+    ensures { IfOk result (λ n. ClosesSet place part n table.old table.new) }
+{
+    let spreads = each_once(alloc, part.spreads)?;
+    let mut own = part.own;
+    own.shrink_to_fit();
+    let number = table.sets.len();
+    table.sets.push(NumberedSet { own, spreads })?;
+    table.order[place] = number;
+    Ok(number)
+}

@@ -1,9 +1,0 @@
-use Rattle.std.proofs.Common.{ltb, rules}
-use Rattle.std.proofs.lemmas.List.Sorted.{answers_always}
-use Rattle.merging.specs.declared.node.Entry.{Entry}
-use Rattle.merging.proofs.Naming.{rising_sorted}
-use Rattle.merging.proofs.groups.are_ascending.Goals as goal
-
-pub returns : goal.returns
-returns c =
-    rising_sorted _ _ (c.is_sorted_by.ensures.cases (λ (a b : Entry). ltb a.response b.response) (answers_always _ _ _ (λ f a r g h. search rules)))

@@ -1,6 +1,0 @@
-use Rattle.std.proofs.Common.{take}
-use Rattle.merging.specs.Clear.{AreLeaves}
-use Rattle.merging.proofs.view.are_leaves.Given as goal
-
-abbrev pub invariant-loop-field : goal.invariant-loop-field
-invariant-loop-field l = AreLeaves (take l.field-index l.fields)

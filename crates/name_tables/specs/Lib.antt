@@ -1,0 +1,4 @@
+pub mod Adding
+pub mod Looking
+pub mod Maps
+pub mod Slots

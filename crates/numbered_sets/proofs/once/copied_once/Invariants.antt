@@ -1,7 +1,0 @@
-use Rattle.std.proofs.Common.{take}
-use Rattle.numbered_sets.specs.Once.{IsEachOnce}
-use Rattle.numbered_sets.proofs.OnceLaws.{HaveBits}
-use Rattle.numbered_sets.proofs.once.copied_once.Given as goal
-
-abbrev pub invariant-loop-number : goal.invariant-loop-number
-invariant-loop-number l = IsEachOnce (take l.number-index l.numbers) l.once.items × HaveBits l.seen l.once.items

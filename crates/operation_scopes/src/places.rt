@@ -1,0 +1,41 @@
+//! The places of a document's definitions, by the numbers of their names.
+ghost use Rattle.std.specs.Prelude.{◌≡◌, [], ℕ, IfOk, OnOk, length};
+ghost use Rattle.operation_scopes.specs.Places.{numbered_places, AddsAt};
+
+use std::alloc::{AllocError, Global};
+
+/// So many lists without places. None has room of its own.
+pub fn empty_lists(alloc: Global, count: usize) -> Result<Vec<Vec<usize>>, AllocError>
+    ensures len { IfOk result (λ v. length v.items ≡ count) }
+    ensures empty { IfOk result (λ v. (k : ℕ) → numbered_places v.items k ≡ []) }
+{
+    let mut lists = Vec::with_capacity(alloc, count)?;
+    for _number in 0..count {
+        lists.push(Vec::new(alloc))?;
+    }
+    Ok(lists)
+}
+
+/// The places that are kept at a number, ascending.
+pub fn numbered_places(lists: &[Vec<usize>], number: usize) -> &[usize]
+    ensures { result.now ≡ numbered_places lists.now number }
+{
+    match lists.get(number) {
+        Some(found) => found.as_slice(),
+        None => &[],
+    }
+}
+
+/// Adds a place at a number, if there is a list for it.
+pub fn add_numbered(
+    lists: &mut Vec<Vec<usize>>,
+    number: usize,
+    place: usize,
+) -> Result<(), AllocError>
+    ensures { OnOk result (AddsAt number place lists.old.items lists.new.items) }
+{
+    if number < lists.len() {
+        lists[number].push(place)?;
+    }
+    Ok(())
+}

@@ -1,9 +1,0 @@
-use Rattle.std.proofs.Common.{◌≡◌, map, take}
-use Rattle.walk.specs.ContextState.{with_errors}
-use Rattle.fragment_cycles.specs.DocumentCycles.{name_and_place}
-use Rattle.reach.specs.NoFragmentCycles.{cycle_error}
-use Rattle.reach.proofs.no_fragment_cycles.report_all.Given as goal
-
--- those that were seen are reported
-abbrev pub invariant-loop-report : goal.invariant-loop-report
-invariant-loop-report g l = l.ctx ≡ with_errors l.fn.ctx (map cycle_error (map name_and_place (take l.report-index l.reports)))

@@ -1,8 +1,0 @@
-use Rattle.std.proofs.Common.{take}
-use Rattle.reachability.specs.Search.{Marks, WellMarked}
-use Rattle.reachability.proofs.search.mark_all.Given as goal
-
-abbrev pub invariant-loop-spread : goal.invariant-loop-spread
-invariant-loop-spread l =
-    Marks (take l.spread-index l.spreads) l.initial.order.items l.initial.marks.items l.order.items l.marks.items
-    × WellMarked l.order.items l.marks.items

@@ -1,5 +1,0 @@
-use Rattle.rule_parts.proofs.Kept.{none_noted}
-use Rattle.rule_parts.proofs.first_places.FirstPlaces.new.Goals as goal
-
-pub returns-clause-places : goal.returns-clause-places
-returns-clause-places c = none_noted _ c.new.ensures.none

@@ -1,0 +1,70 @@
+-- Arguments that their field or their directive does not have.
+use Rattle.std.specs.Prelude.{ℕ, List, [], ◌∷◌, ◌++◌, Bool, Option, Some, None, is_some, find, if◌then◌else◌, codes, string_bytes}
+use Rattle.std.specs.List.{flat_map}
+use Rattle.std.specs.Str.{bytes_eq}
+use Rattle.language.specs.declared.tree.Arguments.{Arguments}
+use Rattle.language.specs.declared.tree.Directive.{Directive}
+use Rattle.language.specs.declared.tree.Field.{Field}
+use Rattle.meta.specs.declared.arguments.Argument.{Argument}
+use Rattle.meta.specs.declared.kinds.MetaTypeOf.{MetaTypeOf}
+use Rattle.schema.specs.Catalog.{Catalog}
+use Rattle.walk.specs.ContextState.{DocumentScope}
+use Rattle.walk.specs.ErrorValue.{ErrorValue}
+use Rattle.events.specs.Node.{Node, Name, Placed, ArgumentEntry, field, directive}
+use Rattle.events.specs.Occurrence.{Occurrence}
+use Rattle.events.specs.SchemaView.{field_arguments, directive_arguments}
+use Rattle.rules_arguments.specs.Bearers.{name_of_known}
+use Rattle.rules_arguments.specs.declared.bearers.Bearer.{Bearer}
+use Rattle.rules_arguments.specs.declared.bearers.Bearer.TheVariants as bearer
+
+abbrev pub unknown_on_field_message : List ℕ → List ℕ → List ℕ → List ℕ
+unknown_on_field_message name parent argument =
+    (((((codes "Unknown argument \"" ++ argument) ++ codes "\" on field \"") ++ name) ++ codes "\" of type \"") ++ parent) ++ codes "\""
+
+abbrev pub unknown_on_directive_message : List ℕ → List ℕ → List ℕ
+unknown_on_directive_message name argument = (((codes "Unknown argument \"" ++ argument) ++ codes "\" on directive \"") ++ name) ++ codes "\""
+
+abbrev pub unknown_message : Bearer → List ℕ → List ℕ
+unknown_message (bearer.Field name parent) = unknown_on_field_message name.now parent.now
+unknown_message (bearer.Directive name) = unknown_on_directive_message name.now
+
+module _ {S : Type 0} where
+  abbrev pub is_known : List (Argument S) → List ℕ → Bool
+  is_known known name = is_some (find (λ a. bytes_eq (string_bytes a.name) name) known)
+
+  -- a name that is none of these, reported
+  abbrev pub unknown_name : (List ℕ → List ℕ) → List (Argument S) → Name → List ErrorValue
+  unknown_name message known name =
+      if is_known known name.item.now then [] else record { locations = name.span.start ∷ []; message = message name.item.now } ∷ []
+
+  abbrev pub unknown_argument : (List ℕ → List ℕ) → List (Argument S) → ArgumentEntry S → List ErrorValue
+  unknown_argument message known a = unknown_name message known a.0
+
+  -- each of the arguments that is none of these
+  abbrev pub unknown_among : (List ℕ → List ℕ) → List (Argument S) → Option (Placed (Arguments S)) → List ErrorValue
+  unknown_among message known None = []
+  unknown_among message known (Some written) = flat_map (unknown_argument message known) written.item.items.items
+
+  -- where no list of arguments is known, none is unknown
+  abbrev pub unknown_where_known : (List ℕ → List ℕ) → Option (List (Argument S)) → Option (Placed (Arguments S)) → List ErrorValue
+  unknown_where_known message None written = []
+  unknown_where_known message (Some known) written = unknown_among message known written
+
+module _ {S C : Type 0} where
+  -- of a field whose type is known, each argument that is none of the field's
+  abbrev pub unknown_on_field : Option (MetaTypeOf S C) → Field S → List ErrorValue
+  unknown_on_field parent f =
+      unknown_where_known (unknown_on_field_message f.name.item.now (name_of_known parent)) (field_arguments parent f.name.item.now) f.arguments
+
+  abbrev pub unknown_on_directive : Catalog S C → Directive S → List ErrorValue
+  unknown_on_directive schema d =
+      unknown_where_known (unknown_on_directive_message d.name.item.now) (directive_arguments schema d.name.item.now) d.arguments
+
+  abbrev pub unknown_at : Catalog S C → Option (MetaTypeOf S C) → Node S → List ErrorValue
+  unknown_at schema parent (field f) = unknown_on_field parent f.item
+  unknown_at schema parent (directive d) = unknown_on_directive schema d.item
+  unknown_at schema parent _ = []
+
+  -- at a field and at a directive: each argument that it does not have
+  abbrev pub unknown_arguments : DocumentScope S C → Occurrence S C → List ErrorValue
+  unknown_arguments scope o = unknown_at scope.schema o.types.parent o.node

@@ -1,0 +1,79 @@
+//! No two arguments of a field or of a directive have one name (GraphQL, section 5.4.2).
+
+ghost use Rattle.std.specs.Prelude.{◌≡◌, IfOk, OnErr};
+ghost use Rattle.walk.specs.ContextState.{with_errors};
+ghost use Rattle.walk.specs.Entering.{finding_step, found};
+ghost use Rattle.walk.specs.Rule.{always, any_value, exactly};
+ghost use Rattle.walk.specs.Step.{KeepsPlace};
+ghost use Rattle.walk.proofs.Entering.{finding_keeps};
+ghost use Rattle.rules_arguments.specs.UniqueArgumentNames.{repeated_arguments, repeated_in};
+
+use language::error::OutOfMemory;
+use language::position::Spanning;
+use language::tree::Arguments;
+use meta::check::CheckedScalar;
+use rules_support::repeats::report_repeats;
+use std::alloc::Global;
+use walk::{Event, Fresh, Machine, Rule, ValidatorContext, Visitor};
+
+/// Reports each argument whose name an earlier one of its list has, at the first of the name and at its own.
+#[derive(Drop)]
+pub struct UniqueArgumentNames {
+    alloc: Global,
+}
+
+/// The rule, made ready for one document.
+pub fn factory(alloc: Global) -> UniqueArgumentNames
+    ensures { ⟦<UniqueArgumentNames as Fresh>⟧.fresh result }
+{
+    UniqueArgumentNames { alloc }
+}
+
+impl Fresh for UniqueArgumentNames {
+    ghost fresh = { any_value };
+}
+
+impl<S, C> Machine<S, C> for UniqueArgumentNames {
+    ghost step = { finding_step repeated_arguments };
+}
+
+impl<S, C> Rule<S, C> for UniqueArgumentNames {
+    ghost allows = { always (exactly (found repeated_arguments)) };
+
+    ghost keeps = { finding_keeps repeated_arguments };
+}
+
+impl<'a, S: CheckedScalar> Visitor<'a, S> for UniqueArgumentNames {
+    fn on(
+        &mut self,
+        ctx: &mut ValidatorContext<'a, S>,
+        event: &Event<'a, S>,
+    ) -> Result<(), OutOfMemory> {
+        match event {
+            Event::EnterField(field) => report(self.alloc, ctx, &field.item.arguments),
+            Event::EnterDirective(directive) => report(self.alloc, ctx, &directive.item.arguments),
+            _ => Ok(()),
+        }
+    }
+}
+
+// Reports the repeats among arguments, where there are any.
+fn report<'a, S: CheckedScalar>(
+    alloc: Global,
+    ctx: &mut ValidatorContext<'a, S>,
+    arguments: &Option<Spanning<Arguments<'_, S>>>,
+) -> Result<(), OutOfMemory>
+    ensures ok { IfOk result (λ _. ctx.new ≡ with_errors ctx.old (repeated_in arguments.now)) }
+    ensures err { OnErr result (KeepsPlace ctx.old ctx.new) }
+{
+    match arguments {
+        Some(list) => report_repeats(
+            alloc,
+            ctx,
+            &list.item.items,
+            "There can only be one argument named \"",
+            "\"",
+        ),
+        None => Ok(()),
+    }
+}

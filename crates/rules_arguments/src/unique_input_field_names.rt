@@ -1,0 +1,58 @@
+//! No two fields of an object value have one name (GraphQL, section 5.6.3).
+
+ghost use Rattle.walk.specs.Entering.{finding_step, found};
+ghost use Rattle.walk.specs.Rule.{always, any_value, exactly};
+ghost use Rattle.walk.proofs.Entering.{finding_keeps};
+ghost use Rattle.rules_arguments.specs.UniqueInputFieldNames.{repeated_keys};
+
+use language::error::OutOfMemory;
+use meta::check::CheckedScalar;
+use rules_support::repeats::report_repeats;
+use std::alloc::Global;
+use walk::{Event, Fresh, Machine, Rule, ValidatorContext, Visitor};
+
+/// Reports each key of an object value that an earlier one is, at the first of the name and at its own.
+#[derive(Drop)]
+pub struct UniqueInputFieldNames {
+    alloc: Global,
+}
+
+/// The rule, made ready for one document.
+pub fn factory(alloc: Global) -> UniqueInputFieldNames
+    ensures { ⟦<UniqueInputFieldNames as Fresh>⟧.fresh result }
+{
+    UniqueInputFieldNames { alloc }
+}
+
+impl Fresh for UniqueInputFieldNames {
+    ghost fresh = { any_value };
+}
+
+impl<S, C> Machine<S, C> for UniqueInputFieldNames {
+    ghost step = { finding_step repeated_keys };
+}
+
+impl<S, C> Rule<S, C> for UniqueInputFieldNames {
+    ghost allows = { always (exactly (found repeated_keys)) };
+
+    ghost keeps = { finding_keeps repeated_keys };
+}
+
+impl<'a, S: CheckedScalar> Visitor<'a, S> for UniqueInputFieldNames {
+    fn on(
+        &mut self,
+        ctx: &mut ValidatorContext<'a, S>,
+        event: &Event<'a, S>,
+    ) -> Result<(), OutOfMemory> {
+        if let Event::EnterObjectValue(object) = event {
+            report_repeats(
+                self.alloc,
+                ctx,
+                object.item,
+                "There can only be one input field named \"",
+                "\"",
+            )?;
+        }
+        Ok(())
+    }
+}

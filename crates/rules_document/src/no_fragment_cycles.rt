@@ -1,0 +1,131 @@
+//! No fragment spreads itself, nor leads back to itself through others (GraphQL, section 5.5.2.2).
+
+ghost use Rattle.std.specs.Prelude.{◌≡◌, List, None, IfOk, OnErr, map, string_bytes};
+ghost use Rattle.language.specs.declared.tree.Definition.{Definition};
+ghost use Rattle.walk.specs.ContextState.{with_errors};
+ghost use Rattle.walk.specs.Rule.{any_value, Appended};
+ghost use Rattle.walk.specs.Step.{KeepsPlace};
+ghost use Rattle.fragment_graph.specs.DocumentCycles.{name_and_place};
+ghost use Rattle.fragment_graph.specs.DocumentGraph.{IsGraphOf};
+ghost use Rattle.rules_document.specs.AtDocument.{document_step, given_at_end};
+ghost use Rattle.rules_document.specs.NoFragmentCycles.{cycle_error, cycle_errors, cycle_message, CycleErrors};
+ghost use Rattle.rules_document.specs.AtDocumentLaws.{document_keeps};
+
+use fragment_graph::cycles::{CycleReport, DocumentCycles, GraphCycles, search_named};
+use fragment_graph::document_graph::{DocumentGraph, graph_of};
+use language::error::OutOfMemory;
+use meta::check::CheckedScalar;
+use std::alloc::{AllocError, Global};
+use walk::{Event, Fresh, Machine, Rule, ValidatorContext, Visitor};
+
+/// Reports, where the document ends, fragments that lead back to themselves, so many that each cycle has one, at spreads inside
+/// them that start a way back. It keeps what its search found, for those who look at fragments after it.
+#[derive(Drop)]
+pub struct NoFragmentCycles<'a> {
+    alloc: Global,
+    looked: u128,
+    found: Option<DocumentCycles<'a>>,
+}
+
+/// The rule, made ready for one document.
+pub fn factory<'a>(alloc: Global) -> NoFragmentCycles<'a>
+    ensures { ⟦<NoFragmentCycles<'a> as Fresh>⟧.fresh result }
+{
+    NoFragmentCycles {
+        alloc,
+        looked: 0,
+        found: None,
+    }
+}
+
+impl<'a> NoFragmentCycles<'a> {
+    /// How many spreads inside definitions of fragments were looked at, in the document that was left last.
+    pub fn looked(&self) -> u128
+        ensures { result ≡ self.now.looked }
+    {
+        self.looked
+    }
+
+    /// What its search found, in the document that was left last.
+    pub fn into_found(self) -> Option<DocumentCycles<'a>>
+        ensures { result ≡ self.entry.found }
+    {
+        self.found
+    }
+
+    /// Leaves the document of a graph.
+    pub fn leave<S: CheckedScalar>(
+        &mut self,
+        ctx: &mut ValidatorContext<'a, S>,
+        graph: DocumentGraph<'a>,
+    ) -> Result<(), OutOfMemory>
+        ensures ok { IfOk result (λ _. (document : List (Definition S)) → IsGraphOf document graph.entry → Appended (CycleErrors document self.new) ctx.old ctx.new) }
+        ensures err { OnErr result (KeepsPlace ctx.old ctx.new) }
+    {
+        self.looked = 0;
+        self.found = None;
+        let GraphCycles { outcome, reports } = search_named(self.alloc, &graph)?;
+        report_all(self.alloc, ctx, reports.as_slice())?;
+        let found = DocumentCycles {
+            graph,
+            outcome,
+            reports,
+        };
+        self.looked = found.outcome.looked;
+        self.found = Some(found);
+        Ok(())
+    }
+}
+
+impl<'a> Fresh for NoFragmentCycles<'a> {
+    ghost fresh = { any_value };
+}
+
+impl<'a, S, C> Machine<S, C> for NoFragmentCycles<'a> {
+    ghost step = { document_step cycle_errors };
+}
+
+impl<'a, S, C> Rule<S, C> for NoFragmentCycles<'a> {
+    ghost allows = { given_at_end cycle_errors };
+
+    ghost keeps = { document_keeps cycle_errors };
+}
+
+impl<'a, S: CheckedScalar> Visitor<'a, S> for NoFragmentCycles<'a> {
+    fn on(
+        &mut self,
+        ctx: &mut ValidatorContext<'a, S>,
+        event: &Event<'a, S>,
+    ) -> Result<(), OutOfMemory> {
+        match *event {
+            Event::ExitDocument(document) => {
+                let names = ctx.numbered_names(document)?;
+                let graph = graph_of(self.alloc, document, names)?;
+                self.leave(ctx, graph)
+            }
+            _ => Ok(()),
+        }
+    }
+}
+
+// Reports these.
+fn report_all<'a, S: CheckedScalar>(
+    alloc: Global,
+    ctx: &mut ValidatorContext<'a, S>,
+    reports: &[CycleReport<'_>],
+) -> Result<(), OutOfMemory>
+    ensures ok { IfOk result (λ _. ctx.new ≡ with_errors ctx.old (map cycle_error (map name_and_place reports.now))) }
+    ensures err { OnErr result (KeepsPlace ctx.old ctx.new) }
+{
+    for report in reports {
+        let message = error_message(alloc, report.fragment)?;
+        ctx.report_error(message.as_str(), &[report.place])?;
+    }
+    Ok(())
+}
+
+fn error_message(alloc: Global, name: &str) -> Result<String, AllocError>
+    ensures { IfOk result (λ message. string_bytes message ≡ cycle_message name.now) }
+{
+    format!(in alloc; "Cannot spread fragment \"{name}\"")
+}

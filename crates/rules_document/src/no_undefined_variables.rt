@@ -1,0 +1,119 @@
+//! Each variable that an operation uses is defined by it (GraphQL, section 5.8.3).
+
+ghost use Rattle.std.specs.Prelude.{◌≡◌, List, Some, IfOk, OnErr, map, option_map, string_bytes};
+ghost use Rattle.walk.specs.ContextState.{with_errors};
+ghost use Rattle.walk.specs.Rule.{any_value};
+ghost use Rattle.walk.specs.Step.{KeepsPlace};
+ghost use Rattle.variable_usages.specs.DocumentIndex.{IsDocumentIndex};
+ghost use Rattle.variable_usages.specs.Undefined.{Undefined, UndefinedVariables, undefined_of};
+ghost use Rattle.rules_document.specs.AtDocument.{document_step, given_at_end};
+ghost use Rattle.rules_document.specs.AtDocumentLaws.{document_keeps};
+ghost use Rattle.rules_document.specs.NoUndefinedVariables.{undefined_error, undefined_errors, undefined_message};
+
+use language::error::OutOfMemory;
+use language::tree::Document;
+use meta::check::CheckedScalar;
+pub use operation_scopes::scope::Scope;
+use std::alloc::{AllocError, Global};
+use std::marker::PhantomData;
+use variable_usages::document_index::{DocumentIndex, index_document};
+use variable_usages::undefined::{UndefinedVariable, undefined_in};
+use walk::{Event, Fresh, Machine, Rule, ValidatorContext, Visitor};
+
+/// Reports, where the document ends, each use of a variable in the reach of the operations of a name that the last of them doesn't
+/// define, at the argument's value and at that operation.
+#[derive(Drop)]
+pub struct NoUndefinedVariables<'a> {
+    alloc: Global,
+    document: PhantomData<&'a str>,
+}
+
+/// The rule, made ready for one document.
+pub fn factory<'a>(alloc: Global) -> NoUndefinedVariables<'a>
+    ensures { ⟦<NoUndefinedVariables<'a> as Fresh>⟧.fresh result }
+{
+    NoUndefinedVariables {
+        alloc,
+        document: PhantomData,
+    }
+}
+
+impl<'a> Fresh for NoUndefinedVariables<'a> {
+    ghost fresh = { any_value };
+}
+
+impl<'a, S, C> Machine<S, C> for NoUndefinedVariables<'a> {
+    ghost step = { document_step undefined_errors };
+}
+
+impl<'a, S, C> Rule<S, C> for NoUndefinedVariables<'a> {
+    ghost allows = { given_at_end undefined_errors };
+
+    ghost keeps = { document_keeps undefined_errors };
+}
+
+impl<'a, S: CheckedScalar> Visitor<'a, S> for NoUndefinedVariables<'a> {
+    fn on(
+        &mut self,
+        ctx: &mut ValidatorContext<'a, S>,
+        event: &Event<'a, S>,
+    ) -> Result<(), OutOfMemory> {
+        match *event {
+            Event::ExitDocument(document) => {
+                let names = ctx.numbered_names(document)?;
+                let index = index_document(self.alloc, document, names)?;
+                report_undefined(self.alloc, ctx, document, &index)
+            }
+            _ => Ok(()),
+        }
+    }
+}
+
+// Reports these.
+fn report_all<'a, S: CheckedScalar>(
+    alloc: Global,
+    ctx: &mut ValidatorContext<'a, S>,
+    found: &[UndefinedVariable<'_>],
+) -> Result<(), OutOfMemory>
+    ensures ok { IfOk result (λ _. ctx.new ≡ with_errors ctx.old (map undefined_error (map undefined_of found.now))) }
+    ensures err { OnErr result (KeepsPlace ctx.old ctx.new) }
+{
+    for variable in found {
+        let message = error_message(alloc, variable.name, variable.operation)?;
+        ctx.report_error(
+            message.as_str(),
+            &[variable.place, variable.operation_place],
+        )?;
+    }
+    Ok(())
+}
+
+/// Reports the uses that are not defined, by the document's index.
+pub fn report_undefined<'a, 'd, S: CheckedScalar>(
+    alloc: Global,
+    ctx: &mut ValidatorContext<'a, S>,
+    document: Document<'d, S>,
+    index: &DocumentIndex<'d>,
+) -> Result<(), OutOfMemory>
+    requires { IsDocumentIndex document.now index.now }
+    ensures ok { IfOk result (λ _. (found : List Undefined) × UndefinedVariables document.now found × (ctx.new ≡ with_errors ctx.old (map undefined_error found))) }
+    ensures err { OnErr result (KeepsPlace ctx.old ctx.new) }
+{
+    let found = undefined_in(alloc, document, index)?;
+    report_all(alloc, ctx, found.as_slice())
+}
+
+fn named_message(alloc: Global, name: &str, called: &str) -> Result<String, AllocError>
+    ensures { IfOk result (λ message. string_bytes message ≡ undefined_message name.now (Some called.now)) }
+{
+    format!(in alloc; "Variable \"${name}\" is not defined by operation \"{called}\"")
+}
+
+fn error_message(alloc: Global, name: &str, operation: Option<&str>) -> Result<String, AllocError>
+    ensures { IfOk result (λ message. string_bytes message ≡ undefined_message name.now (option_map (λ n. n.now) operation.entry)) }
+{
+    match operation {
+        Some(called) => named_message(alloc, name, called),
+        None => format!(in alloc; "Variable \"${name}\" is not defined"),
+    }
+}

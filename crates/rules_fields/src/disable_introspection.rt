@@ -1,0 +1,68 @@
+//! No field asks for the schema itself (GraphQL, section 4.1): a rule for those who do not want to show theirs.
+
+ghost use Rattle.std.specs.Prelude.{◌≡◌, IfOk, string_bytes};
+ghost use Rattle.walk.specs.Entering.{finding_step, found};
+ghost use Rattle.walk.specs.Rule.{always, any_value, exactly};
+ghost use Rattle.walk.proofs.Entering.{finding_keeps};
+ghost use Rattle.rules_fields.specs.DisableIntrospection.{introspection_message, introspection_fields};
+
+use language::error::OutOfMemory;
+use meta::check::CheckedScalar;
+use rules_support::texts::between;
+use std::alloc::{AllocError, Global};
+use walk::{Event, Fresh, Machine, Rule, ValidatorContext, Visitor};
+
+/// Reports each field `__schema` or `__type`, at its name.
+#[derive(Drop)]
+pub struct DisableIntrospection {
+    alloc: Global,
+}
+
+/// The rule, made ready for one document.
+pub fn factory(alloc: Global) -> DisableIntrospection
+    ensures { ⟦<DisableIntrospection as Fresh>⟧.fresh result }
+{
+    DisableIntrospection { alloc }
+}
+
+impl Fresh for DisableIntrospection {
+    ghost fresh = { any_value };
+}
+
+impl<S, C> Machine<S, C> for DisableIntrospection {
+    ghost step = { finding_step introspection_fields };
+}
+
+impl<S, C> Rule<S, C> for DisableIntrospection {
+    ghost allows = { always (exactly (found introspection_fields)) };
+
+    ghost keeps = { finding_keeps introspection_fields };
+}
+
+impl<'a, S: CheckedScalar> Visitor<'a, S> for DisableIntrospection {
+    fn on(
+        &mut self,
+        ctx: &mut ValidatorContext<'a, S>,
+        event: &Event<'a, S>,
+    ) -> Result<(), OutOfMemory> {
+        if let Event::EnterField(field) = event {
+            let name = &field.item.name;
+            if name.item == "__schema" || name.item == "__type" {
+                let message = error_message(self.alloc, name.item)?;
+                ctx.report_error(message.as_str(), &[name.span.start])?;
+            }
+        }
+        Ok(())
+    }
+}
+
+fn error_message(alloc: Global, name: &str) -> Result<String, AllocError>
+    ensures { IfOk result (λ message. string_bytes message ≡ introspection_message name.now) }
+{
+    between(
+        alloc,
+        "GraphQL introspection is not allowed, but the operation contained `",
+        name,
+        "`",
+    )
+}

@@ -1,0 +1,91 @@
+-- Names of which none stands again.
+use Rattle.std.proofs.Common.{◌≡◌, ℕ, List, [], ◌∷◌, ◌++◌, Option, None, Some, Bool, true, false, cond, not, ◌&&◌, ◌||◌, map, refl, ap, sym, ◌∙◌}
+use Rattle.std.specs.List.{list_any}
+use Rattle.std.specs.Str.{bytes_eq}
+use Rattle.std.proofs.lemmas.Bool.{and_parts, true≢false}
+use Rattle.language.specs.Each.{Each}
+use Rattle.language.specs.ValuesEqual.{are_distinct}
+use Rattle.language.specs.declared.position.SourcePosition.{SourcePosition}
+use Rattle.rules_support.specs.Names.{Named}
+use Rattle.rules_support.specs.Noting.{or_else}
+use Rattle.rules_support.specs.NotingLaws.{first_place-more}
+use Rattle.rules_support.specs.Repeats.{first_place, repeat_at, repeats, repeats_after}
+
+pub left_none : {X : Type 0} (xs ys : List X) → xs ++ ys ≡ [] → xs ≡ []
+left_none [] ys e = refl
+left_none (x ∷ xs) ys e = absurd cc
+
+pub right_none : {X : Type 0} (xs ys : List X) → xs ++ ys ≡ [] → ys ≡ []
+right_none [] ys e = e
+right_none (x ∷ xs) ys e = absurd cc
+
+no_repeat : (message : List ℕ → List ℕ) (o : Option SourcePosition) (n : Named) → repeat_at message o n ≡ [] → o ≡ None
+no_repeat message None n e = refl
+no_repeat message (Some p) n e = absurd cc
+
+both_none : {T : Type 0} (o : Option T) (b : Bool) (x : T) → or_else o (cond b (Some x) None) ≡ None → (o ≡ None) × (b ≡ false)
+both_none (Some y) b x e = absurd cc
+both_none None true x e = absurd cc
+both_none None false x e = (refl, refl)
+
+-- a name with a place before a list none of whose names it is
+others : (earlier : List Named) (n : Named) (rest : List Named) → Each (λ m. first_place (earlier ++ n ∷ []) m.0 ≡ None) rest → Each (λ m. first_place earlier m.0 ≡ None) rest × (list_any (bytes_eq n.0) (map (λ m. m.0) rest) ≡ false)
+others earlier n [] h = (tt, refl)
+others earlier n (m ∷ rest) (h, hs) =
+    let first = both_none (first_place earlier m.0) (bytes_eq n.0 m.0) n.1 (first_place-more earlier n m.0 ∙ h) in
+    let (these, none) = others earlier n rest hs in
+    ((first.0, these), ap (λ b. b || list_any (bytes_eq n.0) (map (λ k. k.0) rest)) first.1 ∙ none)
+
+distinct_after : (message : List ℕ → List ℕ) (earlier rest : List Named) → repeats_after message earlier rest ≡ [] → Each (λ m. first_place earlier m.0 ≡ None) rest × (are_distinct (map (λ m. m.0) rest) ≡ true)
+distinct_after message earlier [] e = (tt, refl)
+distinct_after message earlier (n ∷ rest) e =
+    let here = repeat_at message (first_place earlier n.0) n in
+    let later = repeats_after message (earlier ++ n ∷ []) rest in
+    let (noted, distinct) = distinct_after message (earlier ++ n ∷ []) rest (right_none here later e) in
+    let (these, none) = others earlier n rest noted in
+    ((no_repeat message (first_place earlier n.0) n (left_none here later e), these), ap (λ b. not b && are_distinct (map (λ m. m.0) rest)) none ∙ distinct)
+
+-- where no name is reported that stands again, the names are distinct
+pub distinct_names : (message : List ℕ → List ℕ) (names : List Named) → repeats message names ≡ [] → are_distinct (map (λ n. n.0) names) ≡ true
+distinct_names message names e = (distinct_after message [] names e).1
+
+-- The one list is the other with more between.
+pub data Within {X : Type 0} : List X → List X → Type 0 where
+  empty : Within [] []
+  keep : {x : X} {xs ys : List X} → Within xs ys → Within (x ∷ xs) (x ∷ ys)
+  skip : {y : X} {xs ys : List X} → Within xs ys → Within xs (y ∷ ys)
+
+pub within_none : {X : Type 0} (ys : List X) → Within [] ys
+within_none [] = empty
+within_none (y ∷ ys) = skip (within_none ys)
+
+pub within_append : {X : Type 0} {us vs xs ys : List X} → Within us vs → Within xs ys → Within (us ++ xs) (vs ++ ys)
+within_append empty h = h
+within_append (keep g) h = keep (within_append g h)
+within_append (skip g) h = skip (within_append g h)
+
+no_first : (b c : Bool) → (b || c) ≡ false → b ≡ false
+no_first true c e = e
+no_first false c e = refl
+
+no_second : (b c : Bool) → (b || c) ≡ false → c ≡ false
+no_second true c e = absurd (true≢false e)
+no_second false c e = e
+
+any_within : {X : Type 0} (p : X → Bool) {xs ys : List X} → Within xs ys → list_any p ys ≡ false → list_any p xs ≡ false
+any_within p empty e = e
+any_within p (keep {x = x} {xs = xs} {ys = ys} h) e =
+    ap (λ b. b || list_any p xs) (no_first (p x) (list_any p ys) e) ∙ any_within p h (no_second (p x) (list_any p ys) e)
+any_within p (skip {y = y} {ys = ys} h) e = any_within p h (no_second (p y) (list_any p ys) e)
+
+from_not : (b : Bool) → not b ≡ true → b ≡ false
+from_not true e = sym e
+from_not false e = refl
+
+-- some of distinct names are distinct
+pub distinct_within : {xs ys : List (List ℕ)} → Within xs ys → are_distinct ys ≡ true → are_distinct xs ≡ true
+distinct_within empty e = e
+distinct_within (keep {x = x} {xs = xs} {ys = ys} h) e =
+    let k = and_parts (not (list_any (bytes_eq x) ys)) (are_distinct ys) e in
+    ap (λ b. not b && are_distinct xs) (any_within (bytes_eq x) h (from_not (list_any (bytes_eq x) ys) k.0)) ∙ distinct_within h k.1
+distinct_within (skip {y = y} {ys = ys} h) e = distinct_within h (and_parts (not (list_any (bytes_eq y) ys)) (are_distinct ys) e).1

@@ -1,0 +1,62 @@
+//! Each spread names a fragment of the document (GraphQL, section 5.5.2.1).
+
+ghost use Rattle.std.specs.Prelude.{◌≡◌, IfOk, string_bytes};
+ghost use Rattle.walk.specs.Entering.{finding_step, found};
+ghost use Rattle.walk.specs.Rule.{always, any_value, exactly};
+ghost use Rattle.walk.proofs.Entering.{finding_keeps};
+ghost use Rattle.rules_fragments.specs.KnownFragmentNames.{unknown_fragment_message, unknown_fragments};
+
+use language::error::OutOfMemory;
+use meta::check::CheckedScalar;
+use std::alloc::{AllocError, Global};
+use walk::{Event, Fresh, Machine, Rule, ValidatorContext, Visitor};
+
+/// Reports each spread of a name that no fragment of the document has, at the name.
+#[derive(Drop)]
+pub struct KnownFragmentNames {
+    alloc: Global,
+}
+
+/// The rule, made ready for one document.
+pub fn factory(alloc: Global) -> KnownFragmentNames
+    ensures { ⟦<KnownFragmentNames as Fresh>⟧.fresh result }
+{
+    KnownFragmentNames { alloc }
+}
+
+impl Fresh for KnownFragmentNames {
+    ghost fresh = { any_value };
+}
+
+impl<S, C> Machine<S, C> for KnownFragmentNames {
+    ghost step = { finding_step unknown_fragments };
+}
+
+impl<S, C> Rule<S, C> for KnownFragmentNames {
+    ghost allows = { always (exactly (found unknown_fragments)) };
+
+    ghost keeps = { finding_keeps unknown_fragments };
+}
+
+impl<'a, S: CheckedScalar> Visitor<'a, S> for KnownFragmentNames {
+    fn on(
+        &mut self,
+        ctx: &mut ValidatorContext<'a, S>,
+        event: &Event<'a, S>,
+    ) -> Result<(), OutOfMemory> {
+        if let Event::EnterFragmentSpread(spread) = event {
+            let name = &spread.item.name;
+            if !ctx.is_known_fragment(name.item) {
+                let message = error_message(self.alloc, name.item)?;
+                ctx.report_error(message.as_str(), &[name.span.start])?;
+            }
+        }
+        Ok(())
+    }
+}
+
+fn error_message(alloc: Global, name: &str) -> Result<String, AllocError>
+    ensures { IfOk result (λ message. string_bytes message ≡ unknown_fragment_message name.now) }
+{
+    format!(in alloc; "Unknown fragment: \"{name}\"")
+}

@@ -1,0 +1,73 @@
+//! No two fragments of a document have one name (GraphQL, section 5.5.1.1).
+
+ghost use Rattle.std.specs.Prelude.{◌≡◌, IfOk, string_bytes};
+ghost use Rattle.walk.specs.Rule.{always, exactly};
+ghost use Rattle.rules_support.specs.Noting.{noting_step, repeated, NothingNoted};
+ghost use Rattle.rules_support.specs.NotingLaws.{noting_keeps};
+ghost use Rattle.rules_support.specs.Places.{places_of};
+ghost use Rattle.rules_fragments.specs.UniqueFragmentNames.{fragment_name, repeated_fragment_message};
+
+use language::error::OutOfMemory;
+use meta::check::CheckedScalar;
+use rules_support::first_places::FirstPlaces;
+use std::alloc::{AllocError, Global};
+use walk::{Event, Fresh, Machine, Rule, ValidatorContext, Visitor};
+
+/// Reports each fragment whose name an earlier one has, at the first of the name and at its own.
+#[derive(Drop)]
+pub struct UniqueFragmentNames<'a> {
+    alloc: Global,
+    names: FirstPlaces<'a>,
+}
+
+/// The rule, made ready for one document.
+pub fn factory<'a>(alloc: Global) -> UniqueFragmentNames<'a>
+    ensures { NothingNoted (λ a. places_of a.names) result }
+{
+    UniqueFragmentNames {
+        alloc,
+        names: FirstPlaces::new(alloc),
+    }
+}
+
+impl<'a> Fresh for UniqueFragmentNames<'a> {
+    ghost fresh = { NothingNoted (λ a. places_of a.names) };
+}
+
+impl<'a, S, C> Machine<S, C> for UniqueFragmentNames<'a> {
+    ghost step = { noting_step (λ a. places_of a.names) repeated_fragment_message fragment_name };
+}
+
+impl<'a, S, C> Rule<S, C> for UniqueFragmentNames<'a> {
+    ghost allows = { always (exactly (repeated repeated_fragment_message fragment_name)) };
+
+    ghost keeps = { noting_keeps repeated_fragment_message (λ a. places_of a.names) fragment_name };
+}
+
+impl<'a, S: CheckedScalar> Visitor<'a, S> for UniqueFragmentNames<'a> {
+    fn on(
+        &mut self,
+        ctx: &mut ValidatorContext<'a, S>,
+        event: &Event<'a, S>,
+    ) -> Result<(), OutOfMemory> {
+        match *event {
+            Event::EnterDocument(document) => self.names.make_room(document.len())?,
+            Event::EnterFragmentDefinition(fragment) => {
+                let name = &fragment.item.name;
+                let place = name.span.start;
+                if let Some(first) = self.names.note(name.item, place)? {
+                    let message = error_message(self.alloc, name.item)?;
+                    ctx.report_error(message.as_str(), &[first, place])?;
+                }
+            }
+            _ => {}
+        }
+        Ok(())
+    }
+}
+
+fn error_message(alloc: Global, name: &str) -> Result<String, AllocError>
+    ensures { IfOk result (λ message. string_bytes message ≡ repeated_fragment_message name.now) }
+{
+    format!(in alloc; "There can only be one fragment named {name}")
+}

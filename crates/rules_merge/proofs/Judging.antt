@@ -1,0 +1,52 @@
+-- The errors of a document that was searched.
+use Rattle.std.proofs.Common.{◌≡◌, ◌≤◌, ◌*◌, ◌-◌, ◌↔◌, ◌∙◌, ℕ, List, [], length, map, Option, Some, None, Bool, true, false, refl, sym, ap, subst, IsPermutation, arith}
+use Rattle.std.specs.Option.{IsSome, is_some}
+use Rattle.std.proofs.lemmas.Bool.{true≢false}
+use Rattle.std.proofs.lemmas.List.Elements.{All-nil}
+use Rattle.std.proofs.lemmas.List.Sorted.{IsPermutation-refl}
+use Rattle.language.specs.declared.tree.Definition.{Definition}
+use Rattle.schema.specs.Catalog.{Catalog}
+use Rattle.fragment_graph.specs.DocumentCycles.{HasNoCycle}
+use Rattle.merge_graph.specs.Definitions.{fragment_count}
+use Rattle.merge_conflicts.specs.Reports.{none}
+use Rattle.merge_conflicts.specs.Texts.{errors_of}
+use Rattle.merge_document.specs.Conflicts.{true_none}
+use Rattle.merge_document.specs.Found.{IsJudged, AreTogether}
+use Rattle.merge_document.specs.declared.search.FoundConflicts.{FoundConflicts}
+use Rattle.rules_merge.specs.declared.overlapping_fields_can_be_merged.OverlappingFieldsCanBeMerged.{OverlappingFieldsCanBeMerged}
+use Rattle.rules_merge.specs.OverlappingFieldsCanBeMerged.{MergeErrors, error_value}
+
+module _ {S C : Type 0} (E : S → S → Bool) (schema : Catalog S C) (document : List (Definition S)) where
+  -- where some fragment leads back to itself there is nothing
+  pub of_none : (o : Option (FoundConflicts S C)) → o ≡ None → (IsSome o ↔ HasNoCycle document) → (end : OverlappingFieldsCanBeMerged) → end.compared ≡ 0 → end.opened ≡ 0 → MergeErrors E schema document end []
+  of_none o is none_where end compared opened =
+      let cyclic : HasNoCycle document → ⊥ = λ acyclic. true≢false (sym (none_where.1 acyclic) ∙ ap is_some is) in
+      record {
+        reports = none;
+        told = IsPermutation-refl [];
+        real = record { true_ones = true_none; in_one_set = All-nil _ };
+        cyclic = λ c. (refl, compared);
+        all = λ acyclic. absurd (cyclic acyclic);
+        few = subst (λ (k : ℕ). k ≤ fragment_count document * (fragment_count document - 1)) (sym compared) (omega arith);
+        enough = λ acyclic. absurd (cyclic acyclic);
+        opened = subst (λ (k : ℕ). k ≤ fragment_count document * end.lists) (sym opened) (omega arith);
+      }
+
+  -- elsewhere what was found
+  pub of_some : (o : Option (FoundConflicts S C)) (f : FoundConflicts S C) → o ≡ Some f → (IsSome o ↔ HasNoCycle document) → (j : IsJudged E schema document f)
+      → f.compared ≤ fragment_count document * (fragment_count document - 1) → ((ps : List (List ℕ × List ℕ)) → AreTogether schema document ps → length ps ≤ f.compared)
+      → f.opened ≤ fragment_count document * f.lists
+      → (end : OverlappingFieldsCanBeMerged) → end.compared ≡ f.compared → end.opened ≡ f.opened → end.lists ≡ f.lists
+      → MergeErrors E schema document end (map error_value (errors_of E schema j.reports))
+  of_some o f is none_where j few enough opens end compared opened lists =
+      let acyclic : HasNoCycle document = none_where.0 (ap is_some is) in
+      record {
+        reports = j.reports;
+        told = IsPermutation-refl (map error_value (errors_of E schema j.reports));
+        real = j.real;
+        cyclic = λ c. absurd (c acyclic);
+        all = λ h. j.all;
+        few = subst (λ (k : ℕ). k ≤ fragment_count document * (fragment_count document - 1)) (sym compared) few;
+        enough = λ h ps together. let l = enough ps together in omega (arith, l, compared);
+        opened = subst (λ (k : ℕ). k ≤ fragment_count document * end.lists) (sym opened) (subst (λ (k : ℕ). f.opened ≤ fragment_count document * k) (sym lists) opens);
+      }

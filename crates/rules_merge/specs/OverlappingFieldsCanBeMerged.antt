@@ -1,0 +1,33 @@
+-- Fields of one response name that can't be merged.
+use Rattle.std.specs.Prelude.{◌≡◌, ◌≤◌, ◌*◌, ◌-◌, ℕ, List, length, Bool, map, IsPermutation}
+use Rattle.language.specs.declared.tree.Definition.{Definition}
+use Rattle.schema.specs.Catalog.{Catalog}
+use Rattle.fragment_graph.specs.DocumentCycles.{HasNoCycle}
+use Rattle.merge_field_pairs.specs.Entries.{PlainEntry}
+use Rattle.merge_graph.specs.Definitions.{fragment_count}
+use Rattle.merge_conflicts.specs.Reports.{Reports, none}
+use Rattle.merge_conflicts.specs.Texts.{ConflictValue, errors_of}
+use Rattle.merge_document.specs.Conflicts.{AreReal, AreAll, IsTidyDocument}
+use Rattle.merge_document.specs.Found.{AreTogether}
+use Rattle.walk.specs.ContextState.{DocumentScope}
+use Rattle.walk.specs.ErrorValue.{ErrorValue}
+use Rattle.rules_merge.specs.declared.overlapping_fields_can_be_merged.OverlappingFieldsCanBeMerged.{OverlappingFieldsCanBeMerged}
+
+abbrev pub error_value : ConflictValue → ErrorValue
+error_value c = record { locations = c.places; message = c.message }
+
+-- The errors of conflicts, each of them a true one. Where the fragments form a cycle there are none, and nothing was compared. Where they form none, and no
+-- field repeats an argument or a key in one, no conflict is missed. At most n (n - 1) pairs of n definitions of fragments were compared, and at least those of which
+-- some set spreads both; no search opened more than n.
+pub record MergeErrors {S C : Type 0} (E : S → S → Bool) (schema : Catalog S C) (document : List (Definition S)) (end : OverlappingFieldsCanBeMerged) (es : List ErrorValue) : Type 0 where
+  pub reports : Reports (PlainEntry S C)
+  pub told : IsPermutation (map error_value (errors_of E schema reports)) es
+  pub real : AreReal E schema document reports
+  pub cyclic : (HasNoCycle document → ⊥) → (reports ≡ none) × (end.compared ≡ 0)
+  pub all : HasNoCycle document → IsTidyDocument schema document → AreAll E schema document reports
+  pub few : end.compared ≤ fragment_count document * (fragment_count document - 1)
+  pub enough : HasNoCycle document → (ps : List (List ℕ × List ℕ)) → AreTogether schema document ps → length ps ≤ end.compared
+  pub opened : end.opened ≤ fragment_count document * end.lists
+
+abbrev pub merge_errors : {S C : Type 0} → (S → S → Bool) → DocumentScope S C → List (Definition S) → OverlappingFieldsCanBeMerged → List ErrorValue → Type 0
+merge_errors E scope document end es = MergeErrors E scope.schema document end es

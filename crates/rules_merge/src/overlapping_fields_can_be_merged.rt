@@ -1,0 +1,162 @@
+//! Two fields of one response name in one set, what it spreads written out, can be merged (GraphQL, section 5.3.2).
+
+ghost use Rattle.std.specs.Prelude.{◌≡◌, List, IfOk, OnErr, map};
+ghost use Rattle.walk.specs.ContextState.{with_errors};
+ghost use Rattle.walk.specs.ErrorValue.{ErrorValue};
+ghost use Rattle.walk.specs.Rule.{any_value};
+ghost use Rattle.walk.specs.Step.{KeepsPlace};
+ghost use Rattle.rules_document.specs.AtDocument.{document_step, given_at_end};
+ghost use Rattle.rules_document.specs.AtDocumentLaws.{document_keeps};
+ghost use Rattle.fragment_graph.specs.DocumentCycles.{SearchedDocument};
+ghost use Rattle.merge_field_pairs.specs.Entries.{PlainEntry, plain};
+ghost use Rattle.merge_search.specs.declared.node.Entry.{Entry};
+ghost use Rattle.merge_conflicts.specs.Reports.{Reports, postfix, AreReportsOf};
+ghost use Rattle.merge_conflicts.specs.Telling.{plain_conflict};
+ghost use Rattle.merge_conflicts.specs.Texts.{errors_of};
+ghost use Rattle.rules_merge.specs.OverlappingFieldsCanBeMerged.{MergeErrors, error_value, merge_errors};
+
+use fragment_graph::cycles::{DocumentCycles, search_document};
+use language::error::OutOfMemory;
+use language::scalar::ScalarValue;
+use language::tree::Definition;
+use merge_conflicts::conflict::{Conflict, conflicts_found};
+use merge_document::search::{FoundConflicts, search_fields};
+use meta::check::CheckedScalar;
+use std::alloc::Global;
+use walk::{Event, Fresh, Machine, Rule, ValidatorContext, Visitor};
+
+/// Reports, where the document is left, fields of one response name that can't be merged; of each conflict all places.
+///
+/// No fragment is written out: of `n` definitions of fragments at most `n (n - 1)` pairs are compared.
+#[derive(Drop)]
+pub struct OverlappingFieldsCanBeMerged {
+    alloc: Global,
+    compared: u128,
+    opened: u128,
+    lists: u128,
+}
+
+/// The rule, made ready for one document.
+pub fn factory(alloc: Global) -> OverlappingFieldsCanBeMerged
+    ensures { ⟦<OverlappingFieldsCanBeMerged as Fresh>⟧.fresh result }
+{
+    OverlappingFieldsCanBeMerged {
+        alloc,
+        compared: 0,
+        opened: 0,
+        lists: 0,
+    }
+}
+
+impl OverlappingFieldsCanBeMerged {
+    /// How many pairs of fragments were compared, each under one flag, in the document that was left last.
+    pub fn compared(&self) -> u128
+        ensures { result ≡ self.now.compared }
+    {
+        self.compared
+    }
+
+    /// How many fragments its searches opened; no search opens one twice.
+    pub fn opened(&self) -> u128
+        ensures { result ≡ self.now.opened }
+    {
+        self.opened
+    }
+
+    /// How many searches there were of a set's fields against a fragment that is spread.
+    pub fn lists(&self) -> u128
+        ensures { result ≡ self.now.lists }
+    {
+        self.lists
+    }
+
+    /// Leaves a document whose fragments were searched for cycles.
+    pub fn leave<'a, S: CheckedScalar>(
+        &mut self,
+        ctx: &mut ValidatorContext<'a, S>,
+        document: &'a [Definition<'a, S>],
+        cycles: DocumentCycles<'a>,
+    ) -> Result<(), OutOfMemory>
+        requires { SearchedDocument document.now cycles }
+        ensures ok { IfOk result (λ _. (es : List ErrorValue) × MergeErrors S.eq ctx.old.schema document.now self.new es × (ctx.new ≡ with_errors ctx.old es)) }
+        ensures err { OnErr result (KeepsPlace ctx.old ctx.new) }
+    {
+        match search_fields(self.alloc, ctx.schema, document, cycles)? {
+            Some(found) => {
+                self.compared = found.compared;
+                self.opened = found.opened;
+                self.lists = found.lists;
+                report_found(self.alloc, ctx, &found)
+            }
+            None => {
+                self.compared = 0;
+                self.opened = 0;
+                self.lists = 0;
+                Ok(())
+            }
+        }
+    }
+}
+
+impl Fresh for OverlappingFieldsCanBeMerged {
+    ghost fresh = { any_value };
+}
+
+impl<S: ScalarValue, C> Machine<S, C> for OverlappingFieldsCanBeMerged {
+    ghost step = { document_step (merge_errors S.eq) };
+}
+
+impl<S: ScalarValue, C> Rule<S, C> for OverlappingFieldsCanBeMerged {
+    ghost allows = { given_at_end (merge_errors S.eq) };
+
+    ghost keeps = { document_keeps (merge_errors S.eq) };
+}
+
+impl<'a, S: CheckedScalar> Visitor<'a, S> for OverlappingFieldsCanBeMerged {
+    fn on(
+        &mut self,
+        ctx: &mut ValidatorContext<'a, S>,
+        event: &Event<'a, S>,
+    ) -> Result<(), OutOfMemory> {
+        match *event {
+            Event::ExitDocument(document) => {
+                let names = ctx.numbered_names(document)?;
+                let cycles = search_document(self.alloc, document, names)?;
+                self.leave(ctx, document, cycles)
+            }
+            _ => Ok(()),
+        }
+    }
+}
+
+// Reports what was found.
+fn report_found<'a, S: CheckedScalar>(
+    alloc: Global,
+    ctx: &mut ValidatorContext<'a, S>,
+    found: &FoundConflicts<'a, S, S::Check>,
+) -> Result<(), OutOfMemory>
+    ensures ok { (rs : Reports Entry) (ts : Reports (PlainEntry S S.Check)) → found.now.found.items ≡ postfix rs → AreReportsOf (map plain found.now.fields.items) rs ts → IfOk result (λ _. ctx.new ≡ with_errors ctx.old (map error_value (errors_of S.eq ctx.old.schema ts))) }
+    ensures err { OnErr result (KeepsPlace ctx.old ctx.new) }
+{
+    let conflicts = conflicts_found(
+        alloc,
+        ctx.schema,
+        found.fields.as_slice(),
+        found.found.as_slice(),
+    )?;
+    report_all(ctx, conflicts.as_slice())
+}
+
+// Reports these.
+fn report_all<'a, S: CheckedScalar>(
+    ctx: &mut ValidatorContext<'a, S>,
+    conflicts: &[Conflict],
+) -> Result<(), OutOfMemory>
+    ensures ok { IfOk result (λ _. ctx.new ≡ with_errors ctx.old (map error_value (map plain_conflict conflicts.now))) }
+    ensures err { OnErr result (KeepsPlace ctx.old ctx.new) }
+{
+    for conflict in conflicts {
+        ctx.report_error(conflict.message.as_str(), conflict.places.as_slice())?;
+    }
+    Ok(())
+}

@@ -1,0 +1,77 @@
+//! An operation without a name is the only one of its document (GraphQL, section 5.2.2.1).
+
+ghost use Rattle.std.specs.Prelude.{◌≡◌, length};
+ghost use Rattle.walk.specs.Entering.{prepared_step, found_by};
+ghost use Rattle.walk.specs.Rule.{always, any_value, exactly};
+ghost use Rattle.walk.proofs.Entering.{prepared_keeps};
+ghost use Rattle.rules_operations.specs.LoneAnonymousOperation.{operations, has_several, anonymous_among};
+
+use language::error::OutOfMemory;
+use language::tree::Definition;
+use meta::check::CheckedScalar;
+use std::alloc::Global;
+use walk::{Event, Fresh, Machine, Rule, ValidatorContext, Visitor};
+
+/// Reports, in a document of two operations or more, each that has no name, at its start.
+#[derive(Drop)]
+pub struct LoneAnonymousOperation {
+    has_several: bool,
+}
+
+/// The rule, made ready for one document.
+pub fn factory(_alloc: Global) -> LoneAnonymousOperation
+    ensures { ⟦<LoneAnonymousOperation as Fresh>⟧.fresh result }
+{
+    LoneAnonymousOperation { has_several: false }
+}
+
+impl Fresh for LoneAnonymousOperation {
+    ghost fresh = { any_value };
+}
+
+impl<S, C> Machine<S, C> for LoneAnonymousOperation {
+    ghost step = { prepared_step (λ a. a.has_several) has_several anonymous_among };
+}
+
+impl<S, C> Rule<S, C> for LoneAnonymousOperation {
+    ghost allows = { always (exactly (found_by has_several anonymous_among)) };
+
+    ghost keeps = { prepared_keeps (λ a. a.has_several) has_several anonymous_among };
+}
+
+impl<'a, S: CheckedScalar> Visitor<'a, S> for LoneAnonymousOperation {
+    fn on(
+        &mut self,
+        ctx: &mut ValidatorContext<'a, S>,
+        event: &Event<'a, S>,
+    ) -> Result<(), OutOfMemory> {
+        match *event {
+            Event::EnterDocument(document) => {
+                self.has_several = operation_count(document) > 1;
+            }
+            Event::EnterOperationDefinition(operation) => {
+                if self.has_several && operation.item.name.is_none() {
+                    ctx.report_error(
+                        "This anonymous operation must be the only defined operation",
+                        &[operation.span.start],
+                    )?;
+                }
+            }
+            _ => {}
+        }
+        Ok(())
+    }
+}
+
+// How many operations there are.
+fn operation_count<S>(document: &[Definition<S>]) -> usize
+    ensures { result ≡ length (operations document.now) }
+{
+    let mut count = 0;
+    for definition in document {
+        if let Definition::Operation(_) = definition {
+            count += 1;
+        }
+    }
+    count
+}

@@ -1,0 +1,50 @@
+-- Where nothing may be reported, nothing else may.
+use Rattle.std.proofs.Common.{◌≡◌, ℕ, List, [], ◌∷◌, Option, None, Some, inl, inr, map, Contains}
+use Rattle.language.specs.declared.tree.Definition.{Definition}
+use Rattle.fragment_graph.proofs.Lists.{get_some}
+use Rattle.meta.specs.declared.kinds.MetaTypeOf.{MetaTypeOf}
+use Rattle.events.specs.Node.{VariableEntry}
+use Rattle.walk.specs.ErrorValue.{ErrorValue}
+use Rattle.walk.specs.Rule.{Settled}
+use Rattle.operation_scopes.specs.Scopes.{InReach}
+use Rattle.rules_positions.specs.DefinedVariables.{first_of, variables_of}
+use Rattle.rules_positions.specs.TypedUses.{UseValue, typed_uses}
+use Rattle.rules_positions.specs.VariableInAllowedPosition.{DocumentGives, Judged, JudgedIfDefined, OperationsGive, UsesGive, misplaced_variables, uses_in}
+use Rattle.rules_positions.proofs.Giving.{each_none, each_silent}
+
+some_none : {X : Type 0} (x : X) (xs : List X) → [] ≡ x ∷ xs → ⊥
+some_none x xs e = cc
+
+module _ {S C : Type 0} (types : List (MetaTypeOf S C)) where
+  judged : (d : VariableEntry S) (u : UseValue) (es : List ErrorValue) → Judged types d u [] → Judged types d u es → es ≡ []
+  judged d u es (inl a) (inl b) = b.1
+  judged d u es (inl a) (inr b) = absurd (b.0 a.0)
+  judged d u es (inr a) b = absurd (some_none _ _ a.1)
+
+  judged_if_defined : (o : Option (VariableEntry S)) (u : UseValue) (es : List ErrorValue) → JudgedIfDefined types o u [] → JudgedIfDefined types o u es → es ≡ []
+  judged_if_defined None u es none p = p
+  judged_if_defined (Some d) u es none p = judged d u es none p
+
+  uses : (known : List ℕ → Option (VariableEntry S)) (us : List UseValue) (es : List ErrorValue) → UsesGive types known us [] → UsesGive types known us es → es ≡ []
+  uses known us es none p =
+      each_silent (λ u fs. JudgedIfDefined types (known u.variable) u fs) us es
+      (λ u c fs q. judged_if_defined (known u.variable) u fs (each_none (λ v gs. JudgedIfDefined types (known v.variable) v gs) us none u c) q) p
+
+  module _ (document : List (Definition S)) (recorded : List (List UseValue)) where
+    -- two lists of what operations reach have the same members
+    same_reach : (name : Option (List ℕ)) (ps qs : List ℕ) → InReach document name ps → InReach document name qs → (k : ℕ) → Contains qs k → Contains ps k
+    same_reach name ps qs r s k c = let (d, e) = get_some document k (s.within k c) in (r.reached k d e).1 ((s.reached k d e).0 c)
+
+    operations : (name : Option (List ℕ)) (es : List ErrorValue) → OperationsGive types document recorded name [] → OperationsGive types document recorded name es → es ≡ []
+    operations name es (ps, r, none) (qs, s, p) =
+        let known = first_of (variables_of document name) in
+        each_silent (λ place fs. UsesGive types known (uses_in recorded place) fs) qs es
+        (λ k c fs q. uses known (uses_in recorded k) fs (each_none (λ place gs. UsesGive types known (uses_in recorded place) gs) ps none k (same_reach name ps qs r s k c)) q) p
+
+    pub settled : (es : List ErrorValue) → DocumentGives types document recorded [] → DocumentGives types document recorded es → es ≡ []
+    settled es (names, on, none) (others, of, p) =
+        each_silent (OperationsGive types document recorded) others es
+        (λ name c fs q. operations name fs (each_none (OperationsGive types document recorded) names none name ((on.are name).1 ((of.are name).0 c))) q) p
+
+pub positions_settled : {S C : Type 0} → Settled (misplaced_variables {S = S} {C = C})
+positions_settled scope t document es none p = settled scope.schema.types document (map (typed_uses scope.schema t) document) es none p

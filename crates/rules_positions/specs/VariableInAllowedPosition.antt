@@ -1,0 +1,71 @@
+-- Variables that are used where their type may not stand.
+use Rattle.std.specs.Prelude.{◌≡◌, ◌⊎◌, ℕ, List, [], ◌∷◌, ◌++◌, Option, None, Some, is_some, map, slice_get, codes, if◌then◌else◌}
+use Rattle.std.specs.Option.{unwrap_or}
+use Rattle.language.specs.Types.{TypeShape, shape, non_null_of, printed}
+use Rattle.language.specs.declared.tree.Definition.{Definition}
+use Rattle.language.specs.declared.tree.VariableDefinition.{VariableDefinition}
+use Rattle.meta.specs.declared.kinds.MetaTypeOf.{MetaTypeOf}
+use Rattle.schema.specs.Subtype.{IsSubtype}
+use Rattle.events.specs.Node.{VariableEntry}
+use Rattle.walk.specs.ContextState.{DocumentScope}
+use Rattle.walk.specs.Entering.{EachGives}
+use Rattle.walk.specs.ErrorValue.{ErrorValue}
+use Rattle.walk.specs.Rule.{Allowance}
+use Rattle.operation_scopes.specs.Scopes.{InReach, OperationNames}
+use Rattle.rules_positions.specs.DefinedVariables.{first_of, variables_of}
+use Rattle.rules_positions.specs.TypedUses.{UseValue, typed_uses, use_values}
+use Rattle.rules_positions.specs.declared.variables_in_allowed_position.VariableInAllowedPosition.{VariableInAllowedPosition}
+
+abbrev pub position_message : List ℕ → List ℕ → List ℕ → List ℕ
+position_message variable t expected =
+    codes "Variable \"" ++ (variable ++ (codes "\" of type \"" ++ (t ++ (codes "\" used in position expecting type \"" ++ (expected ++ codes "\"")))))
+
+-- a variable with a default value is never null where it is used
+abbrev pub type_in_use : {S : Type 0} → VariableDefinition S → TypeShape
+type_in_use d = if is_some d.default_value then non_null_of (shape d.var_type.item) else shape d.var_type.item
+
+abbrev pub position_error : {S : Type 0} → VariableEntry S → UseValue → ErrorValue
+position_error d u =
+    record { locations = d.0.span.start ∷ u.place ∷ []; message = position_message u.variable (printed (type_in_use d.1)) (printed u.expected) }
+
+-- the uses in the definition at a place
+abbrev pub uses_in : List (List UseValue) → ℕ → List UseValue
+uses_in uses place = unwrap_or (slice_get uses place) []
+
+module _ {S C : Type 0} (types : List (MetaTypeOf S C)) where
+  -- an error where the variable's type is not below the one that is expected, and else none
+  abbrev pub Judged : VariableEntry S → UseValue → List ErrorValue → Type 0
+  Judged d u es =
+      (IsSubtype types (type_in_use d.1) u.expected × (es ≡ [])) ⊎ (¬ (IsSubtype types (type_in_use d.1) u.expected) × (es ≡ position_error d u ∷ []))
+
+  -- a variable that is not defined is not judged
+  abbrev pub JudgedIfDefined : Option (VariableEntry S) → UseValue → List ErrorValue → Type 0
+  JudgedIfDefined None u es = es ≡ []
+  JudgedIfDefined (Some d) u es = Judged d u es
+
+  -- each use in a definition, by what is known of the variables
+  abbrev pub UsesGive : (List ℕ → Option (VariableEntry S)) → List UseValue → List ErrorValue → Type 0
+  UsesGive known us es = EachGives (λ u fs. JudgedIfDefined (known u.variable) u fs) us es
+
+  module _ (document : List (Definition S)) (uses : List (List UseValue)) where
+    -- the operations of a name: each use in each definition that they reach, by the first definition of its variable in all of them
+    abbrev pub OperationsGive : Option (List ℕ) → List ErrorValue → Type 0
+    OperationsGive name es =
+        (places : List ℕ) × InReach document name places
+        × EachGives (λ place fs. UsesGive (first_of (variables_of document name)) (uses_in uses place) fs) places es
+
+    -- the operations of each name, in some order
+    abbrev pub DocumentGives : List ErrorValue → Type 0
+    DocumentGives es = (names : List (Option (List ℕ))) × OperationNames document names × EachGives OperationsGive names es
+
+module _ {S C : Type 0} where
+  -- what is given by the uses that were recorded
+  abbrev pub given_by_uses : DocumentScope S C → List (Definition S) → List (List UseValue) → VariableInAllowedPosition → List ErrorValue → Type 0
+  given_by_uses scope document uses end es = DocumentGives scope.schema.types document uses es
+
+  -- what is given of a document by its uses, definition by definition
+  abbrev pub misplaced_variables : Allowance S C
+  misplaced_variables scope t document es = DocumentGives scope.schema.types document (map (typed_uses scope.schema t) document) es
+
+abbrev pub recorded_uses : VariableInAllowedPosition → List (List UseValue)
+recorded_uses rule = use_values rule.uses.items

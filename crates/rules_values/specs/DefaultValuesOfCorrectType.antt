@@ -1,0 +1,38 @@
+-- Default values of variables that are never used, or do not conform to the variable's type.
+use Rattle.std.specs.Prelude.{◌≡◌, ℕ, List, [], ◌++◌, Bool, true, false, Option, Some, None, codes}
+use Rattle.language.specs.declared.value.InputValue.{InputValue}
+use Rattle.language.specs.Types.{TypeShape, shape, printed}
+use Rattle.meta.specs.Answers.{Answers}
+use Rattle.schema.specs.Catalog.{Catalog}
+use Rattle.literals.specs.Missing.{is_never_null}
+use Rattle.events.specs.Node.{Node, Placed, variable_definition}
+use Rattle.events.specs.Occurrence.{Occurrence}
+use Rattle.walk.specs.ContextState.{DocumentScope}
+use Rattle.walk.specs.ErrorValue.{ErrorValue}
+use Rattle.rules_values.specs.Faulty.{error_at, reported}
+
+abbrev pub needless_default_message : List ℕ → List ℕ → List ℕ
+needless_default_message name t =
+    codes "Argument \"" ++ (name ++ (codes "\" has type \"" ++ (t ++ codes "\" and is not nullable, so it can't have a default value")))
+
+abbrev pub wrong_default_message : List ℕ → List ℕ → List ℕ → List ℕ
+wrong_default_message name t fault =
+    codes "Invalid default value for argument \"" ++ (name ++ (codes "\", expected type \"" ++ (t ++ (codes "\", reason: " ++ fault))))
+
+module _ {S C : Type 0} (may : Answers (InputValue S) C) (shown : InputValue S → List ℕ) where
+  -- the default value of a variable of this name and type, by whether the type is never null
+  abbrev pub default_of : Bool → Catalog S C → List ℕ → TypeShape → Placed (InputValue S) → List ErrorValue → Type 0
+  default_of true schema name t value es = es ≡ error_at value (needless_default_message name (printed t))
+  default_of false schema name t value es = reported may shown schema (wrong_default_message name (printed t)) (Some t) value es
+
+  abbrev pub default_if_there : Catalog S C → List ℕ → TypeShape → Option (Placed (InputValue S)) → List ErrorValue → Type 0
+  default_if_there schema name t None es = es ≡ []
+  default_if_there schema name t (Some value) es = default_of (is_never_null t) schema name t value es
+
+  abbrev pub wrong_default : Catalog S C → Node S → List ErrorValue → Type 0
+  wrong_default schema (variable_definition d) es = default_if_there schema d.0.item.now (shape d.1.var_type.item) d.1.default_value es
+  wrong_default schema _ es = es ≡ []
+
+  -- at the definition of a variable: its type is never null and it has a default value, or its default value has a fault
+  abbrev pub wrong_defaults : DocumentScope S C → Occurrence S C → List ErrorValue → Type 0
+  wrong_defaults scope o es = wrong_default scope.schema o.node es

@@ -1,0 +1,114 @@
+//! The default value of each variable conforms to the variable's type, which may be null (GraphQL, section 5.6.1).
+
+ghost use Rattle.std.specs.Prelude.{◌≡◌, IfOk, OnErr, string_bytes};
+ghost use Rattle.language.specs.Types.{printed, shape};
+ghost use Rattle.language.specs.ValuesPrinted.{printed_value};
+ghost use Rattle.literals.specs.Missing.{is_never_null};
+ghost use Rattle.walk.specs.Entering.{relating_step, given};
+ghost use Rattle.walk.specs.Rule.{always, any_value, Appended};
+ghost use Rattle.walk.specs.Step.{KeepsPlace};
+ghost use Rattle.walk.proofs.Entering.{relating_keeps};
+ghost use Rattle.rules_values.specs.DefaultValuesOfCorrectType.{default_of, needless_default_message, wrong_default_message, wrong_defaults};
+
+use crate::faults::fault_at;
+use language::error::OutOfMemory;
+use language::position::Spanning;
+use language::types::Type;
+use language::value::InputValue;
+use meta::check::CheckedScalar;
+use std::alloc::{AllocError, Global};
+use walk::{Event, Fresh, Machine, Rule, ValidatorContext, Visitor};
+
+/// Reports, at its start, each default value of a variable whose type is never null, and each that has a fault against a type that
+/// may be null. A type whose name the schema does not know is passed over.
+///
+/// A value that conforms takes no memory but what the checks of its scalars and enum values take.
+#[derive(Drop)]
+pub struct DefaultValuesOfCorrectType {
+    alloc: Global,
+}
+
+/// The rule, made ready for one document.
+pub fn factory(alloc: Global) -> DefaultValuesOfCorrectType
+    ensures { ⟦<DefaultValuesOfCorrectType as Fresh>⟧.fresh result }
+{
+    DefaultValuesOfCorrectType { alloc }
+}
+
+impl Fresh for DefaultValuesOfCorrectType {
+    ghost fresh = { any_value };
+}
+
+impl<S: CheckedScalar> Machine<S, S::Check> for DefaultValuesOfCorrectType {
+    ghost step = { relating_step (wrong_defaults S.may_answer (printed_value S.text S.str_of)) };
+}
+
+impl<S: CheckedScalar> Rule<S, S::Check> for DefaultValuesOfCorrectType {
+    ghost allows = { always (given (wrong_defaults S.may_answer (printed_value S.text S.str_of))) };
+
+    ghost keeps = { relating_keeps (wrong_defaults S.may_answer (printed_value S.text S.str_of)) };
+}
+
+impl<'a, S: CheckedScalar> Visitor<'a, S> for DefaultValuesOfCorrectType {
+    fn on(
+        &mut self,
+        ctx: &mut ValidatorContext<'a, S>,
+        event: &Event<'a, S>,
+    ) -> Result<(), OutOfMemory> {
+        if let Event::EnterVariableDefinition(definition) = event {
+            if let Some(value) = &definition.1.default_value {
+                let t = &definition.1.var_type.item;
+                report(self.alloc, ctx, definition.0.item, t, value)?;
+            }
+        }
+        Ok(())
+    }
+}
+
+// Reports the default value of a variable, where it is needless or wrong.
+fn report<'a, S: CheckedScalar>(
+    alloc: Global,
+    ctx: &mut ValidatorContext<'a, S>,
+    name: &str,
+    t: &'a Type,
+    value: &Spanning<InputValue<S>>,
+) -> Result<(), OutOfMemory>
+    ensures ok { IfOk result (λ _. Appended (default_of S.may_answer (printed_value S.text S.str_of) (is_never_null (shape t.now)) ctx.old.schema name.now (shape t.now) value.now) ctx.old ctx.new) }
+    ensures err { OnErr result (KeepsPlace ctx.old ctx.new) }
+{
+    if is_never_null(t) {
+        let message = needless_default_message(alloc, name, t)?;
+        ctx.report_error(message.as_str(), &[value.span.start])?;
+    } else if let Some(fault) = fault_at(alloc, ctx, t.as_borrowed(), &value.item)? {
+        let message = wrong_default_message(alloc, name, t, fault.as_str())?;
+        ctx.report_error(message.as_str(), &[value.span.start])?;
+    }
+    Ok(())
+}
+
+fn is_never_null(t: &Type) -> bool
+    ensures { result ≡ is_never_null (shape t.now) }
+{
+    t.is_non_null()
+}
+
+fn needless_default_message(alloc: Global, name: &str, t: &Type) -> Result<String, AllocError>
+    ensures { IfOk result (λ message. string_bytes message ≡ needless_default_message name.now (printed (shape t.now))) }
+{
+    format!(in alloc;
+        "Argument \"{name}\" has type \"{t}\" and is not nullable, so it can't have a default value"
+    )
+}
+
+fn wrong_default_message(
+    alloc: Global,
+    name: &str,
+    t: &Type,
+    fault: &str,
+) -> Result<String, AllocError>
+    ensures { IfOk result (λ message. string_bytes message ≡ wrong_default_message name.now (printed (shape t.now)) fault.now) }
+{
+    format!(in alloc;
+        "Invalid default value for argument \"{name}\", expected type \"{t}\", reason: {fault}"
+    )
+}

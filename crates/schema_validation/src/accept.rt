@@ -1,0 +1,121 @@
+//! Whether a list of types makes a schema, and if not, why not.
+ghost use Rattle.std.specs.Prelude.{◌≡◌, IfErr, OnOk, true, find, option_map};
+ghost use Rattle.std.specs.List.{list_all};
+ghost use Rattle.schema_validation.specs.Accepted.{Roots, IsAccepted, IsTrueRefusal, is_listed, is_object_listed, is_input_listed, root_names};
+ghost use Rattle.meta.specs.Kinds.{name_of_meta};
+ghost use Rattle.schema_validation.specs.Named.{are_named, are_distinct};
+ghost use Rattle.schema_validation.specs.Names.{all_names, all_inputs, all_members};
+ghost use Rattle.schema_validation.specs.RootNames.{roots_asked};
+
+use crate::error::SchemaError;
+use crate::first::{
+    first_added_input, first_added_name, first_input_of_all, first_member_of_all, first_name_of_all,
+};
+use crate::listed::{NameTest, NotInput, NotObject, Unlisted, is_object_type_listed};
+use crate::repeated::{are_all_named, first_repeated};
+use crate::roots::{RootNames, first_root};
+use meta::kinds::MetaTypeOf;
+use std::alloc::Global;
+
+fn check_entries<S, C>(alloc: Global, types: &[MetaTypeOf<S, C>]) -> Result<(), SchemaError>
+    ensures named { OnOk result (are_named name_of_meta types.now ≡ true) }
+    ensures distinct { OnOk result (are_distinct name_of_meta types.now ≡ true) }
+    ensures err { (roots : Roots) → IfErr result (IsTrueRefusal roots types.now) }
+{
+    if !are_all_named(types) {
+        return Err(SchemaError::UnnamedType);
+    }
+    match first_repeated(types) {
+        Some(name) => Err(SchemaError::RepeatedType(String::from_str(alloc, name)?)),
+        None => Ok(()),
+    }
+}
+
+fn check_roots<S, C>(
+    alloc: Global,
+    types: &[MetaTypeOf<S, C>],
+    roots: RootNames<'_>,
+) -> Result<(), SchemaError>
+    ensures listed { OnOk result (list_all (is_listed types.now) (root_names (roots_asked roots.entry)) ≡ true) }
+    ensures object { OnOk result (is_object_listed types.now (roots_asked roots.entry).query ≡ true) }
+    ensures err { IfErr result (IsTrueRefusal (roots_asked roots.entry) types.now) }
+{
+    if let Some(name) = first_root(&Unlisted(types), roots) {
+        return Err(SchemaError::MissingRoot(String::from_str(alloc, name)?));
+    }
+    if !is_object_type_listed(types, roots.query) {
+        return Err(SchemaError::QueryNotObject);
+    }
+    Ok(())
+}
+
+/// The first name at fault among all that the types and what a schema adds name.
+fn first_of_names<'t, T: NameTest, S, C>(test: &T, types: &'t [MetaTypeOf<S, C>]) -> Option<&'t str>
+    ensures { option_map (λ s. s.now) result ≡ find (T.fails_at test.now) (all_names types.now) }
+{
+    if let Some(name) = first_name_of_all(test, types) {
+        return Some(name);
+    }
+    first_added_name(test)
+}
+
+/// The first name at fault among the types of all arguments and input fields.
+fn first_of_inputs<'t, T: NameTest, S, C>(
+    test: &T,
+    types: &'t [MetaTypeOf<S, C>],
+) -> Option<&'t str>
+    ensures { option_map (λ s. s.now) result ≡ find (T.fails_at test.now) (all_inputs types.now) }
+{
+    if let Some(name) = first_input_of_all(test, types) {
+        return Some(name);
+    }
+    first_added_input(test)
+}
+
+fn check_names<S, C>(alloc: Global, types: &[MetaTypeOf<S, C>]) -> Result<(), SchemaError>
+    ensures ok { OnOk result (list_all (is_listed types.now) (all_names types.now) ≡ true) }
+    ensures err { (roots : Roots) → IfErr result (IsTrueRefusal roots types.now) }
+{
+    match first_of_names(&Unlisted(types), types) {
+        Some(name) => Err(SchemaError::UnknownType(String::from_str(alloc, name)?)),
+        None => Ok(()),
+    }
+}
+
+fn check_members<S, C>(alloc: Global, types: &[MetaTypeOf<S, C>]) -> Result<(), SchemaError>
+    requires { list_all (is_listed types.now) (all_names types.now) ≡ true }
+    ensures ok { OnOk result (list_all (is_object_listed types.now) (all_members types.now) ≡ true) }
+    ensures err { (roots : Roots) → IfErr result (IsTrueRefusal roots types.now) }
+{
+    match first_member_of_all(&NotObject(types), types) {
+        Some(name) => Err(SchemaError::UnionMemberNotObject(String::from_str(alloc, name)?)),
+        None => Ok(()),
+    }
+}
+
+fn check_inputs<S, C>(alloc: Global, types: &[MetaTypeOf<S, C>]) -> Result<(), SchemaError>
+    requires { list_all (is_listed types.now) (all_names types.now) ≡ true }
+    ensures ok { OnOk result (list_all (is_input_listed types.now) (all_inputs types.now) ≡ true) }
+    ensures err { (roots : Roots) → IfErr result (IsTrueRefusal roots types.now) }
+{
+    match first_of_inputs(&NotInput(types), types) {
+        Some(name) => Err(SchemaError::NotInputType(String::from_str(alloc, name)?)),
+        None => Ok(()),
+    }
+}
+
+/// Refuses a list of types that makes no schema with these roots.
+pub fn check_types<S, C>(
+    alloc: Global,
+    types: &[MetaTypeOf<S, C>],
+    roots: RootNames<'_>,
+) -> Result<(), SchemaError>
+    ensures ok { OnOk result (IsAccepted (roots_asked roots.entry) types.now) }
+    ensures err { IfErr result (IsTrueRefusal (roots_asked roots.entry) types.now) }
+{
+    check_entries(alloc, types)?;
+    check_roots(alloc, types, roots)?;
+    check_names(alloc, types)?;
+    check_members(alloc, types)?;
+    check_inputs(alloc, types)
+}

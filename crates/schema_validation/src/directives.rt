@@ -1,0 +1,92 @@
+//! Directives and where they may stand.
+ghost use Rattle.std.specs.Prelude.{◌≡◌, IfOk, None, Some, option_map, string_bytes};
+ghost use Rattle.schema_validation.specs.Locations.{location_words};
+
+use language::error::OutOfMemory;
+use language::value::DefaultScalarValue;
+use meta::arguments::Argument;
+use std::alloc::Global;
+use std::fmt;
+
+/// Where a directive may stand (section 3.13).
+#[derive(Clone, Debug, PartialEq, Eq, Drop)]
+pub enum DirectiveLocation {
+    Query,
+    Mutation,
+    Subscription,
+    Field,
+    Scalar,
+    FragmentDefinition,
+    FieldDefinition,
+    VariableDefinition,
+    FragmentSpread,
+    InlineFragment,
+    EnumValue,
+}
+
+/// The words of the place, in lower case with blanks between.
+impl fmt::Display for DirectiveLocation {
+    ghost output = { λ l. Some (location_words l) };
+
+    fn fmt<W: fmt::Write>(&self, f: &mut fmt::Formatter<W>) -> fmt::Result {
+        f.write_str(match self {
+            DirectiveLocation::Query => "query",
+            DirectiveLocation::Mutation => "mutation",
+            DirectiveLocation::Subscription => "subscription",
+            DirectiveLocation::Field => "field",
+            DirectiveLocation::Scalar => "scalar",
+            DirectiveLocation::FragmentDefinition => "fragment definition",
+            DirectiveLocation::FieldDefinition => "field definition",
+            DirectiveLocation::VariableDefinition => "variable definition",
+            DirectiveLocation::FragmentSpread => "fragment spread",
+            DirectiveLocation::InlineFragment => "inline fragment",
+            DirectiveLocation::EnumValue => "enum value",
+        })
+    }
+}
+
+/// A directive (section 3.13).
+#[derive(Drop)]
+pub struct DirectiveType<S = DefaultScalarValue> {
+    pub name: String,
+    pub description: Option<String>,
+    /// Where it may stand.
+    pub locations: Vec<DirectiveLocation>,
+    pub arguments: Vec<Argument<S>>,
+    /// Whether it may stand twice at one place.
+    pub is_repeatable: bool,
+}
+
+impl<S: Drop> DirectiveType<S> {
+    /// A directive of this name, with no description. The one refusal is for want of memory.
+    pub fn new(
+        alloc: Global,
+        name: &str,
+        locations: Vec<DirectiveLocation>,
+        arguments: Vec<Argument<S>>,
+        is_repeatable: bool,
+    ) -> Result<Self, OutOfMemory>
+        ensures name { IfOk result (λ d. string_bytes d.name ≡ name.now) }
+        ensures description { IfOk result (λ d. d.description ≡ None) }
+        ensures locations { IfOk result (λ d. d.locations ≡ locations) }
+        ensures arguments { IfOk result (λ d. d.arguments ≡ arguments) }
+        ensures repeatable { IfOk result (λ d. d.is_repeatable ≡ is_repeatable) }
+    {
+        Ok(DirectiveType {
+            name: String::from_str(alloc, name)?,
+            description: None,
+            locations,
+            arguments,
+            is_repeatable,
+        })
+    }
+
+    /// Replaces the description. The one refusal is for want of memory.
+    pub fn description(mut self, text: &str) -> Result<Self, OutOfMemory>
+        ensures text { IfOk result (λ d. option_map string_bytes d.description ≡ Some text.now) }
+        ensures others { IfOk result (λ d. d ≡ record self { description = d.description }) }
+    {
+        self.description = Some(String::from_str(*self.name.allocator(), text)?);
+        Ok(self)
+    }
+}

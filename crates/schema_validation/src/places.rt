@@ -1,0 +1,60 @@
+//! Look-ups by name in long lists, by the places of the items in the order of their names.
+ghost use Rattle.std.specs.Prelude.{◌≡◌, IfOk, find, map, option_copied};
+ghost use Rattle.std.specs.Str.{bytes_eq};
+ghost use Rattle.schema_validation.specs.Places.{AreAscending, StandFirst, name_at};
+
+use language::error::OutOfMemory;
+use meta::named::Named;
+use std::alloc::Global;
+
+/// So many items are looked through in turn: an order of theirs would save nothing.
+pub const FEW: usize = 8;
+
+/// The places of the items in the order of their names, those of one name in their own order.
+pub(crate) fn places_by_name<T: Named>(
+    alloc: Global,
+    items: &[T],
+) -> Result<Vec<usize>, OutOfMemory>
+    ensures ascending { IfOk result (λ v. AreAscending (map T.name_of items.now) v.items) }
+    ensures first { IfOk result (λ v. StandFirst (map T.name_of items.now) v.items) }
+{
+    let mut places = all_places(alloc, items)?;
+    places.sort_by(|left, right| name_of_place(items, *left).cmp(name_of_place(items, *right)))?;
+    Ok(places)
+}
+
+/// The first item of the name, by the places in the order of their names.
+pub fn first_at<'t, T: Named>(items: &'t [T], places: &[usize], name: &str) -> Option<&'t T>
+    requires ascending { AreAscending (map T.name_of items.now) places.now }
+    requires first { StandFirst (map T.name_of items.now) places.now }
+    ensures { option_copied result ≡ find (λ x. bytes_eq (T.name_of x) name.now) items.now }
+{
+    let start = places.partition_point(|place| name_of_place(items, *place) < name);
+    let item = items.get(*places.get(start)?)?;
+    if item.name() == name {
+        Some(item)
+    } else {
+        None
+    }
+}
+
+// The places of the items in their own order.
+fn all_places<T: Named>(alloc: Global, items: &[T]) -> Result<Vec<usize>, OutOfMemory>
+    ensures { IfOk result (λ v. StandFirst (map T.name_of items.now) v.items) }
+{
+    let mut places = Vec::with_capacity(alloc, items.len())?;
+    for i in 0..items.len() {
+        places.push(i)?;
+    }
+    Ok(places)
+}
+
+// The name of the item at a place.
+fn name_of_place<T: Named>(items: &[T], place: usize) -> &str
+    ensures { result.now ≡ name_at (map T.name_of items.now) place }
+{
+    match items.get(place) {
+        Some(item) => item.name(),
+        None => "",
+    }
+}

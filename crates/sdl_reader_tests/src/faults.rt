@@ -1,0 +1,178 @@
+//! Texts that make no schema, each with its fault and the place: line, column and index, each counted from 0.
+use crate::shown::shown_error;
+use sdl_reader::{SchemaReadError, read_schema};
+use std::alloc::{AllocError, Global};
+
+const FAULTS: &[(&str, &str)] = &[
+    (
+        "type Query { a Int }",
+        "syntax 0:15 15 expected :, found \"Int\"",
+    ),
+    (
+        "type Query { a: Int } type Query { b: Int }",
+        "fault 0:27 27 the type \"Query\" is defined twice",
+    ),
+    (
+        "type Query { a: Int } scalar Query\n",
+        "fault 0:29 29 the type \"Query\" is defined twice",
+    ),
+    (
+        "type Query { a: Int\n  b: Int a: Float }",
+        "fault 1:9 29 the field \"a\" is defined twice",
+    ),
+    (
+        "extend type Query {\n a: Int }\ntype Query { a: Int }",
+        "fault 1:1 21 the field \"a\" is defined twice",
+    ),
+    (
+        "type Query { a(x: Int, x: Int): Int }",
+        "fault 0:23 23 the argument \"x\" is defined twice",
+    ),
+    (
+        "type Query { a: Int } enum E { A B A }",
+        "fault 0:35 35 the enum value \"A\" is defined twice",
+    ),
+    (
+        "type Query { a: Int } input I { a: Int a: Int }",
+        "fault 0:39 39 the input field \"a\" is defined twice",
+    ),
+    (
+        "type Query { a: Int } union U = Query | Query",
+        "fault 0:40 40 the member \"Query\" is defined twice",
+    ),
+    (
+        "type Query implements I & I { a: Int } interface I { a: Int }",
+        "fault 0:26 26 the interface \"I\" is defined twice",
+    ),
+    (
+        "type Query { a: Int } directive @d on FIELD directive @d on QUERY",
+        "fault 0:55 55 the directive \"d\" is defined twice",
+    ),
+    (
+        "schema { query: Q query: R } type Q { a: Int } type R { a: Int }",
+        "fault 0:25 25 the root \"query\" is defined twice",
+    ),
+    (
+        "schema { query: Q }\r\nschema { mutation: Q } type Q { a: Int }",
+        "fault 1:0 21 the schema is defined twice",
+    ),
+    (
+        "type Query { a: Int } extend type Dog { a: Int }",
+        "fault 0:34 34 the type \"Dog\" is extended and not defined",
+    ),
+    (
+        "type Query { a: Int } extend interface Query { b: Int }",
+        "fault 0:39 39 the type \"Query\" is extended as another kind of type",
+    ),
+    (
+        "type Dog { a: Int }",
+        "fault 0:0 0 there is no root of queries",
+    ),
+    (
+        "type Query { a: Int } schema { mutation: Query }",
+        "fault 0:22 22 there is no root of queries",
+    ),
+    (
+        "schema { query: Q }",
+        "fault 0:16 16 the root type \"Q\" is not listed",
+    ),
+    (
+        "schema { query: Q mutation: M } type Q { a: Int }",
+        "fault 0:28 28 the root type \"M\" is not listed",
+    ),
+    (
+        "schema { query: Q\n subscription: S } type Q { a: Int }",
+        "fault 1:15 33 the root type \"S\" is not listed",
+    ),
+    (
+        "type Dog { a: Int } scalar Query",
+        "fault 0:27 27 the query root is not an object",
+    ),
+    (
+        "schema { query: U } union U = Q type Q { a: Int }",
+        "fault 0:16 16 the query root is not an object",
+    ),
+    (
+        "type Query {\n  a: Int\n  dog: [Dog!] }",
+        "fault 2:7 29 the type \"Dog\" is not listed",
+    ),
+    (
+        "type Query { a(x: Dog): Dog }",
+        "fault 0:18 18 the type \"Dog\" is not listed",
+    ),
+    (
+        "type Query implements Dog { a: Int }",
+        "fault 0:22 22 the type \"Dog\" is not listed",
+    ),
+    (
+        "type Query { a: Int } union U = Query | Dog",
+        "fault 0:40 40 the type \"Dog\" is not listed",
+    ),
+    (
+        "type Query { a: Int } input I { a: Dog! }",
+        "fault 0:35 35 the type \"Dog\" is not listed",
+    ),
+    (
+        "extend type Query { b: Dog } type Query { a: Int } ",
+        "fault 0:23 23 the type \"Dog\" is not listed",
+    ),
+    (
+        "union U = Query | I type Query { a: Int i: I } interface I { a: Int }",
+        "fault 0:18 18 the union member \"I\" is not an object",
+    ),
+    (
+        "type Query { q: Query a(x: Query): Int }",
+        "fault 0:27 27 the type \"Query\" is not an input type",
+    ),
+    (
+        "type Query { a: Int } input J { a: [Query] }",
+        "fault 0:35 35 the type \"Query\" is not an input type",
+    ),
+    (
+        "type Query { a: Int } type Boolean { a: Int }",
+        "fault 0:27 27 the type \"Boolean\" is not an input type",
+    ),
+    (
+        "type Query { a: Int } directive @d(x: Dog) on FIELD",
+        "fault 0:38 38 the type \"Dog\" is not listed",
+    ),
+    (
+        "type Query { a: Int } directive @d(x: Int y: Query) on FIELD",
+        "fault 0:45 45 the type \"Query\" is not an input type",
+    ),
+    (
+        "type Query { a: Int } directive @d(x: Int x: Int) on FIELD",
+        "fault 0:42 42 the argument \"x\" is defined twice",
+    ),
+];
+
+fn told(alloc: Global, text: &str) -> Result<String, AllocError> {
+    match read_schema(alloc, text) {
+        Ok(_) => String::from_str(alloc, "a schema"),
+        Err(error) => shown_error(alloc, &error),
+    }
+}
+
+#[test]
+fn tells_faults(rt: HostRuntime) {
+    for (text, wanted) in FAULTS {
+        let found = told(rt.alloc(), text).expect(&rt, "memory");
+        assert_eq!(rt; found.as_str(), *wanted);
+    }
+}
+
+// Whether the answer is want of memory, or the same as ever.
+fn is_steady(alloc: Global, text: &str, is_schema: bool) -> bool {
+    match read_schema(alloc, text) {
+        Ok(_) => is_schema,
+        Err(SchemaReadError::OutOfMemory) => true,
+        Err(_) => !is_schema,
+    }
+}
+
+#[test]
+fn a_refused_request_changes_no_answer(rt: HostRuntime) {
+    assert!(rt; is_steady(rt.alloc(), "type Query { a: E } enum E { A }", true));
+    assert!(rt; is_steady(rt.alloc(), "type Query { a: Dog }", false));
+    assert!(rt; is_steady(rt.alloc(), "type Query { a: Int a: Int }", false));
+}

@@ -1,0 +1,65 @@
+//! The scalars of a text, numbers as they are written.
+ghost use Rattle.std.specs.Prelude.{Some};
+ghost use Rattle.sdl_scalars.specs.SourceScalar.{source_text, source_str};
+
+use language::scalar::ScalarValue;
+use std::alloc::AllocError;
+use std::fmt;
+
+/// A scalar of a document. Two numbers are equal if they are written alike.
+#[derive(Debug, PartialEq, Eq, Drop)]
+pub enum SourceScalar {
+    /// The digits of an integer, and its sign (section 2.9.1).
+    Int(String),
+    /// A number with a fraction or an exponent, as it is written (section 2.9.2).
+    Float(String),
+    /// The value of a string or a block string (section 2.9.4).
+    String(String),
+    /// A truth value (section 2.9.3).
+    Boolean(bool),
+}
+
+impl Clone for SourceScalar {
+    ghost use Rattle.sdl_scalars.specs.SourceScalar.{IsSameSource};
+
+    ghost is_clone = { λ s t. IsSameSource s t };
+
+    fn clone(&self) -> Result<SourceScalar, AllocError> {
+        Ok(match self {
+            SourceScalar::Int(digits) => SourceScalar::Int(digits.clone()?),
+            SourceScalar::Float(number) => SourceScalar::Float(number.clone()?),
+            SourceScalar::String(text) => SourceScalar::String(text.clone()?),
+            SourceScalar::Boolean(b) => SourceScalar::Boolean(*b),
+        })
+    }
+}
+
+impl fmt::Display for SourceScalar {
+    ghost output = { λ x. Some (source_text x) };
+
+    fn fmt<W: fmt::Write>(&self, f: &mut fmt::Formatter<W>) -> fmt::Result {
+        match self {
+            SourceScalar::Int(digits) => write!(f, "{digits}"),
+            SourceScalar::Float(number) => write!(f, "{number}"),
+            SourceScalar::String(text) => write!(f, "{text}"),
+            SourceScalar::Boolean(b) => write!(f, "{b}"),
+        }
+    }
+}
+
+impl ScalarValue for SourceScalar {
+    ghost use Rattle.std.specs.Prelude.{refl};
+
+    ghost text = { source_text };
+
+    ghost str_of = { source_str };
+
+    ghost prints_text = { λ x. refl };
+
+    fn try_as_str(&self) -> Option<&str> {
+        match self {
+            SourceScalar::String(text) => Some(text.as_str()),
+            _ => None,
+        }
+    }
+}

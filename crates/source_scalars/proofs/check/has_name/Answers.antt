@@ -1,5 +1,0 @@
-use Rattle.std.proofs.Common.{sym, ◌∙◌}
-use Rattle.source_scalars.proofs.check.has_name.Goals as goal
-
-pub returns : goal.returns
-returns c = (λ t. sym c.is_among.ensures ∙ t, λ h. c.is_among.ensures ∙ h)

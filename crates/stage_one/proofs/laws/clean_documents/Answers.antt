@@ -1,6 +1,0 @@
-use Rattle.language.specs.ValuesPrinted.{printed_value}
-use Rattle.stage_one.proofs.Clean.{clean}
-use Rattle.stage_one.proofs.laws.clean_documents.Goals as goal
-
-pub returns : goal.returns
-returns g c = λ schema t doc. clean schema t doc g.S.CheckedScalar.may_answer (printed_value g.S.ScalarValue.text g.S.ScalarValue.str_of)

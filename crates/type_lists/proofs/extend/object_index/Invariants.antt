@@ -1,6 +1,0 @@
-use Rattle.std.proofs.Common.{◌≡◌, drop}
-use Rattle.type_lists.specs.Accepted.{is_object_listed}
-use Rattle.type_lists.proofs.extend.object_index.Given as goal
-
-abbrev pub invariant-loop-i : goal.invariant-loop-i
-invariant-loop-i g l = is_object_listed l.types l.name ≡ is_object_listed (drop l.i l.types) l.name

@@ -1,7 +1,0 @@
-use Rattle.std.proofs.Common.{◌≡◌, drop, map}
-use Rattle.std.specs.Prelude.{find}
-use Rattle.type_lists.specs.Names.{argument_type}
-use Rattle.type_lists.proofs.first.first_argument.Given as goal
-
-abbrev pub invariant-loop-argument : goal.invariant-loop-argument
-invariant-loop-argument g l = find (g.T.NameTest.fails_at l.test) (map argument_type l.arguments) ≡ find (g.T.NameTest.fails_at l.test) (map argument_type (drop l.argument-index l.arguments))

@@ -1,8 +1,0 @@
-use Rattle.std.proofs.Common.{◌≡◌, drop}
-use Rattle.std.specs.Prelude.{find}
-use Rattle.std.specs.List.{flat_map}
-use Rattle.type_lists.specs.Names.{field_names}
-use Rattle.type_lists.proofs.first.first_name_of_fields.Given as goal
-
-abbrev pub invariant-loop-field : goal.invariant-loop-field
-invariant-loop-field g l = find (g.T.NameTest.fails_at l.test) (flat_map field_names l.fields) ≡ find (g.T.NameTest.fails_at l.test) (flat_map field_names (drop l.field-index l.fields))

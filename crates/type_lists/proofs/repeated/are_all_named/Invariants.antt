@@ -1,7 +1,0 @@
-use Rattle.std.proofs.Common.{◌≡◌, drop}
-use Rattle.meta.specs.Kinds.{name_of_meta}
-use Rattle.type_lists.specs.Named.{are_named}
-use Rattle.type_lists.proofs.repeated.are_all_named.Given as goal
-
-abbrev pub invariant-loop-meta : goal.invariant-loop-meta
-invariant-loop-meta g l = are_named name_of_meta l.types ≡ are_named name_of_meta (drop l.meta-index l.types)

@@ -1,5 +1,0 @@
-use Rattle.variable_positions.proofs.Settled.{positions_settled}
-use Rattle.variable_positions.proofs.laws.positions_are_settled.Goals as goal
-
-pub returns : goal.returns
-returns g c = positions_settled

@@ -1,0 +1,151 @@
+//! Variables that are used where they are not defined.
+ghost use Rattle.std.specs.Prelude.{◌≡◌, ◌⊎◌, ◌++◌, ℕ, List, IfOk, IsTrue, OnOk, map, option_map};
+ghost use Rattle.std.specs.List.{flat_map};
+ghost use Rattle.fragment_reach.specs.Reach.{operation};
+ghost use Rattle.operation_scopes.specs.Places.{places_of};
+ghost use Rattle.operation_scopes.specs.Scopes.{IsOperationName};
+ghost use Rattle.operation_scopes.specs.Searches.{IsReady};
+ghost use Rattle.variable_usages.specs.DocumentIndex.{IsDocumentIndex};
+ghost use Rattle.variable_usages.specs.Names.{has_name};
+ghost use Rattle.variable_usages.specs.Uses.{use_of};
+ghost use Rattle.variable_usages.specs.Undefined.{AddsUndefined, TellsUndefined, UndefinedVariables, UsesNothing, told_undefined, undefined_of};
+
+use crate::document_index::{DocumentIndex, index_document};
+use crate::names::{is_named, name_set, variables};
+use crate::uses::{UseSearch, VariableUse, new_use_search, reached_uses};
+use fragment_graph::numbers::number_names;
+use language::error::OutOfMemory;
+use language::position::SourcePosition;
+use language::tree::Document;
+use operation_scopes::index::{last_operation, operation_places};
+use std::alloc::Global;
+use std::collections::BTreeSet;
+
+/// A variable that is used, the name of the operation that doesn't define it, where the argument's value starts that holds the
+/// use, and where the last operation of that name starts.
+#[derive(Clone, Copy, Debug)]
+pub struct UndefinedVariable<'a> {
+    pub name: &'a str,
+    pub operation: Option<&'a str>,
+    pub place: SourcePosition,
+    pub operation_place: SourcePosition,
+}
+
+// Tells of a use whose variable is not among those that are defined.
+fn tell<'a>(
+    defined: &BTreeSet<&str>,
+    operation: Option<&'a str>,
+    start: SourcePosition,
+    used: VariableUse<'a>,
+    found: &mut Vec<UndefinedVariable<'a>>,
+) -> Result<(), OutOfMemory>
+    ensures { OnOk result (TellsUndefined (has_name defined.now) (option_map (λ n. n.now) operation.entry) start used.entry (map undefined_of found.old.items) (map undefined_of found.new.items)) }
+{
+    if !is_named(defined, used.name) {
+        found.push(UndefinedVariable {
+            name: used.name,
+            operation,
+            place: used.place,
+            operation_place: start,
+        })?;
+    }
+    Ok(())
+}
+
+// Tells of all of these uses.
+fn tell_all<'a>(
+    defined: &BTreeSet<&str>,
+    operation: Option<&'a str>,
+    start: SourcePosition,
+    uses: &[VariableUse<'a>],
+    found: &mut Vec<UndefinedVariable<'a>>,
+) -> Result<(), OutOfMemory>
+    ensures { OnOk result (map undefined_of found.new.items ≡ map undefined_of found.old.items ++ flat_map (told_undefined (has_name defined.now) (option_map (λ n. n.now) operation.entry) start) (map use_of uses.now)) }
+{
+    for used in uses {
+        tell(defined, operation, start, *used, found)?;
+    }
+    Ok(())
+}
+
+// Tells of the uses that the operations of a name reach.
+fn add_undefined<'a, S>(
+    alloc: Global,
+    document: Document<'a, S>,
+    index: &DocumentIndex<'a>,
+    name: Option<&'a str>,
+    own: &[usize],
+    search: &mut UseSearch<'a>,
+    found: &mut Vec<UndefinedVariable<'a>>,
+) -> Result<(), OutOfMemory>
+    requires index { IsDocumentIndex document.now index.now }
+    requires ready { IsReady index.now.scopes search.old.search }
+    requires own { own.now ≡ places_of document.now (operation (option_map (λ n. n.now) name)) }
+    requires named { IsOperationName document.now (option_map (λ n. n.now) name) }
+    ensures told { OnOk result (AddsUndefined document.now (option_map (λ n. n.now) name.entry) (map undefined_of found.old.items) (map undefined_of found.new.items)) }
+    ensures ready { OnOk result (IsReady index.now.scopes search.new.search) }
+{
+    let all = index.uses.as_slice();
+    match last_operation(document, own) {
+        Some(last) => {
+            reached_uses(document, &index.scopes, search, all, own)?;
+            let defined = name_set(alloc, variables(last))?;
+            tell_all(
+                &defined,
+                name,
+                last.span.start,
+                search.uses.as_slice(),
+                found,
+            )
+        }
+        None => Ok(()),
+    }
+}
+
+/// The uses of variables that the last operation of a name doesn't define, for each name (GraphQL October 2021, section 5.8.3).
+pub fn undefined_variables<'a, S>(
+    alloc: Global,
+    document: Document<'a, S>,
+) -> Result<Vec<UndefinedVariable<'a>>, OutOfMemory>
+    ensures { IfOk result (λ found. UndefinedVariables document.now (map undefined_of found.items)) }
+{
+    let names = number_names(alloc, document)?;
+    let index = index_document(alloc, document, names)?;
+    undefined_in(alloc, document, &index)
+}
+
+// Whether some definition uses a variable.
+fn is_any_used(all: &[Vec<VariableUse<'_>>]) -> bool
+    ensures { IsTrue result ⊎ UsesNothing all.now }
+{
+    for uses in all {
+        if !uses.is_empty() {
+            return true;
+        }
+    }
+    false
+}
+
+/// The same, by a document's index. Where the document uses no variable it looks for nothing.
+pub fn undefined_in<'a, S>(
+    alloc: Global,
+    document: Document<'a, S>,
+    index: &DocumentIndex<'a>,
+) -> Result<Vec<UndefinedVariable<'a>>, OutOfMemory>
+    requires { IsDocumentIndex document.now index.now }
+    ensures { IfOk result (λ found. UndefinedVariables document.now (map undefined_of found.items)) }
+{
+    let scopes = &index.scopes;
+    let all = index.uses.as_slice();
+    let mut found = Vec::new(alloc);
+    if !is_any_used(all) {
+        return Ok(found);
+    }
+    let mut search = new_use_search(alloc, scopes)?;
+    for number in 0..scopes.names.len() {
+        let name = scopes.names[number];
+        let own = operation_places(scopes, number);
+        add_undefined(alloc, document, index, name, own, &mut search, &mut found)?;
+    }
+    Ok(found)
+}

@@ -1,0 +1,307 @@
+//! The variables that a definition uses, in arguments of fields and of directives.
+ghost use Rattle.std.specs.Prelude.{◌≡◌, ◌++◌, ℕ, List, Option, IfOk, OnOk, map};
+ghost use Rattle.std.specs.List.{flat_map};
+ghost use Rattle.fragment_reach.specs.Reach.{operation};
+ghost use Rattle.operation_scopes.specs.Index.{IsIndexOf};
+ghost use Rattle.operation_scopes.specs.Places.{places_of};
+ghost use Rattle.language.specs.Values.{variables_of};
+ghost use Rattle.operation_scopes.specs.Searches.{IsReady};
+ghost use Rattle.variable_usages.specs.InReachUses.{AllUses, UsedIn, kept_uses};
+ghost use Rattle.variable_usages.specs.Uses.{argument_uses, arguments_uses, at_place, definition_uses, directive_uses, directives_uses, selection_uses, use_of, used_in_all, variable_definition_uses, variable_definitions_uses};
+
+use language::error::OutOfMemory;
+use language::position::{SourcePosition, Spanning};
+use language::tree::{
+    Arguments, Definition, Directive, Document, Selection, VariableDefinition, VariableDefinitions,
+};
+use language::value::InputValue;
+use operation_scopes::index::ScopeIndex;
+use operation_scopes::reach::{Search, found_places, new_search, reached_definitions};
+use std::alloc::Global;
+
+/// A variable inside an argument's value, and where that value starts.
+#[derive(Clone, Copy, Debug)]
+pub struct VariableUse<'d> {
+    pub name: &'d str,
+    pub place: SourcePosition,
+}
+
+// Adds uses of these names, at one place.
+fn add_names<'d>(
+    place: SourcePosition,
+    names: &[&'d str],
+    found: &mut Vec<VariableUse<'d>>,
+) -> Result<(), OutOfMemory>
+    ensures { OnOk result (map use_of found.new.items ≡ map use_of found.old.items ++ map (at_place place) (map (λ n. n.now) names.now)) }
+{
+    for name in names {
+        found.push(VariableUse { name: *name, place })?;
+    }
+    Ok(())
+}
+
+// Adds those inside a value, at the place of the argument that it is.
+fn add_value<'d, S>(
+    alloc: Global,
+    place: SourcePosition,
+    value: &'d InputValue<S>,
+    found: &mut Vec<VariableUse<'d>>,
+) -> Result<(), OutOfMemory>
+    ensures { OnOk result (map use_of found.new.items ≡ map use_of found.old.items ++ map (at_place place) (variables_of value.now)) }
+{
+    match value {
+        // for these, as most values are, a list of names would be asked for in vain
+        InputValue::Null | InputValue::Scalar(_) | InputValue::Enum(_) => Ok(()),
+        InputValue::Variable(name) => {
+            found.push(VariableUse {
+                name: name.as_str(),
+                place,
+            })?;
+            Ok(())
+        }
+        InputValue::List(_) | InputValue::Object(_) => {
+            let names = value.referenced_variables(alloc)?;
+            add_names(place, names.as_slice(), found)
+        }
+    }
+}
+
+// Adds those of an argument.
+fn add_argument<'d, S>(
+    alloc: Global,
+    argument: &'d (Spanning<&str>, Spanning<InputValue<S>>),
+    found: &mut Vec<VariableUse<'d>>,
+) -> Result<(), OutOfMemory>
+    ensures { OnOk result (map use_of found.new.items ≡ map use_of found.old.items ++ argument_uses argument.now) }
+{
+    add_value(alloc, argument.1.span.start, &argument.1.item, found)
+}
+
+// Adds those of each of these arguments.
+fn add_each_argument<'d, S>(
+    alloc: Global,
+    arguments: &'d [(Spanning<&str>, Spanning<InputValue<S>>)],
+    found: &mut Vec<VariableUse<'d>>,
+) -> Result<(), OutOfMemory>
+    ensures { OnOk result (map use_of found.new.items ≡ map use_of found.old.items ++ flat_map argument_uses arguments.now) }
+{
+    for argument in arguments {
+        add_argument(alloc, argument, found)?;
+    }
+    Ok(())
+}
+
+// Adds those of all arguments.
+fn add_arguments<'d, S>(
+    alloc: Global,
+    arguments: &'d Option<Spanning<Arguments<'_, S>>>,
+    found: &mut Vec<VariableUse<'d>>,
+) -> Result<(), OutOfMemory>
+    ensures { OnOk result (map use_of found.new.items ≡ map use_of found.old.items ++ arguments_uses arguments.now) }
+{
+    match arguments {
+        Some(given) => add_each_argument(alloc, given.item.items.as_slice(), found),
+        None => Ok(()),
+    }
+}
+
+// Adds those of each of these directives.
+fn add_each_directive<'d, S>(
+    alloc: Global,
+    directives: &'d [Spanning<Directive<'_, S>>],
+    found: &mut Vec<VariableUse<'d>>,
+) -> Result<(), OutOfMemory>
+    ensures { OnOk result (map use_of found.new.items ≡ map use_of found.old.items ++ flat_map directive_uses directives.now) }
+{
+    for directive in directives {
+        add_arguments(alloc, &directive.item.arguments, found)?;
+    }
+    Ok(())
+}
+
+// Adds those of all directives.
+fn add_directives<'d, S>(
+    alloc: Global,
+    directives: &'d Option<Vec<Spanning<Directive<'_, S>>>>,
+    found: &mut Vec<VariableUse<'d>>,
+) -> Result<(), OutOfMemory>
+    ensures { OnOk result (map use_of found.new.items ≡ map use_of found.old.items ++ directives_uses directives.now) }
+{
+    match directives {
+        Some(given) => add_each_directive(alloc, given.as_slice(), found),
+        None => Ok(()),
+    }
+}
+
+#[cycle(uses)]
+fn add_set<'d, S>(
+    alloc: Global,
+    set: &'d [Selection<'_, S>],
+    found: &mut Vec<VariableUse<'d>>,
+) -> Result<(), OutOfMemory>
+    ensures { OnOk result (map use_of found.new.items ≡ map use_of found.old.items ++ used_in_all set.now) }
+{
+    for selection in set {
+        add_selection(alloc, selection, found)?;
+    }
+    Ok(())
+}
+
+#[cycle(uses)]
+fn add_selection<'d, S>(
+    alloc: Global,
+    selection: &'d Selection<'_, S>,
+    found: &mut Vec<VariableUse<'d>>,
+) -> Result<(), OutOfMemory>
+    ensures { OnOk result (map use_of found.new.items ≡ map use_of found.old.items ++ selection_uses selection.now) }
+{
+    match selection {
+        Selection::Field(field) => {
+            add_arguments(alloc, &field.item.arguments, found)?;
+            add_directives(alloc, &field.item.directives, found)?;
+            match &field.item.selection_set {
+                Some(inner) => add_set(alloc, inner.as_slice(), found),
+                None => Ok(()),
+            }
+        }
+        Selection::FragmentSpread(spread) => add_directives(alloc, &spread.item.directives, found),
+        Selection::InlineFragment(inline) => {
+            add_directives(alloc, &inline.item.directives, found)?;
+            add_set(alloc, inline.item.selection_set.as_slice(), found)
+        }
+    }
+}
+
+// Adds those of the directives at each of these definitions of variables.
+fn add_each_definition<'d, S>(
+    alloc: Global,
+    definitions: &'d [(Spanning<&str>, VariableDefinition<'_, S>)],
+    found: &mut Vec<VariableUse<'d>>,
+) -> Result<(), OutOfMemory>
+    ensures { OnOk result (map use_of found.new.items ≡ map use_of found.old.items ++ flat_map variable_definition_uses definitions.now) }
+{
+    for definition in definitions {
+        add_directives(alloc, &definition.1.directives, found)?;
+    }
+    Ok(())
+}
+
+// Adds those of the directives at definitions of variables; defaults hold no uses.
+fn add_variable_definitions<'d, S>(
+    alloc: Global,
+    definitions: &'d Option<Spanning<VariableDefinitions<'_, S>>>,
+    found: &mut Vec<VariableUse<'d>>,
+) -> Result<(), OutOfMemory>
+    ensures { OnOk result (map use_of found.new.items ≡ map use_of found.old.items ++ variable_definitions_uses definitions.now) }
+{
+    match definitions {
+        Some(given) => add_each_definition(alloc, given.item.items.as_slice(), found),
+        None => Ok(()),
+    }
+}
+
+/// The variables that a definition uses, in the order of the document, with repeats. Where there is none it asks for no memory.
+pub fn variable_uses<'d, S>(
+    alloc: Global,
+    definition: &'d Definition<'_, S>,
+) -> Result<Vec<VariableUse<'d>>, OutOfMemory>
+    ensures { IfOk result (λ v. map use_of v.items ≡ definition_uses definition.now) }
+{
+    let mut found = Vec::new(alloc);
+    match definition {
+        Definition::Operation(operation) => {
+            add_variable_definitions(alloc, &operation.item.variable_definitions, &mut found)?;
+            add_directives(alloc, &operation.item.directives, &mut found)?;
+            add_set(alloc, operation.item.selection_set.as_slice(), &mut found)?;
+        }
+        Definition::Fragment(fragment) => {
+            add_directives(alloc, &fragment.item.directives, &mut found)?;
+            add_set(alloc, fragment.item.selection_set.as_slice(), &mut found)?;
+        }
+    }
+    Ok(found)
+}
+
+/// The uses of each definition of a document.
+pub fn all_uses<'a, S>(
+    alloc: Global,
+    document: Document<'a, S>,
+) -> Result<Vec<Vec<VariableUse<'a>>>, OutOfMemory>
+    ensures { IfOk result (λ all. AllUses document.now all.items) }
+{
+    let mut all = Vec::with_capacity(alloc, document.len())?;
+    for definition in document {
+        all.push(variable_uses(alloc, definition)?)?;
+    }
+    Ok(all)
+}
+
+// Adds those that are kept at a place.
+fn add_uses_at<'a>(
+    all: &[Vec<VariableUse<'a>>],
+    place: usize,
+    found: &mut Vec<VariableUse<'a>>,
+) -> Result<(), OutOfMemory>
+    ensures { OnOk result (map use_of found.new.items ≡ map use_of found.old.items ++ kept_uses all.now place) }
+{
+    match all.get(place) {
+        Some(uses) => {
+            found.extend_from_slice(uses.as_slice())?;
+            Ok(())
+        }
+        None => Ok(()),
+    }
+}
+
+// Lists those at these places, and no others.
+fn list_uses<'a>(
+    all: &[Vec<VariableUse<'a>>],
+    places: &[usize],
+    found: &mut Vec<VariableUse<'a>>,
+) -> Result<(), OutOfMemory>
+    ensures { OnOk result (map use_of found.new.items ≡ flat_map (kept_uses all.now) places.now) }
+{
+    found.clear();
+    for place in places {
+        add_uses_at(all, *place, found)?;
+    }
+    Ok(())
+}
+
+/// A search of a document's scopes, with the uses in what it found last. It keeps its memory for the next.
+#[derive(Drop)]
+pub struct UseSearch<'a> {
+    search: Search,
+    pub uses: Vec<VariableUse<'a>>,
+}
+
+/// A search that has found nothing.
+pub fn new_use_search<'a>(
+    alloc: Global,
+    index: &ScopeIndex<'_>,
+) -> Result<UseSearch<'a>, OutOfMemory>
+    ensures { IfOk result (λ s. IsReady index.now s.search) }
+{
+    Ok(UseSearch {
+        search: new_search(alloc, index)?,
+        uses: Vec::new(alloc),
+    })
+}
+
+/// Finds the uses that the operations of a name reach, by the places of all of these operations.
+pub fn reached_uses<'a, S>(
+    document: Document<'a, S>,
+    index: &ScopeIndex<'a>,
+    search: &mut UseSearch<'a>,
+    all: &[Vec<VariableUse<'a>>],
+    own: &[usize],
+) -> Result<(), OutOfMemory>
+    requires index { IsIndexOf document.now index.now }
+    requires ready { IsReady index.now search.old.search }
+    requires all { AllUses document.now all.now }
+    ensures used { OnOk result ((name : Option (List ℕ)) → own.now ≡ places_of document.now (operation name) → UsedIn document.now name (map use_of search.new.uses.items)) }
+    ensures ready { OnOk result (IsReady index.now search.new.search) }
+{
+    reached_definitions(document, index, &mut search.search, own)?;
+    list_uses(all, found_places(&search.search), &mut search.uses)
+}
