@@ -4,7 +4,8 @@ ghost use Rattle.std.specs.Prelude.{◌≡◌, IfOk, OnErr, option_copied, strin
 ghost use Rattle.std.specs.List.{flat_map};
 ghost use Rattle.walk.specs.ContextState.{typing, with_errors};
 ghost use Rattle.walk.specs.Entering.{finding_step, found};
-ghost use Rattle.walk.specs.Rule.{always, any_value, exactly};
+ghost use Rattle.walk.specs.Rule.{always, any_value, exactly, is_empty};
+ghost use Rattle.walk.specs.RuleLaws.{exactly_silent};
 ghost use Rattle.walk.specs.Step.{KeepsPlace};
 ghost use Rattle.walk.proofs.Entering.{finding_keeps};
 ghost use Rattle.rules_arguments.specs.KnownArgumentNames.{is_known, unknown_message, unknown_name, unknown_argument, unknown_arguments, unknown_where_known, unknown_on_field, unknown_on_directive};
@@ -19,7 +20,7 @@ use meta::check::CheckedScalar;
 use meta::named::first_named;
 use rules_support::texts::between;
 use std::alloc::{AllocError, Global};
-use walk::{Event, Fresh, Machine, Rule, ValidatorContext, Visitor};
+use walk::{Event, Fresh, Machine, Rule, SettledRule, ValidatorContext, Visitor};
 
 /// Reports each argument that its field, or its directive, does not have, at the argument's name.
 ///
@@ -48,6 +49,12 @@ impl<S, C> Rule<S, C> for KnownArgumentNames {
     ghost allows = { always (exactly (found unknown_arguments)) };
 
     ghost keeps = { finding_keeps unknown_arguments };
+}
+
+impl<S, C> SettledRule<S, C> for KnownArgumentNames {
+    ghost finds_nothing = { is_empty (found unknown_arguments) };
+
+    ghost silent = { exactly_silent (found unknown_arguments) };
 }
 
 impl<'a, S: CheckedScalar> Visitor<'a, S> for KnownArgumentNames {

@@ -5,7 +5,8 @@ ghost use Rattle.std.specs.List.{flat_map};
 ghost use Rattle.schema_validation.specs.Locations.{location_words};
 ghost use Rattle.walk.specs.ContextState.{with_errors};
 ghost use Rattle.walk.specs.Entering.{finding_step, found};
-ghost use Rattle.walk.specs.Rule.{always, any_value, exactly};
+ghost use Rattle.walk.specs.Rule.{always, any_value, exactly, is_empty};
+ghost use Rattle.walk.specs.RuleLaws.{exactly_silent};
 ghost use Rattle.walk.specs.Step.{KeepsPlace};
 ghost use Rattle.walk.proofs.Entering.{finding_keeps};
 ghost use Rattle.rules_arguments.specs.KnownDirectives.{is_listed, is_one_place, misplaced_message, operation_place, unknown_directive_message, unsuitable, unsuitable_among, unsuitable_directives};
@@ -17,7 +18,7 @@ use meta::check::CheckedScalar;
 use rules_support::texts::between;
 use schema::model::DirectiveLocation;
 use std::alloc::{AllocError, Global};
-use walk::{Event, Fresh, Machine, Rule, ValidatorContext, Visitor};
+use walk::{Event, Fresh, Machine, Rule, SettledRule, ValidatorContext, Visitor};
 
 /// Reports each directive that the schema does not have, and each that may not stand at the node that bears it, at its start.
 #[derive(Drop)]
@@ -44,6 +45,12 @@ impl<S, C> Rule<S, C> for KnownDirectives {
     ghost allows = { always (exactly (found unsuitable_directives)) };
 
     ghost keeps = { finding_keeps unsuitable_directives };
+}
+
+impl<S, C> SettledRule<S, C> for KnownDirectives {
+    ghost finds_nothing = { is_empty (found unsuitable_directives) };
+
+    ghost silent = { exactly_silent (found unsuitable_directives) };
 }
 
 impl<'a, S: CheckedScalar> Visitor<'a, S> for KnownDirectives {

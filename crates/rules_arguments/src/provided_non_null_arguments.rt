@@ -5,7 +5,8 @@ ghost use Rattle.std.specs.List.{flat_map};
 ghost use Rattle.language.specs.Types.{printed, shape};
 ghost use Rattle.walk.specs.ContextState.{typing, with_errors};
 ghost use Rattle.walk.specs.Entering.{finding_step, found};
-ghost use Rattle.walk.specs.Rule.{always, any_value, exactly};
+ghost use Rattle.walk.specs.Rule.{always, any_value, exactly, is_empty};
+ghost use Rattle.walk.specs.RuleLaws.{exactly_silent};
 ghost use Rattle.walk.specs.Step.{KeepsPlace};
 ghost use Rattle.walk.proofs.Entering.{finding_keeps};
 ghost use Rattle.rules_arguments.specs.ProvidedNonNullArguments.{is_given, is_required, never_null, missing_argument, missing_where_known, missing_message, missing_on_field, missing_on_directive, missing_arguments, words_before};
@@ -19,7 +20,7 @@ use meta::Argument;
 use meta::check::CheckedScalar;
 use rules_support::texts::between;
 use std::alloc::{AllocError, Global};
-use walk::{Event, Fresh, Machine, Rule, ValidatorContext, Visitor};
+use walk::{Event, Fresh, Machine, Rule, SettledRule, ValidatorContext, Visitor};
 
 /// Reports each argument that has to be given and isn't, at the start of its field or of its directive.
 ///
@@ -48,6 +49,12 @@ impl<S, C> Rule<S, C> for ProvidedNonNullArguments {
     ghost allows = { always (exactly (found missing_arguments)) };
 
     ghost keeps = { finding_keeps missing_arguments };
+}
+
+impl<S, C> SettledRule<S, C> for ProvidedNonNullArguments {
+    ghost finds_nothing = { is_empty (found missing_arguments) };
+
+    ghost silent = { exactly_silent (found missing_arguments) };
 }
 
 impl<'a, S: CheckedScalar> Visitor<'a, S> for ProvidedNonNullArguments {

@@ -3,7 +3,8 @@
 ghost use Rattle.std.specs.Prelude.{◌≡◌, IfOk, OnErr};
 ghost use Rattle.walk.specs.ContextState.{with_errors};
 ghost use Rattle.walk.specs.Entering.{finding_step, found};
-ghost use Rattle.walk.specs.Rule.{always, any_value, exactly};
+ghost use Rattle.walk.specs.Rule.{always, any_value, exactly, is_empty};
+ghost use Rattle.walk.specs.RuleLaws.{exactly_silent};
 ghost use Rattle.walk.specs.Step.{KeepsPlace};
 ghost use Rattle.walk.proofs.Entering.{finding_keeps};
 ghost use Rattle.rules_arguments.specs.UniqueArgumentNames.{repeated_arguments, repeated_in};
@@ -14,7 +15,7 @@ use language::tree::Arguments;
 use meta::check::CheckedScalar;
 use rules_support::repeats::report_repeats;
 use std::alloc::Global;
-use walk::{Event, Fresh, Machine, Rule, ValidatorContext, Visitor};
+use walk::{Event, Fresh, Machine, Rule, SettledRule, ValidatorContext, Visitor};
 
 /// Reports each argument whose name an earlier one of its list has, at the first of the name and at its own.
 #[derive(Drop)]
@@ -41,6 +42,12 @@ impl<S, C> Rule<S, C> for UniqueArgumentNames {
     ghost allows = { always (exactly (found repeated_arguments)) };
 
     ghost keeps = { finding_keeps repeated_arguments };
+}
+
+impl<S, C> SettledRule<S, C> for UniqueArgumentNames {
+    ghost finds_nothing = { is_empty (found repeated_arguments) };
+
+    ghost silent = { exactly_silent (found repeated_arguments) };
 }
 
 impl<'a, S: CheckedScalar> Visitor<'a, S> for UniqueArgumentNames {

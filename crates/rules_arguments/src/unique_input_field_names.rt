@@ -1,7 +1,8 @@
 //! No two fields of an object value have one name (GraphQL, section 5.6.3).
 
 ghost use Rattle.walk.specs.Entering.{finding_step, found};
-ghost use Rattle.walk.specs.Rule.{always, any_value, exactly};
+ghost use Rattle.walk.specs.Rule.{always, any_value, exactly, is_empty};
+ghost use Rattle.walk.specs.RuleLaws.{exactly_silent};
 ghost use Rattle.walk.proofs.Entering.{finding_keeps};
 ghost use Rattle.rules_arguments.specs.UniqueInputFieldNames.{repeated_keys};
 
@@ -9,7 +10,7 @@ use language::error::OutOfMemory;
 use meta::check::CheckedScalar;
 use rules_support::repeats::report_repeats;
 use std::alloc::Global;
-use walk::{Event, Fresh, Machine, Rule, ValidatorContext, Visitor};
+use walk::{Event, Fresh, Machine, Rule, SettledRule, ValidatorContext, Visitor};
 
 /// Reports each key of an object value that an earlier one is, at the first of the name and at its own.
 #[derive(Drop)]
@@ -36,6 +37,12 @@ impl<S, C> Rule<S, C> for UniqueInputFieldNames {
     ghost allows = { always (exactly (found repeated_keys)) };
 
     ghost keeps = { finding_keeps repeated_keys };
+}
+
+impl<S, C> SettledRule<S, C> for UniqueInputFieldNames {
+    ghost finds_nothing = { is_empty (found repeated_keys) };
+
+    ghost silent = { exactly_silent (found repeated_keys) };
 }
 
 impl<'a, S: CheckedScalar> Visitor<'a, S> for UniqueInputFieldNames {

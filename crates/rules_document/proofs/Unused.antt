@@ -14,8 +14,6 @@ use Rattle.fragment_reach.specs.ReachedFragments.{ReachedOf}
 use Rattle.fragment_reach.specs.declared.reached.ReachedFragments.{ReachedFragments}
 use Rattle.walk.specs.ContextState.{ContextState, with_errors}
 use Rattle.walk.specs.ErrorValue.{ErrorValue}
-use Rattle.walk.specs.Rule.{Settled}
-use Rattle.rules_document.specs.AtDocument.{given_at_end}
 use Rattle.fragment_graph.specs.declared.numbers.Numbers.{Numbers}
 use Rattle.rules_document.specs.declared.met_fragments.MetFragments.{MetFragments}
 use Rattle.rules_document.specs.declared.no_unused_fragments.NoUnusedFragments.{NoUnusedFragments}
@@ -129,27 +127,6 @@ told_more fs gs w w₁ w₂ told more =
 -- nothing told
 pub told_nothing : {S C : Type 0} (w : ContextState S C) → w ≡ with_errors w (map unused_error [])
 told_nothing w = ap (λ zs. record w { errors = zs }) (sym (append-nil w.errors))
-
--- no errors are told just if no fragment is unused
-map_none : (fs : List NameAndSpan) → map unused_error fs ≡ [] → fs ≡ []
-map_none [] e = refl
-map_none (p ∷ fs) e = absurd cc
-
-module _ {S : Type 0} (document : List (Definition S)) (es : List ErrorValue) (h : UnusedErrors document es) where
-  used_where_none : es ≡ [] → NoneUnused document
-  used_where_none e p stands unreached =
-      let c = subst (λ zs. Contains zs p) (map_none h.0 (sym h.2 ∙ e)) ((h.1.are p).1 (stands, unreached)) in absurd (omega (arith, c.1))
-
-  none_where_used : NoneUnused document → (fs : List NameAndSpan) → UnusedAmong document document fs → map unused_error fs ≡ []
-  none_where_used used [] u = refl
-  none_where_used used (p ∷ fs) u = let r = (u.are p).0 (0, omega arith, refl) in absurd (used p r.0 r.1)
-
-  pub none_unused_just_if : (es ≡ []) ↔ NoneUnused document
-  none_unused_just_if = (used_where_none, λ used. h.2 ∙ none_where_used used h.0 h.1)
-
--- where nothing may be reported nothing else may
-pub unused_settled : {S C : Type 0} (end : NoUnusedFragments) → Settled (given_at_end {S = S} {C = C} unused_errors end)
-unused_settled end scope t doc es none some = (none_unused_just_if doc es some).1 ((none_unused_just_if doc [] none).0 refl)
 
 pub both : (b : Bool) → b ≡ true → b ≡ false → ⊥
 both b t f = cc

@@ -1,7 +1,10 @@
 pub mod AtDocument
 pub mod AtDocumentLaws
+pub mod CycleLaws
 pub mod NoFragmentCycles
 pub mod NoUndefinedVariables
 pub mod NoUnusedFragments
 pub mod NoUnusedVariables
 pub mod ScopeOrder
+pub mod UnusedLaws
+pub mod VariableLaws

@@ -5,18 +5,19 @@ ghost use Rattle.language.specs.declared.tree.Definition.{Definition};
 ghost use Rattle.walk.specs.ContextState.{with_errors};
 ghost use Rattle.walk.specs.Rule.{any_value, Appended};
 ghost use Rattle.walk.specs.Step.{KeepsPlace};
-ghost use Rattle.fragment_graph.specs.DocumentCycles.{name_and_place};
+ghost use Rattle.fragment_graph.specs.DocumentCycles.{name_and_place, HasNoCycle};
 ghost use Rattle.fragment_graph.specs.DocumentGraph.{IsGraphOf};
 ghost use Rattle.rules_document.specs.AtDocument.{document_step, given_at_end};
 ghost use Rattle.rules_document.specs.NoFragmentCycles.{cycle_error, cycle_errors, cycle_message, CycleErrors};
 ghost use Rattle.rules_document.specs.AtDocumentLaws.{document_keeps};
+ghost use Rattle.rules_document.specs.CycleLaws.{cycles_silent};
 
 use fragment_graph::cycles::{CycleReport, DocumentCycles, GraphCycles, search_named};
 use fragment_graph::document_graph::{DocumentGraph, graph_of};
 use language::error::OutOfMemory;
 use meta::check::CheckedScalar;
 use std::alloc::{AllocError, Global};
-use walk::{Event, Fresh, Machine, Rule, ValidatorContext, Visitor};
+use walk::{Event, Fresh, Machine, Rule, SettledRule, ValidatorContext, Visitor};
 
 /// Reports, where the document ends, fragments that lead back to themselves, so many that each cycle has one, at spreads inside
 /// them that start a way back. It keeps what its search found, for those who look at fragments after it.
@@ -89,6 +90,12 @@ impl<'a, S, C> Rule<S, C> for NoFragmentCycles<'a> {
     ghost allows = { given_at_end cycle_errors };
 
     ghost keeps = { document_keeps cycle_errors };
+}
+
+impl<'a, S, C> SettledRule<S, C> for NoFragmentCycles<'a> {
+    ghost finds_nothing = { λ scope t doc. HasNoCycle doc };
+
+    ghost silent = { cycles_silent };
 }
 
 impl<'a, S: CheckedScalar> Visitor<'a, S> for NoFragmentCycles<'a> {

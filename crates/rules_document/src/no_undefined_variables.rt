@@ -1,6 +1,6 @@
 //! Each variable that an operation uses is defined by it (GraphQL, section 5.8.3).
 
-ghost use Rattle.std.specs.Prelude.{◌≡◌, List, Some, IfOk, OnErr, map, option_map, string_bytes};
+ghost use Rattle.std.specs.Prelude.{◌≡◌, [], List, Some, IfOk, OnErr, map, option_map, string_bytes};
 ghost use Rattle.walk.specs.ContextState.{with_errors};
 ghost use Rattle.walk.specs.Rule.{any_value};
 ghost use Rattle.walk.specs.Step.{KeepsPlace};
@@ -8,6 +8,7 @@ ghost use Rattle.variable_usages.specs.DocumentIndex.{IsDocumentIndex};
 ghost use Rattle.variable_usages.specs.Undefined.{Undefined, UndefinedVariables, undefined_of};
 ghost use Rattle.rules_document.specs.AtDocument.{document_step, given_at_end};
 ghost use Rattle.rules_document.specs.AtDocumentLaws.{document_keeps};
+ghost use Rattle.rules_document.specs.VariableLaws.{undefineds_silent};
 ghost use Rattle.rules_document.specs.NoUndefinedVariables.{undefined_error, undefined_errors, undefined_message};
 
 use language::error::OutOfMemory;
@@ -18,7 +19,7 @@ use std::alloc::{AllocError, Global};
 use std::marker::PhantomData;
 use variable_usages::document_index::{DocumentIndex, index_document};
 use variable_usages::undefined::{UndefinedVariable, undefined_in};
-use walk::{Event, Fresh, Machine, Rule, ValidatorContext, Visitor};
+use walk::{Event, Fresh, Machine, Rule, SettledRule, ValidatorContext, Visitor};
 
 /// Reports, where the document ends, each use of a variable in the reach of the operations of a name that the last of them doesn't
 /// define, at the argument's value and at that operation.
@@ -50,6 +51,12 @@ impl<'a, S, C> Rule<S, C> for NoUndefinedVariables<'a> {
     ghost allows = { given_at_end undefined_errors };
 
     ghost keeps = { document_keeps undefined_errors };
+}
+
+impl<'a, S, C> SettledRule<S, C> for NoUndefinedVariables<'a> {
+    ghost finds_nothing = { λ scope t doc. UndefinedVariables doc [] };
+
+    ghost silent = { undefineds_silent };
 }
 
 impl<'a, S: CheckedScalar> Visitor<'a, S> for NoUndefinedVariables<'a> {

@@ -9,7 +9,8 @@ ghost use Rattle.fragment_graph.specs.Numbers.{defined_number, number_of, WellNu
 ghost use Rattle.operation_scopes.specs.Index.{IsIndexOf};
 ghost use Rattle.rules_document.specs.AtDocument.{document_step, given_at_end};
 ghost use Rattle.rules_document.specs.AtDocumentLaws.{document_keeps};
-ghost use Rattle.rules_document.specs.NoUnusedFragments.{name_and_span, unused_error, unused_errors, unused_message, AddsFragment, AddsUnused, IsKeptFor, NameAndSpan, UnusedAmong};
+ghost use Rattle.rules_document.specs.UnusedLaws.{unused_silent};
+ghost use Rattle.rules_document.specs.NoUnusedFragments.{name_and_span, unused_error, unused_errors, NoneUnused, unused_message, AddsFragment, AddsUnused, IsKeptFor, NameAndSpan, UnusedAmong};
 
 use crate::met_fragments::{MetFragments, meet, none_met};
 use fragment_reach::reached::{ReachedFragments, is_reached, reached_fragments};
@@ -19,7 +20,7 @@ use language::tree::{Definition, Document, Fragment};
 use meta::check::CheckedScalar;
 use operation_scopes::index::{ScopeIndex, index_scopes};
 use std::alloc::{AllocError, Global};
-use walk::{Event, Fresh, Machine, Rule, ValidatorContext, Visitor};
+use walk::{Event, Fresh, Machine, Rule, SettledRule, ValidatorContext, Visitor};
 
 /// Reports, where the document ends, each definition of a fragment that no operation reaches, at its start.
 #[derive(Drop)]
@@ -46,6 +47,12 @@ impl<S, C> Rule<S, C> for NoUnusedFragments {
     ghost allows = { given_at_end unused_errors };
 
     ghost keeps = { document_keeps unused_errors };
+}
+
+impl<S, C> SettledRule<S, C> for NoUnusedFragments {
+    ghost finds_nothing = { λ scope t doc. NoneUnused doc };
+
+    ghost silent = { unused_silent };
 }
 
 impl<'a, S: CheckedScalar> Visitor<'a, S> for NoUnusedFragments {

@@ -1,6 +1,6 @@
 //! Each variable that an operation defines is used by it (GraphQL, section 5.8.4).
 
-ghost use Rattle.std.specs.Prelude.{◌≡◌, List, Some, IfOk, OnErr, map, option_map, string_bytes};
+ghost use Rattle.std.specs.Prelude.{◌≡◌, [], List, Some, IfOk, OnErr, map, option_map, string_bytes};
 ghost use Rattle.walk.specs.ContextState.{with_errors};
 ghost use Rattle.walk.specs.Rule.{any_value};
 ghost use Rattle.walk.specs.Step.{KeepsPlace};
@@ -8,6 +8,7 @@ ghost use Rattle.variable_usages.specs.DocumentIndex.{IsDocumentIndex};
 ghost use Rattle.variable_usages.specs.Unused.{Unused, UnusedVariables, unused_of};
 ghost use Rattle.rules_document.specs.AtDocument.{document_step, given_at_end};
 ghost use Rattle.rules_document.specs.AtDocumentLaws.{document_keeps};
+ghost use Rattle.rules_document.specs.VariableLaws.{unused_variables_silent};
 ghost use Rattle.rules_document.specs.NoUnusedVariables.{unused_variable_error, unused_variable_errors, unused_variable_message};
 
 use language::error::OutOfMemory;
@@ -18,7 +19,7 @@ use std::alloc::{AllocError, Global};
 use std::marker::PhantomData;
 use variable_usages::document_index::{DocumentIndex, index_document};
 use variable_usages::unused::{UnusedVariable, unused_in};
-use walk::{Event, Fresh, Machine, Rule, ValidatorContext, Visitor};
+use walk::{Event, Fresh, Machine, Rule, SettledRule, ValidatorContext, Visitor};
 
 /// Reports, where the document ends, each variable that the last operation of a name defines and that is not used in the reach of
 /// the operations of that name, at its name.
@@ -50,6 +51,12 @@ impl<'a, S, C> Rule<S, C> for NoUnusedVariables<'a> {
     ghost allows = { given_at_end unused_variable_errors };
 
     ghost keeps = { document_keeps unused_variable_errors };
+}
+
+impl<'a, S, C> SettledRule<S, C> for NoUnusedVariables<'a> {
+    ghost finds_nothing = { λ scope t doc. UnusedVariables doc [] };
+
+    ghost silent = { unused_variables_silent };
 }
 
 impl<'a, S: CheckedScalar> Visitor<'a, S> for NoUnusedVariables<'a> {

@@ -2,7 +2,8 @@
 
 ghost use Rattle.std.specs.Prelude.{◌≡◌, IfOk, string_bytes};
 ghost use Rattle.walk.specs.Entering.{finding_step, found};
-ghost use Rattle.walk.specs.Rule.{always, any_value, exactly};
+ghost use Rattle.walk.specs.Rule.{always, any_value, exactly, is_empty};
+ghost use Rattle.walk.specs.RuleLaws.{exactly_silent};
 ghost use Rattle.walk.proofs.Entering.{finding_keeps};
 ghost use Rattle.rules_fields.specs.DisableIntrospection.{introspection_message, introspection_fields};
 
@@ -10,7 +11,7 @@ use language::error::OutOfMemory;
 use meta::check::CheckedScalar;
 use rules_support::texts::between;
 use std::alloc::{AllocError, Global};
-use walk::{Event, Fresh, Machine, Rule, ValidatorContext, Visitor};
+use walk::{Event, Fresh, Machine, Rule, SettledRule, ValidatorContext, Visitor};
 
 /// Reports each field `__schema` or `__type`, at its name.
 #[derive(Drop)]
@@ -37,6 +38,12 @@ impl<S, C> Rule<S, C> for DisableIntrospection {
     ghost allows = { always (exactly (found introspection_fields)) };
 
     ghost keeps = { finding_keeps introspection_fields };
+}
+
+impl<S, C> SettledRule<S, C> for DisableIntrospection {
+    ghost finds_nothing = { is_empty (found introspection_fields) };
+
+    ghost silent = { exactly_silent (found introspection_fields) };
 }
 
 impl<'a, S: CheckedScalar> Visitor<'a, S> for DisableIntrospection {

@@ -3,7 +3,8 @@
 ghost use Rattle.std.specs.Prelude.{◌≡◌, IfOk, OnErr, string_bytes};
 ghost use Rattle.walk.specs.ContextState.{typing, with_errors};
 ghost use Rattle.walk.specs.Entering.{finding_step, found};
-ghost use Rattle.walk.specs.Rule.{always, any_value, exactly};
+ghost use Rattle.walk.specs.Rule.{always, any_value, exactly, is_empty};
+ghost use Rattle.walk.specs.RuleLaws.{exactly_silent};
 ghost use Rattle.walk.specs.Step.{KeepsPlace};
 ghost use Rattle.walk.proofs.Entering.{finding_keeps};
 ghost use Rattle.std.specs.List.{flat_map};
@@ -16,7 +17,7 @@ use meta::MetaTypeOf;
 use meta::check::CheckedScalar;
 use rules_support::texts::between;
 use std::alloc::{AllocError, Global};
-use walk::{Event, Fresh, Machine, Rule, ValidatorContext, Visitor};
+use walk::{Event, Fresh, Machine, Rule, SettledRule, ValidatorContext, Visitor};
 
 /// Reports each field that the type around it, where it is known, does not have, at the field's name.
 ///
@@ -45,6 +46,12 @@ impl<S, C> Rule<S, C> for FieldsOnCorrectType {
     ghost allows = { always (exactly (found fields_of_wrong_type)) };
 
     ghost keeps = { finding_keeps fields_of_wrong_type };
+}
+
+impl<S, C> SettledRule<S, C> for FieldsOnCorrectType {
+    ghost finds_nothing = { is_empty (found fields_of_wrong_type) };
+
+    ghost silent = { exactly_silent (found fields_of_wrong_type) };
 }
 
 impl<'a, S: CheckedScalar> Visitor<'a, S> for FieldsOnCorrectType {

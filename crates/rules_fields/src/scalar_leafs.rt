@@ -4,7 +4,8 @@ ghost use Rattle.std.specs.Prelude.{◌≡◌, IfOk, OnErr, is_some, string_byte
 ghost use Rattle.language.specs.Types.{borrowed_shape, printed};
 ghost use Rattle.walk.specs.ContextState.{typing, with_errors};
 ghost use Rattle.walk.specs.Entering.{finding_step, found};
-ghost use Rattle.walk.specs.Rule.{always, any_value, exactly};
+ghost use Rattle.walk.specs.Rule.{always, any_value, exactly, is_empty};
+ghost use Rattle.walk.specs.RuleLaws.{exactly_silent};
 ghost use Rattle.walk.specs.Step.{KeepsPlace};
 ghost use Rattle.walk.proofs.Entering.{finding_keeps};
 ghost use Rattle.rules_fields.specs.ScalarLeafs.{wrong_set, wrong_set_of, wrong_sets, no_subfields_message, subfields_needed_message};
@@ -16,7 +17,7 @@ use language::types::BorrowedType;
 use meta::check::CheckedScalar;
 use rules_support::texts::between;
 use std::alloc::{AllocError, Global};
-use walk::{Event, Fresh, Machine, Rule, ValidatorContext, Visitor};
+use walk::{Event, Fresh, Machine, Rule, SettledRule, ValidatorContext, Visitor};
 
 /// Reports each field of a leaf type that has a selection set, and each of another known type that has none, at its start.
 #[derive(Drop)]
@@ -43,6 +44,12 @@ impl<S, C> Rule<S, C> for ScalarLeafs {
     ghost allows = { always (exactly (found wrong_sets)) };
 
     ghost keeps = { finding_keeps wrong_sets };
+}
+
+impl<S, C> SettledRule<S, C> for ScalarLeafs {
+    ghost finds_nothing = { is_empty (found wrong_sets) };
+
+    ghost silent = { exactly_silent (found wrong_sets) };
 }
 
 impl<'a, S: CheckedScalar> Visitor<'a, S> for ScalarLeafs {

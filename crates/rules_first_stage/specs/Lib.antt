@@ -2,4 +2,3 @@ pub mod Across
 pub mod AcrossLaws
 pub mod CleanStage
 pub mod NothingFound
-pub mod StageOne

@@ -4,7 +4,7 @@ ghost use Rattle.std.specs.Prelude.{◌≡◌, IfOk, OnErr};
 ghost use Rattle.walk.specs.ContextState.{typing};
 ghost use Rattle.walk.specs.Step.{KeepsPlace, Stepped};
 ghost use Rattle.rules_first_stage.specs.Across.{across_allows, across_fresh, across_step, leaving_document};
-ghost use Rattle.rules_first_stage.specs.AcrossLaws.{across_keeps};
+ghost use Rattle.rules_first_stage.specs.AcrossLaws.{across_keeps, across_silent};
 
 use fragment_graph::cycles::DocumentCycles;
 use language::error::OutOfMemory;
@@ -21,7 +21,10 @@ use rules_positions::variables_in_allowed_position;
 use rules_positions::variables_in_allowed_position::VariableInAllowedPosition;
 use std::alloc::Global;
 use variable_usages::document_index::index_document;
-use walk::{Event, Fresh, Machine, Rule, ValidatorContext, Visitor};
+use walk::{
+    Event, Fresh, Machine, MultiVisitorCons, MultiVisitorNil, Rule, SettledRule, ValidatorContext,
+    Visitor,
+};
 
 /// The five rules that look at the whole document where it is left. Of the events before, only the rule on positions asks.
 #[derive(Drop)]
@@ -87,6 +90,27 @@ impl<'a, S, C> Rule<S, C> for AcrossDocument<'a> {
     ghost allows = { across_allows };
 
     ghost keeps = { across_keeps };
+}
+
+// The list that the rules stand for, the newest first.
+type RuleList<'a> = MultiVisitorCons<
+    VariableInAllowedPosition<'a>,
+    MultiVisitorCons<
+        NoUnusedVariables<'a>,
+        MultiVisitorCons<
+            NoUnusedFragments,
+            MultiVisitorCons<
+                NoUndefinedVariables<'a>,
+                MultiVisitorCons<NoFragmentCycles<'a>, MultiVisitorNil>,
+            >,
+        >,
+    >,
+>;
+
+impl<'a, S, C> SettledRule<S, C> for AcrossDocument<'a> {
+    ghost finds_nothing = { ⟦<RuleList<'a> as SettledRule<S, C>>⟧.finds_nothing };
+
+    ghost silent = { across_silent };
 }
 
 impl<'a, S: CheckedScalar> Visitor<'a, S> for AcrossDocument<'a> {

@@ -1,14 +1,11 @@
 //! The rules of the first stage, and the call that tries them all.
 
 ghost use Rattle.std.specs.Prelude.{◌≡◌, ◌↔◌, IfOk, OnOk, OnErr, IsErr, true};
-ghost use Rattle.language.specs.ValuesPrinted.{printed_value};
 ghost use Rattle.walk.specs.ContextState.{typing, scope_of};
 ghost use Rattle.walk.specs.Names.{fragment_names};
-ghost use Rattle.walk.specs.Rule.{Appended, any_value, sum_of};
+ghost use Rattle.walk.specs.Rule.{Appended, any_value, anywhere, both_so};
 ghost use Rattle.walk.specs.Step.{KeepsPlace};
 ghost use Rattle.fragment_graph.specs.DocumentCycles.{SearchedDocument};
-ghost use Rattle.rules_first_stage.specs.NothingFound.{NothingFound};
-ghost use Rattle.rules_first_stage.specs.StageOne.{stage_one};
 
 use crate::across;
 use crate::across::AcrossDocument;
@@ -49,7 +46,9 @@ use rules_values::default_values_of_correct_type::DefaultValuesOfCorrectType;
 use rules_values::{arguments_of_correct_type, default_values_of_correct_type};
 use std::alloc::Global;
 use walk::laws::pair_runs;
-use walk::{Fresh, MultiVisitorCons, MultiVisitorNil, ValidatorContext, visit_rules};
+use walk::{
+    Fresh, MultiVisitorCons, MultiVisitorNil, Rule, SettledRule, ValidatorContext, visit_settled,
+};
 
 // A list of rules, the newest first. One long list of all rules is dear to prove, so they come in groups.
 type OfOperations<'a> = MultiVisitorCons<
@@ -108,6 +107,12 @@ type Groups<'a> = MultiVisitorCons<
             MultiVisitorCons<OfFields, MultiVisitorCons<OfOperations<'a>, MultiVisitorNil>>,
         >,
     >,
+>;
+
+/// All of them, the newest first.
+pub type StageRules<'a, S> = MultiVisitorCons<
+    PossibleFragmentSpreads<'a, S>,
+    MultiVisitorCons<AcrossDocument<'a>, Groups<'a>>,
 >;
 
 // The rules on operations and their variables.
@@ -171,8 +176,8 @@ pub fn visit_stage_one<'a, 't, S: CheckedScalar>(
     document: &'a [Definition<'t, S>],
 ) -> Result<DocumentCycles<'a>, OutOfMemory>
     ensures searched { IfOk result (SearchedDocument document.now) }
-    ensures appended { OnOk result (ctx.old.known ≡ fragment_names document.now → Appended (sum_of (stage_one S.may_answer (printed_value S.text S.str_of)) (scope_of ctx.old.schema document.now) (typing ctx.old) document.now) ctx.old ctx.new) }
-    ensures silent { OnOk result (ctx.old.known ≡ fragment_names document.now → (ctx.new.errors ≡ ctx.old.errors) ↔ NothingFound S.may_answer (printed_value S.text S.str_of) (scope_of ctx.old.schema document.now) (typing ctx.old) document.now) }
+    ensures appended { OnOk result (ctx.old.known ≡ fragment_names document.now → (end : _) × Appended (⟦<StageRules<'a, S> as Rule<S, S::Check>>⟧.allows end (scope_of ctx.old.schema document.now) (typing ctx.old) document.now) ctx.old ctx.new) }
+    ensures silent { OnOk result (ctx.old.known ≡ fragment_names document.now → (ctx.new.errors ≡ ctx.old.errors) ↔ (both_so ⟦<PossibleFragmentSpreads<'a, S> as SettledRule<S, S::Check>>⟧.finds_nothing (both_so ⟦<AcrossDocument<'a> as SettledRule<S, S::Check>>⟧.finds_nothing (both_so ⟦<OfValues as SettledRule<S, S::Check>>⟧.finds_nothing (both_so ⟦<OfFragments<'a> as SettledRule<S, S::Check>>⟧.finds_nothing (both_so ⟦<OfArguments as SettledRule<S, S::Check>>⟧.finds_nothing (both_so ⟦<OfFields as SettledRule<S, S::Check>>⟧.finds_nothing (both_so ⟦<OfOperations<'a> as SettledRule<S, S::Check>>⟧.finds_nothing anywhere))))))) (scope_of ctx.old.schema document.now) (typing ctx.old) document.now) }
     ensures only { OnOk result (Appended any_value ctx.old ctx.new) }
     ensures err { OnErr result (KeepsPlace ctx.old ctx.new) }
     ensures failed { OnErr result (ctx.new.failed ≡ true) }
@@ -187,7 +192,7 @@ pub fn visit_stage_one<'a, 't, S: CheckedScalar>(
         .with_rule(of_values(alloc))
         .with_rule(across::factory(alloc))
         .with_rule(possible_fragment_spreads::factory(alloc));
-    visit_rules(&mut rules, ctx, document)?;
+    visit_settled(&mut rules, ctx, document)?;
     // A run of the list is one of the rules across the document.
     pair_runs::<
         S,

@@ -3,7 +3,8 @@
 ghost use Rattle.std.specs.Prelude.{◌≡◌, IfOk, OnErr, Some, option_map, string_bytes};
 ghost use Rattle.walk.specs.ContextState.{with_errors};
 ghost use Rattle.walk.specs.Entering.{finding_step, found};
-ghost use Rattle.walk.specs.Rule.{always, any_value, exactly};
+ghost use Rattle.walk.specs.Rule.{always, any_value, exactly, is_empty};
+ghost use Rattle.walk.specs.RuleLaws.{exactly_silent};
 ghost use Rattle.walk.specs.Step.{KeepsPlace};
 ghost use Rattle.walk.proofs.Entering.{finding_keeps};
 ghost use Rattle.rules_fragments.specs.FragmentsOnCompositeTypes.{fragments_on_other_types, not_composite_message, on_other_type};
@@ -13,7 +14,7 @@ use language::position::Spanning;
 use meta::check::CheckedScalar;
 use rules_support::texts::between;
 use std::alloc::{AllocError, Global};
-use walk::{Event, Fresh, Machine, Rule, ValidatorContext, Visitor};
+use walk::{Event, Fresh, Machine, Rule, SettledRule, ValidatorContext, Visitor};
 
 /// Reports each fragment, by name or inline, whose condition is a scalar, an enum or an input object, at the condition.
 #[derive(Drop)]
@@ -40,6 +41,12 @@ impl<S, C> Rule<S, C> for FragmentsOnCompositeTypes {
     ghost allows = { always (exactly (found fragments_on_other_types)) };
 
     ghost keeps = { finding_keeps fragments_on_other_types };
+}
+
+impl<S, C> SettledRule<S, C> for FragmentsOnCompositeTypes {
+    ghost finds_nothing = { is_empty (found fragments_on_other_types) };
+
+    ghost silent = { exactly_silent (found fragments_on_other_types) };
 }
 
 impl<'a, S: CheckedScalar> Visitor<'a, S> for FragmentsOnCompositeTypes {

@@ -2,14 +2,15 @@
 
 ghost use Rattle.std.specs.Prelude.{◌≡◌, IfOk, string_bytes};
 ghost use Rattle.walk.specs.Entering.{finding_step, found};
-ghost use Rattle.walk.specs.Rule.{always, any_value, exactly};
+ghost use Rattle.walk.specs.Rule.{always, any_value, exactly, is_empty};
+ghost use Rattle.walk.specs.RuleLaws.{exactly_silent};
 ghost use Rattle.walk.proofs.Entering.{finding_keeps};
 ghost use Rattle.rules_fragments.specs.KnownFragmentNames.{unknown_fragment_message, unknown_fragments};
 
 use language::error::OutOfMemory;
 use meta::check::CheckedScalar;
 use std::alloc::{AllocError, Global};
-use walk::{Event, Fresh, Machine, Rule, ValidatorContext, Visitor};
+use walk::{Event, Fresh, Machine, Rule, SettledRule, ValidatorContext, Visitor};
 
 /// Reports each spread of a name that no fragment of the document has, at the name.
 #[derive(Drop)]
@@ -36,6 +37,12 @@ impl<S, C> Rule<S, C> for KnownFragmentNames {
     ghost allows = { always (exactly (found unknown_fragments)) };
 
     ghost keeps = { finding_keeps unknown_fragments };
+}
+
+impl<S, C> SettledRule<S, C> for KnownFragmentNames {
+    ghost finds_nothing = { is_empty (found unknown_fragments) };
+
+    ghost silent = { exactly_silent (found unknown_fragments) };
 }
 
 impl<'a, S: CheckedScalar> Visitor<'a, S> for KnownFragmentNames {

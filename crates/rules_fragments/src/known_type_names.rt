@@ -3,7 +3,8 @@
 ghost use Rattle.std.specs.Prelude.{◌≡◌, IfOk, OnErr, string_bytes};
 ghost use Rattle.walk.specs.ContextState.{with_errors};
 ghost use Rattle.walk.specs.Entering.{finding_step, found};
-ghost use Rattle.walk.specs.Rule.{always, any_value, exactly};
+ghost use Rattle.walk.specs.Rule.{always, any_value, exactly, is_empty};
+ghost use Rattle.walk.specs.RuleLaws.{exactly_silent};
 ghost use Rattle.walk.specs.Step.{KeepsPlace};
 ghost use Rattle.walk.proofs.Entering.{finding_keeps};
 ghost use Rattle.rules_fragments.specs.KnownTypeNames.{unknown_type, unknown_type_message, unknown_types};
@@ -12,7 +13,7 @@ use language::error::OutOfMemory;
 use language::position::SourcePosition;
 use meta::check::CheckedScalar;
 use std::alloc::{AllocError, Global};
-use walk::{Event, Fresh, Machine, Rule, ValidatorContext, Visitor};
+use walk::{Event, Fresh, Machine, Rule, SettledRule, ValidatorContext, Visitor};
 
 /// Reports each type condition, and each type of a variable, whose name no type of the schema has, at its start.
 #[derive(Drop)]
@@ -39,6 +40,12 @@ impl<S, C> Rule<S, C> for KnownTypeNames {
     ghost allows = { always (exactly (found unknown_types)) };
 
     ghost keeps = { finding_keeps unknown_types };
+}
+
+impl<S, C> SettledRule<S, C> for KnownTypeNames {
+    ghost finds_nothing = { is_empty (found unknown_types) };
+
+    ghost silent = { exactly_silent (found unknown_types) };
 }
 
 impl<'a, S: CheckedScalar> Visitor<'a, S> for KnownTypeNames {

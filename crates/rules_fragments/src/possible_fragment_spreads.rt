@@ -5,7 +5,8 @@ ghost use Rattle.meta.specs.Kinds.{name_of_meta};
 ghost use Rattle.schema.specs.Possible.{is_among};
 ghost use Rattle.walk.specs.ContextState.{typing, with_errors};
 ghost use Rattle.walk.specs.Entering.{prepared_step, found_by};
-ghost use Rattle.walk.specs.Rule.{always, any_value, exactly};
+ghost use Rattle.walk.specs.Rule.{always, any_value, exactly, is_empty};
+ghost use Rattle.walk.specs.RuleLaws.{exactly_silent};
 ghost use Rattle.walk.specs.Step.{KeepsPlace};
 ghost use Rattle.walk.proofs.Entering.{prepared_keeps};
 ghost use Rattle.rules_fragments.specs.ConditionsKept.{conditions_of};
@@ -20,7 +21,7 @@ use meta::check::CheckedScalar;
 use rules_support::texts::between;
 use schema::model::SchemaTypeOf;
 use std::alloc::{AllocError, Global};
-use walk::{Event, Fresh, Machine, Rule, ValidatorContext, Visitor};
+use walk::{Event, Fresh, Machine, Rule, SettledRule, ValidatorContext, Visitor};
 
 /// Reports each spread, and each inline fragment with a condition, where no object of the type around it is one of the
 /// fragment's type, at its start.
@@ -55,6 +56,12 @@ impl<'a, S: CheckedScalar> Rule<S, S::Check> for PossibleFragmentSpreads<'a, S> 
     ghost allows = { always (exactly (found_by conditions impossible_spreads)) };
 
     ghost keeps = { prepared_keeps (λ a. conditions_of a.conditions) conditions impossible_spreads };
+}
+
+impl<'a, S: CheckedScalar> SettledRule<S, S::Check> for PossibleFragmentSpreads<'a, S> {
+    ghost finds_nothing = { is_empty (found_by conditions impossible_spreads) };
+
+    ghost silent = { exactly_silent (found_by conditions impossible_spreads) };
 }
 
 impl<'a, S: CheckedScalar> Visitor<'a, S> for PossibleFragmentSpreads<'a, S> {

@@ -1,7 +1,8 @@
 //! No two fragments of a document have one name (GraphQL, section 5.5.1.1).
 
 ghost use Rattle.std.specs.Prelude.{◌≡◌, IfOk, string_bytes};
-ghost use Rattle.walk.specs.Rule.{always, exactly};
+ghost use Rattle.walk.specs.Rule.{always, exactly, is_empty};
+ghost use Rattle.walk.specs.RuleLaws.{exactly_silent};
 ghost use Rattle.rules_support.specs.Noting.{noting_step, repeated, NothingNoted};
 ghost use Rattle.rules_support.specs.NotingLaws.{noting_keeps};
 ghost use Rattle.rules_support.specs.Places.{places_of};
@@ -11,7 +12,7 @@ use language::error::OutOfMemory;
 use meta::check::CheckedScalar;
 use rules_support::first_places::FirstPlaces;
 use std::alloc::{AllocError, Global};
-use walk::{Event, Fresh, Machine, Rule, ValidatorContext, Visitor};
+use walk::{Event, Fresh, Machine, Rule, SettledRule, ValidatorContext, Visitor};
 
 /// Reports each fragment whose name an earlier one has, at the first of the name and at its own.
 #[derive(Drop)]
@@ -42,6 +43,12 @@ impl<'a, S, C> Rule<S, C> for UniqueFragmentNames<'a> {
     ghost allows = { always (exactly (repeated repeated_fragment_message fragment_name)) };
 
     ghost keeps = { noting_keeps repeated_fragment_message (λ a. places_of a.names) fragment_name };
+}
+
+impl<'a, S, C> SettledRule<S, C> for UniqueFragmentNames<'a> {
+    ghost finds_nothing = { is_empty (repeated repeated_fragment_message fragment_name) };
+
+    ghost silent = { exactly_silent (repeated repeated_fragment_message fragment_name) };
 }
 
 impl<'a, S: CheckedScalar> Visitor<'a, S> for UniqueFragmentNames<'a> {

@@ -2,7 +2,8 @@
 
 ghost use Rattle.std.specs.Prelude.{◌≡◌, length};
 ghost use Rattle.walk.specs.Entering.{prepared_step, found_by};
-ghost use Rattle.walk.specs.Rule.{always, any_value, exactly};
+ghost use Rattle.walk.specs.Rule.{always, any_value, exactly, is_empty};
+ghost use Rattle.walk.specs.RuleLaws.{exactly_silent};
 ghost use Rattle.walk.proofs.Entering.{prepared_keeps};
 ghost use Rattle.rules_operations.specs.LoneAnonymousOperation.{operations, has_several, anonymous_among};
 
@@ -10,7 +11,7 @@ use language::error::OutOfMemory;
 use language::tree::Definition;
 use meta::check::CheckedScalar;
 use std::alloc::Global;
-use walk::{Event, Fresh, Machine, Rule, ValidatorContext, Visitor};
+use walk::{Event, Fresh, Machine, Rule, SettledRule, ValidatorContext, Visitor};
 
 /// Reports, in a document of two operations or more, each that has no name, at its start.
 #[derive(Drop)]
@@ -37,6 +38,12 @@ impl<S, C> Rule<S, C> for LoneAnonymousOperation {
     ghost allows = { always (exactly (found_by has_several anonymous_among)) };
 
     ghost keeps = { prepared_keeps (λ a. a.has_several) has_several anonymous_among };
+}
+
+impl<S, C> SettledRule<S, C> for LoneAnonymousOperation {
+    ghost finds_nothing = { is_empty (found_by has_several anonymous_among) };
+
+    ghost silent = { exactly_silent (found_by has_several anonymous_among) };
 }
 
 impl<'a, S: CheckedScalar> Visitor<'a, S> for LoneAnonymousOperation {

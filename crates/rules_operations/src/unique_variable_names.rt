@@ -3,7 +3,8 @@
 ghost use Rattle.std.specs.Prelude.{◌≡◌, IfOk, OnErr};
 ghost use Rattle.walk.specs.ContextState.{with_errors};
 ghost use Rattle.walk.specs.Entering.{finding_step, found};
-ghost use Rattle.walk.specs.Rule.{always, any_value, exactly};
+ghost use Rattle.walk.specs.Rule.{always, any_value, exactly, is_empty};
+ghost use Rattle.walk.specs.RuleLaws.{exactly_silent};
 ghost use Rattle.walk.specs.Step.{KeepsPlace};
 ghost use Rattle.walk.proofs.Entering.{finding_keeps};
 ghost use Rattle.rules_operations.specs.UniqueVariableNames.{repeated_among, repeated_variables};
@@ -15,7 +16,7 @@ use meta::check::CheckedScalar;
 use rules_support::repeats::report_repeats;
 use std::alloc::Global;
 use std::marker::PhantomData;
-use walk::{Event, Fresh, Machine, Rule, ValidatorContext, Visitor};
+use walk::{Event, Fresh, Machine, Rule, SettledRule, ValidatorContext, Visitor};
 
 /// Reports each variable whose name an earlier one of its operation has, at the first of the name and at its own.
 #[derive(Drop)]
@@ -46,6 +47,12 @@ impl<'a, S, C> Rule<S, C> for UniqueVariableNames<'a> {
     ghost allows = { always (exactly (found repeated_variables)) };
 
     ghost keeps = { finding_keeps repeated_variables };
+}
+
+impl<'a, S, C> SettledRule<S, C> for UniqueVariableNames<'a> {
+    ghost finds_nothing = { is_empty (found repeated_variables) };
+
+    ghost silent = { exactly_silent (found repeated_variables) };
 }
 
 impl<'a, S: CheckedScalar> Visitor<'a, S> for UniqueVariableNames<'a> {

@@ -5,7 +5,8 @@ ghost use Rattle.language.specs.Types.{shape};
 ghost use Rattle.schema.specs.Catalog.{type_in};
 ghost use Rattle.walk.specs.ContextState.{with_errors};
 ghost use Rattle.walk.specs.Entering.{finding_step, found};
-ghost use Rattle.walk.specs.Rule.{always, any_value, exactly};
+ghost use Rattle.walk.specs.Rule.{always, any_value, exactly, is_empty};
+ghost use Rattle.walk.specs.RuleLaws.{exactly_silent};
 ghost use Rattle.walk.specs.Step.{KeepsPlace};
 ghost use Rattle.walk.proofs.Entering.{finding_keeps};
 ghost use Rattle.rules_operations.specs.VariablesAreInputTypes.{non_input, non_input_message, non_input_variables};
@@ -19,7 +20,7 @@ use meta::check::CheckedScalar;
 use rules_support::texts::between;
 use schema::model::SchemaTypeOf;
 use std::alloc::{AllocError, Global};
-use walk::{Event, Fresh, Machine, Rule, ValidatorContext, Visitor};
+use walk::{Event, Fresh, Machine, Rule, SettledRule, ValidatorContext, Visitor};
 
 /// Reports each variable whose innermost type is an object, an interface or a union, at its type.
 ///
@@ -48,6 +49,12 @@ impl<S, C> Rule<S, C> for UniqueVariableNames {
     ghost allows = { always (exactly (found non_input_variables)) };
 
     ghost keeps = { finding_keeps non_input_variables };
+}
+
+impl<S, C> SettledRule<S, C> for UniqueVariableNames {
+    ghost finds_nothing = { is_empty (found non_input_variables) };
+
+    ghost silent = { exactly_silent (found non_input_variables) };
 }
 
 impl<'a, S: CheckedScalar> Visitor<'a, S> for UniqueVariableNames {

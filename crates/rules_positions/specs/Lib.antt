@@ -3,6 +3,7 @@ pub mod FirstVariables
 pub mod PositionLaws
 pub mod Recording
 pub mod RecordingLaws
+pub mod SettledLaws
 pub mod TypedUses
 pub mod UsesRecorded
 pub mod VariableInAllowedPosition

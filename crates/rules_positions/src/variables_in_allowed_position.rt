@@ -3,7 +3,8 @@
 ghost use Rattle.std.specs.Prelude.{◌≡◌, [], ℕ, List, Option, IfOk, OnErr, OnOk, map, option_map};
 ghost use Rattle.language.specs.Types.{borrowed_shape};
 ghost use Rattle.walk.specs.Entering.{EachGives};
-ghost use Rattle.walk.specs.Rule.{always, Appended};
+ghost use Rattle.walk.specs.Rule.{allows_none, always, Appended};
+ghost use Rattle.walk.specs.RuleLaws.{settled_silent};
 ghost use Rattle.walk.specs.Step.{KeepsPlace};
 ghost use Rattle.fragment_reach.specs.Reach.{operation};
 ghost use Rattle.operation_scopes.specs.Index.{IsIndexOf, operation_names};
@@ -11,6 +12,7 @@ ghost use Rattle.operation_scopes.specs.Places.{places_of};
 ghost use Rattle.operation_scopes.specs.Searches.{IsReady};
 ghost use Rattle.rules_positions.specs.FirstVariables.{kept_first};
 ghost use Rattle.rules_positions.specs.PositionLaws.{positions_keep};
+ghost use Rattle.rules_positions.specs.SettledLaws.{positions_settled};
 ghost use Rattle.rules_positions.specs.Recording.{recording_step};
 ghost use Rattle.rules_positions.specs.TypedUses.{next_uses, use_value, use_values, with_use_if_expected};
 ghost use Rattle.rules_positions.specs.VariableInAllowedPosition.{given_by_uses, misplaced_variables, recorded_uses, uses_in, DocumentGives, JudgedIfDefined, OperationsGive, UsesGive};
@@ -27,7 +29,7 @@ use operation_scopes::index::{ScopeIndex, index_scopes, operation_places};
 use operation_scopes::reach::{Search, found_places, new_search, reached_definitions};
 pub use operation_scopes::scope::Scope;
 use std::alloc::Global;
-use walk::{Event, Fresh, Machine, Rule, ValidatorContext, Visitor};
+use walk::{Event, Fresh, Machine, Rule, SettledRule, ValidatorContext, Visitor};
 
 /// Reports, where the document ends, each use of a variable whose type is not below the one that is expected: at the name of the
 /// variable's first definition and at the use. The uses are recorded on the way.
@@ -75,6 +77,12 @@ impl<'a, S, C> Rule<S, C> for VariableInAllowedPosition<'a> {
     ghost allows = { always misplaced_variables };
 
     ghost keeps = { positions_keep };
+}
+
+impl<'a, S, C> SettledRule<S, C> for VariableInAllowedPosition<'a> {
+    ghost finds_nothing = { allows_none misplaced_variables };
+
+    ghost silent = { settled_silent misplaced_variables positions_settled };
 }
 
 impl<'a, S: CheckedScalar> Visitor<'a, S> for VariableInAllowedPosition<'a> {

@@ -1,3 +1,4 @@
 pub mod ArgumentsOfCorrectType
 pub mod DefaultValuesOfCorrectType
 pub mod Faulty
+pub mod SettledLaws

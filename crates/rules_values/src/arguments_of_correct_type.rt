@@ -4,9 +4,11 @@ ghost use Rattle.std.specs.Prelude.{◌≡◌, IfOk, OnErr, string_bytes};
 ghost use Rattle.language.specs.ValuesPrinted.{printed_value};
 ghost use Rattle.walk.specs.ContextState.{typing};
 ghost use Rattle.walk.specs.Entering.{relating_step, given};
-ghost use Rattle.walk.specs.Rule.{always, any_value, Appended};
+ghost use Rattle.walk.specs.Rule.{allows_none, always, any_value, Appended};
+ghost use Rattle.walk.specs.RuleLaws.{settled_silent};
 ghost use Rattle.walk.specs.Step.{KeepsPlace};
 ghost use Rattle.walk.proofs.Entering.{relating_keeps};
+ghost use Rattle.rules_values.specs.SettledLaws.{arguments_settled};
 ghost use Rattle.rules_values.specs.ArgumentsOfCorrectType.{wrong_argument_message, wrong_arguments};
 ghost use Rattle.rules_values.specs.Faulty.{reported};
 
@@ -16,7 +18,7 @@ use language::position::Spanning;
 use language::value::InputValue;
 use meta::check::CheckedScalar;
 use std::alloc::{AllocError, Global};
-use walk::{Event, Fresh, Machine, Rule, ValidatorContext, Visitor};
+use walk::{Event, Fresh, Machine, Rule, SettledRule, ValidatorContext, Visitor};
 
 /// Reports, at its start, each value of an argument that has a fault against the type of the first argument of its name, on the
 /// known field or directive that bears it.
@@ -46,6 +48,12 @@ impl<S: CheckedScalar> Rule<S, S::Check> for ArgumentsOfCorrectType {
     ghost allows = { always (given (wrong_arguments S.may_answer (printed_value S.text S.str_of))) };
 
     ghost keeps = { relating_keeps (wrong_arguments S.may_answer (printed_value S.text S.str_of)) };
+}
+
+impl<S: CheckedScalar> SettledRule<S, S::Check> for ArgumentsOfCorrectType {
+    ghost finds_nothing = { allows_none (given (wrong_arguments S.may_answer (printed_value S.text S.str_of))) };
+
+    ghost silent = { settled_silent (given (wrong_arguments S.may_answer (printed_value S.text S.str_of))) (arguments_settled S.may_answer (printed_value S.text S.str_of) S.one_answer) };
 }
 
 impl<'a, S: CheckedScalar> Visitor<'a, S> for ArgumentsOfCorrectType {

@@ -5,9 +5,11 @@ ghost use Rattle.language.specs.Types.{printed, shape};
 ghost use Rattle.language.specs.ValuesPrinted.{printed_value};
 ghost use Rattle.literals.specs.Missing.{is_never_null};
 ghost use Rattle.walk.specs.Entering.{relating_step, given};
-ghost use Rattle.walk.specs.Rule.{always, any_value, Appended};
+ghost use Rattle.walk.specs.Rule.{allows_none, always, any_value, Appended};
+ghost use Rattle.walk.specs.RuleLaws.{settled_silent};
 ghost use Rattle.walk.specs.Step.{KeepsPlace};
 ghost use Rattle.walk.proofs.Entering.{relating_keeps};
+ghost use Rattle.rules_values.specs.SettledLaws.{defaults_settled};
 ghost use Rattle.rules_values.specs.DefaultValuesOfCorrectType.{default_of, needless_default_message, wrong_default_message, wrong_defaults};
 
 use crate::faults::fault_at;
@@ -17,7 +19,7 @@ use language::types::Type;
 use language::value::InputValue;
 use meta::check::CheckedScalar;
 use std::alloc::{AllocError, Global};
-use walk::{Event, Fresh, Machine, Rule, ValidatorContext, Visitor};
+use walk::{Event, Fresh, Machine, Rule, SettledRule, ValidatorContext, Visitor};
 
 /// Reports, at its start, each default value of a variable whose type is never null, and each that has a fault against a type that
 /// may be null. A type whose name the schema does not know is passed over.
@@ -47,6 +49,12 @@ impl<S: CheckedScalar> Rule<S, S::Check> for DefaultValuesOfCorrectType {
     ghost allows = { always (given (wrong_defaults S.may_answer (printed_value S.text S.str_of))) };
 
     ghost keeps = { relating_keeps (wrong_defaults S.may_answer (printed_value S.text S.str_of)) };
+}
+
+impl<S: CheckedScalar> SettledRule<S, S::Check> for DefaultValuesOfCorrectType {
+    ghost finds_nothing = { allows_none (given (wrong_defaults S.may_answer (printed_value S.text S.str_of))) };
+
+    ghost silent = { settled_silent (given (wrong_defaults S.may_answer (printed_value S.text S.str_of))) (defaults_settled S.may_answer (printed_value S.text S.str_of) S.one_answer) };
 }
 
 impl<'a, S: CheckedScalar> Visitor<'a, S> for DefaultValuesOfCorrectType {

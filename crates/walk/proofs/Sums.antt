@@ -6,7 +6,7 @@ use Rattle.language.specs.declared.tree.Definition.{Definition}
 use Rattle.walk.specs.ErrorValue.{ErrorValue}
 use Rattle.walk.specs.ContextState.{ContextState, DocumentScope}
 use Rattle.events.specs.Typing.{Typing}
-use Rattle.walk.specs.Rule.{Allowance, Collection, exactly, sum_of, AllowNothing, Settled, AllSettled, Appended}
+use Rattle.walk.specs.Rule.{Allowance, Collection, Condition, NoneJustWhere, exactly, sum_of, AllowNothing, Settled, AllSettled, Appended}
 use Rattle.walk.specs.Entering.{given, EachGives}
 use Rattle.events.specs.Occurrence.{Occurrence, occurrences}
 
@@ -73,3 +73,11 @@ module _ {S C : Type 0} (scope : DocumentScope S C) (t : Typing S C) (doc : List
     λ same. sum_none rules (subst (sum_of rules scope t doc) (no_more old.errors es (sym (ap (λ w. w.errors) e) ∙ same)) p),
     λ none. ap (λ w. w.errors) e ∙ ap (λ z. old.errors ++ z) (sum_settled rules h es none p) ∙ append-nil old.errors,
   )
+
+-- a context holds no more errors than before just where nothing is found
+pub silent_where : {S C V : Type 0} (allows : V → Allowance S C) (condition : Condition S C) → NoneJustWhere allows condition
+    → (end : V) (scope : DocumentScope S C) (t : Typing S C) (doc : List (Definition S)) (old new : ContextState S C) → Appended (allows end scope t doc) old new → (new.errors ≡ old.errors) ↔ condition scope t doc
+silent_where allows condition h end scope t doc old new (es, p, e) = (
+  λ same. (h end scope t doc es p).0 (no_more old.errors es (sym (ap (λ w. w.errors) e) ∙ same)),
+  λ none. ap (λ w. w.errors) e ∙ ap (λ z. old.errors ++ z) ((h end scope t doc es p).1 none) ∙ append-nil old.errors,
+)

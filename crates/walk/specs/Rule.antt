@@ -1,5 +1,5 @@
 -- What rules may report of documents.
-use Rattle.std.specs.Prelude.{◌≡◌, List, [], ◌∷◌, ◌++◌, IsPermutation}
+use Rattle.std.specs.Prelude.{◌≡◌, ◌↔◌, List, [], ◌∷◌, ◌++◌, IsPermutation}
 use Rattle.language.specs.declared.tree.Definition.{Definition}
 use Rattle.schema.specs.Catalog.{Catalog}
 use Rattle.walk.specs.declared.multi_visitor.MultiVisitorCons.{MultiVisitorCons}
@@ -17,6 +17,10 @@ Allowance S C = DocumentScope S C → Typing S C → List (Definition S) → Lis
 -- a list of errors for each document
 abbrev pub Collection : Type 0 → Type 0 → Type 0
 Collection S C = DocumentScope S C → Typing S C → List (Definition S) → List ErrorValue
+
+-- what is asked of a document, which stands at the types given
+abbrev pub Condition : Type 0 → Type 0 → Type 1
+Condition S C = DocumentScope S C → Typing S C → List (Definition S) → Type 0
 
 module _ {S C : Type 0} where
   -- just these errors, in some order
@@ -65,6 +69,27 @@ module _ {S C : Type 0} where
       (start : V) → fresh start → (schema : Catalog S C) (t : Typing S C) (doc : List (Definition S)) (end : V) (es : List ErrorValue)
       → Run (step (scope_of schema doc)) (typed_events schema t doc) start end es
       → allows end (scope_of schema doc) t doc es
+
+  -- nothing is collected
+  abbrev pub is_empty : Collection S C → Condition S C
+  is_empty collection scope t doc = collection scope t doc ≡ []
+
+  -- no errors are allowed
+  abbrev pub allows_none : Allowance S C → Condition S C
+  allows_none allowance scope t doc = allowance scope t doc []
+
+  -- in any document
+  abbrev pub anywhere : Condition S C
+  anywhere scope t doc = Unit {0}
+
+  -- where both are so
+  abbrev pub both_so : Condition S C → Condition S C → Condition S C
+  both_so newer other scope t doc = newer scope t doc × other scope t doc
+
+  -- whatever is allowed is nothing just where this is so
+  abbrev pub NoneJustWhere : {V : Type 0} → (V → Allowance S C) → Condition S C → Type 0
+  NoneJustWhere {V} allows condition =
+      (end : V) (scope : DocumentScope S C) (t : Typing S C) (doc : List (Definition S)) (es : List ErrorValue) → allows end scope t doc es → (es ≡ []) ↔ condition scope t doc
 
   -- errors of which P holds were appended, and nothing else has changed
   abbrev pub Appended : (List ErrorValue → Type 0) → ContextState S C → ContextState S C → Type 0

@@ -1,12 +1,16 @@
 -- Rules in a list report what each of them is allowed.
-use Rattle.std.proofs.Common.{◌≡◌, List, [], ◌∷◌, ◌++◌, ap, ◌∙◌}
+use Rattle.std.proofs.Common.{◌≡◌, ◌↔◌, List, [], ◌∷◌, ◌++◌, ap, ◌∙◌, refl, sym, subst, IsPermutation}
+use Rattle.std.proofs.lemmas.List.{nil_from_length}
+use Rattle.std.proofs.lemmas.List.Sorted.{length_permutation}
+use Rattle.language.specs.declared.tree.Definition.{Definition}
+use Rattle.events.specs.Typing.{Typing}
 use Rattle.walk.specs.declared.multi_visitor.MultiVisitorNil.{MultiVisitorNil}
 use Rattle.walk.specs.ErrorValue.{ErrorValue}
 use Rattle.walk.specs.ContextState.{DocumentScope, scope_of}
 use Rattle.events.specs.TypedEvent.{TypedEvent, typed_events}
 use Rattle.walk.specs.Step.{StepOf, Run}
 use Rattle.walk.specs.Pair.{pair_step, no_step}
-use Rattle.walk.specs.Rule.{Allowance, AllowsFrom, always, nothing, pair_allows, pair_fresh, any_value}
+use Rattle.walk.specs.Rule.{Allowance, AllowsFrom, Collection, Condition, NoneJustWhere, Settled, allows_none, always, anywhere, both_so, exactly, is_empty, nothing, pair_allows, pair_fresh, any_value}
 use Rattle.walk.specs.PairLaws.{pair_splits}
 
 nothing_reports : {S C : Type 0} (scope : DocumentScope S C) (ms : List (TypedEvent S C)) (a b : MultiVisitorNil) (es : List ErrorValue) → Run (no_step scope) ms a b es → es ≡ []
@@ -24,3 +28,48 @@ pub pair_keeps : {S C V W : Type 0} (newer : StepOf S C V) (other : StepOf S C W
 pair_keeps newer other f g c d p q start fresh schema t doc end es r =
     let s = pair_splits newer other (scope_of schema doc) (typed_events schema t doc) start end es r in
     (s.by_newer, s.by_other, p start.0 fresh.0 schema t doc end.0 s.by_newer s.newer_runs, q start.1 fresh.1 schema t doc end.1 s.by_other s.other_runs, s.together)
+
+none_permuted : {X : Type 0} (xs : List X) → IsPermutation xs [] → xs ≡ []
+none_permuted xs p = nil_from_length xs (sym (length_permutation xs [] p))
+
+permuted_none : {X : Type 0} (xs : List X) → IsPermutation [] xs → xs ≡ []
+permuted_none xs p = nil_from_length xs (length_permutation [] xs p)
+
+left_none : {X : Type 0} (xs ys : List X) → xs ++ ys ≡ [] → xs ≡ []
+left_none [] ys e = refl
+left_none (x ∷ xs) ys e = cc
+
+right_none : {X : Type 0} (xs ys : List X) → xs ++ ys ≡ [] → ys ≡ []
+right_none [] ys e = e
+right_none (x ∷ xs) ys e = cc
+
+none_both : {X : Type 0} (xs ys : List X) → xs ≡ [] → ys ≡ [] → xs ++ ys ≡ []
+none_both xs ys e f = ap (λ z. z ++ ys) e ∙ f
+
+-- no rule reports nothing, in any document
+pub nil_silent : {S C : Type 0} → NoneJustWhere (always {V = MultiVisitorNil} (nothing {S = S} {C = C})) anywhere
+nil_silent end scope t doc es none = (λ e. tt, λ u. none)
+
+-- two rules report nothing where each finds nothing
+pub pair_silent : {S C V W : Type 0} (c : V → Allowance S C) (d : W → Allowance S C) (f g : Condition S C) → NoneJustWhere c f → NoneJustWhere d g → NoneJustWhere (pair_allows c d) (both_so f g)
+pair_silent c d f g h k end scope t doc es (fs, gs, p, q, r) =
+    let first = h end.0 scope t doc fs p in
+    let second = k end.1 scope t doc gs q in (
+      λ e. let both = none_permuted (fs ++ gs) (subst (IsPermutation (fs ++ gs)) e r) in (first.0 (left_none fs gs both), second.0 (right_none fs gs both)),
+      λ n. permuted_none es (subst (λ z. IsPermutation z es) (none_both fs gs (first.1 n.0) (second.1 n.1)) r),
+    )
+
+module _ {S C V : Type 0} where
+  -- a rule that reports just a collection reports nothing where the collection is empty
+  pub exactly_silent : (collection : Collection S C) → NoneJustWhere {V = V} (always (exactly collection)) (is_empty collection)
+  exactly_silent collection end scope t doc es p = (
+    λ e. none_permuted (collection scope t doc) (subst (IsPermutation (collection scope t doc)) e p),
+    λ e. permuted_none es (subst (λ z. IsPermutation z es) e p),
+  )
+
+  -- a rule that is settled reports nothing where it may report nothing
+  pub settled_silent : (allowance : Allowance S C) → Settled allowance → NoneJustWhere {V = V} (always allowance) (allows_none allowance)
+  settled_silent allowance h end scope t doc es p = (
+    λ e. subst (allowance scope t doc) e p,
+    λ none. h scope t doc es none p,
+  )

@@ -1,6 +1,6 @@
 //! The walk over a document.
 
-ghost use Rattle.std.specs.Prelude.{◌≡◌, IfOk, OnOk, OnErr, IsErr, true};
+ghost use Rattle.std.specs.Prelude.{◌≡◌, ◌↔◌, IfOk, OnOk, OnErr, IsErr, true};
 ghost use Rattle.walk.specs.ContextState.{typing, popped, scope_of};
 ghost use Rattle.walk.specs.Names.{fragment_names};
 ghost use Rattle.walk.specs.Rule.{Appended, any_value};
@@ -12,7 +12,7 @@ ghost use Rattle.events.specs.TypedEvent.{events_of, typed_events};
 
 use crate::ValidatorContext;
 use crate::multi_visitor::MultiVisitorCons;
-use crate::rule::Rule;
+use crate::rule::{Rule, SettledRule};
 use crate::visitor::{Machine, Visitor};
 use events::{Event, EventCursor, EventCursorOf, TypesOf};
 use language::error::OutOfMemory;
@@ -163,4 +163,23 @@ pub fn visit_rules<'a, 't, S: CheckedScalar, R: Visitor<'a, S> + Rule<S, S::Chec
     ensures stays { ctx.old.failed ≡ true → IsErr result }
 {
     walk_with(rules, ctx, shorten(document))
+}
+
+/// The same with rules of which it is known where they report nothing: in a context that was made for this document they do just where
+/// each of them finds nothing.
+pub fn visit_settled<'a, 't, S: CheckedScalar, R: Visitor<'a, S> + SettledRule<S, S::Check>>(
+    rules: &mut R,
+    ctx: &mut ValidatorContext<'a, S>,
+    document: &'a [Definition<'t, S>],
+) -> Result<(), OutOfMemory>
+    requires fresh { R.fresh rules.old }
+    ensures appended { OnOk result (ctx.old.known ≡ fragment_names document.now → Appended (R.allows rules.new (scope_of ctx.old.schema document.now) (typing ctx.old) document.now) ctx.old ctx.new) }
+    ensures silent { OnOk result (ctx.old.known ≡ fragment_names document.now → (ctx.new.errors ≡ ctx.old.errors) ↔ R.finds_nothing (scope_of ctx.old.schema document.now) (typing ctx.old) document.now) }
+    ensures ran { OnOk result (Ran R.step (typed_events ctx.old.schema (typing ctx.old) document.now) rules.old rules.new ctx.old ctx.new) }
+    ensures only { OnOk result (Appended any_value ctx.old ctx.new) }
+    ensures err { OnErr result (KeepsPlace ctx.old ctx.new) }
+    ensures failed { OnErr result (ctx.new.failed ≡ true) }
+    ensures stays { ctx.old.failed ≡ true → IsErr result }
+{
+    visit_rules(rules, ctx, document)
 }

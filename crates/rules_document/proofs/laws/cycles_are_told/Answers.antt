@@ -1,4 +1,4 @@
-use Rattle.rules_document.proofs.Cycles.{silent_just_if}
+use Rattle.rules_document.specs.CycleLaws.{silent_just_if}
 use Rattle.rules_document.proofs.laws.cycles_are_told.Goals as goal
 
 pub returns : goal.returns

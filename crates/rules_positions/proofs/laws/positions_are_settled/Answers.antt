@@ -1,4 +1,4 @@
-use Rattle.rules_positions.proofs.Settled.{positions_settled}
+use Rattle.rules_positions.specs.SettledLaws.{positions_settled}
 use Rattle.rules_positions.proofs.laws.positions_are_settled.Goals as goal
 
 pub returns : goal.returns

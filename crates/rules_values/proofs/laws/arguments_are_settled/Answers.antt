@@ -1,5 +1,5 @@
 use Rattle.language.specs.ValuesPrinted.{printed_value}
-use Rattle.rules_values.proofs.Settled.{arguments_settled}
+use Rattle.rules_values.specs.SettledLaws.{arguments_settled}
 use Rattle.rules_values.proofs.laws.arguments_are_settled.Goals as goal
 
 pub returns : goal.returns

@@ -2,7 +2,7 @@
 use Rattle.std.proofs.Common.{◌≡◌, ℕ, List, [], ◌∷◌, ◌↔◌, inl, inr, map, sym, ◌∙◌, refl, arith}
 use Rattle.language.specs.declared.tree.Definition.{Definition}
 use Rattle.walk.specs.ErrorValue.{ErrorValue}
-use Rattle.walk.specs.Rule.{Settled}
+use Rattle.walk.specs.Rule.{NoneJustWhere}
 use Rattle.fragment_graph.specs.DocumentCycles.{NameAndPlace, NamePath, name_step, name_more, IsTrueOf, SomeReported, HasNoCycle, FindsCycles}
 use Rattle.rules_document.specs.AtDocument.{given_at_end}
 use Rattle.rules_document.specs.declared.no_fragment_cycles.NoFragmentCycles.{NoFragmentCycles}
@@ -34,7 +34,6 @@ module _ {S : Type 0} (document : List (Definition S)) where
     λ none. h.told ∙ without_cycles h.reports h.found none,
   )
 
--- where nothing may be reported nothing else may
-pub cycles_settled : {S C : Type 0} (end : NoFragmentCycles) → Settled (given_at_end {S = S} {C = C} cycle_errors end)
-cycles_settled end scope t doc es none some =
-    (silent_just_if doc end es some).1 ((silent_just_if doc end [] none).0 refl)
+-- what may be reported is nothing just where no fragment leads back to itself
+pub cycles_silent : {S C : Type 0} → NoneJustWhere (given_at_end {S = S} {C = C} cycle_errors) (λ scope t doc. HasNoCycle doc)
+cycles_silent end scope t doc es told = silent_just_if doc end es told

@@ -1,16 +1,35 @@
 -- Where nothing may be reported, nothing else may.
-use Rattle.std.proofs.Common.{◌≡◌, ℕ, List, [], ◌∷◌, Option, None, Some, inl, inr, map, Contains}
+use Rattle.std.proofs.Common.{◌≡◌, ℕ, suc, zero, List, [], ◌∷◌, ◌++◌, Option, None, Some, inl, inr, map, Contains, refl, ap, sym, ◌∙◌, subst, arith}
 use Rattle.language.specs.declared.tree.Definition.{Definition}
 use Rattle.fragment_graph.proofs.Lists.{get_some}
 use Rattle.meta.specs.declared.kinds.MetaTypeOf.{MetaTypeOf}
 use Rattle.events.specs.Node.{VariableEntry}
+use Rattle.walk.specs.Entering.{EachGives}
 use Rattle.walk.specs.ErrorValue.{ErrorValue}
 use Rattle.walk.specs.Rule.{Settled}
 use Rattle.operation_scopes.specs.Scopes.{InReach}
 use Rattle.rules_positions.specs.DefinedVariables.{first_of, variables_of}
 use Rattle.rules_positions.specs.TypedUses.{UseValue, typed_uses}
 use Rattle.rules_positions.specs.VariableInAllowedPosition.{DocumentGives, Judged, JudgedIfDefined, OperationsGive, UsesGive, misplaced_variables, uses_in}
-use Rattle.rules_positions.proofs.Giving.{each_none, each_silent}
+
+left_none : {X : Type 0} (xs ys : List X) → xs ++ ys ≡ [] → xs ≡ []
+left_none [] ys e = refl
+left_none (x ∷ xs) ys e = cc
+
+-- where all together give nothing each gives nothing
+each_none : {O R : Type 0} (gives : O → List R → Type 0) (os : List O) → EachGives gives os [] → (o : O) → Contains os o → gives o []
+each_none gives [] h o (k, l, at) = absurd (omega (arith, l))
+each_none {O} {R} gives (x ∷ os) (first, rest, p, ps, e) o (zero, l, at) =
+    subst (λ z. gives z []) at (subst (gives x) (left_none first rest (sym e)) p)
+each_none {O} {R} gives (x ∷ os) (first, rest, p, ps, e) o (suc k, l, at) =
+    let no_rest : rest ≡ [] = ap (λ z. z ++ rest) (sym (left_none first rest (sym e))) ∙ sym e in
+    each_none gives os (subst (EachGives gives os) no_rest ps) o (k, omega (arith, l), at)
+
+-- and the other way round
+each_silent : {O R : Type 0} (gives : O → List R → Type 0) (os : List O) (es : List R) → ((o : O) → Contains os o → (fs : List R) → gives o fs → fs ≡ []) → EachGives gives os es → es ≡ []
+each_silent gives [] es h p = p
+each_silent gives (x ∷ os) es h (first, rest, p, ps, e) =
+    e ∙ ap (λ z. z ++ rest) (h x (0, omega arith, refl) first p) ∙ each_silent gives os rest (λ o c. h o (suc c.0, (let l = c.1 in omega (arith, l)), c.2)) ps
 
 some_none : {X : Type 0} (x : X) (xs : List X) → [] ≡ x ∷ xs → ⊥
 some_none x xs e = cc
