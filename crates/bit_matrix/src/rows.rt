@@ -48,9 +48,11 @@ impl BitRows {
 
     /// Adds to the set of a row the members of `columns` that are less than the row's number, and answers how many of them are new. Without memory the sets stay as they were.
     pub fn insert_below(&mut self, row: usize, columns: &BitSet) -> Result<usize, AllocError>
-        ensures row { OnOk result ((j : ℕ) → marked self.new row j ≡ (marked self.old row j || (has columns.now j && nat_lt j row))) }
+        ensures row { OnOk result ((j : ℕ) → marked self.new row j
+            ≡ (marked self.old row j || (has columns.now j && nat_lt j row))) }
         ensures others { (i j : ℕ) → (i ≡ row → ⊥) → marked self.new i j ≡ marked self.old i j }
-        ensures added { IfOk result (λ added. added ≡ count_below (λ j. marked self.new row j && not (marked self.old row j)) row) }
+        ensures added { IfOk result (λ added. added
+            ≡ count_below (λ j. marked self.new row j && not (marked self.old row j)) row) }
         ensures err { OnErr result ((i j : ℕ) → marked self.new i j ≡ marked self.old i j) }
     {
         self.grow(row)?;

@@ -47,7 +47,8 @@ impl BitSet {
 
     /// Adds the members of another set that are less than `limit`, and answers how many of them are new. Without memory the set stays as it was.
     pub fn insert_below(&mut self, others: &BitSet, limit: usize) -> Result<usize, AllocError>
-        ensures union { OnOk result ((n : ℕ) → has self.new n ≡ (has self.old n || (has others.now n && nat_lt n limit))) }
+        ensures union { OnOk result ((n : ℕ) → has self.new n
+            ≡ (has self.old n || (has others.now n && nat_lt n limit))) }
         ensures added { IfOk result (λ added. added ≡ count_below (λ n. has self.new n && not (has self.old n)) limit) }
         ensures err { OnErr result ((n : ℕ) → has self.new n ≡ has self.old n) }
     {
@@ -98,7 +99,8 @@ impl BitSet {
         requires room { length words.now ≤ length self.old.words.items }
         requires few { length words.now < 2 ^ 58 }
         ensures union { (n : ℕ) → has self.new n ≡ (has self.old n || bit_of words.now n) }
-        ensures added { (end : ℕ) → 64 * length words.now ≤ end → result ≡ count_below (λ n. has self.new n && not (has self.old n)) end }
+        ensures added { (end : ℕ) → 64 * length words.now ≤ end
+            → result ≡ count_below (λ n. has self.new n && not (has self.old n)) end }
         ensures room { length self.new.words.items ≡ length self.old.words.items }
     {
         let mut added = 0;
@@ -112,7 +114,8 @@ impl BitSet {
     fn insert_word(&mut self, index: usize, word: u64) -> usize
         requires { index < length self.old.words.items }
         ensures union { (n : ℕ) → has self.new n ≡ (has self.old n || (nat_eq (n / 64) index && is_bit word (n % 64))) }
-        ensures added { (end : ℕ) → 64 * index + 64 ≤ end → result ≡ count_below (λ n. has self.new n && not (has self.old n)) end }
+        ensures added { (end : ℕ) → 64 * index + 64 ≤ end
+            → result ≡ count_below (λ n. has self.new n && not (has self.old n)) end }
         ensures room { length self.new.words.items ≡ length self.old.words.items }
     {
         let old = self.words[index];

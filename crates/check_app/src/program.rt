@@ -85,7 +85,8 @@ fn write_report<W: Write, E: Write>(report: &Report, output: &mut W, faults: &mu
     ensures loud { 2 ≤ result → result ≡ 5 }
     ensures quiet { result ≤ 1 → faults.new ≡ faults.old }
     ensures value { result ≤ 1 → result ≡ (if report.now.is_clean then 0 else 1) }
-    ensures written { result ≤ 1 → Appends (W.contents output.old) (W.contents output.new) (string_bytes report.now.text) }
+    ensures written { result ≤ 1
+        → Appends (W.contents output.old) (W.contents output.new) (string_bytes report.now.text) }
 {
     match write_text(output, report.text.as_str()) {
         Ok(()) => if report.is_clean { 0 } else { 1 },

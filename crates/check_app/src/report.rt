@@ -32,7 +32,10 @@ impl Report {
         document: &'a [Definition<'_, DefaultScalarValue>],
         closed: bool,
     ) -> Result<Report, OutOfMemory>
-        ensures { IfOk result (λ report. IsReportOn ⟦<DefaultScalarValue as CheckedScalar>⟧.may_answer (printed_value ⟦<DefaultScalarValue as ScalarValue>⟧.text ⟦<DefaultScalarValue as ScalarValue>⟧.str_of) ⟦<DefaultScalarValue as ScalarValue>⟧.eq closed schema.now document.now report) }
+        ensures { IfOk result
+            (λ report. IsReportOn ⟦<DefaultScalarValue as CheckedScalar>⟧.may_answer
+            (printed_value ⟦<DefaultScalarValue as ScalarValue>⟧.text ⟦<DefaultScalarValue as ScalarValue>⟧.str_of)
+            ⟦<DefaultScalarValue as ScalarValue>⟧.eq closed schema.now document.now report) }
     {
         let mut ctx = ValidatorContext::new(alloc, schema, document)?;
         let compared = visit_root_rules(&mut ctx, document, closed)?;

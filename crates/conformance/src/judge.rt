@@ -39,7 +39,11 @@ fn errors_of(
     root: &RootNode,
     document: &[Definition<'_, DefaultScalarValue>],
 ) -> Result<String, Failure>
-    ensures { IfOk result (λ text. TellsErrors ⟦<DefaultScalarValue as CheckedScalar>⟧.may_answer (printed_value ⟦<DefaultScalarValue as ScalarValue>⟧.text ⟦<DefaultScalarValue as ScalarValue>⟧.str_of) ⟦<DefaultScalarValue as ScalarValue>⟧.eq root.now.introspection_disabled root.now.schema document.now (string_bytes text)) }
+    ensures { IfOk result
+        (λ text. TellsErrors ⟦<DefaultScalarValue as CheckedScalar>⟧.may_answer
+        (printed_value ⟦<DefaultScalarValue as ScalarValue>⟧.text ⟦<DefaultScalarValue as ScalarValue>⟧.str_of)
+        ⟦<DefaultScalarValue as ScalarValue>⟧.eq root.now.introspection_disabled root.now.schema document.now
+        (string_bytes text)) }
 {
     let errors = root.validate(alloc, document)?;
     let text = lines_of(alloc, errors.as_slice())?;
@@ -61,7 +65,8 @@ fn conflicts_of<'a>(
     schema: &'a SchemaType<DefaultScalarValue>,
     document: &'a [Definition<'_, DefaultScalarValue>],
 ) -> Result<String, Failure>
-    ensures { IfOk result (λ text. TellsConflicts ⟦<DefaultScalarValue as ScalarValue>⟧.eq schema.now document.now (string_bytes text)) }
+    ensures { IfOk result (λ text. TellsConflicts ⟦<DefaultScalarValue as ScalarValue>⟧.eq schema.now document.now
+        (string_bytes text)) }
 {
     let mut ctx = ValidatorContext::new(alloc, schema, document)?;
     let rule = overlapping_fields_can_be_merged::factory(alloc);

@@ -60,7 +60,8 @@ impl Report {
 
     /// Counts a vector, by the errors that are wanted and those that came.
     pub fn count(&mut self, wanted: &[u8], came: &str) -> Result<(), Failure>
-        ensures { OnOk result ((all : List Judged) → HasCounted all self.old → HasCounted (record { wanted = wanted.now; came = came.now } ∷ all) self.new) }
+        ensures { OnOk result ((all : List Judged) → HasCounted all self.old
+            → HasCounted (record { wanted = wanted.now; came = came.now } ∷ all) self.new) }
     {
         self.number = self.number.saturating_add(1);
         if came.as_bytes() == wanted {

@@ -57,7 +57,9 @@ fn faults_of(
     operation: &Spanning<Operation<'_, DefaultScalarValue>>,
 ) -> Result<String, Failure>
     requires known { HasInputTypes schema.now operation.now.item }
-    ensures { IfOk result (λ text. TellsFaults schema.now ⟦<DefaultScalarValue as CheckedScalar>⟧.may_answer ⟦<DefaultScalarValue as ScalarValue>⟧.text ⟦<DefaultScalarValue as ScalarValue>⟧.str_of values.now operation.now.item (string_bytes text)) }
+    ensures { IfOk result (λ text. TellsFaults schema.now ⟦<DefaultScalarValue as CheckedScalar>⟧.may_answer
+        ⟦<DefaultScalarValue as ScalarValue>⟧.text ⟦<DefaultScalarValue as ScalarValue>⟧.str_of values.now
+        operation.now.item (string_bytes text)) }
 {
     let errors = validate_input_values(alloc, values, operation, schema)?;
     let text = lines_of(alloc, errors.as_slice())?;

@@ -73,7 +73,9 @@ fn push_part<'a, S, C>(
     types: TypesOf<'a, S, C>,
     frames: &mut Vec<Frame<'a, S, C>>,
 ) -> Result<(), OutOfMemory>
-    ensures { OnOk result ((schema : Catalog S C) → stack_events schema frames.new.items ≡ frame_events schema (record { part = part.entry; types = types.entry }) ++ stack_events schema frames.old.items) }
+    ensures { OnOk result ((schema : Catalog S C) → stack_events schema frames.new.items
+        ≡ frame_events schema (record { part = part.entry; types = types.entry })
+        ++ stack_events schema frames.old.items) }
 {
     frames.push(Frame { part, types })?;
     Ok(())
@@ -88,7 +90,9 @@ fn enter_leaf<'a, S, C>(
     at: &mut TypesOf<'a, S, C>,
     frames: &mut Vec<Frame<'a, S, C>>,
 ) -> Result<Event<'a, S>, OutOfMemory>
-    ensures { IfOk result (λ e. (schema : Catalog S C) → typed_event e (typing_of at.new) ∷ stack_events schema frames.new.items ≡ typed_event enter.entry (typing_of at.old) ∷ typed_event exit.entry (typing_of at.old) ∷ stack_events schema frames.old.items) }
+    ensures { IfOk result (λ e. (schema : Catalog S C) → typed_event e (typing_of at.new)
+        ∷ stack_events schema frames.new.items ≡ typed_event enter.entry (typing_of at.old)
+        ∷ typed_event exit.entry (typing_of at.old) ∷ stack_events schema frames.old.items) }
 {
     push_part(Part::Told(exit), *at, frames)?;
     Ok(enter)
@@ -100,7 +104,9 @@ fn push_items<'a, S, C>(
     types: TypesOf<'a, S, C>,
     frames: &mut Vec<Frame<'a, S, C>>,
 ) -> Result<(), OutOfMemory>
-    ensures { OnOk result ((schema : Catalog S C) → stack_events schema frames.new.items ≡ events_of (each (outline_of_value schema (typing_of types.entry)) items.now) ++ stack_events schema frames.old.items) }
+    ensures { OnOk result ((schema : Catalog S C) → stack_events schema frames.new.items
+        ≡ events_of (each (outline_of_value schema (typing_of types.entry)) items.now)
+        ++ stack_events schema frames.old.items) }
 {
     match items.split_first() {
         Some((first, rest)) => push_part(Part::Items(first, rest), types, frames),
@@ -114,7 +120,9 @@ fn push_entries<'a, S, C>(
     types: TypesOf<'a, S, C>,
     frames: &mut Vec<Frame<'a, S, C>>,
 ) -> Result<(), OutOfMemory>
-    ensures { OnOk result ((schema : Catalog S C) → stack_events schema frames.new.items ≡ events_of (each (outline_of_object_field schema (typing_of types.entry)) items.now) ++ stack_events schema frames.old.items) }
+    ensures { OnOk result ((schema : Catalog S C) → stack_events schema frames.new.items
+        ≡ events_of (each (outline_of_object_field schema (typing_of types.entry)) items.now)
+        ++ stack_events schema frames.old.items) }
 {
     match items.split_first() {
         Some((first, rest)) => push_part(Part::Entries(first, rest), types, frames),
@@ -129,7 +137,9 @@ fn push_arguments<'a, S, C>(
     types: TypesOf<'a, S, C>,
     frames: &mut Vec<Frame<'a, S, C>>,
 ) -> Result<(), OutOfMemory>
-    ensures { OnOk result ((schema : Catalog S C) → stack_events schema frames.new.items ≡ events_of (each (outline_of_argument schema (option_copied known.entry) (typing_of types.entry)) items.now) ++ stack_events schema frames.old.items) }
+    ensures { OnOk result ((schema : Catalog S C) → stack_events schema frames.new.items
+        ≡ events_of (each (outline_of_argument schema (option_copied known.entry) (typing_of types.entry)) items.now)
+        ++ stack_events schema frames.old.items) }
 {
     match items.split_first() {
         Some((first, rest)) => push_part(Part::Arguments(known, first, rest), types, frames),
@@ -143,7 +153,9 @@ fn push_directives<'a, S, C>(
     types: TypesOf<'a, S, C>,
     frames: &mut Vec<Frame<'a, S, C>>,
 ) -> Result<(), OutOfMemory>
-    ensures { OnOk result ((schema : Catalog S C) → stack_events schema frames.new.items ≡ events_of (each (outline_of_directive schema (typing_of types.entry)) items.now) ++ stack_events schema frames.old.items) }
+    ensures { OnOk result ((schema : Catalog S C) → stack_events schema frames.new.items
+        ≡ events_of (each (outline_of_directive schema (typing_of types.entry)) items.now)
+        ++ stack_events schema frames.old.items) }
 {
     match items.split_first() {
         Some((first, rest)) => push_part(Part::Directives(first, rest), types, frames),
@@ -157,7 +169,9 @@ fn push_variables<'a, S, C>(
     types: TypesOf<'a, S, C>,
     frames: &mut Vec<Frame<'a, S, C>>,
 ) -> Result<(), OutOfMemory>
-    ensures { OnOk result ((schema : Catalog S C) → stack_events schema frames.new.items ≡ events_of (each (outline_of_variable_definition schema (typing_of types.entry)) items.now) ++ stack_events schema frames.old.items) }
+    ensures { OnOk result ((schema : Catalog S C) → stack_events schema frames.new.items
+        ≡ events_of (each (outline_of_variable_definition schema (typing_of types.entry)) items.now)
+        ++ stack_events schema frames.old.items) }
 {
     match items.split_first() {
         Some((first, rest)) => push_part(Part::Variables(first, rest), types, frames),
@@ -171,7 +185,9 @@ fn push_selections<'a, S, C>(
     types: TypesOf<'a, S, C>,
     frames: &mut Vec<Frame<'a, S, C>>,
 ) -> Result<(), OutOfMemory>
-    ensures { OnOk result ((schema : Catalog S C) → stack_events schema frames.new.items ≡ events_of (each (outline_of_selection schema (typing_of types.entry)) items.now) ++ stack_events schema frames.old.items) }
+    ensures { OnOk result ((schema : Catalog S C) → stack_events schema frames.new.items
+        ≡ events_of (each (outline_of_selection schema (typing_of types.entry)) items.now)
+        ++ stack_events schema frames.old.items) }
 {
     match items.split_first() {
         Some((first, rest)) => push_part(Part::Selections(first, rest), types, frames),
@@ -185,7 +201,9 @@ fn push_definitions<'a, S, C>(
     types: TypesOf<'a, S, C>,
     frames: &mut Vec<Frame<'a, S, C>>,
 ) -> Result<(), OutOfMemory>
-    ensures { OnOk result ((schema : Catalog S C) → stack_events schema frames.new.items ≡ events_of (each (outline_of_definition schema (typing_of types.entry)) items.now) ++ stack_events schema frames.old.items) }
+    ensures { OnOk result ((schema : Catalog S C) → stack_events schema frames.new.items
+        ≡ events_of (each (outline_of_definition schema (typing_of types.entry)) items.now)
+        ++ stack_events schema frames.old.items) }
 {
     match items.split_first() {
         Some((first, rest)) => push_part(Part::Definitions(first, rest), types, frames),
@@ -200,7 +218,9 @@ fn push_written_arguments<'a, S, C>(
     types: TypesOf<'a, S, C>,
     frames: &mut Vec<Frame<'a, S, C>>,
 ) -> Result<(), OutOfMemory>
-    ensures { OnOk result ((schema : Catalog S C) → stack_events schema frames.new.items ≡ events_of (outline_of_arguments schema (option_copied known.entry) (typing_of types.entry) written.now) ++ stack_events schema frames.old.items) }
+    ensures { OnOk result ((schema : Catalog S C) → stack_events schema frames.new.items
+        ≡ events_of (outline_of_arguments schema (option_copied known.entry) (typing_of types.entry) written.now)
+        ++ stack_events schema frames.old.items) }
 {
     match written {
         Some(list) => push_arguments(known, list.item.items.as_slice(), types, frames),
@@ -214,7 +234,9 @@ fn push_written_directives<'a, S, C>(
     types: TypesOf<'a, S, C>,
     frames: &mut Vec<Frame<'a, S, C>>,
 ) -> Result<(), OutOfMemory>
-    ensures { OnOk result ((schema : Catalog S C) → stack_events schema frames.new.items ≡ events_of (outline_of_directives schema (typing_of types.entry) written.now) ++ stack_events schema frames.old.items) }
+    ensures { OnOk result ((schema : Catalog S C) → stack_events schema frames.new.items
+        ≡ events_of (outline_of_directives schema (typing_of types.entry) written.now)
+        ++ stack_events schema frames.old.items) }
 {
     match written {
         Some(list) => push_directives(list.as_slice(), types, frames),
@@ -228,7 +250,9 @@ fn push_written_variables<'a, S, C>(
     types: TypesOf<'a, S, C>,
     frames: &mut Vec<Frame<'a, S, C>>,
 ) -> Result<(), OutOfMemory>
-    ensures { OnOk result ((schema : Catalog S C) → stack_events schema frames.new.items ≡ events_of (outline_of_variable_definitions schema (typing_of types.entry) written.now) ++ stack_events schema frames.old.items) }
+    ensures { OnOk result ((schema : Catalog S C) → stack_events schema frames.new.items
+        ≡ events_of (outline_of_variable_definitions schema (typing_of types.entry) written.now)
+        ++ stack_events schema frames.old.items) }
 {
     match written {
         Some(list) => push_variables(list.item.items.as_slice(), types, frames),
@@ -242,7 +266,9 @@ fn push_default_value<'a, S, C>(
     types: TypesOf<'a, S, C>,
     frames: &mut Vec<Frame<'a, S, C>>,
 ) -> Result<(), OutOfMemory>
-    ensures { OnOk result ((schema : Catalog S C) → stack_events schema frames.new.items ≡ events_of (if_there (outline_of_value schema (typing_of types.entry)) written.now) ++ stack_events schema frames.old.items) }
+    ensures { OnOk result ((schema : Catalog S C) → stack_events schema frames.new.items
+        ≡ events_of (if_there (outline_of_value schema (typing_of types.entry)) written.now)
+        ++ stack_events schema frames.old.items) }
 {
     match written {
         Some(value) => push_part(Part::Value(value), types, frames),
@@ -256,7 +282,9 @@ fn push_written_set<'a, S, C>(
     types: TypesOf<'a, S, C>,
     frames: &mut Vec<Frame<'a, S, C>>,
 ) -> Result<(), OutOfMemory>
-    ensures { OnOk result ((schema : Catalog S C) → stack_events schema frames.new.items ≡ events_of (outline_of_set_if_there schema (typing_of types.entry) written.now) ++ stack_events schema frames.old.items) }
+    ensures { OnOk result ((schema : Catalog S C) → stack_events schema frames.new.items
+        ≡ events_of (outline_of_set_if_there schema (typing_of types.entry) written.now)
+        ++ stack_events schema frames.old.items) }
 {
     match written {
         Some(set) => push_part(Part::Set(set.as_slice()), types, frames),
@@ -271,7 +299,11 @@ fn enter_list<'a, S, C>(
     at: &mut TypesOf<'a, S, C>,
     frames: &mut Vec<Frame<'a, S, C>>,
 ) -> Result<Event<'a, S>, OutOfMemory>
-    ensures { IfOk result (λ e. (schema : Catalog S C) → typed_event e (typing_of at.new) ∷ stack_events schema frames.new.items ≡ events_of (node_with (Node.list_value (record { item = items.now.items; span = span.now })) (typing_of at.old) (each (outline_of_value schema (at_items (typing_of at.old))) items.now.items)) ++ stack_events schema frames.old.items) }
+    ensures { IfOk result (λ e. (schema : Catalog S C) → typed_event e (typing_of at.new)
+        ∷ stack_events schema frames.new.items
+        ≡ events_of (node_with (Node.list_value (record { item = items.now.items; span = span.now }))
+        (typing_of at.old) (each (outline_of_value schema (at_items (typing_of at.old))) items.now.items))
+        ++ stack_events schema frames.old.items) }
 {
     push_part(
         Part::Told(Event::ExitListValue(Spanning { item: items, span })),
@@ -289,7 +321,11 @@ fn enter_object<'a, S, C>(
     at: &mut TypesOf<'a, S, C>,
     frames: &mut Vec<Frame<'a, S, C>>,
 ) -> Result<Event<'a, S>, OutOfMemory>
-    ensures { IfOk result (λ e. (schema : Catalog S C) → typed_event e (typing_of at.new) ∷ stack_events schema frames.new.items ≡ events_of (node_with (Node.object_value (record { item = items.now.items; span = span.now })) (typing_of at.old) (each (outline_of_object_field schema (typing_of at.old)) items.now.items)) ++ stack_events schema frames.old.items) }
+    ensures { IfOk result (λ e. (schema : Catalog S C) → typed_event e (typing_of at.new)
+        ∷ stack_events schema frames.new.items
+        ≡ events_of (node_with (Node.object_value (record { item = items.now.items; span = span.now }))
+        (typing_of at.old) (each (outline_of_object_field schema (typing_of at.old)) items.now.items))
+        ++ stack_events schema frames.old.items) }
 {
     push_part(
         Part::Told(Event::ExitObjectValue(Spanning { item: items, span })),
@@ -306,7 +342,9 @@ fn enter_value<'a, S, C>(
     at: &mut TypesOf<'a, S, C>,
     frames: &mut Vec<Frame<'a, S, C>>,
 ) -> Result<Event<'a, S>, OutOfMemory>
-    ensures { IfOk result (λ e. (schema : Catalog S C) → typed_event e (typing_of at.new) ∷ stack_events schema frames.new.items ≡ events_of (outline_of_value schema (typing_of at.old) value.now) ++ stack_events schema frames.old.items) }
+    ensures { IfOk result (λ e. (schema : Catalog S C) → typed_event e (typing_of at.new)
+        ∷ stack_events schema frames.new.items ≡ events_of (outline_of_value schema (typing_of at.old) value.now)
+        ++ stack_events schema frames.old.items) }
 {
     let span = &value.span;
     match &value.item {
@@ -346,7 +384,9 @@ fn enter_entry<'a, S, C>(
     at: &mut TypesOf<'a, S, C>,
     frames: &mut Vec<Frame<'a, S, C>>,
 ) -> Result<Event<'a, S>, OutOfMemory>
-    ensures { IfOk result (λ e. typed_event e (typing_of at.new) ∷ stack_events schema.now frames.new.items ≡ events_of (outline_of_object_field schema.now (typing_of at.old) entry.now) ++ stack_events schema.now frames.old.items) }
+    ensures { IfOk result (λ e. typed_event e (typing_of at.new) ∷ stack_events schema.now frames.new.items
+        ≡ events_of (outline_of_object_field schema.now (typing_of at.old) entry.now)
+        ++ stack_events schema.now frames.old.items) }
 {
     let (key, value) = entry;
     let inside = at.at_object_field(schema, key.item.as_str());
@@ -385,7 +425,10 @@ fn enter_argument<'a, S, C>(
     at: &mut TypesOf<'a, S, C>,
     frames: &mut Vec<Frame<'a, S, C>>,
 ) -> Result<Event<'a, S>, OutOfMemory>
-    ensures { IfOk result (λ e. (schema : Catalog S C) → typed_event e (typing_of at.new) ∷ stack_events schema frames.new.items ≡ events_of (outline_of_argument schema (option_copied known.entry) (typing_of at.old) argument.now) ++ stack_events schema frames.old.items) }
+    ensures { IfOk result (λ e. (schema : Catalog S C) → typed_event e (typing_of at.new)
+        ∷ stack_events schema frames.new.items
+        ≡ events_of (outline_of_argument schema (option_copied known.entry) (typing_of at.old) argument.now)
+        ++ stack_events schema frames.old.items) }
 {
     let (name, value) = argument;
     let inside = at.at_argument(known, name.item);
@@ -402,7 +445,9 @@ fn enter_directive<'a, S, C>(
     at: &mut TypesOf<'a, S, C>,
     frames: &mut Vec<Frame<'a, S, C>>,
 ) -> Result<Event<'a, S>, OutOfMemory>
-    ensures { IfOk result (λ e. typed_event e (typing_of at.new) ∷ stack_events schema.now frames.new.items ≡ events_of (outline_of_directive schema.now (typing_of at.old) directive.now) ++ stack_events schema.now frames.old.items) }
+    ensures { IfOk result (λ e. typed_event e (typing_of at.new) ∷ stack_events schema.now frames.new.items
+        ≡ events_of (outline_of_directive schema.now (typing_of at.old) directive.now)
+        ++ stack_events schema.now frames.old.items) }
 {
     let known = arguments_of_directive(schema, directive.item.name.item);
     push_part(Part::Told(Event::ExitDirective(directive)), *at, frames)?;
@@ -416,7 +461,10 @@ fn enter_variable<'a, S, C>(
     at: &mut TypesOf<'a, S, C>,
     frames: &mut Vec<Frame<'a, S, C>>,
 ) -> Result<Event<'a, S>, OutOfMemory>
-    ensures { IfOk result (λ e. (schema : Catalog S C) → typed_event e (typing_of at.new) ∷ stack_events schema frames.new.items ≡ events_of (outline_of_variable_definition schema (typing_of at.old) definition.now) ++ stack_events schema frames.old.items) }
+    ensures { IfOk result (λ e. (schema : Catalog S C) → typed_event e (typing_of at.new)
+        ∷ stack_events schema frames.new.items
+        ≡ events_of (outline_of_variable_definition schema (typing_of at.old) definition.now)
+        ++ stack_events schema frames.old.items) }
 {
     let (_, variable) = definition;
     let inside = at.at_variable(variable);
@@ -437,7 +485,9 @@ fn enter_set<'a, S, C>(
     at: &mut TypesOf<'a, S, C>,
     frames: &mut Vec<Frame<'a, S, C>>,
 ) -> Result<Event<'a, S>, OutOfMemory>
-    ensures { IfOk result (λ e. (schema : Catalog S C) → typed_event e (typing_of at.new) ∷ stack_events schema frames.new.items ≡ events_of (outline_of_set schema (typing_of at.old) set.now) ++ stack_events schema frames.old.items) }
+    ensures { IfOk result (λ e. (schema : Catalog S C) → typed_event e (typing_of at.new)
+        ∷ stack_events schema frames.new.items ≡ events_of (outline_of_set schema (typing_of at.old) set.now)
+        ++ stack_events schema frames.old.items) }
 {
     let inside = at.at_set();
     push_part(Part::Told(Event::ExitSelectionSet(set)), inside, frames)?;
@@ -453,7 +503,9 @@ fn enter_field<'a, S, C>(
     at: &mut TypesOf<'a, S, C>,
     frames: &mut Vec<Frame<'a, S, C>>,
 ) -> Result<Event<'a, S>, OutOfMemory>
-    ensures { IfOk result (λ e. typed_event e (typing_of at.new) ∷ stack_events schema.now frames.new.items ≡ events_of (outline_of_field schema.now (typing_of at.old) field.now) ++ stack_events schema.now frames.old.items) }
+    ensures { IfOk result (λ e. typed_event e (typing_of at.new) ∷ stack_events schema.now frames.new.items
+        ≡ events_of (outline_of_field schema.now (typing_of at.old) field.now)
+        ++ stack_events schema.now frames.old.items) }
 {
     let inside = at.at_field(schema, field.item.name.item);
     let known = arguments_of_field(inside.parent, field.item.name.item);
@@ -471,7 +523,9 @@ fn enter_spread<'a, S, C>(
     at: &mut TypesOf<'a, S, C>,
     frames: &mut Vec<Frame<'a, S, C>>,
 ) -> Result<Event<'a, S>, OutOfMemory>
-    ensures { IfOk result (λ e. (schema : Catalog S C) → typed_event e (typing_of at.new) ∷ stack_events schema frames.new.items ≡ events_of (outline_of_spread schema (typing_of at.old) spread.now) ++ stack_events schema frames.old.items) }
+    ensures { IfOk result (λ e. (schema : Catalog S C) → typed_event e (typing_of at.new)
+        ∷ stack_events schema frames.new.items ≡ events_of (outline_of_spread schema (typing_of at.old) spread.now)
+        ++ stack_events schema frames.old.items) }
 {
     push_part(Part::Told(Event::ExitFragmentSpread(spread)), *at, frames)?;
     push_written_directives(&spread.item.directives, *at, frames)?;
@@ -485,7 +539,9 @@ fn enter_inline<'a, S, C>(
     at: &mut TypesOf<'a, S, C>,
     frames: &mut Vec<Frame<'a, S, C>>,
 ) -> Result<Event<'a, S>, OutOfMemory>
-    ensures { IfOk result (λ e. typed_event e (typing_of at.new) ∷ stack_events schema.now frames.new.items ≡ events_of (outline_of_inline schema.now (typing_of at.old) fragment.now) ++ stack_events schema.now frames.old.items) }
+    ensures { IfOk result (λ e. typed_event e (typing_of at.new) ∷ stack_events schema.now frames.new.items
+        ≡ events_of (outline_of_inline schema.now (typing_of at.old) fragment.now)
+        ++ stack_events schema.now frames.old.items) }
 {
     let inside = at.at_condition(schema, &fragment.item.type_condition);
     push_part(
@@ -510,7 +566,9 @@ fn enter_selection<'a, S, C>(
     at: &mut TypesOf<'a, S, C>,
     frames: &mut Vec<Frame<'a, S, C>>,
 ) -> Result<Event<'a, S>, OutOfMemory>
-    ensures { IfOk result (λ e. typed_event e (typing_of at.new) ∷ stack_events schema.now frames.new.items ≡ events_of (outline_of_selection schema.now (typing_of at.old) selection.now) ++ stack_events schema.now frames.old.items) }
+    ensures { IfOk result (λ e. typed_event e (typing_of at.new) ∷ stack_events schema.now frames.new.items
+        ≡ events_of (outline_of_selection schema.now (typing_of at.old) selection.now)
+        ++ stack_events schema.now frames.old.items) }
 {
     match selection {
         Selection::Field(field) => enter_field(schema, field, at, frames),
@@ -526,7 +584,9 @@ fn enter_operation<'a, S, C>(
     at: &mut TypesOf<'a, S, C>,
     frames: &mut Vec<Frame<'a, S, C>>,
 ) -> Result<Event<'a, S>, OutOfMemory>
-    ensures { IfOk result (λ e. typed_event e (typing_of at.new) ∷ stack_events schema.now frames.new.items ≡ events_of (outline_of_operation schema.now (typing_of at.old) operation.now) ++ stack_events schema.now frames.old.items) }
+    ensures { IfOk result (λ e. typed_event e (typing_of at.new) ∷ stack_events schema.now frames.new.items
+        ≡ events_of (outline_of_operation schema.now (typing_of at.old) operation.now)
+        ++ stack_events schema.now frames.old.items) }
 {
     let inside = at.at_operation(schema, operation.item.operation_type);
     push_part(
@@ -552,7 +612,9 @@ fn enter_fragment<'a, S, C>(
     at: &mut TypesOf<'a, S, C>,
     frames: &mut Vec<Frame<'a, S, C>>,
 ) -> Result<Event<'a, S>, OutOfMemory>
-    ensures { IfOk result (λ e. typed_event e (typing_of at.new) ∷ stack_events schema.now frames.new.items ≡ events_of (outline_of_fragment schema.now (typing_of at.old) fragment.now) ++ stack_events schema.now frames.old.items) }
+    ensures { IfOk result (λ e. typed_event e (typing_of at.new) ∷ stack_events schema.now frames.new.items
+        ≡ events_of (outline_of_fragment schema.now (typing_of at.old) fragment.now)
+        ++ stack_events schema.now frames.old.items) }
 {
     let inside = at.at_named(schema, fragment.item.type_condition.item);
     push_part(
@@ -577,7 +639,9 @@ fn enter_definition<'a, S, C>(
     at: &mut TypesOf<'a, S, C>,
     frames: &mut Vec<Frame<'a, S, C>>,
 ) -> Result<Event<'a, S>, OutOfMemory>
-    ensures { IfOk result (λ e. typed_event e (typing_of at.new) ∷ stack_events schema.now frames.new.items ≡ events_of (outline_of_definition schema.now (typing_of at.old) definition.now) ++ stack_events schema.now frames.old.items) }
+    ensures { IfOk result (λ e. typed_event e (typing_of at.new) ∷ stack_events schema.now frames.new.items
+        ≡ events_of (outline_of_definition schema.now (typing_of at.old) definition.now)
+        ++ stack_events schema.now frames.old.items) }
 {
     match definition {
         Definition::Operation(operation) => enter_operation(schema, operation, at, frames),
@@ -592,7 +656,9 @@ fn enter_part<'a, S, C>(
     at: &mut TypesOf<'a, S, C>,
     frames: &mut Vec<Frame<'a, S, C>>,
 ) -> Result<Event<'a, S>, OutOfMemory>
-    ensures { IfOk result (λ e. typed_event e (typing_of at.new) ∷ stack_events schema.now frames.new.items ≡ frame_events schema.now (record { part = part.entry; types = at.old }) ++ stack_events schema.now frames.old.items) }
+    ensures { IfOk result (λ e. typed_event e (typing_of at.new) ∷ stack_events schema.now frames.new.items
+        ≡ frame_events schema.now (record { part = part.entry; types = at.old })
+        ++ stack_events schema.now frames.old.items) }
 {
     match part {
         Part::Told(event) => Ok(event),
@@ -637,7 +703,8 @@ impl<'a, S, C> EventCursorOf<'a, S, C> {
         definitions: &'a [Definition<'a, S>],
         types: TypesOf<'a, S, C>,
     ) -> Result<Self, OutOfMemory>
-        ensures { IfOk result (λ cursor. events_left cursor ≡ events_of (each (outline_of_definition schema.now (typing_of types.entry)) definitions.now)) }
+        ensures { IfOk result (λ cursor. events_left cursor
+            ≡ events_of (each (outline_of_definition schema.now (typing_of types.entry)) definitions.now)) }
     {
         let mut frames = Vec::new(alloc);
         push_definitions(definitions, types, &mut frames)?;

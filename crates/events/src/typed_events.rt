@@ -26,7 +26,8 @@ pub struct TypesOf<'a, S, C> {
 impl<'a, S, C> TypesOf<'a, S, C> {
     /// The types at a node where a type is written.
     pub fn at_type(self, schema: &'a SchemaTypeOf<S, C>, literal: Option<BorrowedType<'a>>) -> Self
-        ensures { typing_of result ≡ at_type schema.now (typing_of self.entry) (option_map borrowed_shape literal.entry) }
+        ensures { typing_of result
+            ≡ at_type schema.now (typing_of self.entry) (option_map borrowed_shape literal.entry) }
     {
         let current = match literal {
             Some(t) => schema.concrete_type_by_name(t.innermost_name()),
@@ -135,7 +136,8 @@ fn type_of_input_field<'a, S, C>(
     literal: Option<BorrowedType<'a>>,
     key: &str,
 ) -> Option<BorrowedType<'a>>
-    ensures { option_map borrowed_shape result ≡ input_field_literal schema.now (option_map borrowed_shape literal.entry) key.now }
+    ensures { option_map borrowed_shape result
+        ≡ input_field_literal schema.now (option_map borrowed_shape literal.entry) key.now }
 {
     let object = schema.concrete_type_by_name(literal?.name()?)?;
     match schema.input_field_by_name(object, key) {
@@ -146,7 +148,8 @@ fn type_of_input_field<'a, S, C>(
 
 // The type of the items of a list of a type.
 fn type_of_items<'a>(literal: Option<BorrowedType<'a>>) -> Option<BorrowedType<'a>>
-    ensures { option_map borrowed_shape result ≡ option_and_then list_inner_of (option_map borrowed_shape literal.entry) }
+    ensures { option_map borrowed_shape result
+        ≡ option_and_then list_inner_of (option_map borrowed_shape literal.entry) }
 {
     literal?.borrow_list_inner()
 }
@@ -186,7 +189,8 @@ impl<'a, S, C> TypesOf<'a, S, C> {
 
     // At a field of the name.
     pub(crate) fn at_field(self, schema: &'a SchemaTypeOf<S, C>, name: &str) -> Self
-        ensures { typing_of result ≡ at_type schema.now (typing_of self.entry) (field_literal (typing_of self.entry).parent name.now) }
+        ensures { typing_of result
+            ≡ at_type schema.now (typing_of self.entry) (field_literal (typing_of self.entry).parent name.now) }
     {
         self.at_type(schema, type_of_field(self.parent, name))
     }
@@ -197,7 +201,8 @@ impl<'a, S, C> TypesOf<'a, S, C> {
         schema: &'a SchemaTypeOf<S, C>,
         condition: &'a Option<Spanning<&'a str>>,
     ) -> Self
-        ensures { typing_of result ≡ at_condition schema.now (typing_of self.entry) (option_map (λ c. c.item.now) condition.now) }
+        ensures { typing_of result
+            ≡ at_condition schema.now (typing_of self.entry) (option_map (λ c. c.item.now) condition.now) }
     {
         match condition {
             Some(name) => self.at_named(schema, name.item),

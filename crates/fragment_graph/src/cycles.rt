@@ -64,7 +64,8 @@ pub fn search_named<'a>(
     graph: &DocumentGraph<'a>,
 ) -> Result<GraphCycles<'a>, AllocError>
     ensures outcome { IfOk result (λ c. Searched graph.now.nodes.items c.outcome) }
-    ensures reports { IfOk result (λ c. map name_and_place c.reports.items ≡ map (told graph.now.numbers) c.outcome.reports.items) }
+    ensures reports { IfOk result (λ c. map name_and_place c.reports.items
+        ≡ map (told graph.now.numbers) c.outcome.reports.items) }
 {
     let outcome = search_graph(alloc, graph.nodes.as_slice())?;
     let reports = tell_all(alloc, &graph.numbers, outcome.reports.as_slice())?;

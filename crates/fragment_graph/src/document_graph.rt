@@ -22,7 +22,8 @@ pub struct DocumentGraph<'a> {
 
 // A spread with its target's number, which is past the last where no fragment has the name.
 fn resolve<S>(numbers: &Numbers<'_>, spread: &Spanning<FragmentSpread<'_, S>>) -> Spread
-    ensures { result ≡ resolved numbers.now (record { name = spread.now.item.name.item.now; place = spread.now.span.start }) }
+    ensures { result
+        ≡ resolved numbers.now (record { name = spread.now.item.name.item.now; place = spread.now.span.start }) }
 {
     Spread {
         target: number(numbers, spread.item.name.item).unwrap_or(name_count(numbers)),
@@ -37,7 +38,8 @@ pub fn add_spreads<S>(
     set: &[Selection<'_, S>],
     found: &mut Vec<Spread>,
 ) -> Result<(), AllocError>
-    ensures { OnOk result (found.new.items ≡ found.old.items ++ map (resolved numbers.now) (placed_spreads_of_all set.now)) }
+    ensures { OnOk result (found.new.items ≡ found.old.items
+        ++ map (resolved numbers.now) (placed_spreads_of_all set.now)) }
 {
     for selection in set {
         add_spreads_of(numbers, selection, found)?;
@@ -51,7 +53,8 @@ fn add_spreads_of<S>(
     selection: &Selection<'_, S>,
     found: &mut Vec<Spread>,
 ) -> Result<(), AllocError>
-    ensures { OnOk result (found.new.items ≡ found.old.items ++ map (resolved numbers.now) (placed_spreads_of selection.now)) }
+    ensures { OnOk result (found.new.items ≡ found.old.items
+        ++ map (resolved numbers.now) (placed_spreads_of selection.now)) }
 {
     match selection {
         Selection::Field(field) => match &field.item.selection_set {
@@ -104,7 +107,8 @@ fn join_fragment<S>(
     requires numbered { WellNumbered numbers.now }
     requires has { number_of numbers.now fragment.now.item.name.item.now ≡ Some place }
     requires sized { length nodes.old.items ≡ length (names_of numbers.now) }
-    ensures { OnOk result (JoinsDefinition numbers.now (Definition.Fragment fragment.now) nodes.old.items nodes.new.items) }
+    ensures { OnOk result (JoinsDefinition numbers.now (Definition.Fragment fragment.now) nodes.old.items
+        nodes.new.items) }
 {
     found.clear();
     add_spreads(numbers, fragment.item.selection_set.as_slice(), found)?;

@@ -25,7 +25,8 @@ pub struct ReachedFragments<'g, 'a> {
 
 /// Whether the fragment of a number is marked, if there is one.
 pub fn is_reached(reached: &ReachedFragments<'_, '_>, number: Option<usize>) -> bool
-    ensures { (name : List ℕ) → number ≡ number_of reached.now.graph.now.numbers name → IsTrue result ↔ IsNameMarked reached.now name }
+    ensures { (name : List ℕ) → number ≡ number_of reached.now.graph.now.numbers name → IsTrue result
+        ↔ IsNameMarked reached.now name }
 {
     match number {
         Some(found) => is_marked(reached.marks.as_slice(), found),
@@ -39,7 +40,8 @@ pub fn add_operation<S>(
     definition: &Definition<'_, S>,
     found: &mut Vec<Spread>,
 ) -> Result<(), AllocError>
-    ensures { OnOk result (found.new.items ≡ found.old.items ++ map (resolved numbers.now) (definition_spreads definition.now)) }
+    ensures { OnOk result (found.new.items ≡ found.old.items
+        ++ map (resolved numbers.now) (definition_spreads definition.now)) }
 {
     match definition {
         Definition::Operation(operation) => add_spreads(
@@ -77,7 +79,8 @@ fn mark_reached_fragments<S>(
 ) -> Result<Vec<bool>, AllocError>
     requires graph { IsGraphOf document.now graph.now }
     requires starts { starts.now ≡ map (resolved graph.now.numbers) (operation_spreads document.now) }
-    ensures { IfOk result (λ marks. (name : List ℕ) (k : ℕ) → number_of graph.now.numbers name ≡ Some k → IsMarked marks.items k ↔ IsReached document.now name) }
+    ensures { IfOk result (λ marks. (name : List ℕ) (k : ℕ) → number_of graph.now.numbers name ≡ Some k
+        → IsMarked marks.items k ↔ IsReached document.now name) }
 {
     mark_reached(alloc, graph.nodes.as_slice(), starts)
 }

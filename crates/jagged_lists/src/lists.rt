@@ -17,7 +17,8 @@ pub struct FlatLists<T> {
 
 // A stretch of some items.
 fn stretch<T>(items: &[T], start: usize, end: usize) -> &[T]
-    ensures { (before there after : List T) → items.now ≡ before ++ (there ++ after) → start ≡ length before → end ≡ length before + length there → result.now ≡ there }
+    ensures { (before there after : List T) → items.now ≡ before ++ (there ++ after) → start ≡ length before
+        → end ≡ length before + length there → result.now ≡ there }
 {
     match items.get(start..end) {
         Some(found) => found,
@@ -39,7 +40,8 @@ impl<T> FlatLists<T> {
 
     /// The items that were added since the last list ended become a list.
     pub fn end_list(&mut self) -> Result<(), AllocError>
-        ensures { OnOk result ((ls : List (List T)) (next : List T) → Holds ls next self.old → Holds (ls ++ next ∷ []) [] self.new) }
+        ensures { OnOk result ((ls : List (List T)) (next : List T) → Holds ls next self.old
+            → Holds (ls ++ next ∷ []) [] self.new) }
     {
         let end = self.items.len();
         self.ranges.push((self.start, end))?;

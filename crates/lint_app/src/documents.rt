@@ -33,7 +33,9 @@ pub struct Report {
 impl Judge<'_> {
     /// Judges each file by itself. A file with a fault of syntax is told of, and the others are judged.
     pub fn each(&self, alloc: Global, faults: &mut String) -> Result<Report, Failure>
-        ensures { IfOk result (TellsEach ⟦<SourceScalar as PartialEq>⟧.eq self.now.root.now (option_copied self.now.values) self.now.sources.now) }
+        ensures { IfOk result
+            (TellsEach ⟦<SourceScalar as PartialEq>⟧.eq self.now.root.now (option_copied self.now.values)
+            self.now.sources.now) }
     {
         let mut issues = Vec::new(alloc);
         let mut judged: usize = 0;
@@ -54,7 +56,10 @@ impl Judge<'_> {
         issues: &mut Vec<Issue>,
         faults: &mut String,
     ) -> Result<bool, Failure>
-        ensures { IfOk result (λ is_document. AddsIf is_document (TellsFiles ⟦<SourceScalar as PartialEq>⟧.eq self.now.root.now (option_copied self.now.values) file (source.now ∷ [])) issues.old.items issues.new.items) }
+        ensures { IfOk result
+            (λ is_document. AddsIf is_document
+            (TellsFiles ⟦<SourceScalar as PartialEq>⟧.eq self.now.root.now (option_copied self.now.values) file
+            (source.now ∷ [])) issues.old.items issues.new.items) }
     {
         let mut joined = Joined::new(alloc);
         joined.add(file, source.text.as_str())?;
@@ -64,7 +69,9 @@ impl Judge<'_> {
 
     /// Judges all files as one document, if none has a fault of syntax; else these are told.
     pub fn together(&self, alloc: Global, faults: &mut String) -> Result<Report, Failure>
-        ensures { IfOk result (TellsTogether ⟦<SourceScalar as PartialEq>⟧.eq self.now.root.now (option_copied self.now.values) self.now.sources.now) }
+        ensures { IfOk result
+            (TellsTogether ⟦<SourceScalar as PartialEq>⟧.eq self.now.root.now (option_copied self.now.values)
+            self.now.sources.now) }
     {
         if !self.are_documents(alloc, faults)? {
             return Ok(Report::empty(alloc));
@@ -120,7 +127,10 @@ impl Judge<'_> {
         issues: &mut Vec<Issue>,
         faults: &mut String,
     ) -> Result<bool, Failure>
-        ensures { IfOk result (λ is_document. AddsIf is_document (TellsRead ⟦<SourceScalar as PartialEq>⟧.eq self.now.root.now (option_copied self.now.values) joined.now file) issues.old.items issues.new.items) }
+        ensures { IfOk result
+            (λ is_document. AddsIf is_document
+            (TellsRead ⟦<SourceScalar as PartialEq>⟧.eq self.now.root.now (option_copied self.now.values) joined.now
+            file) issues.old.items issues.new.items) }
     {
         match read_document(alloc, joined.text()) {
             Ok(document) => {
@@ -145,7 +155,9 @@ impl Judge<'_> {
         document: &[Definition<'_, SourceScalar>],
         issues: &mut Vec<Issue>,
     ) -> Result<(), OutOfMemory>
-        ensures { OnOk result (Adds (TellsDocument ⟦<SourceScalar as PartialEq>⟧.eq self.now.root.now (option_copied self.now.values) joined.now file document.now) issues.old.items issues.new.items) }
+        ensures { OnOk result
+            (Adds (TellsDocument ⟦<SourceScalar as PartialEq>⟧.eq self.now.root.now (option_copied self.now.values)
+            joined.now file document.now) issues.old.items issues.new.items) }
     {
         let found = self.root.validate(alloc, document)?;
         let errors = found.as_slice();
@@ -167,7 +179,9 @@ impl Judge<'_> {
         issues: &mut Vec<Issue>,
     ) -> Result<(), OutOfMemory>
         requires { IsErrorFree ⟦<SourceScalar as PartialEq>⟧.eq self.now.root.now document.now }
-        ensures { OnOk result (Adds (TellsFaultsIn self.now.root.now (option_copied self.now.values) joined.now file document.now) issues.old.items issues.new.items) }
+        ensures { OnOk result
+            (Adds (TellsFaultsIn self.now.root.now (option_copied self.now.values) joined.now file document.now)
+            issues.old.items issues.new.items) }
     {
         match self.values {
             Some(values) => {
@@ -187,7 +201,8 @@ impl Judge<'_> {
         issues: &mut Vec<Issue>,
     ) -> Result<(), OutOfMemory>
         requires { IsErrorFree ⟦<SourceScalar as PartialEq>⟧.eq self.now.root.now document.now }
-        ensures { OnOk result (Adds (TellsFaultsIn self.now.root.now (Some values.now) joined.now file document.now) issues.old.items issues.new.items) }
+        ensures { OnOk result (Adds (TellsFaultsIn self.now.root.now (Some values.now) joined.now file document.now)
+            issues.old.items issues.new.items) }
     {
         for definition in document {
             self.add_faults_at(alloc, joined, file, definition, values, issues)?;
@@ -206,7 +221,8 @@ impl Judge<'_> {
         issues: &mut Vec<Issue>,
     ) -> Result<(), OutOfMemory>
         requires { HasKnownTypes self.now.root.now definition.now }
-        ensures { OnOk result (Adds (TellsFaultsAt self.now.root.now values.now joined.now file definition.now) issues.old.items issues.new.items) }
+        ensures { OnOk result (Adds (TellsFaultsAt self.now.root.now values.now joined.now file definition.now)
+            issues.old.items issues.new.items) }
     {
         match definition {
             Definition::Operation(operation) => {

@@ -45,8 +45,12 @@ pub fn run<I: Inputs, W: Write, E: Write>(
     errors: &mut E,
 ) -> u8
     ensures status { result ≤ 2 }
-    ensures told { asks_for_help words.now ≡ false → result ≤ 1 → WritesAsked ⟦<SourceScalar as PartialEq>⟧.eq words.now (I.file inputs.now) (W.contents output.old) (W.contents output.new) result }
-    ensures answered { result ≤ 1 → WantsHelp (word_texts words.now) ⊎ WritesAsked ⟦<SourceScalar as PartialEq>⟧.eq words.now (I.file inputs.now) (W.contents output.old) (W.contents output.new) result }
+    ensures told { asks_for_help words.now ≡ false → result ≤ 1
+        → WritesAsked ⟦<SourceScalar as PartialEq>⟧.eq words.now (I.file inputs.now) (W.contents output.old)
+        (W.contents output.new) result }
+    ensures answered { result ≤ 1
+        → WantsHelp (word_texts words.now) ⊎ WritesAsked ⟦<SourceScalar as PartialEq>⟧.eq words.now
+        (I.file inputs.now) (W.contents output.old) (W.contents output.new) result }
     ensures quiet { result ≤ 1 → errors.new ≡ errors.old }
 {
     match Task::of(alloc, words) {
@@ -102,7 +106,9 @@ pub fn run_task<I: Inputs, W: Write, E: Write>(
     errors: &mut E,
 ) -> u8
     ensures status { result ≤ 2 }
-    ensures told { result ≤ 1 → WritesTask ⟦<SourceScalar as PartialEq>⟧.eq (I.file inputs.now) task.now (W.contents output.old) (W.contents output.new) result }
+    ensures told { result ≤ 1
+        → WritesTask ⟦<SourceScalar as PartialEq>⟧.eq (I.file inputs.now) task.now (W.contents output.old)
+        (W.contents output.new) result }
     ensures quiet { result ≤ 1 → errors.new ≡ errors.old }
 {
     let mut faults = String::new(alloc);
@@ -117,7 +123,8 @@ fn tell<W: Write, E: Write>(told: &Told, faults: &str, output: &mut W, errors: &
     ensures status { result ≤ 2 }
     ensures whole { result ≤ 1 → told.now.is_whole ≡ true }
     ensures value { result ≤ 1 → result ≡ (if told.now.has_errors then 1 else 0) }
-    ensures written { result ≤ 1 → Appends (W.contents output.old) (W.contents output.new) (string_bytes told.now.text) }
+    ensures written { result ≤ 1
+        → Appends (W.contents output.old) (W.contents output.new) (string_bytes told.now.text) }
     ensures quiet { result ≤ 1 → errors.new ≡ errors.old }
 {
     if faults.is_empty() {
@@ -133,7 +140,8 @@ fn write_told<W: Write, E: Write>(told: &Told, output: &mut W, errors: &mut E) -
     ensures status { result ≤ 2 }
     ensures whole { result ≤ 1 → told.now.is_whole ≡ true }
     ensures value { result ≤ 1 → result ≡ (if told.now.has_errors then 1 else 0) }
-    ensures written { result ≤ 1 → Appends (W.contents output.old) (W.contents output.new) (string_bytes told.now.text) }
+    ensures written { result ≤ 1
+        → Appends (W.contents output.old) (W.contents output.new) (string_bytes told.now.text) }
     ensures quiet { result ≤ 1 → errors.new ≡ errors.old }
 {
     match write_text(output, told.text.as_str()) {
@@ -214,7 +222,8 @@ fn judge_with<I: Inputs>(
     path: &str,
     faults: &mut String,
 ) -> Result<Told, Failure>
-    ensures { IfOk result (λ told. (values : GivenValues) × TellsQueries ⟦<SourceScalar as PartialEq>⟧.eq (I.file inputs.now) task.now root.now (Some values) told) }
+    ensures { IfOk result (λ told. (values : GivenValues)
+        × TellsQueries ⟦<SourceScalar as PartialEq>⟧.eq (I.file inputs.now) task.now root.now (Some values) told) }
 {
     let values = values_of_file(alloc, inputs, path, faults)?;
     judge_queries(alloc, task, inputs, root, Some(&values), faults)
@@ -228,7 +237,8 @@ fn judge_queries<I: Inputs>(
     values: Option<&Variables<SourceScalar>>,
     faults: &mut String,
 ) -> Result<Told, Failure>
-    ensures { IfOk result (TellsQueries ⟦<SourceScalar as PartialEq>⟧.eq (I.file inputs.now) task.now root.now (option_copied values.entry)) }
+    ensures { IfOk result (TellsQueries ⟦<SourceScalar as PartialEq>⟧.eq (I.file inputs.now) task.now root.now
+        (option_copied values.entry)) }
 {
     let read = read_sources(alloc, inputs, task.queries.as_slice(), faults)?;
     let sources = read.as_slice();
@@ -249,7 +259,8 @@ fn report_of(
     judge: &Judge<'_>,
     faults: &mut String,
 ) -> Result<Report, Failure>
-    ensures { IfOk result (IsReport ⟦<SourceScalar as PartialEq>⟧.eq task.now.is_together judge.now.root.now (option_copied judge.now.values) judge.now.sources.now) }
+    ensures { IfOk result (IsReport ⟦<SourceScalar as PartialEq>⟧.eq task.now.is_together judge.now.root.now
+        (option_copied judge.now.values) judge.now.sources.now) }
 {
     if !task.is_together {
         let report = judge.each(alloc, faults)?;

@@ -80,7 +80,9 @@ pub fn write_fault<M: fmt::Display>(
     place: Place,
     message: &M,
 ) -> Result<(), OutOfMemory>
-    ensures { OnOk result (IfSome (M.output message.now) (λ said. Adds (IsErrorText sources.now place said) (string_bytes text.old) (string_bytes text.new))) }
+    ensures { OnOk result
+        (IfSome (M.output message.now)
+        (λ said. Adds (IsErrorText sources.now place said) (string_bytes text.old) (string_bytes text.new))) }
 {
     write_place(text, path_of(sources, place.file), place.position)?;
     writeln!(text, "error: {message}")?;

@@ -35,8 +35,11 @@ pub fn validate_literal_value<'a, S: CheckedScalar>(
     value: &InputValue<S>,
 ) -> Result<Option<String>, OutOfMemory>
     requires known { IsInSchema schema.now (wrapped_of arg_type.now) }
-    ensures fault { IfOk result (λ fault. Judged schema.now S.may_answer (printed_value S.text S.str_of) value.now (wrapped_of arg_type.now) (option_map string_bytes fault)) }
-    ensures alone { IfOk result (λ fault. (other : Option (List ℕ)) → Judged schema.now S.may_answer (printed_value S.text S.str_of) value.now (wrapped_of arg_type.now) other → other ≡ option_map string_bytes fault) }
+    ensures fault { IfOk result (λ fault. Judged schema.now S.may_answer (printed_value S.text S.str_of) value.now
+        (wrapped_of arg_type.now) (option_map string_bytes fault)) }
+    ensures alone { IfOk result (λ fault. (other : Option (List ℕ))
+        → Judged schema.now S.may_answer (printed_value S.text S.str_of) value.now (wrapped_of arg_type.now) other
+        → other ≡ option_map string_bytes fault) }
 {
     fault_of(alloc, schema, Expected::Made(arg_type), value)
 }
@@ -49,7 +52,8 @@ pub fn fault_of<'t, 'a, S: CheckedScalar>(
     value: &InputValue<S>,
 ) -> Result<Option<String>, OutOfMemory>
     requires known { IsInSchema schema.now (expected_type expected) }
-    ensures { IfOk result (λ fault. Judged schema.now S.may_answer (printed_value S.text S.str_of) value.now (expected_type expected.entry) (option_map string_bytes fault)) }
+    ensures { IfOk result (λ fault. Judged schema.now S.may_answer (printed_value S.text S.str_of) value.now
+        (expected_type expected.entry) (option_map string_bytes fault)) }
 {
     match row_of(expected, value) {
         Row::Conforms => Ok(None),
@@ -79,7 +83,10 @@ fn fault_of_items<'t, 'a, S: CheckedScalar>(
     items: &[Spanning<InputValue<S>>],
 ) -> Result<Option<String>, OutOfMemory>
     requires known { IsInSchema schema.now (expected_type inner) }
-    ensures { IfOk result (λ fault. FirstFault (λ x. Judged schema.now S.may_answer (printed_value S.text S.str_of) x.item (expected_type inner.entry)) IsNone items.now (option_map string_bytes fault)) }
+    ensures { IfOk result
+        (λ fault. FirstFault
+        (λ x. Judged schema.now S.may_answer (printed_value S.text S.str_of) x.item (expected_type inner.entry))
+        IsNone items.now (option_map string_bytes fault)) }
 {
     for item in items {
         if let Some(fault) = fault_of(alloc, schema, inner, &item.item)? {
@@ -98,7 +105,8 @@ fn fault_of_object<'a, S: CheckedScalar>(
     entries: &[(Spanning<String>, Spanning<InputValue<S>>)],
 ) -> Result<Option<String>, OutOfMemory>
     requires known { IsInSchema schema.now (plain_meta meta.now) }
-    ensures { IfOk result (λ fault. ObjectFault schema.now S.may_answer (printed_value S.text S.str_of) meta.now entries.now (option_map string_bytes fault)) }
+    ensures { IfOk result (λ fault. ObjectFault schema.now S.may_answer (printed_value S.text S.str_of) meta.now
+        entries.now (option_map string_bytes fault)) }
 {
     if !is_input_object(meta) {
         return Ok(Some(no_object_fault(alloc, meta)?));
@@ -122,7 +130,8 @@ fn fault_of_entry<'a, S: CheckedScalar>(
     value: &InputValue<S>,
 ) -> Result<Option<String>, OutOfMemory>
     requires known { IsInSchema schema.now (plain_meta meta.now) }
-    ensures { IfOk result (λ fault. KeyedFault schema.now S.may_answer (printed_value S.text S.str_of) meta.now key.now value.now (option_map string_bytes fault)) }
+    ensures { IfOk result (λ fault. KeyedFault schema.now S.may_answer (printed_value S.text S.str_of) meta.now key.now
+        value.now (option_map string_bytes fault)) }
 {
     match schema.input_field_by_name(meta, key) {
         None => Ok(Some(unknown_fault(alloc, meta, key)?)),
@@ -139,7 +148,8 @@ fn fault_of_scalar<S: CheckedScalar>(
     meta: &MetaTypeOf<S, S::Check>,
     value: &InputValue<S>,
 ) -> Result<Option<String>, OutOfMemory>
-    ensures { IfOk result (λ fault. unless_enum S.may_answer (printed_value S.text S.str_of) (is_enum_meta meta.now) value.now meta.now (option_map string_bytes fault)) }
+    ensures { IfOk result (λ fault. unless_enum S.may_answer (printed_value S.text S.str_of) (is_enum_meta meta.now)
+        value.now meta.now (option_map string_bytes fault)) }
 {
     if is_enum(meta) {
         Ok(Some(enum_fault(alloc, meta, value)?))
@@ -154,7 +164,8 @@ fn ask<S: CheckedScalar>(
     meta: &MetaTypeOf<S, S::Check>,
     value: &InputValue<S>,
 ) -> Result<Option<String>, OutOfMemory>
-    ensures { IfOk result (λ fault. checked S.may_answer (printed_value S.text S.str_of) (check_of_meta meta.now) value.now meta.now (option_map string_bytes fault)) }
+    ensures { IfOk result (λ fault. checked S.may_answer (printed_value S.text S.str_of) (check_of_meta meta.now)
+        value.now meta.now (option_map string_bytes fault)) }
 {
     match meta.input_value_parse_fn() {
         None => Ok(Some(no_check_fault(alloc, meta)?)),

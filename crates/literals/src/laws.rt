@@ -13,5 +13,6 @@ pub fn one_fault<S: CheckedScalar>()
 
 /// Where each check accepts or refuses each value, a value has a fault against each type of the schema, or conforms to it.
 pub fn some_fault<S: CheckedScalar>()
-    ensures { (schema : Catalog S S.Check) → AnswersAll S.may_answer → SomeFault schema S.may_answer (printed_value S.text S.str_of) }
+    ensures { (schema : Catalog S S.Check) → AnswersAll S.may_answer
+        → SomeFault schema S.may_answer (printed_value S.text S.str_of) }
 {}

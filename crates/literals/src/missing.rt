@@ -19,7 +19,8 @@ pub fn lacking<S, C>(
     meta: &MetaTypeOf<S, C>,
     entries: &[(Spanning<String>, Spanning<InputValue<S>>)],
 ) -> Result<Option<String>, OutOfMemory>
-    ensures { IfOk result (λ fault. option_map string_bytes fault ≡ missing_fault (printed_name meta.now) (missing (keys_of entries.now) (input_fields_of meta.now))) }
+    ensures { IfOk result (λ fault. option_map string_bytes fault
+        ≡ missing_fault (printed_name meta.now) (missing (keys_of entries.now) (input_fields_of meta.now))) }
 {
     let mut names: Vec<&str> = Vec::new(alloc);
     for field in fields_of(meta) {

@@ -62,7 +62,9 @@ pub fn row_of<'t, 'a, S: CheckedScalar>(
     expected: Expected<'t, 'a, S, S::Check>,
     value: &InputValue<S>,
 ) -> Row<'t, 'a, S, S::Check>
-    ensures row { (schema : Catalog S S.Check) (fault : Option (List ℕ)) → IsRowOf schema S.may_answer (printed_value S.text S.str_of) value.now (expected_type expected.entry) result fault }
+    ensures row { (schema : Catalog S S.Check) (fault : Option (List ℕ))
+        → IsRowOf schema S.may_answer (printed_value S.text S.str_of) value.now (expected_type expected.entry) result
+        fault }
     ensures metadata { HasMeta (expected_type expected.entry) result }
     ensures items { IsListRow value.now result }
 {

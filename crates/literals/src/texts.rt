@@ -22,7 +22,8 @@ pub fn enum_fault<S: ScalarValue, C>(
     meta: &MetaTypeOf<S, C>,
     value: &InputValue<S>,
 ) -> Result<String, AllocError>
-    ensures { IfOk result (λ t. string_bytes t ≡ enum_text (printed_value S.text S.str_of value.now) (printed_name meta.now)) }
+    ensures { IfOk result (λ t. string_bytes t
+        ≡ enum_text (printed_value S.text S.str_of value.now) (printed_name meta.now)) }
 {
     let name = name_text(meta);
     format!(in alloc; "Invalid value \"{value}\" for enum \"{name}\"")
@@ -33,7 +34,8 @@ pub fn value_fault<S: ScalarValue, C>(
     meta: &MetaTypeOf<S, C>,
     value: &InputValue<S>,
 ) -> Result<String, AllocError>
-    ensures { IfOk result (λ t. string_bytes t ≡ value_text (printed_value S.text S.str_of value.now) (printed_name meta.now)) }
+    ensures { IfOk result (λ t. string_bytes t
+        ≡ value_text (printed_value S.text S.str_of value.now) (printed_name meta.now)) }
 {
     let name = name_text(meta);
     format!(in alloc; "Invalid value \"{value}\" for type \"{name}\"")
@@ -98,7 +100,8 @@ pub fn missing_fields_fault<S, C>(
     meta: &MetaTypeOf<S, C>,
     names: &[&str],
 ) -> Result<String, AllocError>
-    ensures { IfOk result (λ t. string_bytes t ≡ codes "\"" ++ (printed_name meta.now ++ (codes "\" is missing fields: " ++ comma_separated (map (λ n. quoted n.now) names.now)))) }
+    ensures { IfOk result (λ t. string_bytes t ≡ codes "\"" ++ (printed_name meta.now ++ (codes "\" is missing fields: "
+        ++ comma_separated (map (λ n. quoted n.now) names.now)))) }
 {
     let name = name_text(meta);
     let list = quoted_list(alloc, names)?;

@@ -23,8 +23,11 @@ pub fn validate_written_value<'a, S: CheckedScalar>(
     written: BorrowedType<'a>,
     value: &InputValue<S>,
 ) -> Result<Option<String>, OutOfMemory>
-    ensures fault { IfOk result (λ fault. WrittenFault schema.now S.may_answer (printed_value S.text S.str_of) value.now (borrowed_shape written.entry) (option_map string_bytes fault)) }
-    ensures alone { IfOk result (λ fault. (other : Option (List ℕ)) → WrittenFault schema.now S.may_answer (printed_value S.text S.str_of) value.now (borrowed_shape written.entry) other → other ≡ option_map string_bytes fault) }
+    ensures fault { IfOk result (λ fault. WrittenFault schema.now S.may_answer (printed_value S.text S.str_of) value.now
+        (borrowed_shape written.entry) (option_map string_bytes fault)) }
+    ensures alone { IfOk result (λ fault. (other : Option (List ℕ))
+        → WrittenFault schema.now S.may_answer (printed_value S.text S.str_of) value.now
+        (borrowed_shape written.entry) other → other ≡ option_map string_bytes fault) }
 {
     match type_written(schema, written) {
         None => Ok(None),

@@ -63,7 +63,8 @@ pub fn add_places<S, C>(
     first: &Entry<'_, S, C>,
     second: &Entry<'_, S, C>,
 ) -> Result<(), OutOfMemory>
-    ensures { OnOk result (Adds [] (place_of (plain first.now) ∷ []) (place_of (plain second.now) ∷ []) account.old account.new) }
+    ensures { OnOk result (Adds [] (place_of (plain first.now) ∷ []) (place_of (plain second.now)
+        ∷ []) account.old account.new) }
 {
     account.lefts.push(first.field.span.start)?;
     account.rights.push(second.field.span.start)?;
@@ -79,7 +80,8 @@ pub fn add_reason<S: ScalarValue, C>(
     second: &Entry<'_, S, C>,
     account: &mut Account,
 ) -> Result<(), OutOfMemory>
-    ensures { OnOk result (Adds (reason_between S.eq schema.now flag (plain first.now) (plain second.now)) (place_of (plain first.now) ∷ []) (place_of (plain second.now) ∷ []) account.old account.new) }
+    ensures { OnOk result (Adds (reason_between S.eq schema.now flag (plain first.now) (plain second.now))
+        (place_of (plain first.now) ∷ []) (place_of (plain second.now) ∷ []) account.old account.new) }
 {
     add_places(account, first, second)?;
     match direct_reason(schema, flag, first, second) {

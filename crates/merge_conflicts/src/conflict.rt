@@ -33,7 +33,9 @@ pub fn conflicts_found<'a, S: ScalarValue, C>(
     fields: &[Entry<'a, S, C>],
     found: &[Finding],
 ) -> Result<Vec<Conflict>, OutOfMemory>
-    ensures { (rs : Reports merging.Entry) (ts : Reports (PlainEntry S C)) → found.now ≡ postfix rs → AreReportsOf (map plain fields.now) rs ts → IfOk result (λ v. map plain_conflict v.items ≡ errors_of S.eq schema.now ts) }
+    ensures { (rs : Reports merging.Entry) (ts : Reports (PlainEntry S C)) → found.now ≡ postfix rs
+        → AreReportsOf (map plain fields.now) rs ts
+        → IfOk result (λ v. map plain_conflict v.items ≡ errors_of S.eq schema.now ts) }
 {
     let parts = parts_of(alloc, found)?;
     let mut conflicts = Vec::new(alloc);
@@ -50,7 +52,8 @@ fn conflict_of<'a, S: ScalarValue, C>(
     fields: &[Entry<'a, S, C>],
     part: &Part<'_>,
 ) -> Result<Conflict, OutOfMemory>
-    ensures { (t : Told) → IsToldOf S.eq schema.now (map plain fields.now) part.now t → IfOk result (λ c. plain_conflict c ≡ error_of t) }
+    ensures { (t : Told) → IsToldOf S.eq schema.now (map plain fields.now) part.now t
+        → IfOk result (λ c. plain_conflict c ≡ error_of t) }
 {
     let mut account = no_account(alloc);
     let name = response_at(fields, part.first);

@@ -34,7 +34,8 @@ pub fn add_why<'a, S: ScalarValue, C>(
     part: &Part<'_>,
     account: &mut Account,
 ) -> Result<(), OutOfMemory>
-    ensures { (t : Told) → IsToldOf S.eq schema.now (map plain fields.now) part.now t → OnOk result (Adds t.reason t.lefts t.rights account.old account.new) }
+    ensures { (t : Told) → IsToldOf S.eq schema.now (map plain fields.now) part.now t
+        → OnOk result (Adds t.reason t.lefts t.rights account.old account.new) }
 {
     let (Some(first), Some(second)) = (fields.get(part.first), fields.get(part.second)) else {
         return Ok(());
@@ -57,7 +58,8 @@ fn add_part<'a, S: ScalarValue, C>(
     part: &Part<'_>,
     account: &mut Account,
 ) -> Result<(), OutOfMemory>
-    ensures { (t : Told) → IsToldOf S.eq schema.now (map plain fields.now) part.now t → OnOk result (AddsNested t account.old account.new) }
+    ensures { (t : Told) → IsToldOf S.eq schema.now (map plain fields.now) part.now t
+        → OnOk result (AddsNested t account.old account.new) }
 {
     let name = response_at(fields, part.first);
     add_name(account, "subfields \"", name, "\" conflict because ")?;
@@ -73,7 +75,9 @@ fn add_below<'a, S: ScalarValue, C>(
     found: &[Finding],
     account: &mut Account,
 ) -> Result<(), OutOfMemory>
-    ensures { (rs : Reports merging.Entry) (ts : Reports (PlainEntry S C)) → found.now ≡ postfix rs → AreReportsOf (map plain fields.now) rs ts → OnOk result (AddsJoined (told S.eq schema.now ts) account.old account.new) }
+    ensures { (rs : Reports merging.Entry) (ts : Reports (PlainEntry S C)) → found.now ≡ postfix rs
+        → AreReportsOf (map plain fields.now) rs ts
+        → OnOk result (AddsJoined (told S.eq schema.now ts) account.old account.new) }
 {
     let parts = parts_of(alloc, found)?;
     let Some((first, others)) = parts.split_first() else {

@@ -66,8 +66,10 @@ pub fn search_fields<'a, S: ScalarValue, C>(
     requires { SearchedDocument document.now cycles }
     ensures none { IfOk result (λ r. IsSome r ↔ HasNoCycle document.now) }
     ensures judged { IfOk result (λ r. IfSome r (IsJudged S.eq schema.now document.now)) }
-    ensures few { IfOk result (λ r. IfSome r (λ f. f.compared ≤ fragment_count document.now * (fragment_count document.now - 1))) }
-    ensures enough { IfOk result (λ r. IfSome r (λ f. (ps : List (List ℕ × List ℕ)) → AreTogether schema.now document.now ps → length ps ≤ f.compared)) }
+    ensures few { IfOk result
+        (λ r. IfSome r (λ f. f.compared ≤ fragment_count document.now * (fragment_count document.now - 1))) }
+    ensures enough { IfOk result (λ r. IfSome r (λ f. (ps : List (List ℕ × List ℕ)) → AreTogether schema.now document.now ps
+        → length ps ≤ f.compared)) }
     ensures opened { IfOk result (λ r. IfSome r (λ f. f.opened ≤ fragment_count document.now * f.lists)) }
 {
     match graph_of_document(alloc, schema, document, cycles)? {

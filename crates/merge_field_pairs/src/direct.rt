@@ -29,10 +29,13 @@ pub fn direct_reason<S: ScalarValue, C>(
     right: &Entry<'_, S, C>,
 ) -> Option<DirectReason>
     ensures value { result ≡ direct_of S.eq schema.now exclusive (plain left.now) (plain right.now) }
-    ensures either_order { IsTidy (plain left.now) → IsTidy (plain right.now) → result ≡ direct_of S.eq schema.now exclusive (plain right.now) (plain left.now) }
+    ensures either_order { IsTidy (plain left.now) → IsTidy (plain right.now)
+        → result ≡ direct_of S.eq schema.now exclusive (plain right.now) (plain left.now) }
     ensures itself { IsTidy (plain left.now) → plain left.now ≡ plain right.now → result ≡ None }
-    ensures less_where_exclusive { result ≡ None → direct_of S.eq schema.now true (plain left.now) (plain right.now) ≡ None }
-    ensures more_elsewhere { IsSome result → IsSome (direct_of S.eq schema.now false (plain left.now) (plain right.now)) }
+    ensures less_where_exclusive { result ≡ None → direct_of S.eq schema.now true (plain left.now) (plain right.now)
+        ≡ None }
+    ensures more_elsewhere { IsSome result
+        → IsSome (direct_of S.eq schema.now false (plain left.now) (plain right.now)) }
 {
     first_reason(schema, are_exclusive(exclusive, left, right), left, right)
 }

@@ -62,7 +62,9 @@ fn are_exclusive_if_there<S, C>(
     left: Option<&Entry<'_, S, C>>,
     right: Option<&Entry<'_, S, C>>,
 ) -> bool
-    ensures { result ≡ exclusive_between exclusive (option_map plain (option_copied left.entry)) (option_map plain (option_copied right.entry)) }
+    ensures { result
+        ≡ exclusive_between exclusive (option_map plain (option_copied left.entry))
+        (option_map plain (option_copied right.entry)) }
 {
     match (left, right) {
         (Some(l), Some(r)) => are_exclusive(exclusive, l, r),
@@ -76,7 +78,9 @@ fn direct_reason_if_there<S: ScalarValue, C>(
     left: Option<&Entry<'_, S, C>>,
     right: Option<&Entry<'_, S, C>>,
 ) -> Option<DirectReason>
-    ensures { result ≡ direct_between S.eq schema.now exclusive (option_map plain (option_copied left.entry)) (option_map plain (option_copied right.entry)) }
+    ensures { result
+        ≡ direct_between S.eq schema.now exclusive (option_map plain (option_copied left.entry))
+        (option_map plain (option_copied right.entry)) }
 {
     match (left, right) {
         (Some(l), Some(r)) => direct_reason(schema, exclusive, l, r),
@@ -85,7 +89,9 @@ fn direct_reason_if_there<S: ScalarValue, C>(
 }
 
 fn are_alike_if_there<S, C>(left: Option<&Entry<'_, S, C>>, right: Option<&Entry<'_, S, C>>) -> bool
-    ensures { Decides result (AreAlikeBetween (option_map plain (option_copied left.entry)) (option_map plain (option_copied right.entry))) }
+    ensures { Decides result
+        (AreAlikeBetween (option_map plain (option_copied left.entry))
+        (option_map plain (option_copied right.entry))) }
 {
     match (left, right) {
         (Some(l), Some(r)) => are_alike(l, r),

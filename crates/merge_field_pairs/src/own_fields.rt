@@ -35,8 +35,10 @@ pub fn add_own_fields<'a, S, C>(
     fields: &mut Vec<Entry<'a, S, C>>,
     names: &mut Vec<&'a str>,
 ) -> Result<(), OutOfMemory>
-    ensures fields { OnOk result (map plain fields.new.items ≡ map plain fields.old.items ++ own_fields schema.now (option_copied parent.entry) set.now) }
-    ensures names { OnOk result (map (λ n. n.now) names.new.items ≡ map (λ n. n.now) names.old.items ++ own_spreads set.now) }
+    ensures fields { OnOk result (map plain fields.new.items ≡ map plain fields.old.items
+        ++ own_fields schema.now (option_copied parent.entry) set.now) }
+    ensures names { OnOk result (map (λ n. n.now) names.new.items ≡ map (λ n. n.now) names.old.items
+        ++ own_spreads set.now) }
 {
     for selection in set {
         add_own_fields_of(schema, parent, selection, fields, names)?;
@@ -52,8 +54,10 @@ fn add_own_fields_of<'a, S, C>(
     fields: &mut Vec<Entry<'a, S, C>>,
     names: &mut Vec<&'a str>,
 ) -> Result<(), OutOfMemory>
-    ensures fields { OnOk result (map plain fields.new.items ≡ map plain fields.old.items ++ own_fields_of schema.now (option_copied parent.entry) selection.now) }
-    ensures names { OnOk result (map (λ n. n.now) names.new.items ≡ map (λ n. n.now) names.old.items ++ own_spreads_of selection.now) }
+    ensures fields { OnOk result (map plain fields.new.items ≡ map plain fields.old.items
+        ++ own_fields_of schema.now (option_copied parent.entry) selection.now) }
+    ensures names { OnOk result (map (λ n. n.now) names.new.items ≡ map (λ n. n.now) names.old.items
+        ++ own_spreads_of selection.now) }
 {
     match selection {
         Selection::Field(field) => {

@@ -74,7 +74,8 @@ pub fn add_definition<'a, S, C>(
     building: &mut Building<'a, S, C>,
 ) -> Result<usize, OutOfMemory>
     requires { IsFree place building.old }
-    ensures { IfOk result (λ n. AddsDefinition schema.now (known_rank known.now) definition.now place n building.old building.new) }
+    ensures { IfOk result (λ n. AddsDefinition schema.now (known_rank known.now) definition.now place n building.old
+        building.new) }
 {
     let parent = type_of_definition(schema, definition);
     let set = selections(definition);
@@ -93,7 +94,8 @@ pub fn add_fragment<'a, S, C>(
     building: &mut Building<'a, S, C>,
 ) -> Result<(), OutOfMemory>
     requires { IsFree place building.old }
-    ensures { OnOk result (AddsFragment schema.now (known_rank known.now) definition.now place building.old building.new) }
+    ensures { OnOk result (AddsFragment schema.now (known_rank known.now) definition.now place building.old
+        building.new) }
 {
     let set = add_definition(alloc, schema, known, definition, place, building)?;
     building.fragments.push(set)?;

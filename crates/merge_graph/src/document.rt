@@ -109,7 +109,9 @@ fn add_missing<'a, S, C>(
     requires inside { place < length document.now }
     requires sized { length building.old.stretches.items ≡ length document.now }
     ensures sized { OnOk result (length building.new.stretches.items ≡ length document.now) }
-    ensures adds { OnOk result (KnowsAll (rank_in cycles.now) building.old.fragments.items → Built schema.now document.now (rank_in cycles.now) building.old → AddsMissing schema.now document.now (rank_in cycles.now) place building.old building.new) }
+    ensures adds { OnOk result (KnowsAll (rank_in cycles.now) building.old.fragments.items
+        → Built schema.now document.now (rank_in cycles.now) building.old
+        → AddsMissing schema.now document.now (rank_in cycles.now) place building.old building.new) }
 {
     if building.stretches[place].is_none() {
         let known = known_fragments(cycles, building.fragments.len());
@@ -127,7 +129,9 @@ fn add_others<'a, S, C>(
     building: &mut Building<'a, S, C>,
 ) -> Result<(), OutOfMemory>
     requires { length building.old.stretches.items ≡ length document.now }
-    ensures { OnOk result (KnowsAll (rank_in cycles.now) building.old.fragments.items → Built schema.now document.now (rank_in cycles.now) building.old → AddsOthers schema.now document.now (rank_in cycles.now) (length document.now) building.old building.new) }
+    ensures { OnOk result (KnowsAll (rank_in cycles.now) building.old.fragments.items
+        → Built schema.now document.now (rank_in cycles.now) building.old
+        → AddsOthers schema.now document.now (rank_in cycles.now) (length document.now) building.old building.new) }
 {
     for place in 0..document.len() {
         add_missing(alloc, schema, document, cycles, place, building)?;
@@ -224,7 +228,8 @@ pub fn graph_of_document<'a, S: ScalarValue, C>(
     requires { SearchedDocument document.now cycles }
     ensures none { IfOk result (λ g. IsSome g ↔ HasNoCycle document.now) }
     ensures graph { IfOk result (λ g. IfSome g (IsGraphOf schema.now document.now)) }
-    ensures lawful { IfOk result (λ g. IfSome g (λ x. AreTidy (map plain x.judge.fields.items) → Lawful (judgement_of S.eq x.judge))) }
+    ensures lawful { IfOk result (λ g. IfSome g (λ x. AreTidy (map plain x.judge.fields.items)
+        → Lawful (judgement_of S.eq x.judge))) }
 {
     if !cycles.outcome.reports.is_empty() {
         return Ok(None);

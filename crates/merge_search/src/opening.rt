@@ -47,7 +47,8 @@ fn open(opening: &mut Opening, f: usize) -> Result<(), AllocError>
 
 // Opens the fragments that one spreads.
 fn follow<J: Judge>(graph: &Graph<J>, f: usize, opening: &mut Opening) -> Result<(), AllocError>
-    ensures { OnOk result (Gains (spreads_of (world J.judgement graph.now) (set_of (world J.judgement graph.now) f)) (spreads_of (world J.judgement graph.now) (set_of (world J.judgement graph.now) f)) opening.old opening.new) }
+    ensures { OnOk result (Gains (spreads_of (world J.judgement graph.now) (set_of (world J.judgement graph.now) f))
+        (spreads_of (world J.judgement graph.now) (set_of (world J.judgement graph.now) f)) opening.old opening.new) }
 {
     for h in spreads(graph, set(graph, f)) {
         open(opening, *h)?;

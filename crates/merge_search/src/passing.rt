@@ -58,7 +58,8 @@ fn note_with<J: Judge>(
 ) -> Result<(), AllocError>
     requires first { f < length graph.now.fragments.items }
     requires plain { ArePlain (world J.judgement graph.now) plain.now }
-    ensures done { OnOk result (Did (world J.judgement graph.now) (λ M. has plain.now (set_of (world J.judgement graph.now) f) ≡ true → (g : ℕ) → has list.now g ≡ true → g < f → Pair M false f g) search.old search.new) }
+    ensures done { OnOk result (Did (world J.judgement graph.now) (λ M. has plain.now (set_of (world J.judgement graph.now) f)
+        ≡ true → (g : ℕ) → has list.now g ≡ true → g < f → Pair M false f g) search.old search.new) }
     ensures real { OnOk result (search.new.found.items ≡ search.old.found.items) }
 {
     if is_plain(graph, f, plain) {
@@ -77,7 +78,9 @@ pub(crate) fn note_plain<J: Judge>(
 ) -> Result<(), AllocError>
     requires list { All (λ g. g < length graph.now.fragments.items) list.now }
     requires plain { ArePlain (world J.judgement graph.now) plain.now }
-    ensures done { OnOk result (Did (world J.judgement graph.now) (λ M. All (MarkedDone (world J.judgement graph.now) M plain.now list.now) list.now) search.old search.new) }
+    ensures done { OnOk result
+        (Did (world J.judgement graph.now)
+        (λ M. All (MarkedDone (world J.judgement graph.now) M plain.now list.now) list.now) search.old search.new) }
     ensures real { OnOk result (search.new.found.items ≡ search.old.found.items) }
 {
     if list.len() < 2 {

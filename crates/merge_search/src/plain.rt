@@ -56,7 +56,8 @@ fn are_plain_fields<J: Judge>(
 
 fn are_plain_fragments<J: Judge>(graph: &Graph<J>, fragments: &[usize], sets: &BitSet) -> bool
     requires { ArePlain (world J.judgement graph.now) sets.now }
-    ensures { OnTrue result (All (λ f. IsPlain (world J.judgement graph.now) (set_of (world J.judgement graph.now) f)) fragments.now) }
+    ensures { OnTrue result (All (λ f. IsPlain (world J.judgement graph.now) (set_of (world J.judgement graph.now) f))
+        fragments.now) }
 {
     for f in fragments {
         if !is_plain(graph, *f, sets) {

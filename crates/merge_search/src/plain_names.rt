@@ -72,7 +72,8 @@ fn note_field<J: Judge>(graph: &Graph<J>, field: Entry, seen: &mut Seen) -> Resu
 
 // Looks at the own fields of a set.
 fn note_own<J: Judge>(graph: &Graph<J>, s: usize, seen: &mut Seen) -> Result<(), AllocError>
-    ensures { OnOk result (Notes (J.are_alike graph.now.judge) (own_of (world J.judgement graph.now) s) seen.old seen.new) }
+    ensures { OnOk result (Notes (J.are_alike graph.now.judge) (own_of (world J.judgement graph.now) s) seen.old
+        seen.new) }
 {
     for field in own(graph, s) {
         note_field(graph, *field, seen)?;

@@ -27,8 +27,10 @@ pub fn compare_fields<J: Judge>(
     e: bool,
     search: &mut Search,
 ) -> Result<(), AllocError>
-    ensures done { OnOk result (Did (world J.judgement graph.now) (λ M. Done (world J.judgement graph.now) M e a b) search.old search.new) }
-    ensures real { OnOk result (AddsAll (world J.judgement graph.now) e (AtFields a b) (AtFields a b) search.old.found.items search.new.found.items) }
+    ensures done { OnOk result (Did (world J.judgement graph.now) (λ M. Done (world J.judgement graph.now) M e a b) search.old
+        search.new) }
+    ensures real { OnOk result (AddsAll (world J.judgement graph.now) e (AtFields a b) (AtFields a b) search.old.found.items
+        search.new.found.items) }
 {
     if are_in_conflict(graph, e, a, b) {
         return report(search, Finding::Direct(a, b, e));
@@ -50,8 +52,13 @@ fn compare_nested<J: Judge>(
     e: bool,
     search: &mut Search,
 ) -> Result<(), AllocError>
-    ensures done { OnOk result (Did (world J.judgement graph.now) (λ M. SetsDone (world J.judgement graph.now) M (exclusive_of (world J.judgement graph.now) e a b) i j) search.old search.new) }
-    ensures real { conflict_of (world J.judgement graph.now) e a b ≡ false → a.below ≡ Some i → b.below ≡ Some j → OnOk result (Adds (world J.judgement graph.now) e (AtFields a b) search.old.found.items search.new.found.items) }
+    ensures done { OnOk result
+        (Did (world J.judgement graph.now)
+        (λ M. SetsDone (world J.judgement graph.now) M (exclusive_of (world J.judgement graph.now) e a b) i j)
+        search.old search.new) }
+    ensures real { conflict_of (world J.judgement graph.now) e a b ≡ false → a.below ≡ Some i → b.below ≡ Some j
+        → OnOk result
+        (Adds (world J.judgement graph.now) e (AtFields a b) search.old.found.items search.new.found.items) }
 {
     let start = search.found.len();
     compare_below(graph, i, j, are_exclusive(graph, e, a, b), search)?;
@@ -71,8 +78,10 @@ fn compare_below<J: Judge>(
     e: bool,
     search: &mut Search,
 ) -> Result<(), AllocError>
-    ensures done { OnOk result (Did (world J.judgement graph.now) (λ M. SetsDone (world J.judgement graph.now) M e i j) search.old search.new) }
-    ensures real { OnOk result (Adds (world J.judgement graph.now) e (AtBelow (world J.judgement graph.now) i j) search.old.found.items search.new.found.items) }
+    ensures done { OnOk result (Did (world J.judgement graph.now) (λ M. SetsDone (world J.judgement graph.now) M e i j)
+        search.old search.new) }
+    ensures real { OnOk result (Adds (world J.judgement graph.now) e (AtBelow (world J.judgement graph.now) i j)
+        search.old.found.items search.new.found.items) }
 {
     compare_own(graph, i, j, e, search)?;
     own_against_all(graph, i, j, e, search)?;
@@ -89,8 +98,12 @@ fn compare_with<J: Judge>(
     e: bool,
     search: &mut Search,
 ) -> Result<(), AllocError>
-    ensures done { OnOk result (Did (world J.judgement graph.now) (λ M. All (λ b. Done (world J.judgement graph.now) M e a b) (named a.response (own_of (world J.judgement graph.now) j))) search.old search.new) }
-    ensures real { OnOk result (AddsAll (world J.judgement graph.now) e (AtWith (world J.judgement graph.now) a j) (AtWith (world J.judgement graph.now) a j) search.old.found.items search.new.found.items) }
+    ensures done { OnOk result
+        (Did (world J.judgement graph.now)
+        (λ M. All (λ b. Done (world J.judgement graph.now) M e a b)
+        (named a.response (own_of (world J.judgement graph.now) j))) search.old search.new) }
+    ensures real { OnOk result (AddsAll (world J.judgement graph.now) e (AtWith (world J.judgement graph.now) a j)
+        (AtWith (world J.judgement graph.now) a j) search.old.found.items search.new.found.items) }
 {
     for b in group(graph, j, a.response) {
         compare_fields(graph, a, *b, e, search)?;
@@ -108,8 +121,14 @@ fn compare_named<J: Judge>(
     e: bool,
     search: &mut Search,
 ) -> Result<(), AllocError>
-    ensures done { OnOk result (Did (world J.judgement graph.now) (λ M. All (λ a. All (λ b. Done (world J.judgement graph.now) M e a b) (named a.response (own_of (world J.judgement graph.now) j))) (named name (own_of (world J.judgement graph.now) i))) search.old search.new) }
-    ensures real { OnOk result (AddsAll (world J.judgement graph.now) e (AtNamed (world J.judgement graph.now) i j name) (AtNamed (world J.judgement graph.now) i j name) search.old.found.items search.new.found.items) }
+    ensures done { OnOk result
+        (Did (world J.judgement graph.now)
+        (λ M. All
+        (λ a. All (λ b. Done (world J.judgement graph.now) M e a b)
+        (named a.response (own_of (world J.judgement graph.now) j)))
+        (named name (own_of (world J.judgement graph.now) i))) search.old search.new) }
+    ensures real { OnOk result (AddsAll (world J.judgement graph.now) e (AtNamed (world J.judgement graph.now) i j name)
+        (AtNamed (world J.judgement graph.now) i j name) search.old.found.items search.new.found.items) }
 {
     let left = group(graph, i, name);
     if left.len() > 1 && are_plainly_alike(graph, left, group(graph, j, name)) {
@@ -130,8 +149,10 @@ pub fn compare_own<J: Judge>(
     e: bool,
     search: &mut Search,
 ) -> Result<(), AllocError>
-    ensures done { OnOk result (Did (world J.judgement graph.now) (λ M. OwnPairs (world J.judgement graph.now) M e i j) search.old search.new) }
-    ensures real { OnOk result (AddsAll (world J.judgement graph.now) e (AtOwn (world J.judgement graph.now) i j) (AtOwn (world J.judgement graph.now) i j) search.old.found.items search.new.found.items) }
+    ensures done { OnOk result (Did (world J.judgement graph.now) (λ M. OwnPairs (world J.judgement graph.now) M e i j)
+        search.old search.new) }
+    ensures real { OnOk result (AddsAll (world J.judgement graph.now) e (AtOwn (world J.judgement graph.now) i j)
+        (AtOwn (world J.judgement graph.now) i j) search.old.found.items search.new.found.items) }
 {
     for first in firsts(graph, i) {
         compare_named(graph, i, j, first.response, e, search)?;
@@ -148,8 +169,15 @@ fn open_fragment<J: Judge>(
     e: bool,
     search: &mut Search,
 ) -> Result<(), AllocError>
-    ensures done { OnOk result (Owes (world J.judgement graph.now) (λ M. All (λ h. Searched M e i h) (spreads_of (world J.judgement graph.now) (set_of (world J.judgement graph.now) g))) (λ M. Searched M e i g) search.old search.new) }
-    ensures real { OnOk result (Adds (world J.judgement graph.now) e (AtOwn (world J.judgement graph.now) i (set_of (world J.judgement graph.now) g)) search.old.found.items search.new.found.items) }
+    ensures done { OnOk result
+        (Owes (world J.judgement graph.now)
+        (λ M. All (λ h. Searched M e i h)
+        (spreads_of (world J.judgement graph.now) (set_of (world J.judgement graph.now) g))) (λ M. Searched M e i g)
+        search.old search.new) }
+    ensures real { OnOk result
+        (Adds (world J.judgement graph.now) e
+        (AtOwn (world J.judgement graph.now) i (set_of (world J.judgement graph.now) g)) search.old.found.items
+        search.new.found.items) }
 {
     if is_settled(graph, search, i, g, e) {
         return Ok(());
@@ -171,8 +199,10 @@ fn open_all<J: Judge>(
     search: &mut Search,
 ) -> Result<(), AllocError>
     requires { Opens (world J.judgement graph.now) g opening.now }
-    ensures done { OnOk result (Owes (world J.judgement graph.now) (λ M. All (λ h. Searched M e i h) opening.now) (λ M. All (λ h. Searched M e i h) opening.now) search.old search.new) }
-    ensures real { OnOk result (Adds (world J.judgement graph.now) e (AtSearch (world J.judgement graph.now) i g) search.old.found.items search.new.found.items) }
+    ensures done { OnOk result (Owes (world J.judgement graph.now) (λ M. All (λ h. Searched M e i h) opening.now)
+        (λ M. All (λ h. Searched M e i h) opening.now) search.old search.new) }
+    ensures real { OnOk result (Adds (world J.judgement graph.now) e (AtSearch (world J.judgement graph.now) i g)
+        search.old.found.items search.new.found.items) }
 {
     for h in opening {
         open_fragment(graph, i, *h, e, search)?;
@@ -191,7 +221,8 @@ fn own_against<J: Judge>(
 ) -> Result<(), AllocError>
     requires { g < length graph.now.fragments.items }
     ensures done { OnOk result (Did (world J.judgement graph.now) (λ M. Searched M e i g) search.old search.new) }
-    ensures real { OnOk result (Adds (world J.judgement graph.now) e (AtSearch (world J.judgement graph.now) i g) search.old.found.items search.new.found.items) }
+    ensures real { OnOk result (Adds (world J.judgement graph.now) e (AtSearch (world J.judgement graph.now) i g)
+        search.old.found.items search.new.found.items) }
 {
     if is_settled(graph, search, i, g, e) {
         return Ok(());
@@ -210,8 +241,11 @@ fn own_against_all<J: Judge>(
     e: bool,
     search: &mut Search,
 ) -> Result<(), AllocError>
-    ensures done { OnOk result (Did (world J.judgement graph.now) (λ M. All (λ h. Searched M e i h) (spreads_of (world J.judgement graph.now) j)) search.old search.new) }
-    ensures real { OnOk result (Adds (world J.judgement graph.now) e (AtSearches (world J.judgement graph.now) i j) search.old.found.items search.new.found.items) }
+    ensures done { OnOk result
+        (Did (world J.judgement graph.now)
+        (λ M. All (λ h. Searched M e i h) (spreads_of (world J.judgement graph.now) j)) search.old search.new) }
+    ensures real { OnOk result (Adds (world J.judgement graph.now) e (AtSearches (world J.judgement graph.now) i j)
+        search.old.found.items search.new.found.items) }
 {
     for h in spreads(graph, j) {
         own_against(graph, i, *h, e, search)?;
@@ -231,7 +265,8 @@ pub fn compare_fragments<J: Judge>(
     requires first { f < length graph.now.fragments.items }
     requires second { g < length graph.now.fragments.items }
     ensures done { OnOk result (Did (world J.judgement graph.now) (λ M. Pair M e f g) search.old search.new) }
-    ensures real { OnOk result (Adds (world J.judgement graph.now) e (AtFragments (world J.judgement graph.now) f g) search.old.found.items search.new.found.items) }
+    ensures real { OnOk result (Adds (world J.judgement graph.now) e (AtFragments (world J.judgement graph.now) f g)
+        search.old.found.items search.new.found.items) }
 {
     if f == g {
         return Ok(());
@@ -255,8 +290,11 @@ fn fragment_against_all<J: Judge>(
     search: &mut Search,
 ) -> Result<(), AllocError>
     requires { f < length graph.now.fragments.items }
-    ensures done { OnOk result (Did (world J.judgement graph.now) (λ M. All (λ h. Pair M e f h) (spreads_of (world J.judgement graph.now) j)) search.old search.new) }
-    ensures real { OnOk result (Adds (world J.judgement graph.now) e (AtFirst (world J.judgement graph.now) f j) search.old.found.items search.new.found.items) }
+    ensures done { OnOk result
+        (Did (world J.judgement graph.now) (λ M. All (λ h. Pair M e f h) (spreads_of (world J.judgement graph.now) j))
+        search.old search.new) }
+    ensures real { OnOk result (Adds (world J.judgement graph.now) e (AtFirst (world J.judgement graph.now) f j)
+        search.old.found.items search.new.found.items) }
 {
     for h in spreads(graph, j) {
         compare_fragments(graph, f, *h, e, search)?;
@@ -274,8 +312,11 @@ fn all_against_fragment<J: Judge>(
     search: &mut Search,
 ) -> Result<(), AllocError>
     requires { g < length graph.now.fragments.items }
-    ensures done { OnOk result (Did (world J.judgement graph.now) (λ M. All (λ h. Pair M e h g) (spreads_of (world J.judgement graph.now) i)) search.old search.new) }
-    ensures real { OnOk result (Adds (world J.judgement graph.now) e (AtSecond (world J.judgement graph.now) i g) search.old.found.items search.new.found.items) }
+    ensures done { OnOk result
+        (Did (world J.judgement graph.now) (λ M. All (λ h. Pair M e h g) (spreads_of (world J.judgement graph.now) i))
+        search.old search.new) }
+    ensures real { OnOk result (Adds (world J.judgement graph.now) e (AtSecond (world J.judgement graph.now) i g)
+        search.old.found.items search.new.found.items) }
 {
     for h in spreads(graph, i) {
         compare_fragments(graph, *h, g, e, search)?;
@@ -292,8 +333,12 @@ fn all_against_all<J: Judge>(
     e: bool,
     search: &mut Search,
 ) -> Result<(), AllocError>
-    ensures done { OnOk result (Did (world J.judgement graph.now) (λ M. All (λ g. All (λ h. Pair M e g h) (spreads_of (world J.judgement graph.now) j)) (spreads_of (world J.judgement graph.now) i)) search.old search.new) }
-    ensures real { OnOk result (Adds (world J.judgement graph.now) e (AtSpreads (world J.judgement graph.now) i j) search.old.found.items search.new.found.items) }
+    ensures done { OnOk result
+        (Did (world J.judgement graph.now)
+        (λ M. All (λ g. All (λ h. Pair M e g h) (spreads_of (world J.judgement graph.now) j))
+        (spreads_of (world J.judgement graph.now) i)) search.old search.new) }
+    ensures real { OnOk result (Adds (world J.judgement graph.now) e (AtSpreads (world J.judgement graph.now) i j)
+        search.old.found.items search.new.found.items) }
 {
     for g in spreads(graph, i) {
         fragment_against_all(graph, *g, j, e, search)?;

@@ -28,8 +28,11 @@ fn compare_rest<J: Judge>(
     rest: &[Entry],
     search: &mut Search,
 ) -> Result<(), AllocError>
-    ensures done { OnOk result (Did (world J.judgement graph.now) (λ M. All (λ b. Done (world J.judgement graph.now) M false a b) rest.now) search.old search.new) }
-    ensures real { OnOk result (AddsAll (world J.judgement graph.now) false (AtRest a rest.now) (AtRest a rest.now) search.old.found.items search.new.found.items) }
+    ensures done { OnOk result
+        (Did (world J.judgement graph.now) (λ M. All (λ b. Done (world J.judgement graph.now) M false a b) rest.now)
+        search.old search.new) }
+    ensures real { OnOk result (AddsAll (world J.judgement graph.now) false (AtRest a rest.now) (AtRest a rest.now)
+        search.old.found.items search.new.found.items) }
 {
     for b in rest {
         compare_fields(graph, a, *b, false, search)?;
@@ -43,8 +46,11 @@ fn compare_each<J: Judge>(
     fields: &[Entry],
     search: &mut Search,
 ) -> Result<(), AllocError>
-    ensures done { OnOk result (Did (world J.judgement graph.now) (λ M. AllBefore (Done (world J.judgement graph.now) M false) fields.now) search.old search.new) }
-    ensures real { OnOk result (AddsAll (world J.judgement graph.now) false (AtBefore fields.now) (AtBefore fields.now) search.old.found.items search.new.found.items) }
+    ensures done { OnOk result
+        (Did (world J.judgement graph.now) (λ M. AllBefore (Done (world J.judgement graph.now) M false) fields.now)
+        search.old search.new) }
+    ensures real { OnOk result (AddsAll (world J.judgement graph.now) false (AtBefore fields.now) (AtBefore fields.now)
+        search.old.found.items search.new.found.items) }
 {
     if fields.len() > 2 && are_plainly_alike(graph, fields, fields) {
         return Ok(());
@@ -61,8 +67,10 @@ fn compare_within<J: Judge>(
     s: usize,
     search: &mut Search,
 ) -> Result<(), AllocError>
-    ensures done { OnOk result (Did (world J.judgement graph.now) (λ M. OwnWithin (world J.judgement graph.now) M s) search.old search.new) }
-    ensures real { OnOk result (AddsAll (world J.judgement graph.now) false (AtWithin (world J.judgement graph.now) s) (AtWithin (world J.judgement graph.now) s) search.old.found.items search.new.found.items) }
+    ensures done { OnOk result (Did (world J.judgement graph.now) (λ M. OwnWithin (world J.judgement graph.now) M s) search.old
+        search.new) }
+    ensures real { OnOk result (AddsAll (world J.judgement graph.now) false (AtWithin (world J.judgement graph.now) s)
+        (AtWithin (world J.judgement graph.now) s) search.old.found.items search.new.found.items) }
 {
     for first in firsts(graph, s) {
         compare_each(graph, group(graph, s, first.response), search)?;
@@ -79,8 +87,12 @@ fn write_all<J: Judge>(
     search: &mut Search,
 ) -> Result<(), AllocError>
     requires { Opens (world J.judgement graph.now) g opening.now }
-    ensures done { OnOk result (Did (world J.judgement graph.now) (λ M. All (λ h. OwnPairs (world J.judgement graph.now) M false s (set_of (world J.judgement graph.now) h)) opening.now) search.old search.new) }
-    ensures real { OnOk result (AddsAll (world J.judgement graph.now) false (AtWritten (world J.judgement graph.now) s g) (AtWritten (world J.judgement graph.now) s g) search.old.found.items search.new.found.items) }
+    ensures done { OnOk result
+        (Did (world J.judgement graph.now)
+        (λ M. All (λ h. OwnPairs (world J.judgement graph.now) M false s (set_of (world J.judgement graph.now) h))
+        opening.now) search.old search.new) }
+    ensures real { OnOk result (AddsAll (world J.judgement graph.now) false (AtWritten (world J.judgement graph.now) s g)
+        (AtWritten (world J.judgement graph.now) s g) search.old.found.items search.new.found.items) }
 {
     for h in opening {
         compare_own(graph, s, set(graph, *h), false, search)?;
@@ -96,8 +108,10 @@ fn write_out<J: Judge>(
     search: &mut Search,
 ) -> Result<(), AllocError>
     requires { g < length graph.now.fragments.items }
-    ensures done { OnOk result (Did (world J.judgement graph.now) (λ M. OwnWritten (world J.judgement graph.now) M s g) search.old search.new) }
-    ensures real { OnOk result (AddsAll (world J.judgement graph.now) false (AtWritten (world J.judgement graph.now) s g) (AtWritten (world J.judgement graph.now) s g) search.old.found.items search.new.found.items) }
+    ensures done { OnOk result (Did (world J.judgement graph.now) (λ M. OwnWritten (world J.judgement graph.now) M s g)
+        search.old search.new) }
+    ensures real { OnOk result (AddsAll (world J.judgement graph.now) false (AtWritten (world J.judgement graph.now) s g)
+        (AtWritten (world J.judgement graph.now) s g) search.old.found.items search.new.found.items) }
 {
     let opening = opened(graph, g, search)?;
     write_all(graph, s, g, opening.order.as_slice(), search)?;
@@ -112,8 +126,10 @@ fn write_own<J: Judge>(
     search: &mut Search,
 ) -> Result<(), AllocError>
     requires { g < length graph.now.fragments.items }
-    ensures done { OnOk result (Did (world J.judgement graph.now) (λ M. OwnWritten (world J.judgement graph.now) M s g) search.old search.new) }
-    ensures real { OnOk result (AddsAll (world J.judgement graph.now) false (AtWritten (world J.judgement graph.now) s g) (AtWritten (world J.judgement graph.now) s g) search.old.found.items search.new.found.items) }
+    ensures done { OnOk result (Did (world J.judgement graph.now) (λ M. OwnWritten (world J.judgement graph.now) M s g)
+        search.old search.new) }
+    ensures real { OnOk result (AddsAll (world J.judgement graph.now) false (AtWritten (world J.judgement graph.now) s g)
+        (AtWritten (world J.judgement graph.now) s g) search.old.found.items search.new.found.items) }
 {
     if firsts(graph, s).is_empty() {
         return Ok(());
@@ -133,7 +149,8 @@ fn compare_pair<J: Judge>(
     requires second { g < length graph.now.fragments.items }
     requires plain { ArePlain (world J.judgement graph.now) plain.now }
     ensures done { OnOk result (Did (world J.judgement graph.now) (λ M. Pair M false f g) search.old search.new) }
-    ensures real { OnOk result (Adds (world J.judgement graph.now) false (AtFragments (world J.judgement graph.now) f g) search.old.found.items search.new.found.items) }
+    ensures real { OnOk result (Adds (world J.judgement graph.now) false (AtFragments (world J.judgement graph.now) f g)
+        search.old.found.items search.new.found.items) }
 {
     if is_plain(graph, g, plain) {
         return pass_over(graph, f, g, search);
@@ -152,8 +169,10 @@ fn pair_all<J: Judge>(
     requires first { f < length graph.now.fragments.items }
     requires list { All (λ g. g < length graph.now.fragments.items) list.now }
     requires plain { ArePlain (world J.judgement graph.now) plain.now }
-    ensures done { OnOk result (Did (world J.judgement graph.now) (λ M. All (λ g. Pair M false f g) list.now) search.old search.new) }
-    ensures real { OnOk result (Adds (world J.judgement graph.now) false (AtListed (world J.judgement graph.now) f list.now) search.old.found.items search.new.found.items) }
+    ensures done { OnOk result (Did (world J.judgement graph.now) (λ M. All (λ g. Pair M false f g) list.now) search.old
+        search.new) }
+    ensures real { OnOk result (Adds (world J.judgement graph.now) false (AtListed (world J.judgement graph.now) f list.now)
+        search.old.found.items search.new.found.items) }
 {
     for g in list {
         compare_pair(graph, f, *g, plain, search)?;
@@ -173,8 +192,12 @@ fn compare_spread<J: Judge>(
     requires first { f < length graph.now.fragments.items }
     requires list { All (λ g. g < length graph.now.fragments.items) list.now }
     requires plain { ArePlain (world J.judgement graph.now) plain.now }
-    ensures done { OnOk result (Did (world J.judgement graph.now) (λ M. SpreadDone (world J.judgement graph.now) M plain.now s list.now f) search.old search.new) }
-    ensures real { OnOk result (AddsAll (world J.judgement graph.now) false (AtWrittenOrListed (world J.judgement graph.now) s f list.now) (AtWritten (world J.judgement graph.now) s f) search.old.found.items search.new.found.items) }
+    ensures done { OnOk result
+        (Did (world J.judgement graph.now) (λ M. SpreadDone (world J.judgement graph.now) M plain.now s list.now f)
+        search.old search.new) }
+    ensures real { OnOk result
+        (AddsAll (world J.judgement graph.now) false (AtWrittenOrListed (world J.judgement graph.now) s f list.now)
+        (AtWritten (world J.judgement graph.now) s f) search.old.found.items search.new.found.items) }
 {
     if is_plain(graph, f, plain) {
         return Ok(());
@@ -191,8 +214,12 @@ fn compare_spreads<J: Judge>(
     search: &mut Search,
 ) -> Result<(), AllocError>
     requires { ArePlain (world J.judgement graph.now) plain.now }
-    ensures done { OnOk result (Did (world J.judgement graph.now) (λ M. All (λ f. OwnWritten (world J.judgement graph.now) M s f) (spreads_of (world J.judgement graph.now) s) × AllBefore (Pair M false) (spreads_of (world J.judgement graph.now) s)) search.old search.new) }
-    ensures real { OnOk result (AddsAll (world J.judgement graph.now) false (AtPlaces (world J.judgement graph.now) s) (AtSpread (world J.judgement graph.now) s) search.old.found.items search.new.found.items) }
+    ensures done { OnOk result
+        (Did (world J.judgement graph.now)
+        (λ M. All (λ f. OwnWritten (world J.judgement graph.now) M s f) (spreads_of (world J.judgement graph.now) s)
+        × AllBefore (Pair M false) (spreads_of (world J.judgement graph.now) s)) search.old search.new) }
+    ensures real { OnOk result (AddsAll (world J.judgement graph.now) false (AtPlaces (world J.judgement graph.now) s)
+        (AtSpread (world J.judgement graph.now) s) search.old.found.items search.new.found.items) }
 {
     let list = spreads(graph, s);
     for f in list {
@@ -209,8 +236,10 @@ fn compare_set<J: Judge>(
     search: &mut Search,
 ) -> Result<(), AllocError>
     requires { ArePlain (world J.judgement graph.now) plain.now }
-    ensures done { OnOk result (Did (world J.judgement graph.now) (λ M. Top (world J.judgement graph.now) M s) search.old search.new) }
-    ensures real { OnOk result (AddsAll (world J.judgement graph.now) false (AtPlaces (world J.judgement graph.now) s) (AtTop (world J.judgement graph.now) s) search.old.found.items search.new.found.items) }
+    ensures done { OnOk result (Did (world J.judgement graph.now) (λ M. Top (world J.judgement graph.now) M s) search.old
+        search.new) }
+    ensures real { OnOk result (AddsAll (world J.judgement graph.now) false (AtPlaces (world J.judgement graph.now) s)
+        (AtTop (world J.judgement graph.now) s) search.old.found.items search.new.found.items) }
 {
     compare_within(graph, s, search)?;
     compare_spreads(graph, s, plain, search)
@@ -223,7 +252,8 @@ fn compare_set<J: Judge>(
 pub fn search_all<J: Judge>(alloc: Global, graph: &Graph<J>) -> Result<Search, AllocError>
     ensures judged { IfOk result (λ m. Judged (world J.judgement graph.now) m.found.items) }
     ensures few { IfOk result (λ m. m.compared ≤ length graph.now.fragments.items * (length graph.now.fragments.items - 1)) }
-    ensures enough { IfOk result (λ m. (ps : List (ℕ × ℕ)) → Together (world J.judgement graph.now) ps → length ps ≤ m.compared) }
+    ensures enough { IfOk result (λ m. (ps : List (ℕ × ℕ)) → Together (world J.judgement graph.now) ps
+        → length ps ≤ m.compared) }
     ensures opened { IfOk result (λ m. m.opened ≤ length graph.now.fragments.items * m.lists) }
 {
     let plain = passed_over(alloc, graph)?;

@@ -25,7 +25,8 @@ pub fn add_set<'a, S, C>(
     set: &'a [Selection<'a, S>],
     table: &mut Table<'a, S, C>,
 ) -> Result<usize, OutOfMemory>
-    ensures { IfOk result (λ n. AddsSet schema.now (known_rank fragments.now) (option_copied parent.entry) set.now n table.old table.new) }
+    ensures { IfOk result (λ n. AddsSet schema.now (known_rank fragments.now) (option_copied parent.entry) set.now n
+        table.old table.new) }
 {
     let place = open_set(table)?;
     let mut part = no_fields(alloc, set.len())?;
@@ -43,7 +44,8 @@ fn add_selections<'a, S, C>(
     part: &mut NumberedSet,
     table: &mut Table<'a, S, C>,
 ) -> Result<(), OutOfMemory>
-    ensures { OnOk result (Adds schema.now (known_rank fragments.now) (option_copied parent.entry) set.now part.old part.new table.old table.new) }
+    ensures { OnOk result (Adds schema.now (known_rank fragments.now) (option_copied parent.entry) set.now part.old
+        part.new table.old table.new) }
 {
     for selection in set {
         add_selection(alloc, schema, fragments, parent, selection, part, table)?;
@@ -61,7 +63,8 @@ fn add_selection<'a, S, C>(
     part: &mut NumberedSet,
     table: &mut Table<'a, S, C>,
 ) -> Result<(), OutOfMemory>
-    ensures { OnOk result (Adds schema.now (known_rank fragments.now) (option_copied parent.entry) (selection.now ∷ []) part.old part.new table.old table.new) }
+    ensures { OnOk result (Adds schema.now (known_rank fragments.now) (option_copied parent.entry) (selection.now
+        ∷ []) part.old part.new table.old table.new) }
 {
     match selection {
         Selection::Field(field) => {
@@ -87,7 +90,9 @@ fn add_field<'a, S, C>(
     part: &mut NumberedSet,
     table: &mut Table<'a, S, C>,
 ) -> Result<(), OutOfMemory>
-    ensures { OnOk result (Adds schema.now (known_rank fragments.now) (option_copied parent.entry) (Selection.Field field.now ∷ []) part.old part.new table.old table.new) }
+    ensures { OnOk result
+        (Adds schema.now (known_rank fragments.now) (option_copied parent.entry) (Selection.Field field.now
+        ∷ []) part.old part.new table.old table.new) }
 {
     let entry = entry_of_field(parent, field);
     match &field.item.selection_set {

@@ -29,5 +29,6 @@ pub trait CheckedScalar: ScalarValue {
         ensures { may_answer check.now value.now result };
 
     // Two answers to one value are the same.
-    ghost one_answer: { (c : Self.Check) (v : InputValue Self) (r s : Result (Unit {0}) CheckError) → may_answer c v r → may_answer c v s → SameAnswer r s };
+    ghost one_answer: { (c : Self.Check) (v : InputValue Self) (r s : Result (Unit {0}) CheckError) → may_answer c v r
+        → may_answer c v s → SameAnswer r s };
 }

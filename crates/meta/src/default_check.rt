@@ -38,7 +38,8 @@ pub struct DefaultCheck {
     run: InputValueParseFn,
     token: Option<ScalarTokenParseFn>,
     ghost callable: { (a : _) (v : _) → InputValueParseFn.pre run a v },
-    ghost one_answer: { ∥ ((a b : _) (v w : _) (r s : _) → v.now ≡ w.now → InputValueParseFn.post run a v r → InputValueParseFn.post run b w s → SameAnswer r s) ∥₁ },
+    ghost one_answer: { ∥ ((a b : _) (v w : _) (r s : _) → v.now ≡ w.now → InputValueParseFn.post run a v r
+        → InputValueParseFn.post run b w s → SameAnswer r s) ∥₁ },
 }
 
 impl DefaultCheck {
@@ -48,7 +49,8 @@ impl DefaultCheck {
     /// The check of an enum or an input object. It has no error.
     pub fn new(run: InputValueParseFn) -> Self
         requires callable { (a : _) (v : _) → InputValueParseFn.pre run a v }
-        requires one_answer { (a b : _) (v w : _) (r s : _) → v.now ≡ w.now → InputValueParseFn.post run a v r → InputValueParseFn.post run b w s → SameAnswer r s }
+        requires one_answer { (a b : _) (v w : _) (r s : _) → v.now ≡ w.now → InputValueParseFn.post run a v r
+            → InputValueParseFn.post run b w s → SameAnswer r s }
         ensures run { function_of result ≡ run }
         ensures token { token_function_of result ≡ None }
     {
@@ -58,7 +60,8 @@ impl DefaultCheck {
     /// The check of a scalar, with its token function. It has no error.
     pub fn with_token(run: InputValueParseFn, token: ScalarTokenParseFn) -> Self
         requires callable { (a : _) (v : _) → InputValueParseFn.pre run a v }
-        requires one_answer { (a b : _) (v w : _) (r s : _) → v.now ≡ w.now → InputValueParseFn.post run a v r → InputValueParseFn.post run b w s → SameAnswer r s }
+        requires one_answer { (a b : _) (v w : _) (r s : _) → v.now ≡ w.now → InputValueParseFn.post run a v r
+            → InputValueParseFn.post run b w s → SameAnswer r s }
         ensures run { function_of result ≡ run }
         ensures token { token_function_of result ≡ Some token }
     {

@@ -57,7 +57,8 @@ impl<S> Field<S> {
     pub fn argument(self, argument: Argument<S>) -> Result<Self, OutOfMemory>
     where
         S: Drop,
-        ensures arguments { IfOk result (λ f. option_map (λ v. v.items) f.arguments ≡ Some (arguments_of self ++ argument ∷ [])) }
+        ensures arguments { IfOk result (λ f. option_map (λ v. v.items) f.arguments
+            ≡ Some (arguments_of self ++ argument ∷ [])) }
         ensures others { IfOk result (λ f. f ≡ record self { arguments = f.arguments }) }
     {
         let Field {

@@ -36,7 +36,8 @@ impl InputObjectMetaOf<DefaultScalarValue, DefaultCheck> {
         check: InputValueParseFn,
     ) -> Result<Self, OutOfMemory>
         requires callable { (a : _) (v : _) → InputValueParseFn.pre check a v }
-        requires one_answer { (a b : _) (v w : _) (r s : _) → v.now ≡ w.now → InputValueParseFn.post check a v r → InputValueParseFn.post check b w s → SameAnswer r s }
+        requires one_answer { (a b : _) (v w : _) (r s : _) → v.now ≡ w.now → InputValueParseFn.post check a v r
+            → InputValueParseFn.post check b w s → SameAnswer r s }
         ensures name { IfOk result (λ m. string_bytes m.name ≡ name.now) }
         ensures description { IfOk result (λ m. m.description ≡ None) }
         ensures input_fields { IfOk result (λ m. m.input_fields ≡ input_fields) }

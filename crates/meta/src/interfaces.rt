@@ -48,7 +48,8 @@ impl<S: Drop> InterfaceMeta<S> {
     /// Replaces the interfaces by the innermost names of the types (section 3.7). Its one error is
     /// `OutOfMemory`.
     pub fn interfaces(mut self, interfaces: Vec<Type>) -> Result<Self, OutOfMemory>
-        ensures interfaces { IfOk result (λ m. map string_bytes m.interface_names.items ≡ map (λ t. (shape t).name) interfaces.items) }
+        ensures interfaces { IfOk result (λ m. map string_bytes m.interface_names.items
+            ≡ map (λ t. (shape t).name) interfaces.items) }
         ensures others { IfOk result (λ m. m ≡ record self { interface_names = m.interface_names }) }
     {
         self.interface_names = innermost_names(*self.name.allocator(), interfaces.as_slice())?;

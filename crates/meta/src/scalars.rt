@@ -35,7 +35,8 @@ impl ScalarMetaOf<DefaultCheck> {
         token: ScalarTokenParseFn,
     ) -> Result<Self, OutOfMemory>
         requires callable { (a : _) (v : _) → InputValueParseFn.pre check a v }
-        requires one_answer { (a b : _) (v w : _) (r s : _) → v.now ≡ w.now → InputValueParseFn.post check a v r → InputValueParseFn.post check b w s → SameAnswer r s }
+        requires one_answer { (a b : _) (v w : _) (r s : _) → v.now ≡ w.now → InputValueParseFn.post check a v r
+            → InputValueParseFn.post check b w s → SameAnswer r s }
         ensures name { IfOk result (λ m. string_bytes m.name ≡ name.now) }
         ensures description { IfOk result (λ m. m.description ≡ None) }
         ensures url { IfOk result (λ m. m.specified_by_url ≡ None) }

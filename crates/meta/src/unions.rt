@@ -23,7 +23,8 @@ impl UnionMeta {
     pub fn new(alloc: Global, name: &str, types: Vec<Type>) -> Result<Self, OutOfMemory>
         ensures name { IfOk result (λ m. string_bytes m.name ≡ name.now) }
         ensures description { IfOk result (λ m. m.description ≡ None) }
-        ensures members { IfOk result (λ m. map string_bytes m.of_type_names.items ≡ map (λ t. (shape t).name) types.items) }
+        ensures members { IfOk result (λ m. map string_bytes m.of_type_names.items
+            ≡ map (λ t. (shape t).name) types.items) }
     {
         Ok(UnionMeta {
             name: String::from_str(alloc, name)?,

@@ -162,7 +162,8 @@ impl<'a, T: Copy> NameMap<'a, T> {
     /// Adds a name with what belongs to it, unless it is there; what belonged to it then, and stays.
     pub fn note(&mut self, name: &'a str, value: T) -> Result<Option<T>, AllocError>
         ensures earlier { IfOk result (λ earlier. earlier ≡ value_of self.old name.now) }
-        ensures noted { OnOk result ((other : List ℕ) → value_of self.new other ≡ or_else (value_of self.old other) (if bytes_eq name.now other then Some value else None)) }
+        ensures noted { OnOk result ((other : List ℕ) → value_of self.new other
+            ≡ or_else (value_of self.old other) (if bytes_eq name.now other then Some value else None)) }
         ensures err { OnErr result (IsUnchanged self.old self.new) }
     {
         match self.insert(name, value)? {

@@ -55,7 +55,8 @@ fn add_operation<'a>(
     numbers: &mut OperationNumbers<'a>,
     index: &mut ScopeIndex<'a>,
 ) -> Result<(), AllocError>
-    ensures { OnOk result (AddsOperation (option_map (λ n. n.now) name.entry) place numbers.old numbers.new index.old index.new) }
+    ensures { OnOk result (AddsOperation (option_map (λ n. n.now) name.entry) place numbers.old numbers.new index.old
+        index.new) }
 {
     let next = index.names.len();
     match number_operations(numbers, name, next)? {
@@ -163,8 +164,10 @@ pub fn last_operation<'d, 't, S>(
     document: &'d [Definition<'t, S>],
     places: &[usize],
 ) -> Option<&'d Spanning<Operation<'t, S>>>
-    ensures some { IfSome result (λ o. (name : Option (List ℕ)) → places.now ≡ places_of document.now (operation name) → IsLastOf document.now name o.now) }
-    ensures none { IfNone result ((name : Option (List ℕ)) → places.now ≡ places_of document.now (operation name) → IsOperationName document.now name → ⊥) }
+    ensures some { IfSome result (λ o. (name : Option (List ℕ)) → places.now ≡ places_of document.now (operation name)
+        → IsLastOf document.now name o.now) }
+    ensures none { IfNone result ((name : Option (List ℕ)) → places.now ≡ places_of document.now (operation name)
+        → IsOperationName document.now name → ⊥) }
 {
     match last_place(places) {
         Some(place) => operation_at(document, place),

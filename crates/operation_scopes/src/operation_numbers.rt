@@ -48,7 +48,9 @@ pub fn number_operations<'a>(
     next: usize,
 ) -> Result<Option<usize>, AllocError>
     ensures earlier { IfOk result (λ k. k ≡ number_at numbers.old (option_map (λ n. n.now) name.entry)) }
-    ensures noted { OnOk result ((other : Option (List ℕ)) → number_at numbers.new other ≡ or_else (number_at numbers.old other) (if same_name (option_map (λ n. n.now) name.entry) other then Some next else None)) }
+    ensures noted { OnOk result ((other : Option (List ℕ)) → number_at numbers.new other
+        ≡ or_else (number_at numbers.old other)
+        (if same_name (option_map (λ n. n.now) name.entry) other then Some next else None)) }
 {
     match name {
         Some(name) => numbers.named.note(name, next),

@@ -51,7 +51,8 @@ fn add_spreads_at(
     place: usize,
     found: &mut Vec<Spread>,
 ) -> Result<(), AllocError>
-    ensures { OnOk result ((ls : List (List Spread)) → Holds ls [] index.now.spreads → found.new.items ≡ found.old.items ++ list_at ls place) }
+    ensures { OnOk result ((ls : List (List Spread)) → Holds ls [] index.now.spreads → found.new.items
+        ≡ found.old.items ++ list_at ls place) }
 {
     found.extend_from_slice(index.spreads.list(place))
 }
@@ -62,7 +63,8 @@ fn list_spreads(
     places: &[usize],
     found: &mut Vec<Spread>,
 ) -> Result<(), AllocError>
-    ensures { OnOk result ((ls : List (List Spread)) → Holds ls [] index.now.spreads → found.new.items ≡ flat_map (list_at ls) places.now) }
+    ensures { OnOk result ((ls : List (List Spread)) → Holds ls [] index.now.spreads → found.new.items
+        ≡ flat_map (list_at ls) places.now) }
 {
     found.clear();
     for place in places {
@@ -120,7 +122,8 @@ pub fn reached_definitions<S>(
 ) -> Result<(), AllocError>
     requires index { IsIndexOf document.now index.now }
     requires ready { IsReady index.now search.old }
-    ensures reached { OnOk result ((name : Option (List ℕ)) → own.now ≡ places_of document.now (operation name) → InReach document.now name search.new.found.items) }
+    ensures reached { OnOk result ((name : Option (List ℕ)) → own.now ≡ places_of document.now (operation name)
+        → InReach document.now name search.new.found.items) }
     ensures ready { OnOk result (IsReady index.now search.new) }
 {
     list_spreads(index, own, &mut search.starts)?;

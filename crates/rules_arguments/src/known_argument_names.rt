@@ -117,7 +117,9 @@ fn report<'a, S: CheckedScalar>(
     known: Option<&[Argument<S>]>,
     written: &Option<Spanning<Arguments<'_, S>>>,
 ) -> Result<(), OutOfMemory>
-    ensures ok { IfOk result (λ _. ctx.new ≡ with_errors ctx.old (unknown_where_known (unknown_message bearer.entry) (option_copied known.entry) written.now)) }
+    ensures ok { IfOk result (λ _. ctx.new
+        ≡ with_errors ctx.old (unknown_where_known (unknown_message bearer.entry) (option_copied known.entry)
+        written.now)) }
     ensures err { OnErr result (KeepsPlace ctx.old ctx.new) }
 {
     if let Some(known) = known {
@@ -135,7 +137,9 @@ fn report_each<'a, S: CheckedScalar>(
     known: &[Argument<S>],
     written: &Vec<(Spanning<&str>, Spanning<InputValue<S>>)>,
 ) -> Result<(), OutOfMemory>
-    ensures ok { IfOk result (λ _. ctx.new ≡ with_errors ctx.old (flat_map (unknown_argument (unknown_message bearer.entry) known.now) written.now.items)) }
+    ensures ok { IfOk result (λ _. ctx.new
+        ≡ with_errors ctx.old
+        (flat_map (unknown_argument (unknown_message bearer.entry) known.now) written.now.items)) }
     ensures err { OnErr result (KeepsPlace ctx.old ctx.new) }
 {
     for argument in written {
@@ -152,7 +156,8 @@ fn report_unknown<'a, S: CheckedScalar>(
     known: &[Argument<S>],
     name: &Spanning<&str>,
 ) -> Result<(), OutOfMemory>
-    ensures ok { IfOk result (λ _. ctx.new ≡ with_errors ctx.old (unknown_name (unknown_message bearer.entry) known.now name.now)) }
+    ensures ok { IfOk result (λ _. ctx.new
+        ≡ with_errors ctx.old (unknown_name (unknown_message bearer.entry) known.now name.now)) }
     ensures err { OnErr result (KeepsPlace ctx.old ctx.new) }
 {
     if !is_known(known, name.item) {

@@ -108,7 +108,8 @@ fn report<'a, S: CheckedScalar>(
     place: &DirectiveLocation,
     directives: &Option<Vec<Spanning<Directive<'_, S>>>>,
 ) -> Result<(), OutOfMemory>
-    ensures ok { IfOk result (λ _. ctx.new ≡ with_errors ctx.old (unsuitable_among ctx.old.schema place.now directives.now)) }
+    ensures ok { IfOk result (λ _. ctx.new
+        ≡ with_errors ctx.old (unsuitable_among ctx.old.schema place.now directives.now)) }
     ensures err { OnErr result (KeepsPlace ctx.old ctx.new) }
 {
     match directives {
@@ -123,7 +124,8 @@ fn report_each<'a, S: CheckedScalar>(
     place: &DirectiveLocation,
     directives: &Vec<Spanning<Directive<'_, S>>>,
 ) -> Result<(), OutOfMemory>
-    ensures ok { IfOk result (λ _. ctx.new ≡ with_errors ctx.old (flat_map (unsuitable ctx.old.schema place.now) directives.now.items)) }
+    ensures ok { IfOk result (λ _. ctx.new
+        ≡ with_errors ctx.old (flat_map (unsuitable ctx.old.schema place.now) directives.now.items)) }
     ensures err { OnErr result (KeepsPlace ctx.old ctx.new) }
 {
     for directive in directives {

@@ -125,7 +125,9 @@ fn report<'a, S: CheckedScalar>(
     known: Option<&[Argument<S>]>,
     written: &Option<Spanning<Arguments<'_, S>>>,
 ) -> Result<(), OutOfMemory>
-    ensures ok { IfOk result (λ _. ctx.new ≡ with_errors ctx.old (missing_where_known (is_required bearer.entry) (words_before bearer.entry) place (option_copied known.entry) written.now)) }
+    ensures ok { IfOk result (λ _. ctx.new
+        ≡ with_errors ctx.old (missing_where_known (is_required bearer.entry) (words_before bearer.entry) place
+        (option_copied known.entry) written.now)) }
     ensures err { OnErr result (KeepsPlace ctx.old ctx.new) }
 {
     match known {
@@ -142,7 +144,10 @@ fn report_each<'a, S: CheckedScalar>(
     known: &[Argument<S>],
     written: &Option<Spanning<Arguments<'_, S>>>,
 ) -> Result<(), OutOfMemory>
-    ensures ok { IfOk result (λ _. ctx.new ≡ with_errors ctx.old (flat_map (missing_argument (is_required bearer.entry) (words_before bearer.entry) place written.now) known.now)) }
+    ensures ok { IfOk result (λ _. ctx.new
+        ≡ with_errors ctx.old
+        (flat_map (missing_argument (is_required bearer.entry) (words_before bearer.entry) place written.now)
+        known.now)) }
     ensures err { OnErr result (KeepsPlace ctx.old ctx.new) }
 {
     for argument in known {
@@ -160,7 +165,9 @@ fn report_missing<'a, S: CheckedScalar>(
     argument: &Argument<S>,
     written: &Option<Spanning<Arguments<'_, S>>>,
 ) -> Result<(), OutOfMemory>
-    ensures ok { IfOk result (λ _. ctx.new ≡ with_errors ctx.old (missing_argument (is_required bearer.entry) (words_before bearer.entry) place written.now argument.now)) }
+    ensures ok { IfOk result (λ _. ctx.new
+        ≡ with_errors ctx.old (missing_argument (is_required bearer.entry) (words_before bearer.entry) place
+        written.now argument.now)) }
     ensures err { OnErr result (KeepsPlace ctx.old ctx.new) }
 {
     if is_required(bearer, argument) && !is_given(written, argument.name.as_str()) {
@@ -201,7 +208,9 @@ fn error_message<S>(
     bearer: Bearer<'_>,
     argument: &Argument<S>,
 ) -> Result<String, AllocError>
-    ensures { IfOk result (λ message. string_bytes message ≡ missing_message (words_before bearer.entry) (string_bytes argument.now.name) (printed (shape argument.now.arg_type))) }
+    ensures { IfOk result (λ message. string_bytes message
+        ≡ missing_message (words_before bearer.entry) (string_bytes argument.now.name)
+        (printed (shape argument.now.arg_type))) }
 {
     let before = words_before(alloc, bearer)?;
     let named = between(

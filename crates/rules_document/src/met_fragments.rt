@@ -47,7 +47,8 @@ fn meet_other<'a, S>(
     fragment: &Spanning<Fragment<'a, S>>,
 ) -> Result<bool, OutOfMemory>
     ensures first { IfOk result (λ first. IsTrue first ↔ (IsOther others.old (name_and_span fragment.now) → ⊥)) }
-    ensures met { OnOk result ((q : NameAndSpan) → IsOther others.new q ↔ (IsOther others.old q ⊎ (name_and_span fragment.now ≡ q))) }
+    ensures met { OnOk result ((q : NameAndSpan) → IsOther others.new q
+        ↔ (IsOther others.old q ⊎ (name_and_span fragment.now ≡ q))) }
 {
     let Spanning { item, span } = fragment;
     let first = others.insert((item.name.item, span.start, span.end))?;
@@ -66,7 +67,8 @@ pub fn meet<'a, S>(
     requires kept { IsKeptFor numbers.now met.old }
     ensures first { IfOk result (λ first. IsTrue first → IsMet numbers.now met.old (name_and_span fragment.now) → ⊥) }
     ensures known { IfOk result (λ first. first ≡ false → IsMet numbers.now met.old (name_and_span fragment.now)) }
-    ensures met { OnOk result ((q : NameAndSpan) → IsMet numbers.now met.new q ↔ (IsMet numbers.now met.old q ⊎ (name_and_span fragment.now ≡ q))) }
+    ensures met { OnOk result ((q : NameAndSpan) → IsMet numbers.now met.new q
+        ↔ (IsMet numbers.now met.old q ⊎ (name_and_span fragment.now ≡ q))) }
     ensures kept { OnOk result (IsKeptFor numbers.now met.new) }
 {
     match met.firsts[number] {

@@ -60,7 +60,8 @@ impl<'a> NoFragmentCycles<'a> {
         ctx: &mut ValidatorContext<'a, S>,
         graph: DocumentGraph<'a>,
     ) -> Result<(), OutOfMemory>
-        ensures ok { IfOk result (λ _. (document : List (Definition S)) → IsGraphOf document graph.entry → Appended (CycleErrors document self.new) ctx.old ctx.new) }
+        ensures ok { IfOk result (λ _. (document : List (Definition S)) → IsGraphOf document graph.entry
+            → Appended (CycleErrors document self.new) ctx.old ctx.new) }
         ensures err { OnErr result (KeepsPlace ctx.old ctx.new) }
     {
         self.looked = 0;

@@ -103,7 +103,8 @@ pub fn report_undefined<'a, 'd, S: CheckedScalar>(
     index: &DocumentIndex<'d>,
 ) -> Result<(), OutOfMemory>
     requires { IsDocumentIndex document.now index.now }
-    ensures ok { IfOk result (λ _. (found : List Undefined) × UndefinedVariables document.now found × (ctx.new ≡ with_errors ctx.old (map undefined_error found))) }
+    ensures ok { IfOk result (λ _. (found : List Undefined) × UndefinedVariables document.now found
+        × (ctx.new ≡ with_errors ctx.old (map undefined_error found))) }
     ensures err { OnErr result (KeepsPlace ctx.old ctx.new) }
 {
     let found = undefined_in(alloc, document, index)?;
@@ -117,7 +118,8 @@ fn named_message(alloc: Global, name: &str, called: &str) -> Result<String, Allo
 }
 
 fn error_message(alloc: Global, name: &str, operation: Option<&str>) -> Result<String, AllocError>
-    ensures { IfOk result (λ message. string_bytes message ≡ undefined_message name.now (option_map (λ n. n.now) operation.entry)) }
+    ensures { IfOk result (λ message. string_bytes message
+        ≡ undefined_message name.now (option_map (λ n. n.now) operation.entry)) }
 {
     match operation {
         Some(called) => named_message(alloc, name, called),

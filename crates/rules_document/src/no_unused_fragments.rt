@@ -98,7 +98,9 @@ fn report_once<'a, 'd, S: CheckedScalar>(
     requires number { number_of reached.now.graph.now.numbers fragment.now.item.name.item.now ≡ Some number }
     requires kept { IsKeptFor reached.now.graph.now.numbers met.old }
     ensures kept { OnOk result (IsKeptFor reached.now.graph.now.numbers met.new) }
-    ensures ok { IfOk result (λ _. (fs : List NameAndSpan) × AddsFragment reached.now met.old met.new (name_and_span fragment.now) fs × (ctx.new ≡ with_errors ctx.old (map unused_error fs))) }
+    ensures ok { IfOk result (λ _. (fs : List NameAndSpan)
+        × AddsFragment reached.now met.old met.new (name_and_span fragment.now) fs
+        × (ctx.new ≡ with_errors ctx.old (map unused_error fs))) }
     ensures err { OnErr result (KeepsPlace ctx.old ctx.new) }
 {
     if is_reached(reached, Some(number)) {
@@ -124,7 +126,8 @@ fn report_if_unused<'a, 'd, S: CheckedScalar>(
     requires has { IsNumbered reached.now.graph.now.numbers definition.now }
     requires kept { IsKeptFor reached.now.graph.now.numbers met.old }
     ensures kept { OnOk result (IsKeptFor reached.now.graph.now.numbers met.new) }
-    ensures ok { IfOk result (λ _. (fs : List NameAndSpan) × AddsUnused reached.now met.old met.new definition.now fs × (ctx.new ≡ with_errors ctx.old (map unused_error fs))) }
+    ensures ok { IfOk result (λ _. (fs : List NameAndSpan) × AddsUnused reached.now met.old met.new definition.now fs
+        × (ctx.new ≡ with_errors ctx.old (map unused_error fs))) }
     ensures err { OnErr result (KeepsPlace ctx.old ctx.new) }
 {
     match definition {
@@ -144,7 +147,8 @@ pub fn report_unused<'a, 'd, S: CheckedScalar>(
     index: &ScopeIndex<'_>,
 ) -> Result<(), OutOfMemory>
     requires { IsIndexOf document.now index.now }
-    ensures ok { IfOk result (λ _. (fs : List NameAndSpan) × UnusedAmong document.now document.now fs × (ctx.new ≡ with_errors ctx.old (map unused_error fs))) }
+    ensures ok { IfOk result (λ _. (fs : List NameAndSpan) × UnusedAmong document.now document.now fs
+        × (ctx.new ≡ with_errors ctx.old (map unused_error fs))) }
     ensures err { OnErr result (KeepsPlace ctx.old ctx.new) }
 {
     let starts = index.spreads.items.as_slice();

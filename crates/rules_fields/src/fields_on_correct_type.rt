@@ -75,7 +75,8 @@ fn report_root_typenames<'a, S: CheckedScalar>(
     ctx: &mut ValidatorContext<'a, S>,
     operation: &Operation<'_, S>,
 ) -> Result<(), OutOfMemory>
-    ensures ok { IfOk result (λ _. ctx.new ≡ with_errors ctx.old (root_typenames operation.now.operation_type operation.now.selection_set.items)) }
+    ensures ok { IfOk result (λ _. ctx.new
+        ≡ with_errors ctx.old (root_typenames operation.now.operation_type operation.now.selection_set.items)) }
     ensures err { OnErr result (KeepsPlace ctx.old ctx.new) }
 {
     match operation.operation_type {

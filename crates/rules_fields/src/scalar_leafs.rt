@@ -71,7 +71,8 @@ fn report<'a, S: CheckedScalar>(
     ctx: &mut ValidatorContext<'a, S>,
     field: &Spanning<Field<'_, S>>,
 ) -> Result<(), OutOfMemory>
-    ensures ok { IfOk result (λ _. ctx.new ≡ with_errors ctx.old (wrong_set (typing ctx.old).current (typing ctx.old).literal field.now)) }
+    ensures ok { IfOk result (λ _. ctx.new
+        ≡ with_errors ctx.old (wrong_set (typing ctx.old).current (typing ctx.old).literal field.now)) }
     ensures err { OnErr result (KeepsPlace ctx.old ctx.new) }
 {
     if let Some(t) = ctx.current_type() {
@@ -90,7 +91,9 @@ fn report_set<'a, S: CheckedScalar>(
     is_leaf: bool,
     t: BorrowedType<'_>,
 ) -> Result<(), OutOfMemory>
-    ensures ok { IfOk result (λ _. ctx.new ≡ with_errors ctx.old (wrong_set_of is_leaf (is_some field.now.item.selection_set) (printed (borrowed_shape t.entry)) field.now)) }
+    ensures ok { IfOk result (λ _. ctx.new
+        ≡ with_errors ctx.old
+        (wrong_set_of is_leaf (is_some field.now.item.selection_set) (printed (borrowed_shape t.entry)) field.now)) }
     ensures err { OnErr result (KeepsPlace ctx.old ctx.new) }
 {
     let name = field.item.name.item;
@@ -122,7 +125,8 @@ fn no_subfields_message(
     field: &str,
     t: BorrowedType<'_>,
 ) -> Result<String, AllocError>
-    ensures { IfOk result (λ message. string_bytes message ≡ no_subfields_message field.now (printed (borrowed_shape t.entry))) }
+    ensures { IfOk result (λ message. string_bytes message
+        ≡ no_subfields_message field.now (printed (borrowed_shape t.entry))) }
 {
     let t = type_text(alloc, t)?;
     let before = between(
@@ -139,7 +143,8 @@ fn subfields_needed_message(
     field: &str,
     t: BorrowedType<'_>,
 ) -> Result<String, AllocError>
-    ensures { IfOk result (λ message. string_bytes message ≡ subfields_needed_message field.now (printed (borrowed_shape t.entry))) }
+    ensures { IfOk result (λ message. string_bytes message
+        ≡ subfields_needed_message field.now (printed (borrowed_shape t.entry))) }
 {
     let t = type_text(alloc, t)?;
     let before = between(alloc, "Field \"", field, "\" of type \"")?;

@@ -176,8 +176,18 @@ pub fn visit_stage_one<'a, 't, S: CheckedScalar>(
     document: &'a [Definition<'t, S>],
 ) -> Result<DocumentCycles<'a>, OutOfMemory>
     ensures searched { IfOk result (SearchedDocument document.now) }
-    ensures appended { OnOk result (ctx.old.known ≡ fragment_names document.now → (end : _) × Appended (⟦<StageRules<'a, S> as Rule<S, S::Check>>⟧.allows end (scope_of ctx.old.schema document.now) (typing ctx.old) document.now) ctx.old ctx.new) }
-    ensures silent { OnOk result (ctx.old.known ≡ fragment_names document.now → (ctx.new.errors ≡ ctx.old.errors) ↔ (both_so ⟦<PossibleFragmentSpreads<'a, S> as SettledRule<S, S::Check>>⟧.finds_nothing (both_so ⟦<AcrossDocument<'a> as SettledRule<S, S::Check>>⟧.finds_nothing (both_so ⟦<OfValues as SettledRule<S, S::Check>>⟧.finds_nothing (both_so ⟦<OfFragments<'a> as SettledRule<S, S::Check>>⟧.finds_nothing (both_so ⟦<OfArguments as SettledRule<S, S::Check>>⟧.finds_nothing (both_so ⟦<OfFields as SettledRule<S, S::Check>>⟧.finds_nothing (both_so ⟦<OfOperations<'a> as SettledRule<S, S::Check>>⟧.finds_nothing anywhere))))))) (scope_of ctx.old.schema document.now) (typing ctx.old) document.now) }
+    ensures appended { OnOk result (ctx.old.known ≡ fragment_names document.now → (end : _)
+        × Appended (⟦<StageRules<'a, S> as Rule<S, S::Check>>⟧.allows end (scope_of ctx.old.schema document.now)
+        (typing ctx.old) document.now) ctx.old ctx.new) }
+    ensures silent { OnOk result (ctx.old.known ≡ fragment_names document.now → (ctx.new.errors ≡ ctx.old.errors)
+        ↔ (both_so ⟦<PossibleFragmentSpreads<'a, S> as SettledRule<S, S::Check>>⟧.finds_nothing
+        (both_so ⟦<AcrossDocument<'a> as SettledRule<S, S::Check>>⟧.finds_nothing
+        (both_so ⟦<OfValues as SettledRule<S, S::Check>>⟧.finds_nothing
+        (both_so ⟦<OfFragments<'a> as SettledRule<S, S::Check>>⟧.finds_nothing
+        (both_so ⟦<OfArguments as SettledRule<S, S::Check>>⟧.finds_nothing
+        (both_so ⟦<OfFields as SettledRule<S, S::Check>>⟧.finds_nothing
+        (both_so ⟦<OfOperations<'a> as SettledRule<S, S::Check>>⟧.finds_nothing anywhere)))))))
+        (scope_of ctx.old.schema document.now) (typing ctx.old) document.now) }
     ensures only { OnOk result (Appended any_value ctx.old ctx.new) }
     ensures err { OnErr result (KeepsPlace ctx.old ctx.new) }
     ensures failed { OnErr result (ctx.new.failed ≡ true) }

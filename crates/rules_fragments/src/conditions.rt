@@ -94,7 +94,8 @@ fn note_type<'a, S, C>(
     requires number { number ≡ defined_number numbers.now definition.now }
     requires has { IsNumbered numbers.now definition.now }
     requires sized { length types.old.items ≡ length (names_of numbers.now) }
-    ensures noted { conditions_at numbers.now types.new.items ≡ with_definition schema.now (conditions_at numbers.now types.old.items) definition.now }
+    ensures noted { conditions_at numbers.now types.new.items
+        ≡ with_definition schema.now (conditions_at numbers.now types.old.items) definition.now }
     ensures sized { length types.new.items ≡ length types.old.items }
 {
     if let Definition::Fragment(fragment) = definition {
@@ -114,7 +115,8 @@ fn types_of<'a, S, C>(
     names: &NumberedNames<'_>,
 ) -> Result<Vec<Option<&'a MetaTypeOf<S, C>>>, OutOfMemory>
     requires { NumberedDefinitions document.now names.now.numbers names.now.defined.items }
-    ensures { IfOk result (λ v. conditions_at names.now.numbers v.items ≡ conditions_in schema.now no_conditions document.now) }
+    ensures { IfOk result (λ v. conditions_at names.now.numbers v.items
+        ≡ conditions_in schema.now no_conditions document.now) }
 {
     let numbers = &names.numbers;
     let mut types = no_types(alloc, name_count(numbers))?;

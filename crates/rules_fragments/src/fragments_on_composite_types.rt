@@ -76,7 +76,9 @@ fn report_condition<'a, S: CheckedScalar>(
     name: Option<&str>,
     condition: &Spanning<&str>,
 ) -> Result<(), OutOfMemory>
-    ensures ok { IfOk result (λ _. ctx.new ≡ with_errors ctx.old (on_other_type ctx.old.schema (option_map (λ n. n.now) name.entry) (Some condition.now))) }
+    ensures ok { IfOk result (λ _. ctx.new
+        ≡ with_errors ctx.old
+        (on_other_type ctx.old.schema (option_map (λ n. n.now) name.entry) (Some condition.now))) }
     ensures err { OnErr result (KeepsPlace ctx.old ctx.new) }
 {
     if let Some(t) = ctx.schema.concrete_type_by_name(condition.item) {
@@ -89,7 +91,8 @@ fn report_condition<'a, S: CheckedScalar>(
 }
 
 fn error_message(alloc: Global, name: Option<&str>, t: &str) -> Result<String, AllocError>
-    ensures { IfOk result (λ message. string_bytes message ≡ not_composite_message (option_map (λ n. n.now) name.entry) t.now) }
+    ensures { IfOk result (λ message. string_bytes message
+        ≡ not_composite_message (option_map (λ n. n.now) name.entry) t.now) }
 {
     match name {
         Some(name) => {

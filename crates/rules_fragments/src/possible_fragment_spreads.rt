@@ -111,7 +111,9 @@ fn report_impossible<'a, S: CheckedScalar>(
     name: Option<&str>,
     place: SourcePosition,
 ) -> Result<(), OutOfMemory>
-    ensures ok { IfOk result (λ _. ctx.new ≡ with_errors ctx.old (impossible ctx.old.schema (typing ctx.old).parent (option_copied condition.entry) (option_map (λ n. n.now) name.entry) place)) }
+    ensures ok { IfOk result (λ _. ctx.new
+        ≡ with_errors ctx.old (impossible ctx.old.schema (typing ctx.old).parent (option_copied condition.entry)
+        (option_map (λ n. n.now) name.entry) place)) }
     ensures err { OnErr result (KeepsPlace ctx.old ctx.new) }
 {
     if let Some(parent) = ctx.parent_type() {
@@ -171,7 +173,8 @@ fn error_message(
     parent: &str,
     t: &str,
 ) -> Result<String, AllocError>
-    ensures { IfOk result (λ message. string_bytes message ≡ impossible_message (option_map (λ n. n.now) name.entry) parent.now t.now) }
+    ensures { IfOk result (λ message. string_bytes message
+        ≡ impossible_message (option_map (λ n. n.now) name.entry) parent.now t.now) }
 {
     let words = first_words(alloc, name)?;
     let around = between(alloc, words.as_str(), parent, "\" can never be of type \"")?;

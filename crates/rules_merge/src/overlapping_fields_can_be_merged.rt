@@ -78,7 +78,8 @@ impl OverlappingFieldsCanBeMerged {
         cycles: DocumentCycles<'a>,
     ) -> Result<(), OutOfMemory>
         requires { SearchedDocument document.now cycles }
-        ensures ok { IfOk result (λ _. (es : List ErrorValue) × MergeErrors S.eq ctx.old.schema document.now self.new es × (ctx.new ≡ with_errors ctx.old es)) }
+        ensures ok { IfOk result (λ _. (es : List ErrorValue)
+            × MergeErrors S.eq ctx.old.schema document.now self.new es × (ctx.new ≡ with_errors ctx.old es)) }
         ensures err { OnErr result (KeepsPlace ctx.old ctx.new) }
     {
         match search_fields(self.alloc, ctx.schema, document, cycles)? {
@@ -135,7 +136,9 @@ fn report_found<'a, S: CheckedScalar>(
     ctx: &mut ValidatorContext<'a, S>,
     found: &FoundConflicts<'a, S, S::Check>,
 ) -> Result<(), OutOfMemory>
-    ensures ok { (rs : Reports Entry) (ts : Reports (PlainEntry S S.Check)) → found.now.found.items ≡ postfix rs → AreReportsOf (map plain found.now.fields.items) rs ts → IfOk result (λ _. ctx.new ≡ with_errors ctx.old (map error_value (errors_of S.eq ctx.old.schema ts))) }
+    ensures ok { (rs : Reports Entry) (ts : Reports (PlainEntry S S.Check)) → found.now.found.items ≡ postfix rs
+        → AreReportsOf (map plain found.now.fields.items) rs ts
+        → IfOk result (λ _. ctx.new ≡ with_errors ctx.old (map error_value (errors_of S.eq ctx.old.schema ts))) }
     ensures err { OnErr result (KeepsPlace ctx.old ctx.new) }
 {
     let conflicts = conflicts_found(

@@ -37,7 +37,8 @@ fn is_below<S, C>(
     definition: &VariableDefinition<'_, S>,
     expected: BorrowedType<'_>,
 ) -> Result<bool, OutOfMemory>
-    ensures { IfOk result (λ below. IsTrue below ↔ IsSubtype schema.now.types (type_in_use definition.now) (borrowed_shape expected.entry)) }
+    ensures { IfOk result (λ below. IsTrue below
+        ↔ IsSubtype schema.now.types (type_in_use definition.now) (borrowed_shape expected.entry)) }
 {
     if definition.default_value.is_none() {
         let written = definition.var_type.item.as_borrowed();
@@ -72,7 +73,8 @@ fn error_message(
     t: &Type,
     expected: BorrowedType<'_>,
 ) -> Result<String, AllocError>
-    ensures { IfOk result (λ message. string_bytes message ≡ position_message variable.now (printed (shape t.now)) (printed (borrowed_shape expected.entry))) }
+    ensures { IfOk result (λ message. string_bytes message
+        ≡ position_message variable.now (printed (shape t.now)) (printed (borrowed_shape expected.entry))) }
 {
     format!(in alloc;
         "Variable \"{variable}\" of type \"{t}\" used in position expecting type \"{expected}\""

@@ -58,7 +58,8 @@ impl<'a> VariableInAllowedPosition<'a> {
         index: &ScopeIndex<'_>,
     ) -> Result<(), OutOfMemory>
         requires { IsIndexOf document.now index.now }
-        ensures ok { IfOk result (λ _. Appended (DocumentGives ctx.old.schema.types document.now (recorded_uses self.now)) ctx.old ctx.new) }
+        ensures ok { IfOk result (λ _. Appended (DocumentGives ctx.old.schema.types document.now (recorded_uses self.now))
+            ctx.old ctx.new) }
         ensures err { OnErr result (KeepsPlace ctx.old ctx.new) }
     {
         report_document(self.alloc, ctx, document, index, self.uses.as_slice())
@@ -120,7 +121,9 @@ fn add_value<'a>(
     variable: &'a str,
     place: SourcePosition,
 ) -> Result<(), OutOfMemory>
-    ensures { OnOk result (use_values uses.new.items ≡ with_use_if_expected (λ t. record { variable = variable.now; place = place; expected = t }) (option_map borrowed_shape expected.entry) (use_values uses.old.items)) }
+    ensures { OnOk result (use_values uses.new.items
+        ≡ with_use_if_expected (λ t. record { variable = variable.now; place = place; expected = t })
+        (option_map borrowed_shape expected.entry) (use_values uses.old.items)) }
 {
     match expected {
         Some(expected) => add_use(
@@ -142,7 +145,9 @@ fn report_use<'a, S: CheckedScalar>(
     variables: &FirstVariables<'_, S>,
     found: &TypedUse<'_>,
 ) -> Result<(), OutOfMemory>
-    ensures ok { IfOk result (λ _. Appended (JudgedIfDefined ctx.old.schema.types (kept_first variables.now found.now.variable.now) (use_value found.now)) ctx.old ctx.new) }
+    ensures ok { IfOk result
+        (λ _. Appended (JudgedIfDefined ctx.old.schema.types (kept_first variables.now found.now.variable.now)
+        (use_value found.now)) ctx.old ctx.new) }
     ensures err { OnErr result (KeepsPlace ctx.old ctx.new) }
 {
     match variables.get(found.variable) {
@@ -158,7 +163,9 @@ fn report_uses<'a, S: CheckedScalar>(
     variables: &FirstVariables<'_, S>,
     uses: &[TypedUse<'_>],
 ) -> Result<(), OutOfMemory>
-    ensures ok { IfOk result (λ _. Appended (UsesGive ctx.old.schema.types (kept_first variables.now) (map use_value uses.now)) ctx.old ctx.new) }
+    ensures ok { IfOk result
+        (λ _. Appended (UsesGive ctx.old.schema.types (kept_first variables.now) (map use_value uses.now)) ctx.old
+        ctx.new) }
     ensures err { OnErr result (KeepsPlace ctx.old ctx.new) }
 {
     for found in uses {
@@ -175,7 +182,10 @@ fn report_place<'a, S: CheckedScalar>(
     uses: &[Vec<TypedUse<'_>>],
     place: usize,
 ) -> Result<(), OutOfMemory>
-    ensures ok { IfOk result (λ _. Appended (UsesGive ctx.old.schema.types (kept_first variables.now) (uses_in (use_values uses.now) place)) ctx.old ctx.new) }
+    ensures ok { IfOk result
+        (λ _. Appended
+        (UsesGive ctx.old.schema.types (kept_first variables.now) (uses_in (use_values uses.now) place)) ctx.old
+        ctx.new) }
     ensures err { OnErr result (KeepsPlace ctx.old ctx.new) }
 {
     match uses.get(place) {
@@ -192,7 +202,11 @@ fn report_places<'a, S: CheckedScalar>(
     uses: &[Vec<TypedUse<'_>>],
     places: &[usize],
 ) -> Result<(), OutOfMemory>
-    ensures ok { IfOk result (λ _. Appended (EachGives (λ place fs. UsesGive ctx.old.schema.types (kept_first variables.now) (uses_in (use_values uses.now) place) fs) places.now) ctx.old ctx.new) }
+    ensures ok { IfOk result
+        (λ _. Appended
+        (EachGives
+        (λ place fs. UsesGive ctx.old.schema.types (kept_first variables.now) (uses_in (use_values uses.now) place)
+        fs) places.now) ctx.old ctx.new) }
     ensures err { OnErr result (KeepsPlace ctx.old ctx.new) }
 {
     for place in places {
@@ -214,7 +228,8 @@ fn report_operations<'a, S: CheckedScalar>(
 ) -> Result<(), OutOfMemory>
     requires index { IsIndexOf document.now index.now }
     requires ready { IsReady index.now search.old }
-    ensures ok { IfOk result (λ _. (name : Option (List ℕ)) → own.now ≡ places_of document.now (operation name) → Appended (OperationsGive ctx.old.schema.types document.now (use_values uses.now) name) ctx.old ctx.new) }
+    ensures ok { IfOk result (λ _. (name : Option (List ℕ)) → own.now ≡ places_of document.now (operation name)
+        → Appended (OperationsGive ctx.old.schema.types document.now (use_values uses.now) name) ctx.old ctx.new) }
     ensures ready { OnOk result (IsReady index.now search.new) }
     ensures err { OnErr result (KeepsPlace ctx.old ctx.new) }
 {
@@ -237,7 +252,9 @@ fn report_names<'a, S: CheckedScalar>(
 ) -> Result<(), OutOfMemory>
     requires index { IsIndexOf document.now index.now }
     requires ready { IsReady index.now search.old }
-    ensures ok { IfOk result (λ _. Appended (EachGives (OperationsGive ctx.old.schema.types document.now (use_values uses.now)) (operation_names index.now)) ctx.old ctx.new) }
+    ensures ok { IfOk result
+        (λ _. Appended (EachGives (OperationsGive ctx.old.schema.types document.now (use_values uses.now))
+        (operation_names index.now)) ctx.old ctx.new) }
     ensures err { OnErr result (KeepsPlace ctx.old ctx.new) }
 {
     for number in 0..index.names.len() {
@@ -256,7 +273,8 @@ fn report_document<'a, S: CheckedScalar>(
     uses: &[Vec<TypedUse<'_>>],
 ) -> Result<(), OutOfMemory>
     requires { IsIndexOf document.now index.now }
-    ensures ok { IfOk result (λ _. Appended (DocumentGives ctx.old.schema.types document.now (use_values uses.now)) ctx.old ctx.new) }
+    ensures ok { IfOk result (λ _. Appended (DocumentGives ctx.old.schema.types document.now (use_values uses.now)) ctx.old
+        ctx.new) }
     ensures err { OnErr result (KeepsPlace ctx.old ctx.new) }
 {
     let mut search = new_search(alloc, index)?;

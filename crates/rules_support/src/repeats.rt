@@ -59,7 +59,8 @@ pub fn report_repeats<'a, S: CheckedScalar, N: HasName>(
     before: &str,
     after: &str,
 ) -> Result<(), OutOfMemory>
-    ensures ok { IfOk result (λ _. ctx.new ≡ with_errors ctx.old (repeats (λ name. (before.now ++ name) ++ after.now) (map N.named entries.now.items))) }
+    ensures ok { IfOk result (λ _. ctx.new
+        ≡ with_errors ctx.old (repeats (λ name. (before.now ++ name) ++ after.now) (map N.named entries.now.items))) }
     ensures err { OnErr result (KeepsPlace ctx.old ctx.new) }
 {
     // most lists have one entry, for which a map would ask for memory
@@ -93,7 +94,9 @@ fn report_repeat<'a, 'n, S: CheckedScalar>(
     after: &str,
 ) -> Result<(), OutOfMemory>
     ensures kept { IfOk result (λ _. places_of names.new ≡ noted (places_of names.old) (name.now, place)) }
-    ensures ok { IfOk result (λ _. ctx.new ≡ with_errors ctx.old (repeat_at (λ n. (before.now ++ n) ++ after.now) (places_of names.old name.now) (name.now, place))) }
+    ensures ok { IfOk result (λ _. ctx.new
+        ≡ with_errors ctx.old (repeat_at (λ n. (before.now ++ n) ++ after.now) (places_of names.old name.now)
+        (name.now, place))) }
     ensures err { OnErr result (KeepsPlace ctx.old ctx.new) }
 {
     if let Some(first) = names.note(name, place)? {

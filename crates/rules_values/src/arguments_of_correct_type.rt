@@ -75,7 +75,10 @@ fn report<'a, S: CheckedScalar>(
     ctx: &mut ValidatorContext<'a, S>,
     argument: &(Spanning<&str>, Spanning<InputValue<S>>),
 ) -> Result<(), OutOfMemory>
-    ensures ok { IfOk result (λ _. Appended (reported S.may_answer (printed_value S.text S.str_of) ctx.old.schema (wrong_argument_message argument.now.0.item.now) (typing ctx.old).input argument.now.1) ctx.old ctx.new) }
+    ensures ok { IfOk result
+        (λ _. Appended
+        (reported S.may_answer (printed_value S.text S.str_of) ctx.old.schema
+        (wrong_argument_message argument.now.0.item.now) (typing ctx.old).input argument.now.1) ctx.old ctx.new) }
     ensures err { OnErr result (KeepsPlace ctx.old ctx.new) }
 {
     if let Some(written) = ctx.current_input_type_literal() {

@@ -81,7 +81,9 @@ fn report<'a, S: CheckedScalar>(
     t: &'a Type,
     value: &Spanning<InputValue<S>>,
 ) -> Result<(), OutOfMemory>
-    ensures ok { IfOk result (λ _. Appended (default_of S.may_answer (printed_value S.text S.str_of) (is_never_null (shape t.now)) ctx.old.schema name.now (shape t.now) value.now) ctx.old ctx.new) }
+    ensures ok { IfOk result
+        (λ _. Appended (default_of S.may_answer (printed_value S.text S.str_of) (is_never_null (shape t.now))
+        ctx.old.schema name.now (shape t.now) value.now) ctx.old ctx.new) }
     ensures err { OnErr result (KeepsPlace ctx.old ctx.new) }
 {
     if is_never_null(t) {
@@ -101,7 +103,8 @@ fn is_never_null(t: &Type) -> bool
 }
 
 fn needless_default_message(alloc: Global, name: &str, t: &Type) -> Result<String, AllocError>
-    ensures { IfOk result (λ message. string_bytes message ≡ needless_default_message name.now (printed (shape t.now))) }
+    ensures { IfOk result (λ message. string_bytes message
+        ≡ needless_default_message name.now (printed (shape t.now))) }
 {
     format!(in alloc;
         "Argument \"{name}\" has type \"{t}\" and is not nullable, so it can't have a default value"
@@ -114,7 +117,8 @@ fn wrong_default_message(
     t: &Type,
     fault: &str,
 ) -> Result<String, AllocError>
-    ensures { IfOk result (λ message. string_bytes message ≡ wrong_default_message name.now (printed (shape t.now)) fault.now) }
+    ensures { IfOk result (λ message. string_bytes message
+        ≡ wrong_default_message name.now (printed (shape t.now)) fault.now) }
 {
     format!(in alloc;
         "Invalid default value for argument \"{name}\", expected type \"{t}\", reason: {fault}"

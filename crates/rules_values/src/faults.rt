@@ -20,7 +20,8 @@ pub fn fault_at<'a, S: CheckedScalar>(
     written: BorrowedType<'a>,
     value: &InputValue<S>,
 ) -> Result<Option<String>, OutOfMemory>
-    ensures { IfOk result (λ fault. WrittenFault ctx.now.schema S.may_answer (printed_value S.text S.str_of) value.now (borrowed_shape written.entry) (option_map string_bytes fault)) }
+    ensures { IfOk result (λ fault. WrittenFault ctx.now.schema S.may_answer (printed_value S.text S.str_of) value.now
+        (borrowed_shape written.entry) (option_map string_bytes fault)) }
 {
     validate_written_value(alloc, ctx.schema, written, value)
 }

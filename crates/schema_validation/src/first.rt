@@ -103,7 +103,8 @@ fn first_name_of_composite<'t, T: NameTest, S>(
     fields: &'t [Field<S>],
     interfaces: &'t [String],
 ) -> Option<&'t str>
-    ensures { option_map (λ s. s.now) result ≡ find (T.fails_at test.now) (flat_map field_names fields.now ++ map string_bytes interfaces.now) }
+    ensures { option_map (λ s. s.now) result
+        ≡ find (T.fails_at test.now) (flat_map field_names fields.now ++ map string_bytes interfaces.now) }
 {
     if let Some(name) = first_name_of_fields(test, fields) {
         return Some(name);

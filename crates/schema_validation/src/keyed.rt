@@ -28,7 +28,8 @@ fn add_entry<T: Keyed + Drop>(
     requires named { is_called T.key_of (string_bytes key) entry ≡ true }
     requires new { get_by_text map.old (string_bytes key) ≡ None }
     ensures listed { OnOk result (values map.new ≡ values map.old ++ entry ∷ []) }
-    ensures keyed { OnOk result (are_keyed T.key_of map.old.entries ≡ true → are_keyed T.key_of map.new.entries ≡ true) }
+    ensures keyed { OnOk result (are_keyed T.key_of map.old.entries ≡ true → are_keyed T.key_of map.new.entries
+        ≡ true) }
     ensures err { IfErr result (λ e. e ≡ SchemaError.OutOfMemory) }
 {
     match map.insert(key, entry) {

@@ -38,7 +38,9 @@ fn add_order_of<S, C>(
     orders: &mut InputOrders,
     meta: &MetaTypeOf<S, C>,
 ) -> Result<(), SchemaError>
-    ensures added { OnOk result ((ts : List (MetaTypeOf S C)) → IfSome (name_of_meta meta.now) (λ n. find (is_named n) ts ≡ Some meta.now) → AreOrders ts orders.old.entries → AreOrders ts orders.new.entries) }
+    ensures added { OnOk result ((ts : List (MetaTypeOf S C))
+        → IfSome (name_of_meta meta.now) (λ n. find (is_named n) ts ≡ Some meta.now) → AreOrders ts orders.old.entries
+        → AreOrders ts orders.new.entries) }
     ensures err { IfErr result (λ e. e ≡ SchemaError.OutOfMemory) }
 {
     match meta {
@@ -59,7 +61,9 @@ fn add_order<S, C>(
     orders: &mut InputOrders,
     input: &InputObjectMetaOf<S, C>,
 ) -> Result<(), SchemaError>
-    ensures added { OnOk result ((ts : List (MetaTypeOf S C)) → find (is_named (string_bytes input.now.name)) ts ≡ Some (MetaTypeOf.InputObject input.now) → AreOrders ts orders.old.entries → AreOrders ts orders.new.entries) }
+    ensures added { OnOk result ((ts : List (MetaTypeOf S C)) → find (is_named (string_bytes input.now.name)) ts
+        ≡ Some (MetaTypeOf.InputObject input.now) → AreOrders ts orders.old.entries
+        → AreOrders ts orders.new.entries) }
     ensures err { IfErr result (λ e. e ≡ SchemaError.OutOfMemory) }
 {
     let key = String::from_str(alloc, input.name.as_str())?;

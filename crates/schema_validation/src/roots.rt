@@ -34,7 +34,8 @@ impl<'n> RootNames<'n> {
 }
 
 fn first_of_option<'n, T: NameTest>(test: &T, name: Option<&'n str>) -> Option<&'n str>
-    ensures { option_map (λ s. s.now) result ≡ find (T.fails_at test.now) (listed (option_map (λ s. s.now) name.entry)) }
+    ensures { option_map (λ s. s.now) result
+        ≡ find (T.fails_at test.now) (listed (option_map (λ s. s.now) name.entry)) }
 {
     match name {
         Some(n) => { if test.fails(n) { Some(n) } else { None } }
@@ -43,7 +44,9 @@ fn first_of_option<'n, T: NameTest>(test: &T, name: Option<&'n str>) -> Option<&
 }
 
 fn first_of_others<'n, T: NameTest>(test: &T, roots: RootNames<'n>) -> Option<&'n str>
-    ensures { option_map (λ s. s.now) result ≡ find (T.fails_at test.now) (listed (roots_asked roots.entry).mutation ++ listed (roots_asked roots.entry).subscription) }
+    ensures { option_map (λ s. s.now) result
+        ≡ find (T.fails_at test.now) (listed (roots_asked roots.entry).mutation
+        ++ listed (roots_asked roots.entry).subscription) }
 {
     if let Some(name) = first_of_option(test, roots.mutation) {
         return Some(name);

@@ -70,8 +70,12 @@ impl<S: CheckedScalar> RootNodeOf<S, S::Check> {
         alloc: Global,
         document: &'a [Definition<'_, S>],
     ) -> Result<Vec<RuleError>, OutOfMemory>
-        ensures all { IfOk result (λ errors. (pairs : ℕ) × IsRootReport S.may_answer (printed_value S.text S.str_of) S.eq self.now.introspection_disabled self.now.schema document.now errors.items pairs) }
-        ensures valid { IfOk result (λ errors. (errors.items ≡ []) ↔ IsRootValid S.may_answer (printed_value S.text S.str_of) S.eq self.now.introspection_disabled self.now.schema document.now) }
+        ensures all { IfOk result (λ errors. (pairs : ℕ)
+            × IsRootReport S.may_answer (printed_value S.text S.str_of) S.eq self.now.introspection_disabled
+            self.now.schema document.now errors.items pairs) }
+        ensures valid { IfOk result (λ errors. (errors.items ≡ [])
+            ↔ IsRootValid S.may_answer (printed_value S.text S.str_of) S.eq self.now.introspection_disabled
+            self.now.schema document.now) }
         ensures sorted { IfOk result (λ errors. IsSorted error_cmp errors.items) }
     {
         let mut ctx = ValidatorContext::new(alloc, &self.schema, document)?;
@@ -88,7 +92,10 @@ pub fn visit_root_rules<'a, S: CheckedScalar>(
     document: &'a [Definition<'_, S>],
     introspection_disabled: bool,
 ) -> Result<u128, OutOfMemory>
-    ensures appended { IfOk result (λ pairs. ctx.old.known ≡ fragment_names document.now → (es : List ErrorValue) × RootReported S.may_answer (printed_value S.text S.str_of) S.eq introspection_disabled ctx.old.errors (scope_of ctx.old.schema document.now) (typing ctx.old) document.now es pairs × (ctx.new ≡ with_errors ctx.old es)) }
+    ensures appended { IfOk result (λ pairs. ctx.old.known ≡ fragment_names document.now → (es : List ErrorValue)
+        × RootReported S.may_answer (printed_value S.text S.str_of) S.eq introspection_disabled ctx.old.errors
+        (scope_of ctx.old.schema document.now) (typing ctx.old) document.now es pairs
+        × (ctx.new ≡ with_errors ctx.old es)) }
     ensures only { OnOk result (Appended any_value ctx.old ctx.new) }
     ensures err { OnErr result (KeepsPlace ctx.old ctx.new) }
     ensures failed { OnErr result (ctx.new.failed ≡ true) }
@@ -105,7 +112,9 @@ fn report_introspection<'a, S: CheckedScalar>(
     document: &'a [Definition<'_, S>],
     disabled: bool,
 ) -> Result<(), OutOfMemory>
-    ensures appended { OnOk result (ctx.old.known ≡ fragment_names document.now → Appended (introspection disabled (scope_of ctx.old.schema document.now) (typing ctx.old) document.now) ctx.old ctx.new) }
+    ensures appended { OnOk result (ctx.old.known ≡ fragment_names document.now
+        → Appended (introspection disabled (scope_of ctx.old.schema document.now) (typing ctx.old) document.now)
+        ctx.old ctx.new) }
     ensures only { OnOk result (Appended any_value ctx.old ctx.new) }
     ensures err { OnErr result (KeepsPlace ctx.old ctx.new) }
     ensures failed { OnErr result (ctx.new.failed ≡ true) }
@@ -121,7 +130,9 @@ fn visit_introspection<'a, S: CheckedScalar>(
     ctx: &mut ValidatorContext<'a, S>,
     document: &'a [Definition<'_, S>],
 ) -> Result<(), OutOfMemory>
-    ensures appended { OnOk result (ctx.old.known ≡ fragment_names document.now → Appended (introspection true (scope_of ctx.old.schema document.now) (typing ctx.old) document.now) ctx.old ctx.new) }
+    ensures appended { OnOk result (ctx.old.known ≡ fragment_names document.now
+        → Appended (introspection true (scope_of ctx.old.schema document.now) (typing ctx.old) document.now) ctx.old
+        ctx.new) }
     ensures only { OnOk result (Appended any_value ctx.old ctx.new) }
     ensures err { OnErr result (KeepsPlace ctx.old ctx.new) }
     ensures failed { OnErr result (ctx.new.failed ≡ true) }

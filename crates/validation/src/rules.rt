@@ -52,9 +52,16 @@ pub fn visit_all_rules<'a, 't, S: CheckedScalar>(
     ctx: &mut ValidatorContext<'a, S>,
     document: &'a [Definition<'t, S>],
 ) -> Result<u128, OutOfMemory>
-    ensures appended { IfOk result (λ pairs. ctx.old.known ≡ fragment_names document.now → (es : List ErrorValue) × Reported S.may_answer (printed_value S.text S.str_of) S.eq ctx.old.errors (scope_of ctx.old.schema document.now) (typing ctx.old) document.now es pairs × (ctx.new ≡ with_errors ctx.old es)) }
-    ensures valid { IfOk result (λ pairs. ctx.old.known ≡ fragment_names document.now → ctx.old.errors ≡ [] → (ctx.new.errors ≡ []) ↔ IsValid S.may_answer (printed_value S.text S.str_of) S.eq (scope_of ctx.old.schema document.now) (typing ctx.old) document.now) }
-    ensures few { IfOk result (λ pairs. ctx.old.known ≡ fragment_names document.now → pairs ≤ fragment_count document.now * (fragment_count document.now - 1)) }
+    ensures appended { IfOk result (λ pairs. ctx.old.known ≡ fragment_names document.now → (es : List ErrorValue)
+        × Reported S.may_answer (printed_value S.text S.str_of) S.eq ctx.old.errors
+        (scope_of ctx.old.schema document.now) (typing ctx.old) document.now es pairs
+        × (ctx.new ≡ with_errors ctx.old es)) }
+    ensures valid { IfOk result (λ pairs. ctx.old.known ≡ fragment_names document.now → ctx.old.errors ≡ []
+        → (ctx.new.errors ≡ [])
+        ↔ IsValid S.may_answer (printed_value S.text S.str_of) S.eq (scope_of ctx.old.schema document.now)
+        (typing ctx.old) document.now) }
+    ensures few { IfOk result (λ pairs. ctx.old.known ≡ fragment_names document.now
+        → pairs ≤ fragment_count document.now * (fragment_count document.now - 1)) }
     ensures only { OnOk result (Appended any_value ctx.old ctx.new) }
     ensures err { OnErr result (KeepsPlace ctx.old ctx.new) }
     ensures failed { OnErr result (ctx.new.failed ≡ true) }
@@ -74,7 +81,9 @@ fn visit_stage_two<'a, 't, S: CheckedScalar>(
     cycles: DocumentCycles<'a>,
 ) -> Result<u128, OutOfMemory>
     requires { SearchedDocument document.now cycles }
-    ensures appended { IfOk result (λ pairs. ctx.old.known ≡ fragment_names document.now → (es : List ErrorValue) × (end : MergeRule) × MergeErrors S.eq ctx.old.schema document.now end es × (end.compared ≡ pairs) × (ctx.new ≡ with_errors ctx.old es)) }
+    ensures appended { IfOk result (λ pairs. ctx.old.known ≡ fragment_names document.now → (es : List ErrorValue)
+        × (end : MergeRule) × MergeErrors S.eq ctx.old.schema document.now end es × (end.compared ≡ pairs)
+        × (ctx.new ≡ with_errors ctx.old es)) }
     ensures only { OnOk result (Appended any_value ctx.old ctx.new) }
     ensures err { OnErr result (KeepsPlace ctx.old ctx.new) }
     ensures failed { OnErr result (ctx.new.failed ≡ true) }

@@ -26,7 +26,9 @@ pub fn try_spreads<'a, 't, S: CheckedScalar>(
     ctx: &mut ValidatorContext<'a, S>,
     document: &'a [Definition<'t, S>],
 ) -> Result<(), OutOfMemory>
-    ensures { OnOk result (ctx.old.known ≡ fragment_names document.now → Appended (exactly (found unknown_fragments) (scope_of ctx.old.schema document.now) (typing ctx.old) document.now) ctx.old ctx.new) }
+    ensures { OnOk result (ctx.old.known ≡ fragment_names document.now
+        → Appended (exactly (found unknown_fragments) (scope_of ctx.old.schema document.now) (typing ctx.old)
+        document.now) ctx.old ctx.new) }
 {
     rules_append::<S, S::Check, KnownFragmentNames>();
     let mut rules = MultiVisitorNil.with(known_fragment_names::factory(ctx.allocator()));
@@ -38,7 +40,9 @@ pub fn try_spreads_and_operations<'a, 't, S: CheckedScalar>(
     ctx: &mut ValidatorContext<'a, S>,
     document: &'a [Definition<'t, S>],
 ) -> Result<(), OutOfMemory>
-    ensures { OnOk result (ctx.old.known ≡ fragment_names document.now → Appended (sum_of (exactly (found unknown_fragments) ∷ exactly (found_by has_several anonymous_among) ∷ []) (scope_of ctx.old.schema document.now) (typing ctx.old) document.now) ctx.old ctx.new) }
+    ensures { OnOk result (ctx.old.known ≡ fragment_names document.now
+        → Appended (sum_of (exactly (found unknown_fragments) ∷ exactly (found_by has_several anonymous_among)
+        ∷ []) (scope_of ctx.old.schema document.now) (typing ctx.old) document.now) ctx.old ctx.new) }
 {
     rules_append::<S, S::Check, Both>();
     let alloc = ctx.allocator();

@@ -19,7 +19,10 @@ pub fn fault_of(
     wanted: &Type,
     value: &InputValue<DefaultScalarValue>,
 ) -> Result<String, OutOfMemory>
-    ensures { IfOk result (λ said. SaysFault ⟦<DefaultScalarValue as CheckedScalar>⟧.may_answer (printed_value ⟦<DefaultScalarValue as ScalarValue>⟧.text ⟦<DefaultScalarValue as ScalarValue>⟧.str_of) schema.now value.now (written_type schema.now (shape wanted.now)) (string_bytes said)) }
+    ensures { IfOk result
+        (λ said. SaysFault ⟦<DefaultScalarValue as CheckedScalar>⟧.may_answer
+        (printed_value ⟦<DefaultScalarValue as ScalarValue>⟧.text ⟦<DefaultScalarValue as ScalarValue>⟧.str_of)
+        schema.now value.now (written_type schema.now (shape wanted.now)) (string_bytes said)) }
 {
     let named = wanted.as_borrowed();
     if !schema.is_known(named.innermost_name()) {

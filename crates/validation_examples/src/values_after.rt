@@ -20,8 +20,11 @@ pub fn values_after<'a, 't, S: CheckedScalar>(
     document: &'a [Definition<'t, S>],
     values: &Variables<S>,
 ) -> Result<Option<Vec<RuleError>>, OutOfMemory>
-    ensures judged { IfOk result (λ answer. IfSome answer (λ errors. FaultsAfter S.may_answer S.text S.str_of S.eq schema.now document.now values.now errors.items)) }
-    ensures nothing { IfOk result (λ answer. IfNone answer (NothingToJudge S.may_answer S.text S.str_of S.eq schema.now document.now)) }
+    ensures judged { IfOk result
+        (λ answer. IfSome answer (λ errors. FaultsAfter S.may_answer S.text S.str_of S.eq schema.now document.now
+        values.now errors.items)) }
+    ensures nothing { IfOk result
+        (λ answer. IfNone answer (NothingToJudge S.may_answer S.text S.str_of S.eq schema.now document.now)) }
 {
     let mut ctx = ValidatorContext::new(alloc, schema, document)?;
     visit_all_rules(&mut ctx, document)?;

@@ -20,7 +20,8 @@ pub fn is_named(set: &BTreeSet<&str>, name: &str) -> bool
 
 // A name more.
 fn add_name<'a>(set: &mut BTreeSet<&'a str>, name: &'a str) -> Result<(), OutOfMemory>
-    ensures { OnOk result ((other : List ℕ) → has_name set.new other ≡ (if bytes_eq name.now other then true else has_name set.old other)) }
+    ensures { OnOk result ((other : List ℕ) → has_name set.new other
+        ≡ (if bytes_eq name.now other then true else has_name set.old other)) }
 {
     set.insert(name)?;
     Ok(())

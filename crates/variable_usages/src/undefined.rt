@@ -39,7 +39,8 @@ fn tell<'a>(
     used: VariableUse<'a>,
     found: &mut Vec<UndefinedVariable<'a>>,
 ) -> Result<(), OutOfMemory>
-    ensures { OnOk result (TellsUndefined (has_name defined.now) (option_map (λ n. n.now) operation.entry) start used.entry (map undefined_of found.old.items) (map undefined_of found.new.items)) }
+    ensures { OnOk result (TellsUndefined (has_name defined.now) (option_map (λ n. n.now) operation.entry) start
+        used.entry (map undefined_of found.old.items) (map undefined_of found.new.items)) }
 {
     if !is_named(defined, used.name) {
         found.push(UndefinedVariable {
@@ -60,7 +61,9 @@ fn tell_all<'a>(
     uses: &[VariableUse<'a>],
     found: &mut Vec<UndefinedVariable<'a>>,
 ) -> Result<(), OutOfMemory>
-    ensures { OnOk result (map undefined_of found.new.items ≡ map undefined_of found.old.items ++ flat_map (told_undefined (has_name defined.now) (option_map (λ n. n.now) operation.entry) start) (map use_of uses.now)) }
+    ensures { OnOk result (map undefined_of found.new.items ≡ map undefined_of found.old.items
+        ++ flat_map (told_undefined (has_name defined.now) (option_map (λ n. n.now) operation.entry) start)
+        (map use_of uses.now)) }
 {
     for used in uses {
         tell(defined, operation, start, *used, found)?;
@@ -82,7 +85,9 @@ fn add_undefined<'a, S>(
     requires ready { IsReady index.now.scopes search.old.search }
     requires own { own.now ≡ places_of document.now (operation (option_map (λ n. n.now) name)) }
     requires named { IsOperationName document.now (option_map (λ n. n.now) name) }
-    ensures told { OnOk result (AddsUndefined document.now (option_map (λ n. n.now) name.entry) (map undefined_of found.old.items) (map undefined_of found.new.items)) }
+    ensures told { OnOk result
+        (AddsUndefined document.now (option_map (λ n. n.now) name.entry) (map undefined_of found.old.items)
+        (map undefined_of found.new.items)) }
     ensures ready { OnOk result (IsReady index.now.scopes search.new.search) }
 {
     let all = index.uses.as_slice();

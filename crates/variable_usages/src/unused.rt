@@ -80,7 +80,8 @@ fn add_variable<'a>(
     found: &mut Vec<Variable<'a>>,
 ) -> Result<(), OutOfMemory>
     requires { StartBy latest.old (map name_and_span found.old.items) }
-    ensures added { OnOk result (AddsVariable (has_name used.now) (variable_at variable.now) (map name_and_span found.old.items) (map name_and_span found.new.items)) }
+    ensures added { OnOk result (AddsVariable (has_name used.now) (variable_at variable.now) (map name_and_span found.old.items)
+        (map name_and_span found.new.items)) }
     ensures start { OnOk result (StartBy latest.new (map name_and_span found.new.items)) }
 {
     if is_named(used, variable.item) || is_found(found.as_slice(), *latest, variable) {
@@ -100,7 +101,8 @@ fn unused_among<'a, S>(
     used: &BTreeSet<&str>,
     definitions: &[(Spanning<&'a str>, VariableDefinition<'_, S>)],
 ) -> Result<Vec<Variable<'a>>, OutOfMemory>
-    ensures { IfOk result (λ found. UnusedAmong (has_name used.now) (map (λ v. (v.0.item.now, v.0.span)) definitions.now) (map name_and_span found.items)) }
+    ensures { IfOk result (λ found. UnusedAmong (has_name used.now) (map (λ v. (v.0.item.now, v.0.span)) definitions.now)
+        (map name_and_span found.items)) }
 {
     let mut latest = 0;
     let mut found = Vec::new(alloc);
@@ -116,7 +118,8 @@ fn tell_all<'a>(
     operation: Option<&'a str>,
     found: &mut Vec<UnusedVariable<'a>>,
 ) -> Result<(), OutOfMemory>
-    ensures { OnOk result (map unused_of found.new.items ≡ map unused_of found.old.items ++ map (unused_by (option_map (λ n. n.now) operation.entry)) (map name_and_span variables.now)) }
+    ensures { OnOk result (map unused_of found.new.items ≡ map unused_of found.old.items
+        ++ map (unused_by (option_map (λ n. n.now) operation.entry)) (map name_and_span variables.now)) }
 {
     for variable in variables {
         found.push(UnusedVariable {
@@ -142,7 +145,8 @@ fn add_unused<'a, S>(
     requires ready { IsReady index.now.scopes search.old.search }
     requires own { own.now ≡ places_of document.now (operation (option_map (λ n. n.now) name)) }
     requires named { IsOperationName document.now (option_map (λ n. n.now) name) }
-    ensures told { OnOk result (AddsUnused document.now (option_map (λ n. n.now) name.entry) (map unused_of found.old.items) (map unused_of found.new.items)) }
+    ensures told { OnOk result (AddsUnused document.now (option_map (λ n. n.now) name.entry) (map unused_of found.old.items)
+        (map unused_of found.new.items)) }
     ensures ready { OnOk result (IsReady index.now.scopes search.new.search) }
 {
     let all = index.uses.as_slice();
@@ -159,7 +163,8 @@ fn add_unused<'a, S>(
 
 // Whether the last operation of a name defines no variable, by the places of all of them.
 fn defines_none<S>(document: Document<'_, S>, own: &[usize]) -> bool
-    ensures { IsTrue result → (name : Option (List ℕ)) → own.now ≡ places_of document.now (operation name) → DefinesNone document.now name }
+    ensures { IsTrue result → (name : Option (List ℕ)) → own.now ≡ places_of document.now (operation name)
+        → DefinesNone document.now name }
 {
     match last_operation(document, own) {
         Some(last) => variables(last).is_empty(),
@@ -181,7 +186,8 @@ fn add_if_defined<'a, S>(
     requires ready { IsReady index.now.scopes search.old.search }
     requires own { own.now ≡ places_of document.now (operation (option_map (λ n. n.now) name)) }
     requires named { IsOperationName document.now (option_map (λ n. n.now) name) }
-    ensures told { OnOk result (AddsUnused document.now (option_map (λ n. n.now) name.entry) (map unused_of found.old.items) (map unused_of found.new.items)) }
+    ensures told { OnOk result (AddsUnused document.now (option_map (λ n. n.now) name.entry) (map unused_of found.old.items)
+        (map unused_of found.new.items)) }
     ensures ready { OnOk result (IsReady index.now.scopes search.new.search) }
 {
     if defines_none(document, own) {

@@ -32,7 +32,8 @@ fn add_names<'d>(
     names: &[&'d str],
     found: &mut Vec<VariableUse<'d>>,
 ) -> Result<(), OutOfMemory>
-    ensures { OnOk result (map use_of found.new.items ≡ map use_of found.old.items ++ map (at_place place) (map (λ n. n.now) names.now)) }
+    ensures { OnOk result (map use_of found.new.items ≡ map use_of found.old.items
+        ++ map (at_place place) (map (λ n. n.now) names.now)) }
 {
     for name in names {
         found.push(VariableUse { name: *name, place })?;
@@ -47,7 +48,8 @@ fn add_value<'d, S>(
     value: &'d InputValue<S>,
     found: &mut Vec<VariableUse<'d>>,
 ) -> Result<(), OutOfMemory>
-    ensures { OnOk result (map use_of found.new.items ≡ map use_of found.old.items ++ map (at_place place) (variables_of value.now)) }
+    ensures { OnOk result (map use_of found.new.items ≡ map use_of found.old.items
+        ++ map (at_place place) (variables_of value.now)) }
 {
     match value {
         // for these, as most values are, a list of names would be asked for in vain
@@ -83,7 +85,8 @@ fn add_each_argument<'d, S>(
     arguments: &'d [(Spanning<&str>, Spanning<InputValue<S>>)],
     found: &mut Vec<VariableUse<'d>>,
 ) -> Result<(), OutOfMemory>
-    ensures { OnOk result (map use_of found.new.items ≡ map use_of found.old.items ++ flat_map argument_uses arguments.now) }
+    ensures { OnOk result (map use_of found.new.items ≡ map use_of found.old.items
+        ++ flat_map argument_uses arguments.now) }
 {
     for argument in arguments {
         add_argument(alloc, argument, found)?;
@@ -111,7 +114,8 @@ fn add_each_directive<'d, S>(
     directives: &'d [Spanning<Directive<'_, S>>],
     found: &mut Vec<VariableUse<'d>>,
 ) -> Result<(), OutOfMemory>
-    ensures { OnOk result (map use_of found.new.items ≡ map use_of found.old.items ++ flat_map directive_uses directives.now) }
+    ensures { OnOk result (map use_of found.new.items ≡ map use_of found.old.items
+        ++ flat_map directive_uses directives.now) }
 {
     for directive in directives {
         add_arguments(alloc, &directive.item.arguments, found)?;
@@ -178,7 +182,8 @@ fn add_each_definition<'d, S>(
     definitions: &'d [(Spanning<&str>, VariableDefinition<'_, S>)],
     found: &mut Vec<VariableUse<'d>>,
 ) -> Result<(), OutOfMemory>
-    ensures { OnOk result (map use_of found.new.items ≡ map use_of found.old.items ++ flat_map variable_definition_uses definitions.now) }
+    ensures { OnOk result (map use_of found.new.items ≡ map use_of found.old.items
+        ++ flat_map variable_definition_uses definitions.now) }
 {
     for definition in definitions {
         add_directives(alloc, &definition.1.directives, found)?;
@@ -192,7 +197,8 @@ fn add_variable_definitions<'d, S>(
     definitions: &'d Option<Spanning<VariableDefinitions<'_, S>>>,
     found: &mut Vec<VariableUse<'d>>,
 ) -> Result<(), OutOfMemory>
-    ensures { OnOk result (map use_of found.new.items ≡ map use_of found.old.items ++ variable_definitions_uses definitions.now) }
+    ensures { OnOk result (map use_of found.new.items ≡ map use_of found.old.items
+        ++ variable_definitions_uses definitions.now) }
 {
     match definitions {
         Some(given) => add_each_definition(alloc, given.item.items.as_slice(), found),
@@ -299,7 +305,8 @@ pub fn reached_uses<'a, S>(
     requires index { IsIndexOf document.now index.now }
     requires ready { IsReady index.now search.old.search }
     requires all { AllUses document.now all.now }
-    ensures used { OnOk result ((name : Option (List ℕ)) → own.now ≡ places_of document.now (operation name) → UsedIn document.now name (map use_of search.new.uses.items)) }
+    ensures used { OnOk result ((name : Option (List ℕ)) → own.now ≡ places_of document.now (operation name)
+        → UsedIn document.now name (map use_of search.new.uses.items)) }
     ensures ready { OnOk result (IsReady index.now search.new.search) }
 {
     reached_definitions(document, index, &mut search.search, own)?;

@@ -54,7 +54,8 @@ pub fn add_faults<'p, S: CheckedScalar>(
     messages: &mut Vec<String>,
 ) -> Result<(), OutOfMemory>
     requires { is_input_in schema.now (borrowed_shape expected).name ≡ true }
-    ensures { OnOk result (Adds (Faults schema.now S.may_answer S.text S.str_of value.now (borrowed_shape expected.entry)) (before place.now) (texts_of messages.old) (texts_of messages.new)) }
+    ensures { OnOk result (Adds (Faults schema.now S.may_answer S.text S.str_of value.now (borrowed_shape expected.entry))
+        (before place.now) (texts_of messages.old) (texts_of messages.new)) }
 {
     match known_row(schema, expected, value) {
         Row::Nothing => Ok(()),
@@ -84,7 +85,8 @@ fn add_faults_of_items<'p, S: CheckedScalar>(
     messages: &mut Vec<String>,
 ) -> Result<(), OutOfMemory>
     requires { is_input_in schema.now (borrowed_shape inner).name ≡ true }
-    ensures { OnOk result (Adds (OfItems schema.now S.may_answer S.text S.str_of (borrowed_shape inner.entry) items.now) (before place.now) (texts_of messages.old) (texts_of messages.new)) }
+    ensures { OnOk result (Adds (OfItems schema.now S.may_answer S.text S.str_of (borrowed_shape inner.entry) items.now)
+        (before place.now) (texts_of messages.old) (texts_of messages.new)) }
 {
     for (index, item) in items.iter().enumerate() {
         let at = Place::Element(index, place);
@@ -105,7 +107,8 @@ fn add_faults_of_named<'p, S: CheckedScalar>(
 ) -> Result<(), OutOfMemory>
     requires known { IsIn schema.now meta.now }
     requires input { is_input_meta meta.now ≡ true }
-    ensures { OnOk result (Adds (ByName schema.now S.may_answer S.text S.str_of value.now (Some meta.now)) (before place.now) (texts_of messages.old) (texts_of messages.new)) }
+    ensures { OnOk result (Adds (ByName schema.now S.may_answer S.text S.str_of value.now (Some meta.now))
+        (before place.now) (texts_of messages.old) (texts_of messages.new)) }
 {
     if value.is_null() {
         Ok(())
@@ -126,7 +129,8 @@ fn add_faults_of_meta<'p, S: CheckedScalar>(
 ) -> Result<(), OutOfMemory>
     requires known { IsIn schema.now meta.now }
     requires input { is_input_meta meta.now ≡ true }
-    ensures { OnOk result (Adds (ByMeta schema.now S.may_answer S.text S.str_of value.now meta.now) (before place.now) (texts_of messages.old) (texts_of messages.new)) }
+    ensures { OnOk result (Adds (ByMeta schema.now S.may_answer S.text S.str_of value.now meta.now) (before place.now)
+        (texts_of messages.old) (texts_of messages.new)) }
 {
     match meta {
         MetaTypeOf::Scalar(scalar) => add_faults_of_scalar(alloc, value, scalar, place, messages),
@@ -164,7 +168,8 @@ fn add_faults_of_object<'p, S: CheckedScalar>(
     messages: &mut Vec<String>,
 ) -> Result<(), OutOfMemory>
     requires { IsIn schema.now (MetaTypeOf.InputObject object.now) }
-    ensures { OnOk result (Adds (OfWhole schema.now S.may_answer S.text S.str_of object.now entries.now value.now) (before place.now) (texts_of messages.old) (texts_of messages.new)) }
+    ensures { OnOk result (Adds (OfWhole schema.now S.may_answer S.text S.str_of object.now entries.now value.now)
+        (before place.now) (texts_of messages.old) (texts_of messages.new)) }
 {
     let told = messages.len();
     add_faults_of_fields(alloc, schema, entries, object, place, messages)?;
@@ -193,7 +198,9 @@ fn add_faults_of_fields<'p, S: CheckedScalar>(
     messages: &mut Vec<String>,
 ) -> Result<(), OutOfMemory>
     requires { IsIn schema.now (MetaTypeOf.InputObject object.now) }
-    ensures { OnOk result (Adds (OfFields schema.now S.may_answer S.text S.str_of object.now.input_fields.items entries.now) (before place.now) (texts_of messages.old) (texts_of messages.new)) }
+    ensures { OnOk result
+        (Adds (OfFields schema.now S.may_answer S.text S.str_of object.now.input_fields.items entries.now)
+        (before place.now) (texts_of messages.old) (texts_of messages.new)) }
 {
     let places = last_places(alloc, entries)?;
     for field in object.input_fields.as_slice() {
@@ -220,7 +227,11 @@ fn add_faults_of_field<'p, S: CheckedScalar>(
     requires places { HasPlaces places.now entries.now }
     requires known { is_input_in schema.now (borrowed_shape expected).name ≡ true }
     requires made { borrowed_shape expected ≡ shape field.now.arg_type }
-    ensures { OnOk result (Adds (OfField schema.now S.may_answer S.text S.str_of field.now (last_value (string_bytes field.now.name) entries.now)) (before place.now) (texts_of messages.old) (texts_of messages.new)) }
+    ensures { OnOk result
+        (Adds
+        (OfField schema.now S.may_answer S.text S.str_of field.now
+        (last_value (string_bytes field.now.name) entries.now)) (before place.now) (texts_of messages.old)
+        (texts_of messages.new)) }
 {
     let name = field.name.as_str();
     let at = Place::Field(name, place);
@@ -237,7 +248,9 @@ fn add_absence(
     place: &Place<'_>,
     messages: &mut Vec<String>,
 ) -> Result<(), OutOfMemory>
-    ensures { OnOk result (Adds (λ fs. fs ≡ absent (borrowed_shape expected.entry)) (before place.now) (texts_of messages.old) (texts_of messages.new)) }
+    ensures { OnOk result
+        (Adds (λ fs. fs ≡ absent (borrowed_shape expected.entry)) (before place.now) (texts_of messages.old)
+        (texts_of messages.new)) }
 {
     if expected.is_non_null() {
         add(null_message(alloc, place, expected)?, messages)
@@ -254,7 +267,8 @@ fn add_length_fault(
     place: &Place<'_>,
     messages: &mut Vec<String>,
 ) -> Result<(), OutOfMemory>
-    ensures { OnOk result (Adds (λ fs. fs ≡ wrong_length size found) (before place.now) (texts_of messages.old) (texts_of messages.new)) }
+    ensures { OnOk result (Adds (λ fs. fs ≡ wrong_length size found) (before place.now) (texts_of messages.old)
+        (texts_of messages.new)) }
 {
     match size {
         None => Ok(()),
@@ -291,7 +305,12 @@ fn add_faults_of_scalar<S: CheckedScalar>(
     place: &Place<'_>,
     messages: &mut Vec<String>,
 ) -> Result<(), OutOfMemory>
-    ensures { OnOk result (Adds (Checked S.may_answer (scalar_check scalar.now) value.now (scalar_text (string_bytes scalar.now.name) (printed_value S.text S.str_of value.now)) (accepted_faults (string_bytes scalar.now.name) (out-InputValue S value.now))) (before place.now) (texts_of messages.old) (texts_of messages.new)) }
+    ensures { OnOk result
+        (Adds
+        (Checked S.may_answer (scalar_check scalar.now) value.now
+        (scalar_text (string_bytes scalar.now.name) (printed_value S.text S.str_of value.now))
+        (accepted_faults (string_bytes scalar.now.name) (out-InputValue S value.now))) (before place.now)
+        (texts_of messages.old) (texts_of messages.new)) }
 {
     let name = scalar.name.as_str();
     match refusal(alloc, scalar.input_value_parse_fn(), value)? {
@@ -311,7 +330,8 @@ fn add_fault_of_accepted<S>(
     place: &Place<'_>,
     messages: &mut Vec<String>,
 ) -> Result<(), OutOfMemory>
-    ensures { OnOk result (Adds (λ fs. fs ≡ accepted_faults name.now (out-InputValue S value.now)) (before place.now) (texts_of messages.old) (texts_of messages.new)) }
+    ensures { OnOk result (Adds (λ fs. fs ≡ accepted_faults name.now (out-InputValue S value.now)) (before place.now)
+        (texts_of messages.old) (texts_of messages.new)) }
 {
     match value {
         InputValue::List(_) => add(list_message(alloc, place, name)?, messages),
@@ -328,7 +348,11 @@ fn add_refusal_of_object<S: CheckedScalar>(
     place: &Place<'_>,
     messages: &mut Vec<String>,
 ) -> Result<(), OutOfMemory>
-    ensures { OnOk result (Adds (Checked S.may_answer (input_object_check object.now) value.now (input_text (string_bytes object.now.name) (printed_value S.text S.str_of value.now)) []) (before place.now) (texts_of messages.old) (texts_of messages.new)) }
+    ensures { OnOk result
+        (Adds
+        (Checked S.may_answer (input_object_check object.now) value.now
+        (input_text (string_bytes object.now.name) (printed_value S.text S.str_of value.now)) []) (before place.now)
+        (texts_of messages.old) (texts_of messages.new)) }
 {
     match refusal(alloc, object.input_value_parse_fn(), value)? {
         None => Ok(()),
@@ -349,7 +373,11 @@ fn add_fault_of_enum<S: ScalarValue, C>(
     place: &Place<'_>,
     messages: &mut Vec<String>,
 ) -> Result<(), OutOfMemory>
-    ensures { OnOk result (Adds (λ fs. fs ≡ enum_faults (string_bytes known.now.name) (map (λ n. string_bytes n.name) known.now.values.items) (name_in S.str_of (out-InputValue S value.now))) (before place.now) (texts_of messages.old) (texts_of messages.new)) }
+    ensures { OnOk result
+        (Adds (λ fs. fs
+        ≡ enum_faults (string_bytes known.now.name) (map (λ n. string_bytes n.name) known.now.values.items)
+        (name_in S.str_of (out-InputValue S value.now))) (before place.now) (texts_of messages.old)
+        (texts_of messages.new)) }
 {
     match name_of(value) {
         None => add(

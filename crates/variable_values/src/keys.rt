@@ -26,7 +26,9 @@ pub fn add_unknown_keys<S>(
     place: &Place<'_>,
     messages: &mut Vec<String>,
 ) -> Result<(), OutOfMemory>
-    ensures { OnOk result (texts_of messages.new ≡ texts_of messages.old ++ map (told_after (before place.now)) (map unknown_field (unknown_keys (field_names fields.now) (keys_of entries.now)))) }
+    ensures { OnOk result (texts_of messages.new ≡ texts_of messages.old
+        ++ map (told_after (before place.now))
+        (map unknown_field (unknown_keys (field_names fields.now) (keys_of entries.now)))) }
 {
     let mut noted = names_of(alloc, fields)?;
     for (key, _) in entries {
@@ -44,8 +46,10 @@ fn note_key<'k>(
     noted: &mut BTreeSet<&'k str>,
     messages: &mut Vec<String>,
 ) -> Result<(), OutOfMemory>
-    ensures told { OnOk result (texts_of messages.new ≡ texts_of messages.old ++ (if has_name noted.old key.now then [] else told_after (before place.now) (unknown_field key.now) ∷ [])) }
-    ensures noted { OnOk result ((n : List ℕ) → has_name noted.new n ≡ (if bytes_eq key.now n then true else has_name noted.old n)) }
+    ensures told { OnOk result (texts_of messages.new ≡ texts_of messages.old
+        ++ (if has_name noted.old key.now then [] else told_after (before place.now) (unknown_field key.now) ∷ [])) }
+    ensures noted { OnOk result ((n : List ℕ) → has_name noted.new n
+        ≡ (if bytes_eq key.now n then true else has_name noted.old n)) }
 {
     if noted.insert(key)? {
         add(unknown_message(alloc, place, key)?, messages)

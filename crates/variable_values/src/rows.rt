@@ -30,7 +30,8 @@ pub enum Row<'t> {
 
 /// The row of the value and the type.
 pub fn row_of<'t, S: CheckedScalar>(expected: BorrowedType<'t>, value: &InputValue<S>) -> Row<'t>
-    ensures row { (schema : Catalog S S.Check) (fs : List Fault) → IsRowOf schema S.may_answer S.text S.str_of value.now (borrowed_shape expected.entry) result fs }
+    ensures row { (schema : Catalog S S.Check) (fs : List Fault)
+        → IsRowOf schema S.may_answer S.text S.str_of value.now (borrowed_shape expected.entry) result fs }
     ensures name { HasName (borrowed_shape expected.entry) result }
     ensures items { IsListRow value.now result }
 {
@@ -58,7 +59,8 @@ pub fn known_row<'t, S: CheckedScalar>(
     value: &InputValue<S>,
 ) -> Row<'t>
     requires { is_input_in schema.now (borrowed_shape expected).name ≡ true }
-    ensures row { (fs : List Fault) → IsRowOf schema.now S.may_answer S.text S.str_of value.now (borrowed_shape expected.entry) result fs }
+    ensures row { (fs : List Fault)
+        → IsRowOf schema.now S.may_answer S.text S.str_of value.now (borrowed_shape expected.entry) result fs }
     ensures known { IsKnownRow schema.now result }
     ensures items { IsListRow value.now result }
 {

@@ -28,7 +28,8 @@ pub fn null_message(
     place: &Place<'_>,
     expected: BorrowedType<'_>,
 ) -> Result<String, AllocError>
-    ensures { IfOk result (λ t. string_bytes t ≡ told_after (before place.now) (here (null_text (printed (borrowed_shape expected.entry))))) }
+    ensures { IfOk result (λ t. string_bytes t
+        ≡ told_after (before place.now) (here (null_text (printed (borrowed_shape expected.entry))))) }
 {
     format!(in alloc; "{place}Expected \"{expected}\", found null.")
 }
@@ -51,7 +52,9 @@ pub fn scalar_message<S: ScalarValue>(
     value: &InputValue<S>,
     why: &str,
 ) -> Result<String, AllocError>
-    ensures { IfOk result (λ t. string_bytes t ≡ told_after (before place.now) (here (scalar_text name.now (printed_value S.text S.str_of value.now) why.now))) }
+    ensures { IfOk result (λ t. string_bytes t
+        ≡ told_after (before place.now)
+        (here (scalar_text name.now (printed_value S.text S.str_of value.now) why.now))) }
 {
     format!(in alloc; "{place}Expected input scalar `{name}`. Got: `{value}`. Details: {why}.")
 }
@@ -63,7 +66,9 @@ pub fn input_message<S: ScalarValue>(
     value: &InputValue<S>,
     why: &str,
 ) -> Result<String, AllocError>
-    ensures { IfOk result (λ t. string_bytes t ≡ told_after (before place.now) (here (input_text name.now (printed_value S.text S.str_of value.now) why.now))) }
+    ensures { IfOk result (λ t. string_bytes t
+        ≡ told_after (before place.now)
+        (here (input_text name.now (printed_value S.text S.str_of value.now) why.now))) }
 {
     format!(in alloc; "{place}Expected input of type `{name}`. Got: `{value}`. Details: {why}.")
 }
@@ -105,7 +110,8 @@ pub fn unknown_message(alloc: Global, place: &Place<'_>, key: &str) -> Result<St
 }
 
 fn told_of_key(alloc: Global, place: &Place<'_>, key: &str) -> Result<String, AllocError>
-    ensures { IfOk result (λ t. string_bytes t ≡ before place.now ++ (codes "In field \"" ++ (key.now ++ codes "\": Unknown field."))) }
+    ensures { IfOk result (λ t. string_bytes t ≡ before place.now
+        ++ (codes "In field \"" ++ (key.now ++ codes "\": Unknown field."))) }
 {
     format!(in alloc; "{place}In field \"{key}\": Unknown field.")
 }

@@ -34,7 +34,9 @@ pub fn validate_input_values<S: CheckedScalar>(
     schema: &SchemaType<S>,
 ) -> Result<Vec<RuleError>, OutOfMemory>
     requires known { HasInputTypes schema.now operation.now.item }
-    ensures faults { IfOk result (λ errors. (es : List ErrorValue) × OfOperation schema.now S.may_answer S.text S.str_of values.now operation.now.item es × IsPermutation es errors.items) }
+    ensures faults { IfOk result (λ errors. (es : List ErrorValue)
+        × OfOperation schema.now S.may_answer S.text S.str_of values.now operation.now.item es
+        × IsPermutation es errors.items) }
     ensures sorted { IfOk result (λ errors. IsSorted error_cmp errors.items) }
 {
     let mut errors = Vec::new(alloc);
@@ -56,7 +58,9 @@ fn messages_of<S: CheckedScalar>(
     expected: BorrowedType<'_>,
 ) -> Result<Vec<String>, OutOfMemory>
     requires { is_input_in schema.now (borrowed_shape expected).name ≡ true }
-    ensures { IfOk result (λ messages. OfVariable schema.now S.may_answer S.text S.str_of name.now (borrowed_shape expected.entry) (given (get_by_text values.now name.now)) (texts_of messages)) }
+    ensures { IfOk result
+        (λ messages. OfVariable schema.now S.may_answer S.text S.str_of name.now (borrowed_shape expected.entry)
+        (given (get_by_text values.now name.now)) (texts_of messages)) }
 {
     let mut messages = Vec::new(alloc);
     match given_value(values, name) {
@@ -91,7 +95,8 @@ fn add_errors(
     place: SourcePosition,
     errors: &mut Vec<RuleError>,
 ) -> Result<(), OutOfMemory>
-    ensures { OnOk result (errors.new.items ≡ errors.old.items ++ map (error_at place) (map string_bytes messages.now)) }
+    ensures { OnOk result (errors.new.items ≡ errors.old.items
+        ++ map (error_at place) (map string_bytes messages.now)) }
 {
     for message in messages {
         errors.push(RuleError::new(alloc, message.as_str(), &[place])?)?;

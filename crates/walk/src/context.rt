@@ -159,7 +159,8 @@ impl<'a, S, C> ValidatorContextOf<'a, S, C> {
         message: &str,
         locations: &[SourcePosition],
     ) -> Result<(), OutOfMemory>
-        ensures ok { OnOk result (self.new ≡ with_errors self.old (record { locations = locations.now; message = message.now } ∷ [])) }
+        ensures ok { OnOk result (self.new
+            ≡ with_errors self.old (record { locations = locations.now; message = message.now } ∷ [])) }
         ensures err { OnErr result (self.new ≡ failing self.old) }
         ensures stays { self.old.failed ≡ true → IsErr result }
     {
@@ -294,7 +295,10 @@ impl<'a, S, C> ValidatorContextOf<'a, S, C> {
         f: F,
     ) -> Result<R, OutOfMemory>
         requires { F.IsAlwaysCallable f }
-        ensures ok { IfOk result (CalledAt F.FnOnce f (pushed self.old (at_type self.old.schema (typing self.old) (option_map borrowed_shape t.entry))) self.new) }
+        ensures ok { IfOk result
+            (CalledAt F.FnOnce f
+            (pushed self.old (at_type self.old.schema (typing self.old) (option_map borrowed_shape t.entry)))
+            self.new) }
         ensures err { OnErr result (self.new ≡ failing self.old) }
         ensures stays { self.old.failed ≡ true → IsErr result }
     {
@@ -329,7 +333,9 @@ impl<'a, S, C> ValidatorContextOf<'a, S, C> {
         f: F,
     ) -> Result<R, OutOfMemory>
         requires { F.IsAlwaysCallable f }
-        ensures ok { IfOk result (CalledAt F.FnOnce f (pushed self.old (at_input (typing self.old) (option_map borrowed_shape t.entry))) self.new) }
+        ensures ok { IfOk result
+            (CalledAt F.FnOnce f (pushed self.old (at_input (typing self.old) (option_map borrowed_shape t.entry)))
+            self.new) }
         ensures err { OnErr result (self.new ≡ failing self.old) }
         ensures stays { self.old.failed ≡ true → IsErr result }
     {

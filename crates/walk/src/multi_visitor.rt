@@ -97,7 +97,8 @@ impl<'a, S: CheckedScalar> Visitor<'a, S> for MultiVisitorNil {
         event: &Event<'a, S>,
     ) -> Result<(), OutOfMemory>
         ensures always { IsOk result }
-        ensures stepped { IfOk result (λ _. Stepped no_step (typed_event event.now (typing ctx.old)) self.old self.new ctx.old ctx.new) }
+        ensures stepped { IfOk result (λ _. Stepped no_step (typed_event event.now (typing ctx.old)) self.old self.new ctx.old
+            ctx.new) }
         ensures err { OnErr result (KeepsPlace ctx.old ctx.new) }
     {
         Ok(())

@@ -44,7 +44,8 @@ fn tell_one<'a, S: CheckedScalar, V: Visitor<'a, S>>(
     event: &Event<'a, S>,
     types: TypesOf<'a, S, S::Check>,
 ) -> Result<(), OutOfMemory>
-    ensures stepped { IfOk result (λ _. Stepped V.step (typed_event event.now (typing_of types.entry)) v.old v.new ctx.old ctx.new) }
+    ensures stepped { IfOk result (λ _. Stepped V.step (typed_event event.now (typing_of types.entry)) v.old v.new ctx.old
+        ctx.new) }
     ensures err { OnErr result (KeepsPlace ctx.old ctx.new) }
     ensures failed { OnErr result (ctx.new.failed ≡ true) }
     ensures stays { ctx.old.failed ≡ true → IsErr result }
@@ -97,7 +98,10 @@ fn visit_definitions<'a, S: CheckedScalar, V: Visitor<'a, S>>(
     definitions: &'a [Definition<'a, S>],
     types: TypesOf<'a, S, S::Check>,
 ) -> Result<(), OutOfMemory>
-    ensures ran { IfOk result (λ _. Ran V.step (events_of (each (outline_of_definition ctx.old.schema (typing_of types.entry)) definitions.now)) v.old v.new ctx.old ctx.new) }
+    ensures ran { IfOk result
+        (λ _. Ran V.step
+        (events_of (each (outline_of_definition ctx.old.schema (typing_of types.entry)) definitions.now)) v.old v.new
+        ctx.old ctx.new) }
     ensures err { OnErr result (KeepsPlace ctx.old ctx.new) }
     ensures failed { OnErr result (ctx.new.failed ≡ true) }
 {
@@ -118,7 +122,8 @@ pub fn walk_with<'a, S: CheckedScalar, V: Visitor<'a, S>>(
     ctx: &mut ValidatorContext<'a, S>,
     document: &'a [Definition<'a, S>],
 ) -> Result<(), OutOfMemory>
-    ensures ran { IfOk result (λ _. Ran V.step (typed_events ctx.old.schema (typing ctx.old) document.now) v.old v.new ctx.old ctx.new) }
+    ensures ran { IfOk result (λ _. Ran V.step (typed_events ctx.old.schema (typing ctx.old) document.now) v.old v.new ctx.old
+        ctx.new) }
     ensures err { OnErr result (KeepsPlace ctx.old ctx.new) }
     ensures failed { OnErr result (ctx.new.failed ≡ true) }
     ensures stays { ctx.old.failed ≡ true → IsErr result }
@@ -137,7 +142,9 @@ pub fn visit<'a, 't, A: Visitor<'a, S>, B: Visitor<'a, S>, S: CheckedScalar>(
     ctx: &mut ValidatorContext<'a, S>,
     document: &'a [Definition<'t, S>],
 ) -> Result<(), OutOfMemory>
-    ensures ran { IfOk result (λ _. Ran ⟦<MultiVisitorCons<A, B> as Machine<S, S::Check>>⟧.step (typed_events ctx.old.schema (typing ctx.old) document.now) v.old v.new ctx.old ctx.new) }
+    ensures ran { IfOk result
+        (λ _. Ran ⟦<MultiVisitorCons<A, B> as Machine<S, S::Check>>⟧.step
+        (typed_events ctx.old.schema (typing ctx.old) document.now) v.old v.new ctx.old ctx.new) }
     ensures err { OnErr result (KeepsPlace ctx.old ctx.new) }
     ensures failed { OnErr result (ctx.new.failed ≡ true) }
     ensures stays { ctx.old.failed ≡ true → IsErr result }
@@ -155,8 +162,11 @@ pub fn visit_rules<'a, 't, S: CheckedScalar, R: Visitor<'a, S> + Rule<S, S::Chec
     document: &'a [Definition<'t, S>],
 ) -> Result<(), OutOfMemory>
     requires fresh { R.fresh rules.old }
-    ensures appended { OnOk result (ctx.old.known ≡ fragment_names document.now → Appended (R.allows rules.new (scope_of ctx.old.schema document.now) (typing ctx.old) document.now) ctx.old ctx.new) }
-    ensures ran { OnOk result (Ran R.step (typed_events ctx.old.schema (typing ctx.old) document.now) rules.old rules.new ctx.old ctx.new) }
+    ensures appended { OnOk result (ctx.old.known ≡ fragment_names document.now
+        → Appended (R.allows rules.new (scope_of ctx.old.schema document.now) (typing ctx.old) document.now) ctx.old
+        ctx.new) }
+    ensures ran { OnOk result (Ran R.step (typed_events ctx.old.schema (typing ctx.old) document.now) rules.old rules.new
+        ctx.old ctx.new) }
     ensures only { OnOk result (Appended any_value ctx.old ctx.new) }
     ensures err { OnErr result (KeepsPlace ctx.old ctx.new) }
     ensures failed { OnErr result (ctx.new.failed ≡ true) }
@@ -173,9 +183,13 @@ pub fn visit_settled<'a, 't, S: CheckedScalar, R: Visitor<'a, S> + SettledRule<S
     document: &'a [Definition<'t, S>],
 ) -> Result<(), OutOfMemory>
     requires fresh { R.fresh rules.old }
-    ensures appended { OnOk result (ctx.old.known ≡ fragment_names document.now → Appended (R.allows rules.new (scope_of ctx.old.schema document.now) (typing ctx.old) document.now) ctx.old ctx.new) }
-    ensures silent { OnOk result (ctx.old.known ≡ fragment_names document.now → (ctx.new.errors ≡ ctx.old.errors) ↔ R.finds_nothing (scope_of ctx.old.schema document.now) (typing ctx.old) document.now) }
-    ensures ran { OnOk result (Ran R.step (typed_events ctx.old.schema (typing ctx.old) document.now) rules.old rules.new ctx.old ctx.new) }
+    ensures appended { OnOk result (ctx.old.known ≡ fragment_names document.now
+        → Appended (R.allows rules.new (scope_of ctx.old.schema document.now) (typing ctx.old) document.now) ctx.old
+        ctx.new) }
+    ensures silent { OnOk result (ctx.old.known ≡ fragment_names document.now → (ctx.new.errors ≡ ctx.old.errors)
+        ↔ R.finds_nothing (scope_of ctx.old.schema document.now) (typing ctx.old) document.now) }
+    ensures ran { OnOk result (Ran R.step (typed_events ctx.old.schema (typing ctx.old) document.now) rules.old rules.new
+        ctx.old ctx.new) }
     ensures only { OnOk result (Appended any_value ctx.old ctx.new) }
     ensures err { OnErr result (KeepsPlace ctx.old ctx.new) }
     ensures failed { OnErr result (ctx.new.failed ≡ true) }

@@ -62,7 +62,8 @@ pub fn count_fields<'a, S: CheckedScalar>(
     ctx: &mut ValidatorContext<'a, S>,
     document: &'a [Definition<'_, S>],
 ) -> Result<usize, OutOfMemory>
-    ensures { IfOk result (λ count. ctx.old.known ≡ fragment_names document.now → count ≡ length (fields_of (scope_of ctx.old.schema document.now) (typing ctx.old) document.now)) }
+    ensures { IfOk result (λ count. ctx.old.known ≡ fragment_names document.now
+        → count ≡ length (fields_of (scope_of ctx.old.schema document.now) (typing ctx.old) document.now)) }
 {
     let alloc = ctx.allocator();
     let mut rules = MultiVisitorNil.with_rule(factory(alloc));

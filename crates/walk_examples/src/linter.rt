@@ -18,7 +18,9 @@ pub fn try_rule<'a, 't, S: CheckedScalar, R: Visitor<'a, S> + Rule<S, S::Check> 
     document: &'a [Definition<'t, S>],
 ) -> Result<(), OutOfMemory>
     requires { R.fresh rule }
-    ensures { OnOk result (ctx.old.known ≡ fragment_names document.now → (end : R) × Appended (R.allows end (scope_of ctx.old.schema document.now) (typing ctx.old) document.now) ctx.old ctx.new) }
+    ensures { OnOk result (ctx.old.known ≡ fragment_names document.now → (end : R)
+        × Appended (R.allows end (scope_of ctx.old.schema document.now) (typing ctx.old) document.now) ctx.old
+        ctx.new) }
 {
     rules_append::<S, S::Check, R>();
     let mut rules = MultiVisitorNil.with(rule);

@@ -24,7 +24,8 @@ impl<S: Drop, C: Drop> SchemaTypeOf<S, C> {
         named: BorrowedType<'_>,
     ) -> Result<TypeTypeOf<'_, S, C>, OutOfMemory>
         requires { is_listed self.now.types (borrowed_shape named).name ≡ true }
-        ensures meta { IfOk result (λ t. type_in (borrowed_shape named.entry).name self.now ≡ Some (wrapped_of t).meta) }
+        ensures meta { IfOk result (λ t. type_in (borrowed_shape named.entry).name self.now
+            ≡ Some (wrapped_of t).meta) }
         ensures modifiers { IfOk result (λ t. (wrapped_of t).modifiers ≡ (borrowed_shape named.entry).modifiers) }
         ensures plain { (borrowed_shape named.entry).modifiers ≡ [] → IsOk result }
     {

@@ -45,8 +45,15 @@ pub struct SchemaTypeOf<S, C> {
     mutation: Option<String>,
     subscription: Option<String>,
     directives: IndexMap<String, DirectiveType<S>>,
-    ghost accepted: { IsAccepted (record { query = string_bytes query; mutation = option_map string_bytes mutation; subscription = option_map string_bytes subscription }) (values types) },
-    ghost directive_inputs_input: { list_all (is_input_listed (values types)) (directive_inputs (values directives)) ≡ true },
+    ghost accepted: { IsAccepted
+        (record {
+          query = string_bytes query;
+          mutation = option_map string_bytes mutation;
+          subscription = option_map
+              string_bytes subscription;
+        }) (values types) },
+    ghost directive_inputs_input: { list_all (is_input_listed (values types)) (directive_inputs (values directives))
+        ≡ true },
     ghost keyed: { are_keyed name_of_meta types.entries ≡ true },
     ghost directives_keyed: { are_keyed directive_name directives.entries ≡ true },
     ghost directives_distinct: { are_distinct directive_name (values directives) ≡ true },
@@ -105,8 +112,11 @@ impl<S: Drop, C: Drop> SchemaTypeOf<S, C> {
         ensures accepted { OnOk result (IsAccepted (roots_of query.now mutation.now subscription.now) types.items) }
         ensures built { IfOk result (λ s. IsSchemaOf (roots_of query.now mutation.now subscription.now) types.items s) }
         ensures refused { IfErr result (λ e. IsTrueRefusal (roots_of query.now mutation.now subscription.now) types.items e) }
-        ensures memory_alone { IsAccepted (roots_of query.now mutation.now subscription.now) types.items → IsOkUnless result SchemaError.OutOfMemory }
-        ensures no_refusal { OnOk result ((e : SchemaError) → IsTrueRefusal (roots_of query.now mutation.now subscription.now) types.items e → e ≡ SchemaError.OutOfMemory) }
+        ensures memory_alone { IsAccepted (roots_of query.now mutation.now subscription.now) types.items
+            → IsOkUnless result SchemaError.OutOfMemory }
+        ensures no_refusal { OnOk result ((e : SchemaError)
+            → IsTrueRefusal (roots_of query.now mutation.now subscription.now) types.items e
+            → e ≡ SchemaError.OutOfMemory) }
     {
         Self::from_list(alloc, types, RootNames::new(query, mutation, subscription))
     }
@@ -217,7 +227,8 @@ impl<S, C> SchemaTypeOf<S, C> {
 
     /// The root of mutations, if there is one, with nothing round it.
     pub fn mutation_type(&self) -> Option<TypeTypeOf<'_, S, C>>
-        ensures root { option_map concrete_of result ≡ option_map (λ t. Some t) (root_in self.now.roots.mutation self.now) }
+        ensures root { option_map concrete_of result
+            ≡ option_map (λ t. Some t) (root_in self.now.roots.mutation self.now) }
         ensures asked { IsSome result ↔ IsSome self.now.roots.mutation }
     {
         match self.concrete_mutation_type() {
@@ -239,7 +250,8 @@ impl<S, C> SchemaTypeOf<S, C> {
 
     /// The root of subscriptions, if there is one, with nothing round it.
     pub fn subscription_type(&self) -> Option<TypeTypeOf<'_, S, C>>
-        ensures root { option_map concrete_of result ≡ option_map (λ t. Some t) (root_in self.now.roots.subscription self.now) }
+        ensures root { option_map concrete_of result
+            ≡ option_map (λ t. Some t) (root_in self.now.roots.subscription self.now) }
         ensures asked { IsSome result ↔ IsSome self.now.roots.subscription }
     {
         match self.concrete_subscription_type() {

@@ -49,7 +49,8 @@ fn put_entry<S: Drop>(
     directive: DirectiveType<S>,
 ) -> Result<(), SchemaError>
     requires { are_keyed directive_name directives.old.entries ≡ true }
-    ensures listed { values directives.new ≡ (if is_ok result then with_directive directive (values directives.old) else values directives.old) }
+    ensures listed { values directives.new
+        ≡ (if is_ok result then with_directive directive (values directives.old) else values directives.old) }
     ensures keyed { are_keyed directive_name directives.new.entries ≡ true }
     ensures err { IfErr result (λ e. e ≡ SchemaError.OutOfMemory) }
 {
@@ -133,7 +134,8 @@ impl<S: Drop, C: Drop> SchemaTypeOf<S, C> {
         ensures description { self.new.description ≡ self.old.description }
         ensures refused { IfErr result (IsTrueOfArguments self.old.types (directive_types directive)) }
         ensures unchanged { OnErr result (self.new ≡ self.old) }
-        ensures memory_alone { list_all (is_input_listed self.old.types) (directive_types directive) ≡ true → IsOkUnless result SchemaError.OutOfMemory }
+        ensures memory_alone { list_all (is_input_listed self.old.types) (directive_types directive) ≡ true
+            → IsOkUnless result SchemaError.OutOfMemory }
     {
         self.check_arguments(*directive.name.allocator(), directive.arguments.as_slice())?;
         self.put_directive(directive)

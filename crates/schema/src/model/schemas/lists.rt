@@ -16,7 +16,8 @@ fn push_if_found<'a, S, C>(
     list: &mut Vec<&'a MetaTypeOf<S, C>>,
     found: Option<&'a MetaTypeOf<S, C>>,
 ) -> Result<(), OutOfMemory>
-    ensures { OnOk result (map (λ r. r.now) list.new.items ≡ map (λ r. r.now) list.old.items ++ option_to_list (option_copied found.entry)) }
+    ensures { OnOk result (map (λ r. r.now) list.new.items ≡ map (λ r. r.now) list.old.items
+        ++ option_to_list (option_copied found.entry)) }
 {
     if let Some(meta) = found {
         list.push(meta)?;
@@ -42,7 +43,8 @@ impl<S, C> SchemaTypeOf<S, C> {
         alloc: Global,
         names: &[String],
     ) -> Result<Vec<&MetaTypeOf<S, C>>, OutOfMemory>
-        ensures { IfOk result (λ v. map (λ r. r.now) v.items ≡ types_named self.now.types (map string_bytes names.now)) }
+        ensures { IfOk result (λ v. map (λ r. r.now) v.items
+            ≡ types_named self.now.types (map string_bytes names.now)) }
     {
         let mut list = Vec::new(alloc);
         for name in names {
@@ -78,8 +80,11 @@ impl<S, C> SchemaTypeOf<S, C> {
         meta: &MetaTypeOf<S, C>,
     ) -> Result<Vec<&MetaTypeOf<S, C>>, OutOfMemory>
         requires { is_abstract_meta meta.now ≡ true }
-        ensures types { IfOk result (λ v. map (λ r. r.now) v.items ≡ types_named self.now.types (possible_names self.now.types meta.now)) }
-        ensures names { (n : List ℕ) → type_in n self.now ≡ Some meta.now → IfOk result (λ v. map (λ r. name_of_meta r.now) v.items ≡ map (λ k. Some k) (possible_names self.now.types meta.now)) }
+        ensures types { IfOk result (λ v. map (λ r. r.now) v.items
+            ≡ types_named self.now.types (possible_names self.now.types meta.now)) }
+        ensures names { (n : List ℕ) → type_in n self.now ≡ Some meta.now
+            → IfOk result (λ v. map (λ r. name_of_meta r.now) v.items
+            ≡ map (λ k. Some k) (possible_names self.now.types meta.now)) }
     {
         self.types_of_possible_names(alloc, meta)
     }
@@ -90,7 +95,8 @@ impl<S, C> SchemaTypeOf<S, C> {
         meta: &MetaTypeOf<S, C>,
     ) -> Result<Vec<&MetaTypeOf<S, C>>, OutOfMemory>
         requires { is_abstract_meta meta.now ≡ true }
-        ensures { IfOk result (λ v. map (λ r. r.now) v.items ≡ types_named self.now.types (possible_names self.now.types meta.now)) }
+        ensures { IfOk result (λ v. map (λ r. r.now) v.items
+            ≡ types_named self.now.types (possible_names self.now.types meta.now)) }
     {
         match meta {
             MetaTypeOf::Union(union) => self.types_of_names(alloc, union.of_type_names.as_slice()),

@@ -95,7 +95,8 @@ impl<S, C> SchemaTypeOf<S, C> {
     }
 
     fn is_any_implementer_possible(&self, interface: &str, meta: &MetaTypeOf<S, C>) -> bool
-        ensures { result ≡ do_meet (implementer_names interface.now self.now.types) (possible_names self.now.types meta.now) }
+        ensures { result
+            ≡ do_meet (implementer_names interface.now self.now.types) (possible_names self.now.types meta.now) }
     {
         for listed in self.types.values() {
             if implements(listed, interface) && self.is_possible(meta, listed) {

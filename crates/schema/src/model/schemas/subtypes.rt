@@ -41,9 +41,11 @@ impl<S, C> SchemaTypeOf<S, C> {
     /// Each type is a subtype of itself, and a subtype of a subtype is one, whether the names are
     /// known or not.
     pub fn is_subtype(&self, sub_type: BorrowedType<'_>, super_type: BorrowedType<'_>) -> bool
-        ensures subtype { IsTrue result ↔ IsSubtype self.now.types (borrowed_shape sub_type.entry) (borrowed_shape super_type.entry) }
+        ensures subtype { IsTrue result
+            ↔ IsSubtype self.now.types (borrowed_shape sub_type.entry) (borrowed_shape super_type.entry) }
         ensures reflexive { borrowed_shape sub_type.entry ≡ borrowed_shape super_type.entry → IsTrue result }
-        ensures transitive { (t : TypeShape) → IsSubtype self.now.types (borrowed_shape sub_type.entry) t → IsSubtype self.now.types t (borrowed_shape super_type.entry) → IsTrue result }
+        ensures transitive { (t : TypeShape) → IsSubtype self.now.types (borrowed_shape sub_type.entry) t
+            → IsSubtype self.now.types t (borrowed_shape super_type.entry) → IsTrue result }
     {
         let are_names_below = self.is_named_subtype(
             sub_type.innermost_name(),
