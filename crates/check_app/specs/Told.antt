@@ -3,12 +3,11 @@ use Rattle.std.specs.Prelude.{◌≡◌, ◌==◌, Bool, ℕ, List, Option, Some
 use Rattle.check_app.specs.Report.{report_text}
 use Rattle.check_app.specs.declared.report.Report.{Report}
 use Rattle.language.specs.declared.tree.Definition.{Definition}
-use Rattle.language.specs.declared.value.InputValue.{InputValue}
-use Rattle.meta.specs.Answers.{Answers}
 use Rattle.rules_merge.specs.declared.overlapping_fields_can_be_merged.OverlappingFieldsCanBeMerged.{OverlappingFieldsCanBeMerged}
 use Rattle.rules_merge.specs.OverlappingFieldsCanBeMerged.{MergeErrors}
 use Rattle.schema.specs.Catalog.{Catalog}
 use Rattle.validation.specs.RootRules.{IsRootReport}
+use Rattle.validation.specs.Stages.{Rules}
 use Rattle.walk.specs.ErrorValue.{ErrorValue, error_cmp}
 
 -- a report on some errors in ascending order
@@ -21,10 +20,10 @@ pub record IsReport (report : Report) : Type 0 where
 
 -- the report on a document: its errors are what every rule reports of the document, that on introspection among them where it is
 -- closed, and it tells how many pairs were compared
-pub record IsReportOn {S C : Type 0} (may : Answers (InputValue S) C) (shown : InputValue S → List ℕ) (E : S → S → Bool) (closed : Bool) (schema : Catalog S C) (document : List (Definition S)) (report : Report) : Type 0 where
+pub record IsReportOn {S C : Type 0} (rules : Rules S C) (closed : Bool) (schema : Catalog S C) (document : List (Definition S)) (report : Report) : Type 0 where
   pub is_report : IsReport report
   pub compared : ℕ
-  pub all : IsRootReport may shown E closed schema document is_report.errors compared
+  pub all : IsRootReport rules closed schema document is_report.errors compared
   pub pairs : is_report.pairs ≡ Some compared
 
 -- the report on fields of a document that can't be merged, and on nothing else

@@ -7,8 +7,8 @@ use validation::ast::Definition;
 use validation::rules::overlapping_fields_can_be_merged;
 use validation::walk::visit_rules;
 use validation::{
-    CheckedScalar, DefaultScalarValue, MultiVisitorNil, OutOfMemory, RuleError, ScalarValue,
-    SchemaType, ValidatorContext, visit_root_rules,
+    AllRules, DefaultScalarValue, MultiVisitorNil, OutOfMemory, RuleError, ScalarValue, SchemaType,
+    ValidatorContext, visit_root_rules,
 };
 
 /// What is told of a document.
@@ -21,7 +21,6 @@ pub struct Report {
 }
 
 impl Report {
-    ghost use Rattle.language.specs.ValuesPrinted.{printed_value};
     ghost use Rattle.check_app.specs.Report.{report_text};
     ghost use Rattle.check_app.specs.Told.{IsReportOn, IsMergeReport};
 
@@ -33,9 +32,7 @@ impl Report {
         closed: bool,
     ) -> Result<Report, OutOfMemory>
         ensures { IfOk result
-            (λ report. IsReportOn ⟦<DefaultScalarValue as CheckedScalar>⟧.may_answer
-            (printed_value ⟦<DefaultScalarValue as ScalarValue>⟧.text ⟦<DefaultScalarValue as ScalarValue>⟧.str_of)
-            ⟦<DefaultScalarValue as ScalarValue>⟧.eq closed schema.now document.now report) }
+            (λ report. IsReportOn ⟦<DefaultScalarValue as AllRules>⟧.rules closed schema.now document.now report) }
     {
         let mut ctx = ValidatorContext::new(alloc, schema, document)?;
         let compared = visit_root_rules(&mut ctx, document, closed)?;

@@ -9,6 +9,7 @@ use Rattle.rules_merge.specs.OverlappingFieldsCanBeMerged.{MergeErrors}
 use Rattle.meta.specs.Answers.{Answers}
 use Rattle.schema.specs.Catalog.{Catalog}
 use Rattle.validation.specs.RootRules.{IsRootReport}
+use Rattle.validation.specs.Stages.{Rules}
 use Rattle.variable_values.specs.Messages.{OfOperation, Values}
 use Rattle.walk.specs.ErrorValue.{ErrorValue, error_cmp, printed_error}
 
@@ -22,11 +23,11 @@ pub record Tells (errors : List ErrorValue) (text : List ℕ) : Type 0 where
   pub written : text ≡ error_lines errors
 
 -- a text tells what every rule reports of a document, that on introspection among them where it is closed
-pub record TellsErrors {S C : Type 0} (may : Answers (InputValue S) C) (shown : InputValue S → List ℕ) (E : S → S → Bool) (closed : Bool) (schema : Catalog S C) (document : List (Definition S)) (text : List ℕ) : Type 0 where
+pub record TellsErrors {S C : Type 0} (rules : Rules S C) (closed : Bool) (schema : Catalog S C) (document : List (Definition S)) (text : List ℕ) : Type 0 where
   pub errors : List ErrorValue
   pub tells : Tells errors text
   pub compared : ℕ
-  pub all : IsRootReport may shown E closed schema document errors compared
+  pub all : IsRootReport rules closed schema document errors compared
 
 -- a text tells which fields of a document can't be merged, and nothing else
 pub record TellsConflicts {S C : Type 0} (E : S → S → Bool) (schema : Catalog S C) (document : List (Definition S)) (text : List ℕ) : Type 0 where

@@ -1,6 +1,5 @@
 //! What our own code reports of a vector's document.
 ghost use Rattle.std.specs.Prelude.{◌≡◌, IfOk, string_bytes};
-ghost use Rattle.language.specs.ValuesPrinted.{printed_value};
 ghost use Rattle.conformance.specs.Told.{TellsConflicts, TellsErrors, error_lines};
 
 use crate::failure::Failure;
@@ -11,8 +10,8 @@ use std::alloc::Global;
 use validation::rules::overlapping_fields_can_be_merged;
 use validation::walk::visit_rules;
 use validation::{
-    CheckedScalar, DefaultScalarValue, Definition, MultiVisitorNil, RootNode, RuleError,
-    ScalarValue, SchemaType, ValidatorContext,
+    AllRules, DefaultScalarValue, Definition, MultiVisitorNil, RootNode, RuleError, ScalarValue,
+    SchemaType, ValidatorContext,
 };
 
 /// The errors of a vector's document, a line each; of a document that isn't read a line says so.
@@ -40,10 +39,8 @@ fn errors_of(
     document: &[Definition<'_, DefaultScalarValue>],
 ) -> Result<String, Failure>
     ensures { IfOk result
-        (λ text. TellsErrors ⟦<DefaultScalarValue as CheckedScalar>⟧.may_answer
-        (printed_value ⟦<DefaultScalarValue as ScalarValue>⟧.text ⟦<DefaultScalarValue as ScalarValue>⟧.str_of)
-        ⟦<DefaultScalarValue as ScalarValue>⟧.eq root.now.introspection_disabled root.now.schema document.now
-        (string_bytes text)) }
+        (λ text. TellsErrors ⟦<DefaultScalarValue as AllRules>⟧.rules root.now.introspection_disabled root.now.schema
+        document.now (string_bytes text)) }
 {
     let errors = root.validate(alloc, document)?;
     let text = lines_of(alloc, errors.as_slice())?;

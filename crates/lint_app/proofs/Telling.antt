@@ -14,16 +14,17 @@ use Rattle.language.specs.declared.tree.Definition.{Definition}
 use Rattle.language.specs.declared.tree.Definition.TheVariants as definition
 use Rattle.language.specs.declared.tree.Fragment.{Fragment}
 use Rattle.language.specs.declared.tree.Operation.{Operation}
-use Rattle.language.specs.ValuesPrinted.{printed_value}
 use Rattle.lint_app.specs.Told.{Adds, AddsIf, AreErrorsOf, AreFaultsOf, AreToldAs, Document, FaultsAt, FaultsIn, FaultsOf, Files, GivenValues, IsErrorFree, IsFileOf, IsReadOf, Root, TellsDocument, TellsFaultsAt, TellsFaultsIn, TellsFile, TellsFiles, issues_of}
 use Rattle.lint_report.specs.declared.issues.Issue.{Issue}
 use Rattle.lint_report.specs.declared.sources.Joined.{Joined}
 use Rattle.lint_report.specs.declared.sources.Source.{Source}
 use Rattle.lint_report.specs.Issues.{IsIssueIn}
 use Rattle.sdl_scalars.specs.Checks.{MayAnswer}
+use Rattle.sdl_scalars.specs.declared.check.SourceCheck.{SourceCheck}
 use Rattle.sdl_scalars.specs.declared.scalar.SourceScalar.{SourceScalar}
 use Rattle.sdl_scalars.specs.SourceScalar.{source_str, source_text}
 use Rattle.validation.specs.RootRules.{IsRootReport}
+use Rattle.validation.specs.Stages.{Rules}
 use Rattle.variable_values.proofs.InTurns.{Done, done_all, done_more}
 use Rattle.variable_values.specs.Messages.{OfOperation}
 use Rattle.walk.specs.ErrorValue.{ErrorValue, error_cmp}
@@ -77,15 +78,15 @@ pub no_items : {X : Type 0} (xs : List X) (b : Bool) → b ≡ (length xs == 0) 
 no_items [] b is none = refl
 no_items (x ∷ xs) b is none = let bad : suc (length xs) ≡ 0 = zero_if (length (x ∷ xs)) (sym is ∙ none) in absurd (omega (arith, bad))
 
-module _ (same : SourceScalar → SourceScalar → Bool) (root : Root) (values : Option GivenValues) (joined : Joined) (file : ℕ) (document : Document) where
+module _ (rules : Rules SourceScalar SourceCheck) (root : Root) (values : Option GivenValues) (joined : Joined) (file : ℕ) (document : Document) where
   -- what the root node reports, where the list is seen otherwise
   pub are_errors : (errors items : List ErrorValue) → errors ≡ items
-      → (pairs : ℕ) × IsRootReport MayAnswer (printed_value source_text source_str) same root.introspection_disabled root.schema document items pairs
-      → (items ≡ []) ↔ IsErrorFree same root document → IsSorted error_cmp items → AreErrorsOf same root document errors
-  are_errors errors items e (pairs, reported) valid sorted = subst (AreErrorsOf same root document) (sym e) (record { pairs = pairs; reported = reported; valid = valid; sorted = sorted })
+      → (pairs : ℕ) × IsRootReport rules root.introspection_disabled root.schema document items pairs
+      → (items ≡ []) ↔ IsErrorFree rules root document → IsSorted error_cmp items → AreErrorsOf rules root document errors
+  are_errors errors items e (pairs, reported) valid sorted = subst (AreErrorsOf rules root document) (sym e) (record { pairs = pairs; reported = reported; valid = valid; sorted = sorted })
 
   -- a document with errors
-  pub tells_errors : (errors : List ErrorValue) (old new : List Issue) → AreErrorsOf same root document errors → (errors ≡ [] → ⊥) → Adds (AreToldAs joined file errors) old new → Adds (TellsDocument same root values joined file document) old new
+  pub tells_errors : (errors : List ErrorValue) (old new : List Issue) → AreErrorsOf rules root document errors → (errors ≡ [] → ⊥) → Adds (AreToldAs joined file errors) old new → Adds (TellsDocument rules root values joined file document) old new
   tells_errors errors old new are some h = record {
     more = h.more;
     told = record {
@@ -99,7 +100,7 @@ module _ (same : SourceScalar → SourceScalar → Bool) (root : Root) (values :
   }
 
   -- a document without errors
-  pub tells_faults : (errors : List ErrorValue) (old before new : List Issue) → AreErrorsOf same root document errors → errors ≡ [] → Adds (AreToldAs joined file errors) old before → Adds (TellsFaultsIn root values joined file document) before new → Adds (TellsDocument same root values joined file document) old new
+  pub tells_faults : (errors : List ErrorValue) (old before new : List Issue) → AreErrorsOf rules root document errors → errors ≡ [] → Adds (AreToldAs joined file errors) old before → Adds (TellsFaultsIn root values joined file document) before new → Adds (TellsDocument rules root values joined file document) old new
   tells_faults errors old before new are none h k =
       let both = told_both joined file errors k.told.0 old before new h (record { more = k.more; told = k.told.2; all = k.all }) in
       record {
@@ -123,11 +124,11 @@ pub one_at_most : (b : Bool) (n : ℕ) → n ≡ bool_byte b → n ≤ 1
 one_at_most true n e = subst (λ m. m ≤ 1) (sym e) (omega arith)
 one_at_most false n e = subst (λ m. m ≤ 1) (sym e) (omega arith)
 
-module _ (same : SourceScalar → SourceScalar → Bool) (root : Root) (values : Option GivenValues) (sources : List Source) where
+module _ (rules : Rules SourceScalar SourceCheck) (root : Root) (values : Option GivenValues) (sources : List Source) where
   -- so many files were judged, and of those that are documents these issues are told
   abbrev pub EachSoFar : ℕ → List Issue → ℕ → Type 0
   EachSoFar file issues count =
-      (outcomes : List (Option (List Issue))) × Done (TellsFile same root values) sources file outcomes × (issues ≡ flat_map issues_of outcomes) × (count ≡ count_by is_some outcomes)
+      (outcomes : List (Option (List Issue))) × Done (TellsFile rules root values) sources file outcomes × (issues ≡ flat_map issues_of outcomes) × (count ≡ count_by is_some outcomes)
 
   pub each_none : (issues : List Issue) → issues ≡ [] → EachSoFar 0 issues 0
   each_none issues e = ([], λ rest left. left, e, refl)
@@ -137,10 +138,10 @@ module _ (same : SourceScalar → SourceScalar → Bool) (root : Root) (values :
 
   -- one more
   pub each_more : (file : ℕ) (source : Source) (is_document : Bool) (before new : List Issue) (count more : ℕ) → file < length sources → source ≡ get_or sources file source
-      → AddsIf is_document (TellsFiles same root values file (source ∷ [])) before new → more ≡ bool_byte is_document → EachSoFar file before count → EachSoFar (file + 1) new (count + more)
+      → AddsIf is_document (TellsFiles rules root values file (source ∷ [])) before new → more ≡ bool_byte is_document → EachSoFar file before count → EachSoFar (file + 1) new (count + more)
   each_more file source is_document before new count more here is adds one h = (
     h.0 ++ adds.outcome ∷ [],
-    done_more (TellsFile same root values) sources file source h.0 (adds.outcome ∷ []) here is h.1 (adds.outcome, refl, adds.told),
+    done_more (TellsFile rules root values) sources file source h.0 (adds.outcome ∷ []) here is h.1 (adds.outcome, refl, adds.told),
     adds.all ∙ ap (λ xs. xs ++ issues_of adds.outcome) h.2 ∙ flat_map_more issues_of [] h.0 adds.outcome,
     ap (λ n. n + more) h.3 ∙ ap (λ n. count_by is_some h.0 + n) (one ∙ byte_of is_document ∙ ap (λ b. cond b 1 0) adds.is) ∙ sym (count_more h.0 adds.outcome),
   )

@@ -8,7 +8,9 @@ use Rattle.lint_report.specs.declared.sources.Source.{Source}
 use Rattle.lint_report.specs.Json.{json_text}
 use Rattle.lint_report.specs.Texts.{IsTextReport}
 use Rattle.lint_args.specs.declared.task.Task.{Task}
+use Rattle.sdl_scalars.specs.declared.check.SourceCheck.{SourceCheck}
 use Rattle.sdl_scalars.specs.declared.scalar.SourceScalar.{SourceScalar}
+use Rattle.validation.specs.Stages.{Rules}
 
 -- the text of a report. As JSON it has its issues, and else also how many files were judged and how many weren't
 abbrev pub IsTextIn : Bool → List Source → List Issue → ℕ → ℕ → List ℕ → Type 0
@@ -24,14 +26,14 @@ pub record IsToldOf (task : Task) (sources : List Source) (report : Report) (tol
   pub has_errors : told.has_errors ≡ not (vec_len report.issues == 0)
   pub is_whole : told.is_whole ≡ (report.judged == vec_len task.queries)
 
--- Which scalars are the same.
-module _ (same : SourceScalar → SourceScalar → Bool) where
+-- By what is known of all rules.
+module _ (rules : Rules SourceScalar SourceCheck) where
   -- the files of queries were read and judged, and a report on them is told
   pub record TellsQueries (files : Files) (task : Task) (root : Root) (values : Option GivenValues) (told : Told) : Type 0 where
     pub sources : List Source
     pub read : AreReadOf files task.queries.items sources
     pub report : Report
-    pub reported : IsReport same task.is_together root values sources report
+    pub reported : IsReport rules task.is_together root values sources report
     pub is_told : IsToldOf task sources report told
 
   -- the same with some values, exactly where the words name a file of values

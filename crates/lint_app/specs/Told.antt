@@ -6,7 +6,6 @@ use Rattle.std.specs.Option.{option_to_list}
 use Rattle.language.specs.declared.tree.Definition.{Definition}
 use Rattle.language.specs.declared.tree.Definition.TheVariants as definition
 use Rattle.language.specs.declared.tree.Operation.{Operation}
-use Rattle.language.specs.ValuesPrinted.{printed_value}
 use Rattle.lint_app.specs.declared.documents.Report.{Report}
 use Rattle.lint_report.specs.declared.issues.Issue.{Issue}
 use Rattle.lint_report.specs.declared.sources.Joined.{Joined}
@@ -19,6 +18,7 @@ use Rattle.sdl_scalars.specs.Checks.{MayAnswer}
 use Rattle.sdl_scalars.specs.SourceScalar.{source_str, source_text}
 use Rattle.validation.specs.declared.root_node.RootNodeOf.{RootNodeOf}
 use Rattle.validation.specs.RootRules.{IsRootReport, IsRootValid}
+use Rattle.validation.specs.Stages.{Rules}
 use Rattle.variable_values.specs.Inputs.{HasInputTypes}
 use Rattle.variable_values.specs.InTurn.{InTurn}
 use Rattle.variable_values.specs.Messages.{OfOperation, Values}
@@ -118,16 +118,16 @@ abbrev pub FaultsOf : Root → Option GivenValues → Document → List ErrorVal
 FaultsOf root values document [] faults = FaultsIn root values document faults
 FaultsOf root values document (error ∷ errors) faults = faults ≡ []
 
--- Which scalars are the same.
-module _ (same : SourceScalar → SourceScalar → Bool) where
+-- By what is known of all rules.
+module _ (rules : Rules SourceScalar SourceCheck) where
   -- the document is valid, and where introspection is closed it asks for none
   abbrev pub IsErrorFree : Root → Document → Type 0
-  IsErrorFree root document = IsRootValid MayAnswer (printed_value source_text source_str) same root.introspection_disabled root.schema document
+  IsErrorFree root document = IsRootValid rules root.introspection_disabled root.schema document
 
   -- what the root node reports of a document, in ascending order; it is nothing exactly where the document is valid
   pub record AreErrorsOf (root : Root) (document : Document) (errors : List ErrorValue) : Type 0 where
     pub pairs : ℕ
-    pub reported : IsRootReport MayAnswer (printed_value source_text source_str) same root.introspection_disabled root.schema document errors pairs
+    pub reported : IsRootReport rules root.introspection_disabled root.schema document errors pairs
     pub valid : (errors ≡ []) ↔ IsErrorFree root document
     pub sorted : IsSorted error_cmp errors
 

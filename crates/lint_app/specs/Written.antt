@@ -9,7 +9,9 @@ use Rattle.lint_app.specs.Tasks.{TellsTask}
 use Rattle.lint_app.specs.Told.{Files}
 use Rattle.lint_args.specs.Asks.{AsksFor, word_texts}
 use Rattle.lint_args.specs.declared.task.Task.{Task}
+use Rattle.sdl_scalars.specs.declared.check.SourceCheck.{SourceCheck}
 use Rattle.sdl_scalars.specs.declared.scalar.SourceScalar.{SourceScalar}
+use Rattle.validation.specs.Stages.{Rules}
 
 -- a word that is answered with help: `--help`, and one that begins with `-h`
 abbrev pub begins_help : List ℕ → Bool
@@ -18,12 +20,12 @@ begins_help word = bytes_eq word (codes "--help") || starts_with nat_eq word (co
 abbrev pub asks_for_help : List (String Global) → Bool
 asks_for_help = list_any (λ word. begins_help (string_bytes word))
 
--- Which scalars are the same.
-module _ (same : SourceScalar → SourceScalar → Bool) where
+-- By what is known of all rules.
+module _ (rules : Rules SourceScalar SourceCheck) where
   -- what is told of a task's files was written in one piece, every file was judged, and the status says whether there are errors
   pub record WritesTask (files : Files) (task : Task) (old new : Option (List ℕ)) (status : ℕ) : Type 0 where
     pub told : Told
-    pub tells : TellsTask same files task told
+    pub tells : TellsTask rules files task told
     pub whole : told.is_whole ≡ true
     pub status_is : status ≡ (if told.has_errors then 1 else 0)
     pub written : Appends old new (string_bytes told.text)

@@ -10,7 +10,10 @@ use lint_report::issues::Issue;
 use lint_report::sources::{Joined, Place, Source};
 use lint_report::text_report::write_fault;
 use std::alloc::Global;
-use validation::{Definition, OutOfMemory, RootNode, RuleError, Variables, validate_input_values};
+use validation::laws::clean_documents;
+use validation::{
+    AllRules, Definition, OutOfMemory, RootNode, RuleError, Variables, validate_input_values,
+};
 
 /// What files of queries are judged by, and the files.
 #[derive(Clone, Copy)]
@@ -34,7 +37,7 @@ impl Judge<'_> {
     /// Judges each file by itself. A file with a fault of syntax is told of, and the others are judged.
     pub fn each(&self, alloc: Global, faults: &mut String) -> Result<Report, Failure>
         ensures { IfOk result
-            (TellsEach ⟦<SourceScalar as PartialEq>⟧.eq self.now.root.now (option_copied self.now.values)
+            (TellsEach ⟦<SourceScalar as AllRules>⟧.rules self.now.root.now (option_copied self.now.values)
             self.now.sources.now) }
     {
         let mut issues = Vec::new(alloc);
@@ -58,7 +61,7 @@ impl Judge<'_> {
     ) -> Result<bool, Failure>
         ensures { IfOk result
             (λ is_document. AddsIf is_document
-            (TellsFiles ⟦<SourceScalar as PartialEq>⟧.eq self.now.root.now (option_copied self.now.values) file
+            (TellsFiles ⟦<SourceScalar as AllRules>⟧.rules self.now.root.now (option_copied self.now.values) file
             (source.now ∷ [])) issues.old.items issues.new.items) }
     {
         let mut joined = Joined::new(alloc);
@@ -70,7 +73,7 @@ impl Judge<'_> {
     /// Judges all files as one document, if none has a fault of syntax; else these are told.
     pub fn together(&self, alloc: Global, faults: &mut String) -> Result<Report, Failure>
         ensures { IfOk result
-            (TellsTogether ⟦<SourceScalar as PartialEq>⟧.eq self.now.root.now (option_copied self.now.values)
+            (TellsTogether ⟦<SourceScalar as AllRules>⟧.rules self.now.root.now (option_copied self.now.values)
             self.now.sources.now) }
     {
         if !self.are_documents(alloc, faults)? {
@@ -129,7 +132,7 @@ impl Judge<'_> {
     ) -> Result<bool, Failure>
         ensures { IfOk result
             (λ is_document. AddsIf is_document
-            (TellsRead ⟦<SourceScalar as PartialEq>⟧.eq self.now.root.now (option_copied self.now.values) joined.now
+            (TellsRead ⟦<SourceScalar as AllRules>⟧.rules self.now.root.now (option_copied self.now.values) joined.now
             file) issues.old.items issues.new.items) }
     {
         match read_document(alloc, joined.text()) {
@@ -156,7 +159,7 @@ impl Judge<'_> {
         issues: &mut Vec<Issue>,
     ) -> Result<(), OutOfMemory>
         ensures { OnOk result
-            (Adds (TellsDocument ⟦<SourceScalar as PartialEq>⟧.eq self.now.root.now (option_copied self.now.values)
+            (Adds (TellsDocument ⟦<SourceScalar as AllRules>⟧.rules self.now.root.now (option_copied self.now.values)
             joined.now file document.now) issues.old.items issues.new.items) }
     {
         let found = self.root.validate(alloc, document)?;
@@ -178,7 +181,7 @@ impl Judge<'_> {
         document: &[Definition<'_, SourceScalar>],
         issues: &mut Vec<Issue>,
     ) -> Result<(), OutOfMemory>
-        requires { IsErrorFree ⟦<SourceScalar as PartialEq>⟧.eq self.now.root.now document.now }
+        requires { IsErrorFree ⟦<SourceScalar as AllRules>⟧.rules self.now.root.now document.now }
         ensures { OnOk result
             (Adds (TellsFaultsIn self.now.root.now (option_copied self.now.values) joined.now file document.now)
             issues.old.items issues.new.items) }
@@ -200,10 +203,12 @@ impl Judge<'_> {
         values: &Variables<SourceScalar>,
         issues: &mut Vec<Issue>,
     ) -> Result<(), OutOfMemory>
-        requires { IsErrorFree ⟦<SourceScalar as PartialEq>⟧.eq self.now.root.now document.now }
+        requires { IsErrorFree ⟦<SourceScalar as AllRules>⟧.rules self.now.root.now document.now }
         ensures { OnOk result (Adds (TellsFaultsIn self.now.root.now (Some values.now) joined.now file document.now)
             issues.old.items issues.new.items) }
     {
+        // The variables of a document without errors have input types, which are known.
+        clean_documents::<SourceScalar>();
         for definition in document {
             self.add_faults_at(alloc, joined, file, definition, values, issues)?;
         }

@@ -1,17 +1,22 @@
-//! The same laws of documents where the rules of the first stage find nothing, and of valid ones.
+//! The same laws of documents in which the rules of the first stage find nothing, and of valid ones.
 
-ghost use Rattle.language.specs.ValuesPrinted.{printed_value};
 ghost use Rattle.merge_field_laws.specs.Clean.{CleanMergesFairly, ValidMergesWithItself};
 
 use meta::check::CheckedScalar;
+use validation::AllRules;
+use validation::laws::clean_documents;
 
-/// Where the rules of the first stage find nothing, two fields of a document merge exactly if they merge in the other order; two that merge
-/// also merge where no object is asked for both; and a field merges with itself once all sets below it merge.
+/// Laws of the fields of a document in which the rules of the first stage find nothing. Two of them merge if and only if they merge in
+/// the other order. Two that merge also merge where no object is asked for both. A field merges with itself if all sets below it merge.
 pub fn merges_where_clean<S: CheckedScalar>()
-    ensures { CleanMergesFairly S.may_answer (printed_value S.text S.str_of) S.eq }
-{}
+    ensures { CleanMergesFairly ⟦<S as AllRules>⟧.rules }
+{
+    clean_documents::<S>();
+}
 
 /// Each field of a valid document merges with itself.
 pub fn merges_where_valid<S: CheckedScalar>()
-    ensures { ValidMergesWithItself S.may_answer (printed_value S.text S.str_of) S.eq }
-{}
+    ensures { ValidMergesWithItself ⟦<S as AllRules>⟧.rules }
+{
+    clean_documents::<S>();
+}

@@ -4,7 +4,8 @@ ghost use Rattle.merge_field_laws.specs.Laws.{MergesEitherOrder, MergesWhereExcl
 
 use language::scalar::ScalarValue;
 
-/// Where no field of a document repeats an argument, nor a key in one, two of its fields merge exactly if they merge in the other order.
+/// Where no field of a document repeats an argument, nor a key in one, two of its fields merge if and only if they merge in the other
+/// order.
 pub fn merges_in_either_order<S: ScalarValue, C>()
     ensures { MergesEitherOrder S C S.eq }
 {}

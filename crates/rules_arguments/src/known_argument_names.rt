@@ -20,7 +20,7 @@ use meta::check::CheckedScalar;
 use meta::named::first_named;
 use rules_support::texts::between;
 use std::alloc::{AllocError, Global};
-use walk::{Event, Fresh, Machine, Rule, SettledRule, ValidatorContext, Visitor};
+use walk::{Criterion, Event, Fresh, Machine, Rule, SettledRule, ValidatorContext, Visitor};
 
 /// Reports each argument that its field, or its directive, does not have, at the argument's name.
 ///
@@ -51,9 +51,11 @@ impl<S, C> Rule<S, C> for KnownArgumentNames {
     ghost keeps = { finding_keeps unknown_arguments };
 }
 
-impl<S, C> SettledRule<S, C> for KnownArgumentNames {
+impl<S, C> Criterion<S, C> for KnownArgumentNames {
     ghost finds_nothing = { is_empty (found unknown_arguments) };
+}
 
+impl<S, C> SettledRule<S, C> for KnownArgumentNames {
     ghost silent = { exactly_silent (found unknown_arguments) };
 }
 

@@ -18,7 +18,7 @@ use meta::check::CheckedScalar;
 use rules_support::texts::between;
 use schema::model::DirectiveLocation;
 use std::alloc::{AllocError, Global};
-use walk::{Event, Fresh, Machine, Rule, SettledRule, ValidatorContext, Visitor};
+use walk::{Criterion, Event, Fresh, Machine, Rule, SettledRule, ValidatorContext, Visitor};
 
 /// Reports each directive that the schema does not have, and each that may not stand at the node that bears it, at its start.
 #[derive(Drop)]
@@ -47,9 +47,11 @@ impl<S, C> Rule<S, C> for KnownDirectives {
     ghost keeps = { finding_keeps unsuitable_directives };
 }
 
-impl<S, C> SettledRule<S, C> for KnownDirectives {
+impl<S, C> Criterion<S, C> for KnownDirectives {
     ghost finds_nothing = { is_empty (found unsuitable_directives) };
+}
 
+impl<S, C> SettledRule<S, C> for KnownDirectives {
     ghost silent = { exactly_silent (found unsuitable_directives) };
 }
 

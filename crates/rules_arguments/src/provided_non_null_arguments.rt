@@ -20,7 +20,7 @@ use meta::Argument;
 use meta::check::CheckedScalar;
 use rules_support::texts::between;
 use std::alloc::{AllocError, Global};
-use walk::{Event, Fresh, Machine, Rule, SettledRule, ValidatorContext, Visitor};
+use walk::{Criterion, Event, Fresh, Machine, Rule, SettledRule, ValidatorContext, Visitor};
 
 /// Reports each argument that has to be given and isn't, at the start of its field or of its directive.
 ///
@@ -51,9 +51,11 @@ impl<S, C> Rule<S, C> for ProvidedNonNullArguments {
     ghost keeps = { finding_keeps missing_arguments };
 }
 
-impl<S, C> SettledRule<S, C> for ProvidedNonNullArguments {
+impl<S, C> Criterion<S, C> for ProvidedNonNullArguments {
     ghost finds_nothing = { is_empty (found missing_arguments) };
+}
 
+impl<S, C> SettledRule<S, C> for ProvidedNonNullArguments {
     ghost silent = { exactly_silent (found missing_arguments) };
 }
 

@@ -15,7 +15,7 @@ use language::tree::Arguments;
 use meta::check::CheckedScalar;
 use rules_support::repeats::report_repeats;
 use std::alloc::Global;
-use walk::{Event, Fresh, Machine, Rule, SettledRule, ValidatorContext, Visitor};
+use walk::{Criterion, Event, Fresh, Machine, Rule, SettledRule, ValidatorContext, Visitor};
 
 /// Reports each argument whose name an earlier one of its list has, at the first of the name and at its own.
 #[derive(Drop)]
@@ -44,9 +44,11 @@ impl<S, C> Rule<S, C> for UniqueArgumentNames {
     ghost keeps = { finding_keeps repeated_arguments };
 }
 
-impl<S, C> SettledRule<S, C> for UniqueArgumentNames {
+impl<S, C> Criterion<S, C> for UniqueArgumentNames {
     ghost finds_nothing = { is_empty (found repeated_arguments) };
+}
 
+impl<S, C> SettledRule<S, C> for UniqueArgumentNames {
     ghost silent = { exactly_silent (found repeated_arguments) };
 }
 

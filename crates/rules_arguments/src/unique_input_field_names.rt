@@ -10,7 +10,7 @@ use language::error::OutOfMemory;
 use meta::check::CheckedScalar;
 use rules_support::repeats::report_repeats;
 use std::alloc::Global;
-use walk::{Event, Fresh, Machine, Rule, SettledRule, ValidatorContext, Visitor};
+use walk::{Criterion, Event, Fresh, Machine, Rule, SettledRule, ValidatorContext, Visitor};
 
 /// Reports each key of an object value that an earlier one is, at the first of the name and at its own.
 #[derive(Drop)]
@@ -39,9 +39,11 @@ impl<S, C> Rule<S, C> for UniqueInputFieldNames {
     ghost keeps = { finding_keeps repeated_keys };
 }
 
-impl<S, C> SettledRule<S, C> for UniqueInputFieldNames {
+impl<S, C> Criterion<S, C> for UniqueInputFieldNames {
     ghost finds_nothing = { is_empty (found repeated_keys) };
+}
 
+impl<S, C> SettledRule<S, C> for UniqueInputFieldNames {
     ghost silent = { exactly_silent (found repeated_keys) };
 }
 

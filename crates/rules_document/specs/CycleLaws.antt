@@ -2,7 +2,7 @@
 use Rattle.std.proofs.Common.{◌≡◌, ℕ, List, [], ◌∷◌, ◌↔◌, inl, inr, map, sym, ◌∙◌, refl, arith}
 use Rattle.language.specs.declared.tree.Definition.{Definition}
 use Rattle.walk.specs.ErrorValue.{ErrorValue}
-use Rattle.walk.specs.Rule.{NoneJustWhere}
+use Rattle.walk.specs.Rule.{SilentIff}
 use Rattle.fragment_graph.specs.DocumentCycles.{NameAndPlace, NamePath, name_step, name_more, IsTrueOf, SomeReported, HasNoCycle, FindsCycles}
 use Rattle.rules_document.specs.AtDocument.{given_at_end}
 use Rattle.rules_document.specs.declared.no_fragment_cycles.NoFragmentCycles.{NoFragmentCycles}
@@ -35,5 +35,5 @@ module _ {S : Type 0} (document : List (Definition S)) where
   )
 
 -- what may be reported is nothing just where no fragment leads back to itself
-pub cycles_silent : {S C : Type 0} → NoneJustWhere (given_at_end {S = S} {C = C} cycle_errors) (λ scope t doc. HasNoCycle doc)
+pub cycles_silent : {S C : Type 0} → SilentIff (given_at_end {S = S} {C = C} cycle_errors) (λ scope t doc. HasNoCycle doc)
 cycles_silent end scope t doc es told = silent_just_if doc end es told

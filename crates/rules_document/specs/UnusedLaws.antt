@@ -3,7 +3,7 @@ use Rattle.std.proofs.Common.{◌≡◌, ◌↔◌, List, [], ◌∷◌, map, re
 use Rattle.std.specs.List.{Contains}
 use Rattle.language.specs.declared.tree.Definition.{Definition}
 use Rattle.walk.specs.ErrorValue.{ErrorValue}
-use Rattle.walk.specs.Rule.{NoneJustWhere}
+use Rattle.walk.specs.Rule.{SilentIff}
 use Rattle.rules_document.specs.AtDocument.{given_at_end}
 use Rattle.rules_document.specs.NoUnusedFragments.{NameAndSpan, unused_error, unused_errors, NoneUnused, UnusedAmong, UnusedErrors}
 
@@ -25,5 +25,5 @@ module _ {S : Type 0} (document : List (Definition S)) (es : List ErrorValue) (h
   none_unused_just_if = (used_where_none, λ used. h.2 ∙ none_where_used used h.0 h.1)
 
 -- what may be reported is nothing just where no fragment is unused
-pub unused_silent : {S C : Type 0} → NoneJustWhere (given_at_end {S = S} {C = C} unused_errors) (λ scope t doc. NoneUnused doc)
+pub unused_silent : {S C : Type 0} → SilentIff (given_at_end {S = S} {C = C} unused_errors) (λ scope t doc. NoneUnused doc)
 unused_silent end scope t doc es told = none_unused_just_if doc es told

@@ -17,7 +17,7 @@ use fragment_graph::document_graph::{DocumentGraph, graph_of};
 use language::error::OutOfMemory;
 use meta::check::CheckedScalar;
 use std::alloc::{AllocError, Global};
-use walk::{Event, Fresh, Machine, Rule, SettledRule, ValidatorContext, Visitor};
+use walk::{Criterion, Event, Fresh, Machine, Rule, SettledRule, ValidatorContext, Visitor};
 
 /// Reports, where the document ends, fragments that lead back to themselves, so many that each cycle has one, at spreads inside
 /// them that start a way back. It keeps what its search found, for those who look at fragments after it.
@@ -93,9 +93,11 @@ impl<'a, S, C> Rule<S, C> for NoFragmentCycles<'a> {
     ghost keeps = { document_keeps cycle_errors };
 }
 
-impl<'a, S, C> SettledRule<S, C> for NoFragmentCycles<'a> {
+impl<'a, S, C> Criterion<S, C> for NoFragmentCycles<'a> {
     ghost finds_nothing = { λ scope t doc. HasNoCycle doc };
+}
 
+impl<'a, S, C> SettledRule<S, C> for NoFragmentCycles<'a> {
     ghost silent = { cycles_silent };
 }
 

@@ -19,7 +19,7 @@ use std::alloc::{AllocError, Global};
 use std::marker::PhantomData;
 use variable_usages::document_index::{DocumentIndex, index_document};
 use variable_usages::undefined::{UndefinedVariable, undefined_in};
-use walk::{Event, Fresh, Machine, Rule, SettledRule, ValidatorContext, Visitor};
+use walk::{Criterion, Event, Fresh, Machine, Rule, SettledRule, ValidatorContext, Visitor};
 
 /// Reports, where the document ends, each use of a variable in the reach of the operations of a name that the last of them doesn't
 /// define, at the argument's value and at that operation.
@@ -53,9 +53,11 @@ impl<'a, S, C> Rule<S, C> for NoUndefinedVariables<'a> {
     ghost keeps = { document_keeps undefined_errors };
 }
 
-impl<'a, S, C> SettledRule<S, C> for NoUndefinedVariables<'a> {
+impl<'a, S, C> Criterion<S, C> for NoUndefinedVariables<'a> {
     ghost finds_nothing = { λ scope t doc. UndefinedVariables doc [] };
+}
 
+impl<'a, S, C> SettledRule<S, C> for NoUndefinedVariables<'a> {
     ghost silent = { undefineds_silent };
 }
 

@@ -20,7 +20,7 @@ use language::tree::{Definition, Document, Fragment};
 use meta::check::CheckedScalar;
 use operation_scopes::index::{ScopeIndex, index_scopes};
 use std::alloc::{AllocError, Global};
-use walk::{Event, Fresh, Machine, Rule, SettledRule, ValidatorContext, Visitor};
+use walk::{Criterion, Event, Fresh, Machine, Rule, SettledRule, ValidatorContext, Visitor};
 
 /// Reports, where the document ends, each definition of a fragment that no operation reaches, at its start.
 #[derive(Drop)]
@@ -49,9 +49,11 @@ impl<S, C> Rule<S, C> for NoUnusedFragments {
     ghost keeps = { document_keeps unused_errors };
 }
 
-impl<S, C> SettledRule<S, C> for NoUnusedFragments {
+impl<S, C> Criterion<S, C> for NoUnusedFragments {
     ghost finds_nothing = { λ scope t doc. NoneUnused doc };
+}
 
+impl<S, C> SettledRule<S, C> for NoUnusedFragments {
     ghost silent = { unused_silent };
 }
 

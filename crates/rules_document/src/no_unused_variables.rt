@@ -19,7 +19,7 @@ use std::alloc::{AllocError, Global};
 use std::marker::PhantomData;
 use variable_usages::document_index::{DocumentIndex, index_document};
 use variable_usages::unused::{UnusedVariable, unused_in};
-use walk::{Event, Fresh, Machine, Rule, SettledRule, ValidatorContext, Visitor};
+use walk::{Criterion, Event, Fresh, Machine, Rule, SettledRule, ValidatorContext, Visitor};
 
 /// Reports, where the document ends, each variable that the last operation of a name defines and that is not used in the reach of
 /// the operations of that name, at its name.
@@ -53,9 +53,11 @@ impl<'a, S, C> Rule<S, C> for NoUnusedVariables<'a> {
     ghost keeps = { document_keeps unused_variable_errors };
 }
 
-impl<'a, S, C> SettledRule<S, C> for NoUnusedVariables<'a> {
+impl<'a, S, C> Criterion<S, C> for NoUnusedVariables<'a> {
     ghost finds_nothing = { λ scope t doc. UnusedVariables doc [] };
+}
 
+impl<'a, S, C> SettledRule<S, C> for NoUnusedVariables<'a> {
     ghost silent = { unused_variables_silent };
 }
 

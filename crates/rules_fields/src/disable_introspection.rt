@@ -11,7 +11,7 @@ use language::error::OutOfMemory;
 use meta::check::CheckedScalar;
 use rules_support::texts::between;
 use std::alloc::{AllocError, Global};
-use walk::{Event, Fresh, Machine, Rule, SettledRule, ValidatorContext, Visitor};
+use walk::{Criterion, Event, Fresh, Machine, Rule, SettledRule, ValidatorContext, Visitor};
 
 /// Reports each field `__schema` or `__type`, at its name.
 #[derive(Drop)]
@@ -40,9 +40,11 @@ impl<S, C> Rule<S, C> for DisableIntrospection {
     ghost keeps = { finding_keeps introspection_fields };
 }
 
-impl<S, C> SettledRule<S, C> for DisableIntrospection {
+impl<S, C> Criterion<S, C> for DisableIntrospection {
     ghost finds_nothing = { is_empty (found introspection_fields) };
+}
 
+impl<S, C> SettledRule<S, C> for DisableIntrospection {
     ghost silent = { exactly_silent (found introspection_fields) };
 }
 

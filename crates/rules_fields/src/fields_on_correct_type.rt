@@ -17,7 +17,7 @@ use meta::MetaTypeOf;
 use meta::check::CheckedScalar;
 use rules_support::texts::between;
 use std::alloc::{AllocError, Global};
-use walk::{Event, Fresh, Machine, Rule, SettledRule, ValidatorContext, Visitor};
+use walk::{Criterion, Event, Fresh, Machine, Rule, SettledRule, ValidatorContext, Visitor};
 
 /// Reports each field that the type around it, where it is known, does not have, at the field's name.
 ///
@@ -48,9 +48,11 @@ impl<S, C> Rule<S, C> for FieldsOnCorrectType {
     ghost keeps = { finding_keeps fields_of_wrong_type };
 }
 
-impl<S, C> SettledRule<S, C> for FieldsOnCorrectType {
+impl<S, C> Criterion<S, C> for FieldsOnCorrectType {
     ghost finds_nothing = { is_empty (found fields_of_wrong_type) };
+}
 
+impl<S, C> SettledRule<S, C> for FieldsOnCorrectType {
     ghost silent = { exactly_silent (found fields_of_wrong_type) };
 }
 

@@ -17,7 +17,7 @@ use language::types::BorrowedType;
 use meta::check::CheckedScalar;
 use rules_support::texts::between;
 use std::alloc::{AllocError, Global};
-use walk::{Event, Fresh, Machine, Rule, SettledRule, ValidatorContext, Visitor};
+use walk::{Criterion, Event, Fresh, Machine, Rule, SettledRule, ValidatorContext, Visitor};
 
 /// Reports each field of a leaf type that has a selection set, and each of another known type that has none, at its start.
 #[derive(Drop)]
@@ -46,9 +46,11 @@ impl<S, C> Rule<S, C> for ScalarLeafs {
     ghost keeps = { finding_keeps wrong_sets };
 }
 
-impl<S, C> SettledRule<S, C> for ScalarLeafs {
+impl<S, C> Criterion<S, C> for ScalarLeafs {
     ghost finds_nothing = { is_empty (found wrong_sets) };
+}
 
+impl<S, C> SettledRule<S, C> for ScalarLeafs {
     ghost silent = { exactly_silent (found wrong_sets) };
 }
 

@@ -9,8 +9,6 @@ use Rattle.language.specs.ValuesEqual.{are_distinct}
 use Rattle.language.specs.declared.tree.Arguments.{Arguments}
 use Rattle.language.specs.declared.tree.Definition.{Definition}
 use Rattle.language.specs.declared.tree.VariableDefinitions.{VariableDefinitions}
-use Rattle.language.specs.declared.value.InputValue.{InputValue}
-use Rattle.meta.specs.Answers.{Answers}
 use Rattle.meta.specs.Kinds.{is_input_meta}
 use Rattle.schema.specs.Catalog.{Catalog, type_in}
 use Rattle.events.specs.Node.{Node, Name, Placed, ObjectEntry, VariableEntry, fragment_spread, object_value}
@@ -18,22 +16,24 @@ use Rattle.events.specs.Node as node
 use Rattle.events.specs.Occurrence.{Occurrence, occurrences}
 use Rattle.events.specs.Outline.{outline_of_document}
 use Rattle.events.specs.Typing.{Typing}
-use Rattle.walk.specs.ContextState.{scope_of}
+use Rattle.walk.specs.ContextState.{DocumentScope, scope_of}
+use Rattle.walk.specs.Entering.{found}
 use Rattle.walk.specs.ErrorValue.{ErrorValue}
 use Rattle.walk.specs.Names.{fragment_names, is_among}
 use Rattle.rules_support.specs.Names.{text_name}
+use Rattle.rules_support.specs.Noting.{repeated}
 use Rattle.rules_operations.specs.UniqueOperationNames.{operation_name, repeated_operation_message}
-use Rattle.rules_operations.specs.UniqueVariableNames.{repeated_among, repeated_in_operation, repeated_variable_message}
-use Rattle.rules_operations.specs.VariablesAreInputTypes.{non_input_at, not_input}
-use Rattle.rules_arguments.specs.UniqueArgumentNames.{repeated_argument_message, repeated_at, repeated_in}
-use Rattle.rules_arguments.specs.UniqueInputFieldNames.{repeated_in_object}
-use Rattle.rules_fragments.specs.KnownFragmentNames.{unknown_spread}
-use Rattle.rules_fragments.specs.KnownTypeNames.{unknown_condition, unknown_type_at}
+use Rattle.rules_operations.specs.UniqueVariableNames.{repeated_among, repeated_in_operation, repeated_variable_message, repeated_variables}
+use Rattle.rules_operations.specs.VariablesAreInputTypes.{non_input_at, non_input_variables, not_input}
+use Rattle.rules_arguments.specs.UniqueArgumentNames.{repeated_argument_message, repeated_arguments, repeated_at, repeated_in}
+use Rattle.rules_arguments.specs.UniqueInputFieldNames.{repeated_in_object, repeated_keys}
+use Rattle.rules_fragments.specs.KnownFragmentNames.{unknown_fragments, unknown_spread}
+use Rattle.rules_fragments.specs.KnownTypeNames.{unknown_condition, unknown_type_at, unknown_types}
 use Rattle.rules_fragments.specs.UniqueFragmentNames.{fragment_name, repeated_fragment_message}
+use Rattle.fragment_graph.specs.DocumentCycles.{HasNoCycle}
 use Rattle.fragment_graph.proofs.Lists.{none_some, same_some, contains_at, contains_get}
 use Rattle.rules_first_stage.specs.CleanStage.{CleanDocument, IsKnownType, Occurs, arguments_of, condition_of, listed_arguments, names_in}
 use Rattle.variable_values.specs.Inputs.{definitions_in, definitions_of, has_input_type}
-use Rattle.rules_first_stage.specs.NothingFound.{NothingFound}
 use Rattle.rules_first_stage.proofs.Distinct.{distinct_names, distinct_within, left_none, right_none}
 use Rattle.rules_first_stage.proofs.Values.{distinct_keys, unique_arguments, whole-document}
 use Rattle.rules_first_stage.proofs.Occurring.{defined, fragments_within, names_at, operation_occurs, operations_within, variable_occurs}
@@ -74,6 +74,18 @@ module _ {S : Type 0} where
   distinct_at (node.directive d) e = distinct_arguments d.item.arguments e
   distinct_at _ e = refl
 
+-- what is read of the rules that find nothing
+pub record ReadOff {S C : Type 0} (scope : DocumentScope S C) (t : Typing S C) (doc : List (Definition S)) : Type 0 where
+  pub no_fragment_cycles : HasNoCycle doc
+  pub unique_operation_names : repeated repeated_operation_message operation_name scope t doc ≡ []
+  pub unique_fragment_names : repeated repeated_fragment_message fragment_name scope t doc ≡ []
+  pub unique_variable_names : found repeated_variables scope t doc ≡ []
+  pub unique_argument_names : found repeated_arguments scope t doc ≡ []
+  pub unique_input_field_names : found repeated_keys scope t doc ≡ []
+  pub known_fragment_names : found unknown_fragments scope t doc ≡ []
+  pub known_type_names : found unknown_types scope t doc ≡ []
+  pub variables_are_input_types : found non_input_variables scope t doc ≡ []
+
 module _ {S C : Type 0} (schema : Catalog S C) where
   known_type : (name : List ℕ) → is_some (type_in name schema) ≡ true → IsKnownType schema name
   known_type name e = some_of (type_in name schema) e
@@ -102,8 +114,8 @@ module _ {S C : Type 0} (schema : Catalog S C) where
         let (k, h) = contains_get (occurrences schema t doc) o c in
         subst (λ m. finds m ≡ []) e (each_none (λ (p : Occurrence S C). finds p.node) (occurrences schema t doc) k o h none)
 
-    pub clean : (may : Answers (InputValue S) C) (shown : InputValue S → List ℕ) → NothingFound may shown (scope_of schema doc) t doc → CleanDocument schema t doc
-    clean may shown h = record {
+    pub clean : ReadOff (scope_of schema doc) t doc → CleanDocument schema t doc
+    clean h = record {
       no_cycle = h.no_fragment_cycles;
       operations = distinct_within (operations_within schema t doc) (distinct_names repeated_operation_message (names_at schema t doc operation_name) h.unique_operation_names);
       fragments = distinct_within (fragments_within schema t doc) (distinct_names repeated_fragment_message (names_at schema t doc fragment_name) h.unique_fragment_names);

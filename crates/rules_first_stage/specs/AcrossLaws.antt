@@ -3,7 +3,7 @@ use Rattle.std.proofs.Common.{List, [], ◌∷◌, ap}
 use Rattle.events.specs.TypedEvent.{typed_events}
 use Rattle.walk.specs.ContextState.{scope_of}
 use Rattle.walk.specs.Pair.{no_step}
-use Rattle.walk.specs.Rule.{AllowsFrom, NoneJustWhere, allows_none, always, anywhere, any_value, both_so, nothing}
+use Rattle.walk.specs.Rule.{AllowsFrom, SilentIff, allows_none, always, anywhere, any_value, both_so, nothing}
 use Rattle.walk.specs.RuleLaws.{nil_keeps, nil_silent, pair_keeps, pair_silent, settled_silent}
 use Rattle.walk.specs.Step.{Run}
 use Rattle.fragment_graph.specs.DocumentCycles.{HasNoCycle}
@@ -52,7 +52,7 @@ across_keeps start fresh schema t doc end es r =
 
 -- and it is nothing where each of them finds nothing
 pub across_silent : {S C : Type 0}
-    → NoneJustWhere (across_allows {S = S} {C = C}) (both_so (allows_none misplaced_variables) (both_so (λ scope t doc. UnusedVariables doc []) (both_so (λ scope t doc. NoneUnused doc) (both_so (λ scope t doc. UndefinedVariables doc []) (both_so (λ scope t doc. HasNoCycle doc) anywhere)))))
+    → SilentIff (across_allows {S = S} {C = C}) (both_so (allows_none misplaced_variables) (both_so (λ scope t doc. UnusedVariables doc []) (both_so (λ scope t doc. NoneUnused doc) (both_so (λ scope t doc. UndefinedVariables doc []) (both_so (λ scope t doc. HasNoCycle doc) anywhere)))))
 across_silent end =
     pair_silent (always misplaced_variables) last_four_allow (allows_none misplaced_variables) _ (settled_silent misplaced_variables positions_settled)
     (pair_silent (given_at_end unused_variable_errors) last_three_allow (λ scope t doc. UnusedVariables doc []) _ unused_variables_silent

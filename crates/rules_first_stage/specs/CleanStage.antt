@@ -1,4 +1,4 @@
--- What is true of documents where the rules of the first stage find nothing.
+-- What is true of documents in which the rules of the first stage find nothing.
 use Rattle.std.specs.Prelude.{◌≡◌, ℕ, List, [], Option, Some, None, true, map, string_bytes}
 use Rattle.std.specs.List.{Contains, flat_map}
 use Rattle.std.specs.Option.{option_map}
@@ -8,8 +8,6 @@ use Rattle.language.specs.declared.tree.Definition.{Definition}
 use Rattle.language.specs.declared.tree.Definition.TheVariants as definition
 use Rattle.language.specs.declared.tree.FragmentSpread.{FragmentSpread}
 use Rattle.language.specs.declared.tree.Operation.{Operation}
-use Rattle.language.specs.declared.value.InputValue.{InputValue}
-use Rattle.meta.specs.Answers.{Answers}
 use Rattle.meta.specs.declared.kinds.MetaTypeOf.{MetaTypeOf}
 use Rattle.schema.specs.Catalog.{Catalog, type_in}
 use Rattle.events.specs.Node.{Node, Name, Placed, ArgumentEntry, ObjectEntry, directive, field, fragment_definition, fragment_spread, inline_fragment, object_value}
@@ -17,11 +15,11 @@ use Rattle.events.specs.Occurrence.{Occurrence, occurrences}
 use Rattle.events.specs.Typing.{Typing}
 use Rattle.walk.specs.ContextState.{scope_of}
 use Rattle.walk.specs.Names.{fragment_names}
+use Rattle.walk.specs.Rule.{Condition}
 use Rattle.rules_support.specs.Noting.{to_list}
 use Rattle.fragment_graph.specs.DocumentCycles.{HasNoCycle}
 use Rattle.fragment_graph.specs.Numbers.{Defines}
 use Rattle.variable_values.specs.Inputs.{HasInputTypes, definitions_of}
-use Rattle.rules_first_stage.specs.NothingFound.{NothingFound}
 
 -- the names of entries that have them first
 abbrev pub names_in : {T : Type 0} → List (Name × T) → List (List ℕ)
@@ -84,8 +82,7 @@ module _ {S C : Type 0} (schema : Catalog S C) where
       -- the type of each variable is built of an input type, which is what judging its value asks
       pub variable_types : (o : Placed (Operation S)) → Contains doc (definition.Operation o) → HasInputTypes schema o.item
 
-module _ {S C : Type 0} (may : Answers (InputValue S) C) (shown : InputValue S → List ℕ) where
-  -- a document where the rules find nothing is such a document
-  abbrev pub NothingFoundIsClean : Type 0
-  NothingFoundIsClean =
-      (schema : Catalog S C) (t : Typing S C) (doc : List (Definition S)) → NothingFound may shown (scope_of schema doc) t doc → CleanDocument schema t doc
+-- a document that meets the condition is such a document
+abbrev pub IsCleanWhere : {S C : Type 0} → Condition S C → Type 0
+IsCleanWhere {S} {C} condition =
+    (schema : Catalog S C) (t : Typing S C) (doc : List (Definition S)) → condition (scope_of schema doc) t doc → CleanDocument schema t doc

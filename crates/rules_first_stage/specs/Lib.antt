@@ -1,4 +1,3 @@
 pub mod Across
 pub mod AcrossLaws
 pub mod CleanStage
-pub mod NothingFound

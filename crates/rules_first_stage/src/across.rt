@@ -22,8 +22,8 @@ use rules_positions::variables_in_allowed_position::VariableInAllowedPosition;
 use std::alloc::Global;
 use variable_usages::document_index::index_document;
 use walk::{
-    Event, Fresh, Machine, MultiVisitorCons, MultiVisitorNil, Rule, SettledRule, ValidatorContext,
-    Visitor,
+    Criterion, Event, Fresh, Machine, MultiVisitorCons, MultiVisitorNil, Rule, SettledRule,
+    ValidatorContext, Visitor,
 };
 
 /// The five rules that look at the whole document where it is left. Of the events before, only the rule on positions asks.
@@ -108,9 +108,11 @@ type RuleList<'a> = MultiVisitorCons<
     >,
 >;
 
-impl<'a, S, C> SettledRule<S, C> for AcrossDocument<'a> {
-    ghost finds_nothing = { ⟦<RuleList<'a> as SettledRule<S, C>>⟧.finds_nothing };
+impl<'a, S, C> Criterion<S, C> for AcrossDocument<'a> {
+    ghost finds_nothing = { ⟦<RuleList<'a> as Criterion<S, C>>⟧.finds_nothing };
+}
 
+impl<'a, S, C> SettledRule<S, C> for AcrossDocument<'a> {
     ghost silent = { across_silent };
 }
 

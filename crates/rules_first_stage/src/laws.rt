@@ -1,12 +1,13 @@
-//! Laws of documents that pass.
+//! Laws of the rules of the first stage.
 
-ghost use Rattle.language.specs.ValuesPrinted.{printed_value};
-ghost use Rattle.rules_first_stage.specs.CleanStage.{NothingFoundIsClean};
+ghost use Rattle.rules_first_stage.specs.CleanStage.{IsCleanWhere};
 
+use crate::rules::StageRules;
 use meta::check::CheckedScalar;
+use walk::Criterion;
 
-/// A document where the rules of the first stage find nothing has no cycle of fragments; its names are unique in their lists; its spreads and
-/// type conditions are known; and its variables have input types.
+/// A document in which the rules of the first stage find nothing has no cycle of fragments. The names in its lists are unique, its
+/// spreads and type conditions are known, and its variables have input types.
 pub fn clean_documents<S: CheckedScalar>()
-    ensures { NothingFoundIsClean S.may_answer (printed_value S.text S.str_of) }
+    ensures { IsCleanWhere ⟦<StageRules<'static, S> as Criterion<S, S::Check>>⟧.finds_nothing }
 {}

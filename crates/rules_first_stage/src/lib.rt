@@ -1,8 +1,9 @@
-//! The first stage of validation: all rules but that on fields that can be merged, in one walk (GraphQL, October 2021, section 5).
+//! The first stage of validation: every rule except the one on fields that can be merged, in one walk (GraphQL, October 2021,
+//! section 5).
 #![tactic(auto)]
 
 pub mod across;
 pub mod laws;
 pub mod rules;
 
-pub use crate::rules::visit_stage_one;
+pub use crate::rules::{StageRules, visit_stage_one};

@@ -1,9 +1,8 @@
-//! The rules of the first stage, and the call that tries them all.
+//! The list of the rules of the first stage, and the call that tries them all.
 
 ghost use Rattle.std.specs.Prelude.{◌≡◌, ◌↔◌, IfOk, OnOk, OnErr, IsErr, true};
-ghost use Rattle.walk.specs.ContextState.{typing, scope_of};
-ghost use Rattle.walk.specs.Names.{fragment_names};
-ghost use Rattle.walk.specs.Rule.{Appended, any_value, anywhere, both_so};
+ghost use Rattle.walk.specs.ContextState.{IsMadeFor};
+ghost use Rattle.walk.specs.Rule.{Appended, AppendsAllowed, Meets, any_value, at_some_end};
 ghost use Rattle.walk.specs.Step.{KeepsPlace};
 ghost use Rattle.fragment_graph.specs.DocumentCycles.{SearchedDocument};
 
@@ -47,10 +46,11 @@ use rules_values::{arguments_of_correct_type, default_values_of_correct_type};
 use std::alloc::Global;
 use walk::laws::pair_runs;
 use walk::{
-    Fresh, MultiVisitorCons, MultiVisitorNil, Rule, SettledRule, ValidatorContext, visit_settled,
+    Criterion, Fresh, MultiVisitorCons, MultiVisitorNil, Rule, ValidatorContext, visit_settled,
 };
 
-// A list of rules, the newest first. One long list of all rules is dear to prove, so they come in groups.
+// The rules come in groups, the newest first: one long list of all rules takes long to prove.
+// On operations and their variables (GraphQL, October 2021, sections 5.2 and 5.8).
 type OfOperations<'a> = MultiVisitorCons<
     variables_are_input_types::UniqueVariableNames,
     MultiVisitorCons<
@@ -62,11 +62,13 @@ type OfOperations<'a> = MultiVisitorCons<
     >,
 >;
 
+// On fields (5.3).
 type OfFields = MultiVisitorCons<
     ScalarLeafs,
     MultiVisitorCons<FieldsOnCorrectType, MultiVisitorNil>,
 >;
 
+// On arguments, keys of objects and directives (5.4, 5.6.3 and 5.7).
 type OfArguments = MultiVisitorCons<
     UniqueInputFieldNames,
     MultiVisitorCons<
@@ -81,6 +83,7 @@ type OfArguments = MultiVisitorCons<
     >,
 >;
 
+// On fragments, and on the names of types (5.5).
 type OfFragments<'a> = MultiVisitorCons<
     UniqueFragmentNames<'a>,
     MultiVisitorCons<
@@ -92,6 +95,7 @@ type OfFragments<'a> = MultiVisitorCons<
     >,
 >;
 
+// On values (5.6.1).
 type OfValues = MultiVisitorCons<
     DefaultValuesOfCorrectType,
     MultiVisitorCons<ArgumentsOfCorrectType, MultiVisitorNil>,
@@ -109,7 +113,7 @@ type Groups<'a> = MultiVisitorCons<
     >,
 >;
 
-/// All of them, the newest first.
+/// All rules of the first stage, the newest first. Each says in its module what it finds nothing in.
 pub type StageRules<'a, S> = MultiVisitorCons<
     PossibleFragmentSpreads<'a, S>,
     MultiVisitorCons<AcrossDocument<'a>, Groups<'a>>,
@@ -167,27 +171,24 @@ fn of_values(alloc: Global) -> OfValues
         .with_rule(default_values_of_correct_type::factory(alloc))
 }
 
-/// Tries every rule of the first stage on a document, and appends the errors of the rules, in a context that was made for it: none just if every collection of a
-/// rule is empty, no value has a fault, no fragment leads back to itself and none is unused, and each variable is defined, used, and where its type may stand. In any other context it appends errors alone.
+/// Tries every rule of the first stage on a document, in one walk, and appends their errors. Returns what the rule on cycles found of
+/// the document's fragments.
 ///
-/// It walks over the document once. The answer is what it found of the cycles of the document's fragments, in any context.
+/// In a context that was made for the document it appends no error if and only if each rule of the list finds nothing. In any other
+/// context it only appends errors.
+///
+/// # Errors
+///
+/// Out of memory. The context fails from then on.
 pub fn visit_stage_one<'a, 't, S: CheckedScalar>(
     ctx: &mut ValidatorContext<'a, S>,
     document: &'a [Definition<'t, S>],
 ) -> Result<DocumentCycles<'a>, OutOfMemory>
     ensures searched { IfOk result (SearchedDocument document.now) }
-    ensures appended { OnOk result (ctx.old.known ≡ fragment_names document.now → (end : _)
-        × Appended (⟦<StageRules<'a, S> as Rule<S, S::Check>>⟧.allows end (scope_of ctx.old.schema document.now)
-        (typing ctx.old) document.now) ctx.old ctx.new) }
-    ensures silent { OnOk result (ctx.old.known ≡ fragment_names document.now → (ctx.new.errors ≡ ctx.old.errors)
-        ↔ (both_so ⟦<PossibleFragmentSpreads<'a, S> as SettledRule<S, S::Check>>⟧.finds_nothing
-        (both_so ⟦<AcrossDocument<'a> as SettledRule<S, S::Check>>⟧.finds_nothing
-        (both_so ⟦<OfValues as SettledRule<S, S::Check>>⟧.finds_nothing
-        (both_so ⟦<OfFragments<'a> as SettledRule<S, S::Check>>⟧.finds_nothing
-        (both_so ⟦<OfArguments as SettledRule<S, S::Check>>⟧.finds_nothing
-        (both_so ⟦<OfFields as SettledRule<S, S::Check>>⟧.finds_nothing
-        (both_so ⟦<OfOperations<'a> as SettledRule<S, S::Check>>⟧.finds_nothing anywhere)))))))
-        (scope_of ctx.old.schema document.now) (typing ctx.old) document.now) }
+    ensures appended { OnOk result (IsMadeFor ctx.old document.now
+        → AppendsAllowed (at_some_end ⟦<StageRules<'a, S> as Rule<S, S::Check>>⟧.allows) document.now ctx.old ctx.new) }
+    ensures silent { OnOk result (IsMadeFor ctx.old document.now → (ctx.new.errors ≡ ctx.old.errors)
+        ↔ Meets ⟦<StageRules<'a, S> as Criterion<S, S::Check>>⟧.finds_nothing ctx.old document.now) }
     ensures only { OnOk result (Appended any_value ctx.old ctx.new) }
     ensures err { OnErr result (KeepsPlace ctx.old ctx.new) }
     ensures failed { OnErr result (ctx.new.failed ≡ true) }
@@ -203,7 +204,7 @@ pub fn visit_stage_one<'a, 't, S: CheckedScalar>(
         .with_rule(across::factory(alloc))
         .with_rule(possible_fragment_spreads::factory(alloc));
     visit_settled(&mut rules, ctx, document)?;
-    // A run of the list is one of the rules across the document.
+    // A run of the list holds a run of the rules across the document.
     pair_runs::<
         S,
         S::Check,

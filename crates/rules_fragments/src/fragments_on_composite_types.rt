@@ -14,7 +14,7 @@ use language::position::Spanning;
 use meta::check::CheckedScalar;
 use rules_support::texts::between;
 use std::alloc::{AllocError, Global};
-use walk::{Event, Fresh, Machine, Rule, SettledRule, ValidatorContext, Visitor};
+use walk::{Criterion, Event, Fresh, Machine, Rule, SettledRule, ValidatorContext, Visitor};
 
 /// Reports each fragment, by name or inline, whose condition is a scalar, an enum or an input object, at the condition.
 #[derive(Drop)]
@@ -43,9 +43,11 @@ impl<S, C> Rule<S, C> for FragmentsOnCompositeTypes {
     ghost keeps = { finding_keeps fragments_on_other_types };
 }
 
-impl<S, C> SettledRule<S, C> for FragmentsOnCompositeTypes {
+impl<S, C> Criterion<S, C> for FragmentsOnCompositeTypes {
     ghost finds_nothing = { is_empty (found fragments_on_other_types) };
+}
 
+impl<S, C> SettledRule<S, C> for FragmentsOnCompositeTypes {
     ghost silent = { exactly_silent (found fragments_on_other_types) };
 }
 

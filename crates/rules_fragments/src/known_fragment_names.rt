@@ -10,7 +10,7 @@ ghost use Rattle.rules_fragments.specs.KnownFragmentNames.{unknown_fragment_mess
 use language::error::OutOfMemory;
 use meta::check::CheckedScalar;
 use std::alloc::{AllocError, Global};
-use walk::{Event, Fresh, Machine, Rule, SettledRule, ValidatorContext, Visitor};
+use walk::{Criterion, Event, Fresh, Machine, Rule, SettledRule, ValidatorContext, Visitor};
 
 /// Reports each spread of a name that no fragment of the document has, at the name.
 #[derive(Drop)]
@@ -39,9 +39,11 @@ impl<S, C> Rule<S, C> for KnownFragmentNames {
     ghost keeps = { finding_keeps unknown_fragments };
 }
 
-impl<S, C> SettledRule<S, C> for KnownFragmentNames {
+impl<S, C> Criterion<S, C> for KnownFragmentNames {
     ghost finds_nothing = { is_empty (found unknown_fragments) };
+}
 
+impl<S, C> SettledRule<S, C> for KnownFragmentNames {
     ghost silent = { exactly_silent (found unknown_fragments) };
 }
 

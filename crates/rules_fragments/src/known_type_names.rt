@@ -13,7 +13,7 @@ use language::error::OutOfMemory;
 use language::position::SourcePosition;
 use meta::check::CheckedScalar;
 use std::alloc::{AllocError, Global};
-use walk::{Event, Fresh, Machine, Rule, SettledRule, ValidatorContext, Visitor};
+use walk::{Criterion, Event, Fresh, Machine, Rule, SettledRule, ValidatorContext, Visitor};
 
 /// Reports each type condition, and each type of a variable, whose name no type of the schema has, at its start.
 #[derive(Drop)]
@@ -42,9 +42,11 @@ impl<S, C> Rule<S, C> for KnownTypeNames {
     ghost keeps = { finding_keeps unknown_types };
 }
 
-impl<S, C> SettledRule<S, C> for KnownTypeNames {
+impl<S, C> Criterion<S, C> for KnownTypeNames {
     ghost finds_nothing = { is_empty (found unknown_types) };
+}
 
+impl<S, C> SettledRule<S, C> for KnownTypeNames {
     ghost silent = { exactly_silent (found unknown_types) };
 }
 

@@ -21,7 +21,7 @@ use meta::check::CheckedScalar;
 use rules_support::texts::between;
 use schema::model::SchemaTypeOf;
 use std::alloc::{AllocError, Global};
-use walk::{Event, Fresh, Machine, Rule, SettledRule, ValidatorContext, Visitor};
+use walk::{Criterion, Event, Fresh, Machine, Rule, SettledRule, ValidatorContext, Visitor};
 
 /// Reports each spread, and each inline fragment with a condition, where no object of the type around it is one of the
 /// fragment's type, at its start.
@@ -58,9 +58,11 @@ impl<'a, S: CheckedScalar> Rule<S, S::Check> for PossibleFragmentSpreads<'a, S> 
     ghost keeps = { prepared_keeps (λ a. conditions_of a.conditions) conditions impossible_spreads };
 }
 
-impl<'a, S: CheckedScalar> SettledRule<S, S::Check> for PossibleFragmentSpreads<'a, S> {
+impl<'a, S: CheckedScalar> Criterion<S, S::Check> for PossibleFragmentSpreads<'a, S> {
     ghost finds_nothing = { is_empty (found_by conditions impossible_spreads) };
+}
 
+impl<'a, S: CheckedScalar> SettledRule<S, S::Check> for PossibleFragmentSpreads<'a, S> {
     ghost silent = { exactly_silent (found_by conditions impossible_spreads) };
 }
 

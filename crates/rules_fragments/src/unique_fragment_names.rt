@@ -12,7 +12,7 @@ use language::error::OutOfMemory;
 use meta::check::CheckedScalar;
 use rules_support::first_places::FirstPlaces;
 use std::alloc::{AllocError, Global};
-use walk::{Event, Fresh, Machine, Rule, SettledRule, ValidatorContext, Visitor};
+use walk::{Criterion, Event, Fresh, Machine, Rule, SettledRule, ValidatorContext, Visitor};
 
 /// Reports each fragment whose name an earlier one has, at the first of the name and at its own.
 #[derive(Drop)]
@@ -45,9 +45,11 @@ impl<'a, S, C> Rule<S, C> for UniqueFragmentNames<'a> {
     ghost keeps = { noting_keeps repeated_fragment_message (λ a. places_of a.names) fragment_name };
 }
 
-impl<'a, S, C> SettledRule<S, C> for UniqueFragmentNames<'a> {
+impl<'a, S, C> Criterion<S, C> for UniqueFragmentNames<'a> {
     ghost finds_nothing = { is_empty (repeated repeated_fragment_message fragment_name) };
+}
 
+impl<'a, S, C> SettledRule<S, C> for UniqueFragmentNames<'a> {
     ghost silent = { exactly_silent (repeated repeated_fragment_message fragment_name) };
 }
 

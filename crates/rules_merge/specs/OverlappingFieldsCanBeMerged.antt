@@ -16,9 +16,9 @@ use Rattle.rules_merge.specs.declared.overlapping_fields_can_be_merged.Overlappi
 abbrev pub error_value : ConflictValue → ErrorValue
 error_value c = record { locations = c.places; message = c.message }
 
--- The errors of conflicts, each of them a true one. Where the fragments form a cycle there are none, and nothing was compared. Where they form none, and no
--- field repeats an argument or a key in one, no conflict is missed. At most n (n - 1) pairs of n definitions of fragments were compared, and at least those of which
--- some set spreads both; no search opened more than n.
+-- The errors of conflicts, each of them a true one. If the fragments form a cycle there are none, and nothing was compared. If they form
+-- no cycle, and no field repeats an argument or a key in one, no conflict is missed. At most n (n - 1) pairs of n definitions of
+-- fragments were compared, and at least those that some set spreads both of. No search opened more than n.
 pub record MergeErrors {S C : Type 0} (E : S → S → Bool) (schema : Catalog S C) (document : List (Definition S)) (end : OverlappingFieldsCanBeMerged) (es : List ErrorValue) : Type 0 where
   pub reports : Reports (PlainEntry S C)
   pub told : IsPermutation (map error_value (errors_of E schema reports)) es

@@ -1,4 +1,5 @@
-//! Two fields of one response name in one set, what it spreads written out, can be merged (GraphQL, section 5.3.2).
+//! Two fields of one response name in one selection set, with its spreads written out, can be merged (GraphQL, October 2021,
+//! section 5.3.2).
 
 ghost use Rattle.std.specs.Prelude.{◌≡◌, List, IfOk, OnErr, map};
 ghost use Rattle.walk.specs.ContextState.{with_errors};
@@ -25,9 +26,9 @@ use meta::check::CheckedScalar;
 use std::alloc::Global;
 use walk::{Event, Fresh, Machine, Rule, ValidatorContext, Visitor};
 
-/// Reports, where the document is left, fields of one response name that can't be merged; of each conflict all places.
+/// Reports, where the document is left, fields of one response name that can't be merged. The error of a conflict has all its places.
 ///
-/// No fragment is written out: of `n` definitions of fragments at most `n (n - 1)` pairs are compared.
+/// No fragment is written out: with `n` definitions of fragments at most `n (n - 1)` pairs are compared.
 #[derive(Drop)]
 pub struct OverlappingFieldsCanBeMerged {
     alloc: Global,
@@ -56,21 +57,25 @@ impl OverlappingFieldsCanBeMerged {
         self.compared
     }
 
-    /// How many fragments its searches opened; no search opens one twice.
+    /// How many fragments its searches opened, in the document that was left last. No search opens one twice.
     pub fn opened(&self) -> u128
         ensures { result ≡ self.now.opened }
     {
         self.opened
     }
 
-    /// How many searches there were of a set's fields against a fragment that is spread.
+    /// How many searches there were of a set's fields against a spread fragment, in the document that was left last.
     pub fn lists(&self) -> u128
         ensures { result ≡ self.now.lists }
     {
         self.lists
     }
 
-    /// Leaves a document whose fragments were searched for cycles.
+    /// Reports the conflicts of a document whose fragments were searched for cycles.
+    ///
+    /// # Errors
+    ///
+    /// Out of memory. Errors may have been appended to the context, which is unchanged otherwise.
     pub fn leave<'a, S: CheckedScalar>(
         &mut self,
         ctx: &mut ValidatorContext<'a, S>,
@@ -130,7 +135,7 @@ impl<'a, S: CheckedScalar> Visitor<'a, S> for OverlappingFieldsCanBeMerged {
     }
 }
 
-// Reports what was found.
+// Reports the conflicts that were found.
 fn report_found<'a, S: CheckedScalar>(
     alloc: Global,
     ctx: &mut ValidatorContext<'a, S>,
@@ -150,7 +155,7 @@ fn report_found<'a, S: CheckedScalar>(
     report_all(ctx, conflicts.as_slice())
 }
 
-// Reports these.
+// Reports these conflicts.
 fn report_all<'a, S: CheckedScalar>(
     ctx: &mut ValidatorContext<'a, S>,
     conflicts: &[Conflict],

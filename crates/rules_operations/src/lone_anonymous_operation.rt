@@ -11,7 +11,7 @@ use language::error::OutOfMemory;
 use language::tree::Definition;
 use meta::check::CheckedScalar;
 use std::alloc::Global;
-use walk::{Event, Fresh, Machine, Rule, SettledRule, ValidatorContext, Visitor};
+use walk::{Criterion, Event, Fresh, Machine, Rule, SettledRule, ValidatorContext, Visitor};
 
 /// Reports, in a document of two operations or more, each that has no name, at its start.
 #[derive(Drop)]
@@ -40,9 +40,11 @@ impl<S, C> Rule<S, C> for LoneAnonymousOperation {
     ghost keeps = { prepared_keeps (λ a. a.has_several) has_several anonymous_among };
 }
 
-impl<S, C> SettledRule<S, C> for LoneAnonymousOperation {
+impl<S, C> Criterion<S, C> for LoneAnonymousOperation {
     ghost finds_nothing = { is_empty (found_by has_several anonymous_among) };
+}
 
+impl<S, C> SettledRule<S, C> for LoneAnonymousOperation {
     ghost silent = { exactly_silent (found_by has_several anonymous_among) };
 }
 

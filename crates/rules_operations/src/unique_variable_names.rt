@@ -16,7 +16,7 @@ use meta::check::CheckedScalar;
 use rules_support::repeats::report_repeats;
 use std::alloc::Global;
 use std::marker::PhantomData;
-use walk::{Event, Fresh, Machine, Rule, SettledRule, ValidatorContext, Visitor};
+use walk::{Criterion, Event, Fresh, Machine, Rule, SettledRule, ValidatorContext, Visitor};
 
 /// Reports each variable whose name an earlier one of its operation has, at the first of the name and at its own.
 #[derive(Drop)]
@@ -49,9 +49,11 @@ impl<'a, S, C> Rule<S, C> for UniqueVariableNames<'a> {
     ghost keeps = { finding_keeps repeated_variables };
 }
 
-impl<'a, S, C> SettledRule<S, C> for UniqueVariableNames<'a> {
+impl<'a, S, C> Criterion<S, C> for UniqueVariableNames<'a> {
     ghost finds_nothing = { is_empty (found repeated_variables) };
+}
 
+impl<'a, S, C> SettledRule<S, C> for UniqueVariableNames<'a> {
     ghost silent = { exactly_silent (found repeated_variables) };
 }
 

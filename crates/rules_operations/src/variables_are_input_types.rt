@@ -20,7 +20,7 @@ use meta::check::CheckedScalar;
 use rules_support::texts::between;
 use schema::model::SchemaTypeOf;
 use std::alloc::{AllocError, Global};
-use walk::{Event, Fresh, Machine, Rule, SettledRule, ValidatorContext, Visitor};
+use walk::{Criterion, Event, Fresh, Machine, Rule, SettledRule, ValidatorContext, Visitor};
 
 /// Reports each variable whose innermost type is an object, an interface or a union, at its type.
 ///
@@ -51,9 +51,11 @@ impl<S, C> Rule<S, C> for UniqueVariableNames {
     ghost keeps = { finding_keeps non_input_variables };
 }
 
-impl<S, C> SettledRule<S, C> for UniqueVariableNames {
+impl<S, C> Criterion<S, C> for UniqueVariableNames {
     ghost finds_nothing = { is_empty (found non_input_variables) };
+}
 
+impl<S, C> SettledRule<S, C> for UniqueVariableNames {
     ghost silent = { exactly_silent (found non_input_variables) };
 }
 

@@ -29,7 +29,7 @@ use operation_scopes::index::{ScopeIndex, index_scopes, operation_places};
 use operation_scopes::reach::{Search, found_places, new_search, reached_definitions};
 pub use operation_scopes::scope::Scope;
 use std::alloc::Global;
-use walk::{Event, Fresh, Machine, Rule, SettledRule, ValidatorContext, Visitor};
+use walk::{Criterion, Event, Fresh, Machine, Rule, SettledRule, ValidatorContext, Visitor};
 
 /// Reports, where the document ends, each use of a variable whose type is not below the one that is expected: at the name of the
 /// variable's first definition and at the use. The uses are recorded on the way.
@@ -80,9 +80,11 @@ impl<'a, S, C> Rule<S, C> for VariableInAllowedPosition<'a> {
     ghost keeps = { positions_keep };
 }
 
-impl<'a, S, C> SettledRule<S, C> for VariableInAllowedPosition<'a> {
+impl<'a, S, C> Criterion<S, C> for VariableInAllowedPosition<'a> {
     ghost finds_nothing = { allows_none misplaced_variables };
+}
 
+impl<'a, S, C> SettledRule<S, C> for VariableInAllowedPosition<'a> {
     ghost silent = { settled_silent misplaced_variables positions_settled };
 }
 

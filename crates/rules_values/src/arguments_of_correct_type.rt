@@ -18,7 +18,7 @@ use language::position::Spanning;
 use language::value::InputValue;
 use meta::check::CheckedScalar;
 use std::alloc::{AllocError, Global};
-use walk::{Event, Fresh, Machine, Rule, SettledRule, ValidatorContext, Visitor};
+use walk::{Criterion, Event, Fresh, Machine, Rule, SettledRule, ValidatorContext, Visitor};
 
 /// Reports, at its start, each value of an argument that has a fault against the type of the first argument of its name, on the
 /// known field or directive that bears it.
@@ -50,9 +50,11 @@ impl<S: CheckedScalar> Rule<S, S::Check> for ArgumentsOfCorrectType {
     ghost keeps = { relating_keeps (wrong_arguments S.may_answer (printed_value S.text S.str_of)) };
 }
 
-impl<S: CheckedScalar> SettledRule<S, S::Check> for ArgumentsOfCorrectType {
+impl<S: CheckedScalar> Criterion<S, S::Check> for ArgumentsOfCorrectType {
     ghost finds_nothing = { allows_none (given (wrong_arguments S.may_answer (printed_value S.text S.str_of))) };
+}
 
+impl<S: CheckedScalar> SettledRule<S, S::Check> for ArgumentsOfCorrectType {
     ghost silent = { settled_silent (given (wrong_arguments S.may_answer (printed_value S.text S.str_of))) (arguments_settled S.may_answer (printed_value S.text S.str_of) S.one_answer) };
 }
 

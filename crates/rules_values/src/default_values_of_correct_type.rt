@@ -19,7 +19,7 @@ use language::types::Type;
 use language::value::InputValue;
 use meta::check::CheckedScalar;
 use std::alloc::{AllocError, Global};
-use walk::{Event, Fresh, Machine, Rule, SettledRule, ValidatorContext, Visitor};
+use walk::{Criterion, Event, Fresh, Machine, Rule, SettledRule, ValidatorContext, Visitor};
 
 /// Reports, at its start, each default value of a variable whose type is never null, and each that has a fault against a type that
 /// may be null. A type whose name the schema does not know is passed over.
@@ -51,9 +51,11 @@ impl<S: CheckedScalar> Rule<S, S::Check> for DefaultValuesOfCorrectType {
     ghost keeps = { relating_keeps (wrong_defaults S.may_answer (printed_value S.text S.str_of)) };
 }
 
-impl<S: CheckedScalar> SettledRule<S, S::Check> for DefaultValuesOfCorrectType {
+impl<S: CheckedScalar> Criterion<S, S::Check> for DefaultValuesOfCorrectType {
     ghost finds_nothing = { allows_none (given (wrong_defaults S.may_answer (printed_value S.text S.str_of))) };
+}
 
+impl<S: CheckedScalar> SettledRule<S, S::Check> for DefaultValuesOfCorrectType {
     ghost silent = { settled_silent (given (wrong_defaults S.may_answer (printed_value S.text S.str_of))) (defaults_settled S.may_answer (printed_value S.text S.str_of) S.one_answer) };
 }
 

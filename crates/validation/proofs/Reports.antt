@@ -4,49 +4,44 @@ use Rattle.std.proofs.lemmas.List.{append-nil}
 use Rattle.std.proofs.lemmas.List.Sorted.{IsPermutation-trans}
 use Rattle.std.specs.Global.{Global}
 use Rattle.language.specs.declared.tree.Definition.{Definition}
-use Rattle.language.specs.declared.value.InputValue.{InputValue}
-use Rattle.meta.specs.Answers.{Answers}
 use Rattle.schema.specs.Catalog.{Catalog}
-use Rattle.walk.specs.ContextState.{ContextState, fresh_context, scope_of, typing, with_errors}
+use Rattle.walk.specs.ContextState.{ContextState, IsMadeFor, fresh_context, scope_of, typing, with_errors}
 use Rattle.walk.specs.ErrorValue.{ErrorValue}
-use Rattle.walk.specs.Names.{fragment_names}
-use Rattle.walk.specs.Rule.{Appended, Collection, any_value, exactly, nothing, together}
+use Rattle.walk.specs.Rule.{Appended, AppendsAllowed, Collection, any_value, exactly, nothing, together}
 use Rattle.walk.specs.Step.{KeepsPlace}
 use Rattle.rules_document.specs.AtDocument.{given_at_end}
 use Rattle.rules_merge.specs.declared.overlapping_fields_can_be_merged.OverlappingFieldsCanBeMerged.{OverlappingFieldsCanBeMerged}
 use Rattle.rules_merge.specs.OverlappingFieldsCanBeMerged.{MergeErrors, merge_errors}
-use Rattle.validation.specs.Stages.{Reported}
-use Rattle.validation.specs.RootRules.{IsRootReport, RootReported, introspection}
+use Rattle.validation.specs.Stages.{AppendsReported, Rules}
+use Rattle.validation.specs.RootRules.{AppendsRootReported, IsRootReport, RootReported, introspection}
 use Rattle.validation.proofs.Stages.{merge_permuted}
 
-module _ {S C : Type 0} (may : Answers (InputValue S) C) (shown : InputValue S → List ℕ) (E : S → S → Bool) (document : List (Definition S)) where
+module _ {S C : Type 0} (rules : Rules S C) (document : List (Definition S)) where
   -- what every rule appends in a context
   abbrev pub Tells : ContextState S C → ContextState S C → ℕ → Type 0
-  Tells old new pairs = old.known ≡ fragment_names document
-      → (es : List ErrorValue) × Reported may shown E old.errors (scope_of old.schema document) (typing old) document es pairs × (new ≡ with_errors old es)
+  Tells old new pairs = IsMadeFor old document → AppendsReported rules old new document pairs
 
   -- and with the rule on introspection
   abbrev pub RootTells : Bool → ContextState S C → ContextState S C → ℕ → Type 0
-  RootTells disabled old new pairs = old.known ≡ fragment_names document
-      → (es : List ErrorValue) × RootReported may shown E disabled old.errors (scope_of old.schema document) (typing old) document es pairs × (new ≡ with_errors old es)
+  RootTells disabled old new pairs = IsMadeFor old document → AppendsRootReported rules disabled old new document pairs
 
   -- in a fresh context it is all that is reported, in whatever order
   pub told_all : (disabled : Bool) (alloc : Global) (schema : Catalog S C) (old new : ContextState S C) (errors : List ErrorValue) (pairs : ℕ)
       → old ≡ fresh_context alloc schema document → RootTells disabled old new pairs → IsPermutation new.errors errors
-      → IsRootReport may shown E disabled schema document errors pairs
+      → IsRootReport rules disabled schema document errors pairs
   told_all disabled alloc schema old new errors pairs fresh tells sorted =
       let (es, told, appended) = tells (ap (λ w. w.known) fresh) in
-      let Of : ContextState S C → Type 0 = λ w. RootReported may shown E disabled w.errors (scope_of w.schema document) (typing w) document es pairs in
+      let Of : ContextState S C → Type 0 = λ w. RootReported rules disabled w.errors (scope_of w.schema document) (typing w) document es pairs in
       let same : new.errors ≡ es = ap (λ w. w.errors) appended ∙ ap (λ w. w.errors ++ es) fresh in
       record { found = es; reported = subst Of fresh told; ordered = subst (λ zs. IsPermutation zs errors) same sorted }
 
   -- first every rule, and then that on introspection
   pub told_more : (disabled : Bool) (old mid new : ContextState S C) (pairs : ℕ) → Tells old mid pairs
-      → (mid.known ≡ fragment_names document → Appended (introspection disabled (scope_of mid.schema document) (typing mid) document) mid new)
+      → (IsMadeFor mid document → AppendsAllowed (introspection disabled) document mid new)
       → RootTells disabled old new pairs
   told_more disabled old mid new pairs tells more known =
       let (es, reported, appended) = tells known in
-      let After : ContextState S C → Type 0 = λ w. Appended (introspection disabled (scope_of w.schema document) (typing w) document) w new in
+      let After : ContextState S C → Type 0 = λ w. AppendsAllowed (introspection disabled) document w new in
       let (fs, asked, both) = subst After appended (more (ap (λ w. w.known) appended ∙ known)) in
       (es ++ fs, record { of_rules = es; reported = reported; asked = fs; introspected = asked; all = refl }, both ∙ ap (λ zs. record old { errors = zs }) (append_assoc old.errors es fs))
 
@@ -54,7 +49,7 @@ module _ {S C : Type 0} (E : S → S → Bool) (document : List (Definition S)) 
   -- the rule on fields that can be merged, which was alone in its list, in a fresh context
   pub merging_told : (alloc : Global) (schema : Catalog S C) (old new : ContextState S C) (end : OverlappingFieldsCanBeMerged) (errors : List ErrorValue)
       → old ≡ fresh_context alloc schema document
-      → (old.known ≡ fragment_names document → Appended (together (given_at_end (merge_errors E) end) nothing (scope_of old.schema document) (typing old) document) old new)
+      → (IsMadeFor old document → AppendsAllowed (together (given_at_end (merge_errors E) end) nothing) document old new)
       → IsPermutation new.errors errors → MergeErrors E schema document end errors
   merging_told alloc schema old new end errors fresh tells sorted =
       let (es, (fs, gs, told, none_else, p), appended) = tells (ap (λ w. w.known) fresh) in
@@ -79,12 +74,12 @@ module _ {S C : Type 0} where
 
   -- a rule with a collection that is alone in its list
   pub appended_alone : (collection : Collection S C) (document : List (Definition S)) (old new : ContextState S C)
-      → Appended (together (exactly collection) nothing (scope_of old.schema document) (typing old) document) old new
-      → Appended (exactly collection (scope_of old.schema document) (typing old) document) old new
+      → AppendsAllowed (together (exactly collection) nothing) document old new
+      → AppendsAllowed (exactly collection) document old new
   appended_alone collection document old new (es, (fs, gs, p, none_else, q), e) =
       let all : fs ++ gs ≡ fs = ap (λ z. fs ++ z) none_else ∙ append-nil fs in
       (es, IsPermutation-trans _ _ _ p (subst (λ z. IsPermutation z es) all q), e)
 
   -- no rule appends nothing
-  pub none_appended : (document : List (Definition S)) (old : ContextState S C) → Appended (introspection false (scope_of old.schema document) (typing old) document) old old
+  pub none_appended : (document : List (Definition S)) (old : ContextState S C) → AppendsAllowed (introspection false) document old old
   none_appended document old = ([], refl, ap (λ zs. record old { errors = zs }) (sym (append-nil old.errors)))

@@ -1,20 +1,19 @@
--- Nothing is reported of what is sent to a root node just if it is valid there.
+-- Nothing is reported of what is sent to a root node if and only if it is valid there.
 use Rattle.std.proofs.Common.{◌≡◌, ◌∙◌, ◌↔◌, ◌++◌, ℕ, List, [], Bool, true, false, IsPermutation, ap, refl, subst, sym}
 use Rattle.std.proofs.lemmas.Bool.{true≢false}
 use Rattle.std.proofs.lemmas.List.Sorted.{IsPermutation-sym}
 use Rattle.language.specs.declared.tree.Definition.{Definition}
-use Rattle.language.specs.declared.value.InputValue.{InputValue}
-use Rattle.literals.specs.Laws.{OneAnswer}
-use Rattle.meta.specs.Answers.{Answers}
 use Rattle.schema.specs.Catalog.{Catalog}
 use Rattle.events.specs.Typing.{Typing, untyped}
 use Rattle.walk.specs.ContextState.{DocumentScope, scope_of}
 use Rattle.walk.specs.Entering.{found}
 use Rattle.walk.specs.ErrorValue.{ErrorValue}
 use Rattle.rules_fields.specs.DisableIntrospection.{introspection_fields}
+use Rattle.rules_first_stage.specs.CleanStage.{IsCleanWhere}
 use Rattle.rules_first_stage.proofs.Distinct.{left_none, right_none}
 use Rattle.validation.specs.RootRules.{IsRootReport, IsRootValid, introspection}
-use Rattle.validation.proofs.Stages.{none_just_if, permuted_none}
+use Rattle.validation.specs.Stages.{IsSettled, Rules}
+use Rattle.validation.proofs.Stages.{none_iff, permuted_none}
 
 -- no field is asked for that is disabled
 asked_none : {S C : Type 0} (disabled : Bool) (scope : DocumentScope S C) (t : Typing S C) (doc : List (Definition S)) (es : List ErrorValue) → introspection disabled scope t doc es
@@ -22,16 +21,16 @@ asked_none : {S C : Type 0} (disabled : Bool) (scope : DocumentScope S C) (t : T
 asked_none true scope t doc es p = (λ e h. permuted_none _ (IsPermutation-sym _ _ (subst (λ z. IsPermutation (found introspection_fields scope t doc) z) e p)), λ h. permuted_none _ (subst (λ z. IsPermutation z es) (h refl) p))
 asked_none false scope t doc es p = (λ e h. absurd (true≢false (sym h)), λ h. p)
 
-module _ {S C : Type 0} (may : Answers (InputValue S) C) (shown : InputValue S → List ℕ) (E : S → S → Bool) (one : OneAnswer may) (schema : Catalog S C) (document : List (Definition S)) where
-  pub root_valid : (disabled : Bool) (errors : List ErrorValue) (pairs : ℕ) → IsRootReport may shown E disabled schema document errors pairs → (errors ≡ []) ↔ IsRootValid may shown E disabled schema document
+module _ {S C : Type 0} (rules : Rules S C) (clean : IsCleanWhere rules.find_nothing) (settled : IsSettled rules) (schema : Catalog S C) (document : List (Definition S)) where
+  pub root_valid : (disabled : Bool) (errors : List ErrorValue) (pairs : ℕ) → IsRootReport rules disabled schema document errors pairs → (errors ≡ []) ↔ IsRootValid rules disabled schema document
   root_valid disabled errors pairs r =
-      let rules = none_just_if may shown E one schema untyped document [] r.reported.of_rules pairs refl r.reported.reported in
+      let valid = none_iff rules clean settled schema untyped document [] r.reported.of_rules pairs refl r.reported.reported in
       let asked = asked_none disabled (scope_of schema document) untyped document r.reported.asked r.reported.introspected in
       let told : r.found ≡ r.reported.of_rules ++ r.reported.asked = r.reported.all in (
         λ e.
             let none_found : r.reported.of_rules ++ r.reported.asked ≡ [] = sym told ∙ permuted_none _ (IsPermutation-sym _ _ (subst (λ z. IsPermutation r.found z) e r.ordered)) in
-            (rules.0 (left_none _ _ none_found), asked.0 (right_none _ _ none_found)),
+            (valid.0 (left_none _ _ none_found), asked.0 (right_none _ _ none_found)),
         λ (v, h).
-            let none_told : r.found ≡ [] = told ∙ ap (λ zs. zs ++ r.reported.asked) (rules.1 v) ∙ asked.1 h in
+            let none_told : r.found ≡ [] = told ∙ ap (λ zs. zs ++ r.reported.asked) (valid.1 v) ∙ asked.1 h in
             permuted_none _ (subst (λ z. IsPermutation z errors) none_told r.ordered),
       )

@@ -4,9 +4,6 @@ use Rattle.std.proofs.lemmas.Bool.{true≢false}
 use Rattle.std.proofs.lemmas.List.{append-nil, nil_from_length}
 use Rattle.std.proofs.lemmas.List.Sorted.{IsPermutation-sym, IsPermutation-trans, length_permutation}
 use Rattle.language.specs.declared.tree.Definition.{Definition}
-use Rattle.language.specs.declared.value.InputValue.{InputValue}
-use Rattle.literals.specs.Laws.{OneAnswer}
-use Rattle.meta.specs.Answers.{Answers}
 use Rattle.schema.specs.Catalog.{Catalog}
 use Rattle.fragment_graph.specs.DocumentCycles.{HasNoCycle}
 use Rattle.events.specs.Typing.{Typing}
@@ -20,17 +17,12 @@ use Rattle.rules_merge.specs.declared.overlapping_fields_can_be_merged.Overlappi
 use Rattle.rules_merge.specs.OverlappingFieldsCanBeMerged.{MergeErrors, error_value}
 use Rattle.walk.specs.ContextState.{ContextState, DocumentScope, has_some, scope_of, typing, with_errors}
 use Rattle.walk.specs.ErrorValue.{ErrorValue}
-use Rattle.walk.specs.Rule.{Appended, sum_of}
-use Rattle.rules_first_stage.specs.NothingFound.{NothingFound}
-use Rattle.rules_first_stage.specs.StageOne.{stage_one}
-use Rattle.walk.proofs.Sums.{sum_settled}
+use Rattle.walk.specs.Rule.{AppendsAllowed, Condition, Meets}
+use Rattle.rules_first_stage.specs.CleanStage.{CleanDocument, IsCleanWhere}
 use Rattle.events.specs.Node.{field}
 use Rattle.merge_walk_laws.proofs.Agreeing.{fields_are_tidy, tidy_arguments}
-use Rattle.rules_first_stage.proofs.Clean.{clean}
 use Rattle.rules_first_stage.proofs.Distinct.{left_none}
-use Rattle.rules_first_stage.proofs.Found.{nothing_just_if}
-use Rattle.rules_first_stage.proofs.Silent.{stage_one_settled}
-use Rattle.validation.specs.Stages.{Reported, of_stage_one, of_stage_two, IsValid}
+use Rattle.validation.specs.Stages.{AppendsReported, IsSettled, IsValid, IsValidIn, Reported, Rules, of_stage_one, of_stage_two}
 
 pub permuted_none : {X : Type 0} (xs : List X) → IsPermutation [] xs → xs ≡ []
 permuted_none xs p = nil_from_length xs (length_permutation [] xs p)
@@ -43,11 +35,9 @@ pub is_none : {X : Type 0} (xs : List X) → has_some xs ≡ false → xs ≡ []
 is_none [] e = refl
 is_none (x ∷ xs) e = absurd (true≢false e)
 
--- a document where the first stage finds nothing repeats no argument, nor a key in one
-pub tidy_where_clean : {S C : Type 0} (may : Answers (InputValue S) C) (shown : InputValue S → List ℕ) (schema : Catalog S C) (t : Typing S C) (document : List (Definition S))
-    → NothingFound may shown (scope_of schema document) t document → IsTidyDocument schema document
-tidy_where_clean may shown schema t document found =
-    let c = clean schema t document may shown found in
+-- a clean document repeats no argument, nor a key in one
+pub tidy_where_clean : {S C : Type 0} (schema : Catalog S C) (t : Typing S C) (document : List (Definition S)) → CleanDocument schema t document → IsTidyDocument schema document
+tidy_where_clean schema t document c =
     fields_are_tidy schema t document (λ f is. (tidy_arguments f.item.arguments).1 (c.arguments (field f) is, c.values (field f) is))
 
 module _ {S C : Type 0} (E : S → S → Bool) (schema : Catalog S C) where
@@ -57,55 +47,48 @@ module _ {S C : Type 0} (E : S → S → Bool) (schema : Catalog S C) where
   no_conflict (direct a b f rest) e = absurd (not_none _ refl e)
   no_conflict (nested a b below rest) e = absurd (not_none _ refl e)
 
-  -- where nothing repeats and no fragment leads back to itself there are no errors just if the document merges
-  pub merges_just_if : (document : List (Definition S)) (end : OverlappingFieldsCanBeMerged) (es : List ErrorValue) → HasNoCycle document → IsTidyDocument schema document
+  -- where nothing repeats and no fragment leads back to itself there are no errors if and only if the document merges
+  pub merges_iff : (document : List (Definition S)) (end : OverlappingFieldsCanBeMerged) (es : List ErrorValue) → HasNoCycle document → IsTidyDocument schema document
       → MergeErrors E schema document end es → (es ≡ []) ↔ DocumentMerges E schema document
-  merges_just_if document end es acyclic tidy m =
+  merges_iff document end es acyclic tidy m =
       let exact = (m.all acyclic tidy).exact in
       let errors : Reports (PlainEntry S C) → List ErrorValue = λ rs. map error_value (errors_of E schema rs) in (
         λ e. exact.0 (no_conflict m.reports (permuted_none _ (IsPermutation-sym _ _ (subst (IsPermutation (errors m.reports)) e m.told)))),
         λ merges. permuted_none es (subst (λ rs. IsPermutation (errors rs) es) (exact.1 merges) m.told),
       )
 
-module _ {S C : Type 0} (may : Answers (InputValue S) C) (shown : InputValue S → List ℕ) (E : S → S → Bool) where
+module _ {S C : Type 0} (rules : Rules S C) where
   -- the first stage reported, or there were errors before
-  pub after_one : (old new : ContextState S C) (document : List (Definition S)) → Appended (sum_of (stage_one may shown) (scope_of old.schema document) (typing old) document) old new → has_some new.errors ≡ true
-      → (es : List ErrorValue) × Reported may shown E old.errors (scope_of old.schema document) (typing old) document es 0 × (new ≡ with_errors old es)
+  pub after_one : (old new : ContextState S C) (document : List (Definition S)) → AppendsAllowed rules.may_report document old new → has_some new.errors ≡ true
+      → AppendsReported rules old new document 0
   after_one old new document (es, allowed, e) some = (es, of_stage_one allowed (λ nothing. not_none new.errors some (ap (λ w. w.errors) e ∙ nothing)), e)
 
   module _ (old mid new : ContextState S C) (document : List (Definition S)) where
-    abbrev One : Type 0
-    One = Appended (sum_of (stage_one may shown) (scope_of old.schema document) (typing old) document) old mid
-
-    abbrev Silent : Type 0
-    Silent = (mid.errors ≡ old.errors) ↔ NothingFound may shown (scope_of old.schema document) (typing old) document
-
     abbrev Two : ℕ → Type 0
-    Two pairs = (es : List ErrorValue) × (end : OverlappingFieldsCanBeMerged) × MergeErrors E mid.schema document end es × (end.compared ≡ pairs) × (new ≡ with_errors mid es)
+    Two pairs = (es : List ErrorValue) × (end : OverlappingFieldsCanBeMerged) × MergeErrors rules.same mid.schema document end es × (end.compared ≡ pairs) × (new ≡ with_errors mid es)
 
     -- neither reported anything before the second stage
-    pub after_two : One → Silent → has_some mid.errors ≡ false → (pairs : ℕ) → Two pairs
-        → (es : List ErrorValue) × Reported may shown E old.errors (scope_of old.schema document) (typing old) document es pairs × (new ≡ with_errors old es)
+    pub after_two : AppendsAllowed rules.may_report document old mid → (mid.errors ≡ old.errors) ↔ Meets rules.find_nothing old document → has_some mid.errors ≡ false → (pairs : ℕ) → Two pairs
+        → AppendsReported rules old new document pairs
     after_two (fs, allowed, e) silent quiet pairs (es, end, told, counted, e') =
         let none_now : mid.errors ≡ [] = is_none mid.errors quiet in
         let none_before : old.errors ≡ [] = left_none old.errors fs (sym (ap (λ w. w.errors) e) ∙ none_now) in
-        let here : MergeErrors E old.schema document end es = subst (λ z. MergeErrors E z document end es) (ap (λ w. w.schema) e) told in
+        let here : MergeErrors rules.same old.schema document end es = subst (λ z. MergeErrors rules.same z document end es) (ap (λ w. w.schema) e) told in
         let reported = of_stage_two none_before (silent.0 (none_now ∙ sym none_before)) here in (
           es,
-          subst (λ n. Reported may shown E old.errors (scope_of old.schema document) (typing old) document es n) counted reported,
+          subst (λ n. Reported rules old.errors (scope_of old.schema document) (typing old) document es n) counted reported,
           e' ∙ ap (λ w. with_errors w es) e ∙ ap (λ zs. record old { errors = zs ++ es }) (sym (ap (λ w. w.errors) e) ∙ none_now ∙ sym none_before),
         )
 
-  -- nothing is reported just if the document is valid
-  module _ (one : OneAnswer may) (schema : Catalog S C) (t : Typing S C) (document : List (Definition S)) where
-    pub none_just_if : (before es : List ErrorValue) (pairs : ℕ) → before ≡ [] → Reported may shown E before (scope_of schema document) t document es pairs → (es ≡ []) ↔ IsValid may shown E (scope_of schema document) t document
-    none_just_if before es pairs empty (of_stage_one allowed some) =
+  -- nothing is reported if and only if the document is valid
+  module _ (clean : IsCleanWhere rules.find_nothing) (settled : IsSettled rules) (schema : Catalog S C) (t : Typing S C) (document : List (Definition S)) where
+    pub none_iff : (before es : List ErrorValue) (pairs : ℕ) → before ≡ [] → Reported rules before (scope_of schema document) t document es pairs → (es ≡ []) ↔ IsValid rules (scope_of schema document) t document
+    none_iff before es pairs empty (of_stage_one allowed some) =
         let nothing : es ≡ [] → ⊥ = λ e. some (ap (λ zs. before ++ zs) e ∙ append-nil before ∙ empty) in
-        let scope = scope_of schema document in
-        let found = nothing_just_if may shown scope t document in
-        (λ e. absurd (nothing e), λ v. absurd (nothing (sum_settled scope t document (stage_one may shown) (stage_one_settled may shown one) es (found.1 v.stage_one) allowed)))
-    none_just_if before es pairs empty (of_stage_two {end = end} none_before found told) =
-        let judged = merges_just_if E schema document end es found.no_fragment_cycles (tidy_where_clean may shown schema t document found) told in
+        (λ e. absurd (nothing e), λ v. absurd (nothing ((settled (scope_of schema document) t document es allowed).1 v.stage_one)))
+    none_iff before es pairs empty (of_stage_two {end = end} none_before found told) =
+        let c = clean schema t document found in
+        let judged = merges_iff rules.same schema document end es c.no_cycle (tidy_where_clean schema t document c) told in
         (λ e. record { stage_one = found; merges = judged.0 e }, λ v. judged.1 v.merges)
 
 -- conflicts in another order
@@ -125,16 +108,15 @@ merge_permuted E schema document end fs gs es m none_else p =
     }
 
 -- no more pairs than two for each two definitions of fragments
-pub few_pairs : {S C : Type 0} (may : Answers (InputValue S) C) (shown : InputValue S → List ℕ) (E : S → S → Bool) (before : List ErrorValue) (scope : DocumentScope S C) (t : Typing S C) (document : List (Definition S)) (es : List ErrorValue) (pairs : ℕ)
-    → Reported may shown E before scope t document es pairs → pairs ≤ fragment_count document * (fragment_count document - 1)
-few_pairs may shown E before scope t document es pairs (of_stage_one allowed some) = omega arith
-few_pairs may shown E before scope t document es pairs (of_stage_two none_before clean told) = told.few
+pub few_pairs : {S C : Type 0} (rules : Rules S C) (before : List ErrorValue) (scope : DocumentScope S C) (t : Typing S C) (document : List (Definition S)) (es : List ErrorValue) (pairs : ℕ)
+    → Reported rules before scope t document es pairs → pairs ≤ fragment_count document * (fragment_count document - 1)
+few_pairs rules before scope t document es pairs (of_stage_one allowed some) = omega arith
+few_pairs rules before scope t document es pairs (of_stage_two none_before clean told) = told.few
 
-module _ {S C : Type 0} (may : Answers (InputValue S) C) (shown : InputValue S → List ℕ) (E : S → S → Bool) (one : OneAnswer may) (old new : ContextState S C) (document : List (Definition S)) where
-  -- a context that held no error holds none just if the document is valid
-  pub valid_just_if : (pairs : ℕ) → (es : List ErrorValue) × Reported may shown E old.errors (scope_of old.schema document) (typing old) document es pairs × (new ≡ with_errors old es) → old.errors ≡ []
-      → (new.errors ≡ []) ↔ IsValid may shown E (scope_of old.schema document) (typing old) document
-  valid_just_if pairs (es, reported, e) empty =
-      let judged = none_just_if may shown E one old.schema (typing old) document old.errors es pairs empty reported in
+module _ {S C : Type 0} (rules : Rules S C) (clean : IsCleanWhere rules.find_nothing) (settled : IsSettled rules) (old new : ContextState S C) (document : List (Definition S)) where
+  -- a context that held no error holds none if and only if the document is valid
+  pub valid_iff : (pairs : ℕ) → AppendsReported rules old new document pairs → old.errors ≡ [] → (new.errors ≡ []) ↔ IsValidIn rules old document
+  valid_iff pairs (es, reported, e) empty =
+      let judged = none_iff rules clean settled old.schema (typing old) document old.errors es pairs empty reported in
       let now : new.errors ≡ es = ap (λ w. w.errors) e ∙ ap (λ zs. zs ++ es) empty in
       (λ nothing. judged.0 (sym now ∙ nothing), λ v. now ∙ judged.1 v)

@@ -1,16 +1,14 @@
 -- What is reported of the documents that are sent to a root node.
 use Rattle.std.specs.Prelude.{◌≡◌, Bool, true, false, ℕ, List, [], ◌++◌, IsPermutation}
-use Rattle.language.specs.declared.value.InputValue.{InputValue}
-use Rattle.meta.specs.Answers.{Answers}
 use Rattle.language.specs.declared.tree.Definition.{Definition}
 use Rattle.schema.specs.Catalog.{Catalog}
 use Rattle.events.specs.Typing.{Typing, untyped}
-use Rattle.walk.specs.ContextState.{DocumentScope, scope_of}
+use Rattle.walk.specs.ContextState.{ContextState, DocumentScope, scope_of, typing, with_errors}
 use Rattle.walk.specs.Entering.{found}
 use Rattle.walk.specs.ErrorValue.{ErrorValue}
 use Rattle.walk.specs.Rule.{Allowance, exactly, nothing}
 use Rattle.rules_fields.specs.DisableIntrospection.{introspection_fields}
-use Rattle.validation.specs.Stages.{Reported, IsValid}
+use Rattle.validation.specs.Stages.{IsValid, Reported, Rules}
 
 module _ {S C : Type 0} where
   -- the fields that ask for the schema itself, where introspection is disabled
@@ -18,22 +16,27 @@ module _ {S C : Type 0} where
   introspection true = exactly (found introspection_fields)
   introspection false = nothing
 
-module _ {S C : Type 0} (may : Answers (InputValue S) C) (shown : InputValue S → List ℕ) (E : S → S → Bool) where
-  -- the errors of every rule, and then those of that on introspection; with the count of pairs that were compared
+module _ {S C : Type 0} (rules : Rules S C) where
+  -- the errors of all rules, and then those of the rule on introspection, with the number of pairs that were compared
   pub record RootReported (disabled : Bool) (before : List ErrorValue) (scope : DocumentScope S C) (t : Typing S C) (doc : List (Definition S)) (es : List ErrorValue) (pairs : ℕ) : Type 0 where
     pub of_rules : List ErrorValue
-    pub reported : Reported may shown E before scope t doc of_rules pairs
+    pub reported : Reported rules before scope t doc of_rules pairs
     pub asked : List ErrorValue
     pub introspected : introspection disabled scope t doc asked
     pub all : es ≡ of_rules ++ asked
 
-  -- these errors are reported of a document, in whatever order
+  -- these errors were appended, at the types of the context
+  abbrev pub AppendsRootReported : Bool → ContextState S C → ContextState S C → List (Definition S) → ℕ → Type 0
+  AppendsRootReported disabled old new doc pairs =
+      (es : List ErrorValue) × RootReported disabled old.errors (scope_of old.schema doc) (typing old) doc es pairs × (new ≡ with_errors old es)
+
+  -- these errors are reported of a document, in any order
   pub record IsRootReport (disabled : Bool) (schema : Catalog S C) (document : List (Definition S)) (errors : List ErrorValue) (pairs : ℕ) : Type 0 where
     pub found : List ErrorValue
     pub reported : RootReported disabled [] (scope_of schema document) untyped document found pairs
     pub ordered : IsPermutation found errors
 
-  -- the document is valid, and where introspection is disabled no field asks for it
+  -- the document is valid, and where introspection is disabled no field asks for the schema
   abbrev pub IsRootValid : Bool → Catalog S C → List (Definition S) → Type 0
   IsRootValid disabled schema document =
-      IsValid may shown E (scope_of schema document) untyped document × (disabled ≡ true → found introspection_fields (scope_of schema document) untyped document ≡ [])
+      IsValid rules (scope_of schema document) untyped document × (disabled ≡ true → found introspection_fields (scope_of schema document) untyped document ≡ [])

@@ -1,27 +1,47 @@
 -- What is reported of a document, in two stages, and when nothing is.
-use Rattle.std.specs.Prelude.{◌≡◌, ℕ, List, [], ◌++◌, Bool}
+use Rattle.std.specs.Prelude.{◌≡◌, ◌↔◌, ℕ, List, [], ◌++◌, Bool}
 use Rattle.language.specs.declared.tree.Definition.{Definition}
-use Rattle.language.specs.declared.value.InputValue.{InputValue}
-use Rattle.meta.specs.Answers.{Answers}
 use Rattle.events.specs.Typing.{Typing}
-use Rattle.walk.specs.ContextState.{DocumentScope}
+use Rattle.walk.specs.ContextState.{ContextState, DocumentScope, scope_of, typing, with_errors}
 use Rattle.walk.specs.ErrorValue.{ErrorValue}
-use Rattle.walk.specs.Rule.{sum_of}
+use Rattle.walk.specs.Rule.{Allowance, Condition, Meets}
 use Rattle.merge_document.specs.Merging.{DocumentMerges}
 use Rattle.rules_merge.specs.declared.overlapping_fields_can_be_merged.OverlappingFieldsCanBeMerged.{OverlappingFieldsCanBeMerged}
 use Rattle.rules_merge.specs.OverlappingFieldsCanBeMerged.{MergeErrors}
-use Rattle.rules_first_stage.specs.NothingFound.{NothingFound}
-use Rattle.rules_first_stage.specs.StageOne.{stage_one}
 
-module _ {S C : Type 0} (may : Answers (InputValue S) C) (shown : InputValue S → List ℕ) (E : S → S → Bool) where
-  -- In a context with these errors before, and with what count of pairs that were compared. Where it holds an error after the first stage, those of the
-  -- first stage's rules, and no pair; else those of fields that can't be merged.
+-- what is known of all rules, for one kind of scalars
+pub record Rules (S C : Type 0) : Type 1 where
+  -- what the rules of the first stage may report
+  pub may_report : Allowance S C
+  -- what a document is like in which they find nothing
+  pub find_nothing : Condition S C
+  -- which scalars are equal, where two fields are merged
+  pub same : S → S → Bool
+
+module _ {S C : Type 0} (rules : Rules S C) where
+  -- what the first stage may report of a document is nothing if and only if its rules find nothing
+  abbrev pub IsSettled : Type 0
+  IsSettled =
+      (scope : DocumentScope S C) (t : Typing S C) (doc : List (Definition S)) (es : List ErrorValue) → rules.may_report scope t doc es → (es ≡ []) ↔ rules.find_nothing scope t doc
+
+  -- In a context with these errors before, and with this number of pairs that were compared. If the context has an error after the
+  -- first stage, the errors are those of the first stage's rules, and no pair was compared. Otherwise they are those of fields that
+  -- can't be merged.
   pub data Reported (before : List ErrorValue) (scope : DocumentScope S C) (t : Typing S C) (doc : List (Definition S)) : List ErrorValue → ℕ → Type 0 where
-    of_stage_one : {es : List ErrorValue} → sum_of (stage_one may shown) scope t doc es → (before ++ es ≡ [] → ⊥) → Reported before scope t doc es 0
+    of_stage_one : {es : List ErrorValue} → rules.may_report scope t doc es → (before ++ es ≡ [] → ⊥) → Reported before scope t doc es 0
     of_stage_two : {es : List ErrorValue} {end : OverlappingFieldsCanBeMerged}
-        → before ≡ [] → NothingFound may shown scope t doc → MergeErrors E scope.schema doc end es → Reported before scope t doc es end.compared
+        → before ≡ [] → rules.find_nothing scope t doc → MergeErrors rules.same scope.schema doc end es → Reported before scope t doc es end.compared
 
-  -- The document is valid: the rules of the first stage find nothing, and each of its sets merges, what it spreads written out.
+  -- The document is valid: the rules of the first stage find nothing, and each of its selection sets merges, with its spreads written out.
   pub record IsValid (scope : DocumentScope S C) (t : Typing S C) (doc : List (Definition S)) : Type 0 where
-    pub stage_one : NothingFound may shown scope t doc
-    pub merges : DocumentMerges E scope.schema doc
+    pub stage_one : rules.find_nothing scope t doc
+    pub merges : DocumentMerges rules.same scope.schema doc
+
+  -- the rules appended what they report of the document, at the types of the context
+  abbrev pub AppendsReported : ContextState S C → ContextState S C → List (Definition S) → ℕ → Type 0
+  AppendsReported old new doc pairs =
+      (es : List ErrorValue) × Reported old.errors (scope_of old.schema doc) (typing old) doc es pairs × (new ≡ with_errors old es)
+
+  -- the document is valid, at the types of the context
+  abbrev pub IsValidIn : ContextState S C → List (Definition S) → Type 0
+  IsValidIn = Meets IsValid

@@ -1,7 +1,7 @@
-//! Validation of documents against schemas (GraphQL, October 2021, section 5): all names of the crates below, under the paths
-//! that juniper has them, and the call that tries every rule.
+//! Validation of documents against schemas (GraphQL, October 2021, section 5): the call that tries every rule, and the names of the
+//! crates below under juniper's paths.
 //!
-//! A user needs no crate but this one. The crates below are handed on whole, too: their other names have the paths there.
+//! A user needs this crate alone. It re-exports the crates below whole, too, for their other names.
 #![tactic(auto)]
 
 pub mod ast;
@@ -11,7 +11,7 @@ pub mod rules;
 pub mod value;
 
 pub use crate::root_node::{RootNode, RootNodeOf, visit_root_rules};
-pub use crate::rules::visit_all_rules;
+pub use crate::rules::{AllRules, visit_all_rules};
 pub use events;
 pub use language;
 pub use language::error::{CheckError, OutOfMemory};
@@ -29,6 +29,6 @@ pub use schema::model::SchemaType;
 pub use variable_values::{has_input_types, validate_input_values};
 pub use walk;
 pub use walk::{
-    Event, Fresh, Machine, MultiVisitorCons, MultiVisitorNil, Rule, RuleError, ValidatorContext,
-    ValidatorContextOf, Visitor, visit,
+    Criterion, Event, Fresh, Machine, MultiVisitorCons, MultiVisitorNil, Rule, RuleError,
+    SettledRule, ValidatorContext, ValidatorContextOf, Visitor, visit,
 };

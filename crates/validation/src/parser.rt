@@ -1,4 +1,4 @@
-//! Positions in a text, and what a reader of documents hands on.
+//! Positions in a text, and what readers of documents share.
 
 pub use language::error::ParseError;
 pub use language::position::{SourcePosition, Span, Spanning};

@@ -1,24 +1,23 @@
 //! A schema, with what the documents that are sent to it may ask.
 
-ghost use Rattle.std.specs.Prelude.{◌≡◌, ◌↔◌, ℕ, List, [], IfOk, OnOk, OnErr, IsErr, IsSorted, true, false};
-ghost use Rattle.language.specs.ValuesPrinted.{printed_value};
-ghost use Rattle.walk.specs.ContextState.{typing, scope_of, with_errors};
-ghost use Rattle.walk.specs.ErrorValue.{ErrorValue, error_cmp};
-ghost use Rattle.walk.specs.Names.{fragment_names};
-ghost use Rattle.walk.specs.Rule.{Appended, any_value};
+ghost use Rattle.std.specs.Prelude.{◌≡◌, ◌↔◌, ℕ, [], IfOk, OnOk, OnErr, IsErr, IsSorted, true, false};
+ghost use Rattle.walk.specs.ContextState.{IsMadeFor};
+ghost use Rattle.walk.specs.ErrorValue.{error_cmp};
+ghost use Rattle.walk.specs.Rule.{Appended, AppendsAllowed, any_value};
 ghost use Rattle.walk.specs.Step.{KeepsPlace};
-ghost use Rattle.validation.specs.RootRules.{IsRootReport, IsRootValid, RootReported, introspection};
+ghost use Rattle.validation.specs.RootRules.{AppendsRootReported, IsRootReport, IsRootValid, introspection};
 
-use crate::rules::{disable_introspection, visit_all_rules};
+use crate::rules::{AllRules, disable_introspection, first_stage_is_settled, visit_all_rules};
 use language::error::OutOfMemory;
 use language::tree::Definition;
 use language::value::DefaultScalarValue;
 use meta::check::CheckedScalar;
+use rules_first_stage::laws::clean_documents;
 use schema::model::SchemaTypeOf;
 use std::alloc::Global;
 use walk::{MultiVisitorNil, RuleError, ValidatorContext, visit_rules};
 
-/// A schema, and whether documents may ask for the schema itself (GraphQL, section 4.1).
+/// A schema, and whether documents may ask for the schema itself (GraphQL, October 2021, section 4).
 #[derive(Drop)]
 pub struct RootNodeOf<S, C> {
     pub schema: SchemaTypeOf<S, C>,
@@ -39,7 +38,7 @@ impl<S, C> RootNodeOf<S, C> {
         }
     }
 
-    /// From now on a field `__schema` or `__type` is an error.
+    /// Disables introspection: a field `__schema` or `__type` of a document is an error.
     pub fn disable_introspection(self) -> RootNodeOf<S, C>
         ensures { result ≡ record self { introspection_disabled = true } }
     {
@@ -49,7 +48,7 @@ impl<S, C> RootNodeOf<S, C> {
         }
     }
 
-    /// From now on it is none.
+    /// Allows introspection again.
     pub fn enable_introspection(self) -> RootNodeOf<S, C>
         ensures { result ≡ record self { introspection_disabled = false } }
     {
@@ -61,41 +60,46 @@ impl<S, C> RootNodeOf<S, C> {
 }
 
 impl<S: CheckedScalar> RootNodeOf<S, S::Check> {
-    /// Judges a document by every rule, and by that on introspection where it is disabled; the errors are in ascending order, and there
-    /// is none exactly where the document is valid.
+    /// Validates a document: by every rule, and by the rule on introspection where it is disabled. Returns the errors in ascending
+    /// order. There are none if and only if the document is valid.
     ///
-    /// Want of memory is the only error.
+    /// # Errors
+    ///
+    /// Out of memory.
     pub fn validate<'a>(
         &'a self,
         alloc: Global,
         document: &'a [Definition<'_, S>],
     ) -> Result<Vec<RuleError>, OutOfMemory>
         ensures all { IfOk result (λ errors. (pairs : ℕ)
-            × IsRootReport S.may_answer (printed_value S.text S.str_of) S.eq self.now.introspection_disabled
-            self.now.schema document.now errors.items pairs) }
+            × IsRootReport ⟦<S as AllRules>⟧.rules self.now.introspection_disabled self.now.schema document.now errors.items
+            pairs) }
         ensures valid { IfOk result (λ errors. (errors.items ≡ [])
-            ↔ IsRootValid S.may_answer (printed_value S.text S.str_of) S.eq self.now.introspection_disabled
-            self.now.schema document.now) }
+            ↔ IsRootValid ⟦<S as AllRules>⟧.rules self.now.introspection_disabled self.now.schema document.now) }
         ensures sorted { IfOk result (λ errors. IsSorted error_cmp errors.items) }
     {
+        clean_documents::<S>();
+        first_stage_is_settled::<S>();
         let mut ctx = ValidatorContext::new(alloc, &self.schema, document)?;
         visit_root_rules(&mut ctx, document, self.introspection_disabled)?;
         ctx.into_errors()
     }
 }
 
-/// Tries every rule on a document, and that on introspection where it is disabled.
+/// Tries every rule on a document, and the rule on introspection where it is disabled, and appends the errors.
 ///
-/// The answer is that of `visit_all_rules`: how many pairs of fragments were compared.
+/// Returns what `visit_all_rules` returns: how many pairs of fragments were compared.
+///
+/// # Errors
+///
+/// Out of memory. The context fails from then on.
 pub fn visit_root_rules<'a, S: CheckedScalar>(
     ctx: &mut ValidatorContext<'a, S>,
     document: &'a [Definition<'_, S>],
     introspection_disabled: bool,
 ) -> Result<u128, OutOfMemory>
-    ensures appended { IfOk result (λ pairs. ctx.old.known ≡ fragment_names document.now → (es : List ErrorValue)
-        × RootReported S.may_answer (printed_value S.text S.str_of) S.eq introspection_disabled ctx.old.errors
-        (scope_of ctx.old.schema document.now) (typing ctx.old) document.now es pairs
-        × (ctx.new ≡ with_errors ctx.old es)) }
+    ensures appended { IfOk result (λ pairs. IsMadeFor ctx.old document.now
+        → AppendsRootReported ⟦<S as AllRules>⟧.rules introspection_disabled ctx.old ctx.new document.now pairs) }
     ensures only { OnOk result (Appended any_value ctx.old ctx.new) }
     ensures err { OnErr result (KeepsPlace ctx.old ctx.new) }
     ensures failed { OnErr result (ctx.new.failed ≡ true) }
@@ -106,15 +110,14 @@ pub fn visit_root_rules<'a, S: CheckedScalar>(
     Ok(compared)
 }
 
-// Reports fields that ask for the schema, where that is disabled.
+// Reports fields that ask for the schema, where introspection is disabled.
 fn report_introspection<'a, S: CheckedScalar>(
     ctx: &mut ValidatorContext<'a, S>,
     document: &'a [Definition<'_, S>],
     disabled: bool,
 ) -> Result<(), OutOfMemory>
-    ensures appended { OnOk result (ctx.old.known ≡ fragment_names document.now
-        → Appended (introspection disabled (scope_of ctx.old.schema document.now) (typing ctx.old) document.now)
-        ctx.old ctx.new) }
+    ensures appended { OnOk result (IsMadeFor ctx.old document.now
+        → AppendsAllowed (introspection disabled) document.now ctx.old ctx.new) }
     ensures only { OnOk result (Appended any_value ctx.old ctx.new) }
     ensures err { OnErr result (KeepsPlace ctx.old ctx.new) }
     ensures failed { OnErr result (ctx.new.failed ≡ true) }
@@ -130,9 +133,8 @@ fn visit_introspection<'a, S: CheckedScalar>(
     ctx: &mut ValidatorContext<'a, S>,
     document: &'a [Definition<'_, S>],
 ) -> Result<(), OutOfMemory>
-    ensures appended { OnOk result (ctx.old.known ≡ fragment_names document.now
-        → Appended (introspection true (scope_of ctx.old.schema document.now) (typing ctx.old) document.now) ctx.old
-        ctx.new) }
+    ensures appended { OnOk result (IsMadeFor ctx.old document.now
+        → AppendsAllowed (introspection true) document.now ctx.old ctx.new) }
     ensures only { OnOk result (Appended any_value ctx.old ctx.new) }
     ensures err { OnErr result (KeepsPlace ctx.old ctx.new) }
     ensures failed { OnErr result (ctx.new.failed ≡ true) }

@@ -1,17 +1,15 @@
 //! The rules, each in its module, and the call that tries them all.
 
 ghost use Rattle.std.specs.Prelude.{◌≡◌, ◌≤◌, ◌*◌, ◌-◌, ◌↔◌, ℕ, List, [], IfOk, OnOk, OnErr, IsErr, true};
-ghost use Rattle.language.specs.ValuesPrinted.{printed_value};
-ghost use Rattle.walk.specs.ContextState.{typing, scope_of, with_errors};
+ghost use Rattle.walk.specs.ContextState.{IsMadeFor, with_errors};
 ghost use Rattle.walk.specs.ErrorValue.{ErrorValue};
-ghost use Rattle.walk.specs.Names.{fragment_names};
-ghost use Rattle.walk.specs.Rule.{Appended, any_value};
+ghost use Rattle.walk.specs.Rule.{Appended, any_value, at_some_end};
 ghost use Rattle.walk.specs.Step.{KeepsPlace};
 ghost use Rattle.fragment_graph.specs.DocumentCycles.{SearchedDocument};
 ghost use Rattle.merge_graph.specs.Definitions.{fragment_count};
 ghost use Rattle.rules_merge.specs.declared.overlapping_fields_can_be_merged.OverlappingFieldsCanBeMerged.{OverlappingFieldsCanBeMerged as MergeRule};
 ghost use Rattle.rules_merge.specs.OverlappingFieldsCanBeMerged.{MergeErrors};
-ghost use Rattle.validation.specs.Stages.{Reported, IsValid};
+ghost use Rattle.validation.specs.Stages.{AppendsReported, IsSettled, IsValidIn, Rules};
 
 use fragment_graph::cycles::DocumentCycles;
 use language::error::OutOfMemory;
@@ -26,7 +24,8 @@ pub use rules_document::{
     no_fragment_cycles, no_undefined_variables, no_unused_fragments, no_unused_variables,
 };
 pub use rules_fields::{disable_introspection, fields_on_correct_type, scalar_leafs};
-use rules_first_stage::visit_stage_one;
+use rules_first_stage::laws::clean_documents;
+use rules_first_stage::{StageRules, visit_stage_one};
 pub use rules_fragments::{
     fragments_on_composite_types, known_fragment_names, known_type_names,
     possible_fragment_spreads, unique_fragment_names,
@@ -38,29 +37,52 @@ pub use rules_operations::{
 };
 pub use rules_positions::variables_in_allowed_position;
 pub use rules_values::{arguments_of_correct_type, default_values_of_correct_type};
-use walk::ValidatorContext;
+use walk::laws::rules_are_settled;
+use walk::{Criterion, Rule, ValidatorContext};
+
+/// All rules, for a kind of scalars. Every kind of scalars has them.
+pub trait AllRules: CheckedScalar {
+    // What the rules report, and where they find nothing.
+    ghost rules: { Rules Self Self.Check };
+}
+
+// The first stage is the list `StageRules`; two fields are merged by the equality of their scalars.
+impl<S: CheckedScalar> AllRules for S {
+    ghost rules = { record {
+      may_report = at_some_end ⟦<StageRules<'static, S> as Rule<S, S::Check>>⟧.allows;
+      find_nothing = ⟦<StageRules<'static, S> as Criterion<S, S::Check>>⟧.finds_nothing;
+      same = S.eq;
+    } };
+}
+
+/// A law: what the first stage may report of a document is nothing if and only if its rules find nothing in it.
+pub fn first_stage_is_settled<S: CheckedScalar>()
+    ensures { IsSettled ⟦<S as AllRules>⟧.rules }
+{
+    rules_are_settled::<S, S::Check, StageRules<'static, S>>();
+}
 
 /// Tries every rule on a document, in two stages, and appends the errors.
 ///
-/// The first stage is one walk with every rule but that on fields that can be merged. Where the context holds no error after it,
-/// nor held one before, the second stage tries that rule. The answer is the number of pairs of fragments that it compared, and 0
-/// where it didn't run: of `n` definitions of fragments at most `n (n - 1)` pairs.
+/// The first stage is one walk with every rule except the one on fields that can be merged. If the context holds no error after it,
+/// the second stage tries that rule. Returns the number of pairs of fragments that it compared, or 0 if it didn't run: with `n`
+/// definitions of fragments at most `n (n - 1)` pairs.
 ///
-/// In a fresh context for this document nothing is reported exactly where the document is valid. In a context that was made for another
-/// document errors alone are appended.
+/// In a fresh context for this document nothing is reported if and only if the document is valid. In a context that was made for
+/// another document errors alone are appended.
+///
+/// # Errors
+///
+/// Out of memory. The context fails from then on.
 pub fn visit_all_rules<'a, 't, S: CheckedScalar>(
     ctx: &mut ValidatorContext<'a, S>,
     document: &'a [Definition<'t, S>],
 ) -> Result<u128, OutOfMemory>
-    ensures appended { IfOk result (λ pairs. ctx.old.known ≡ fragment_names document.now → (es : List ErrorValue)
-        × Reported S.may_answer (printed_value S.text S.str_of) S.eq ctx.old.errors
-        (scope_of ctx.old.schema document.now) (typing ctx.old) document.now es pairs
-        × (ctx.new ≡ with_errors ctx.old es)) }
-    ensures valid { IfOk result (λ pairs. ctx.old.known ≡ fragment_names document.now → ctx.old.errors ≡ []
-        → (ctx.new.errors ≡ [])
-        ↔ IsValid S.may_answer (printed_value S.text S.str_of) S.eq (scope_of ctx.old.schema document.now)
-        (typing ctx.old) document.now) }
-    ensures few { IfOk result (λ pairs. ctx.old.known ≡ fragment_names document.now
+    ensures appended { IfOk result (λ pairs. IsMadeFor ctx.old document.now
+        → AppendsReported ⟦<S as AllRules>⟧.rules ctx.old ctx.new document.now pairs) }
+    ensures valid { IfOk result (λ pairs. IsMadeFor ctx.old document.now → ctx.old.errors ≡ []
+        → (ctx.new.errors ≡ []) ↔ IsValidIn ⟦<S as AllRules>⟧.rules ctx.old document.now) }
+    ensures few { IfOk result (λ pairs. IsMadeFor ctx.old document.now
         → pairs ≤ fragment_count document.now * (fragment_count document.now - 1)) }
     ensures only { OnOk result (Appended any_value ctx.old ctx.new) }
     ensures err { OnErr result (KeepsPlace ctx.old ctx.new) }
@@ -68,20 +90,23 @@ pub fn visit_all_rules<'a, 't, S: CheckedScalar>(
     ensures stays { ctx.old.failed ≡ true → IsErr result }
 {
     let cycles = visit_stage_one(ctx, document)?;
+    clean_documents::<S>();
+    first_stage_is_settled::<S>();
     if ctx.has_errors() {
         return Ok(0);
     }
     visit_stage_two(ctx, document, cycles)
 }
 
-// Tries the rule on fields that can be merged, which acts only where the document is left, by what the first stage found of its fragments.
+// Tries the rule on fields that can be merged, which acts only where the document is left. It takes what the first stage found of the
+// document's fragments.
 fn visit_stage_two<'a, 't, S: CheckedScalar>(
     ctx: &mut ValidatorContext<'a, S>,
     document: &'a [Definition<'t, S>],
     cycles: DocumentCycles<'a>,
 ) -> Result<u128, OutOfMemory>
     requires { SearchedDocument document.now cycles }
-    ensures appended { IfOk result (λ pairs. ctx.old.known ≡ fragment_names document.now → (es : List ErrorValue)
+    ensures appended { IfOk result (λ pairs. IsMadeFor ctx.old document.now → (es : List ErrorValue)
         × (end : MergeRule) × MergeErrors S.eq ctx.old.schema document.now end es × (end.compared ≡ pairs)
         × (ctx.new ≡ with_errors ctx.old es)) }
     ensures only { OnOk result (Appended any_value ctx.old ctx.new) }

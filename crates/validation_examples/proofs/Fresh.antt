@@ -3,40 +3,37 @@ use Rattle.std.proofs.Common.{◌≡◌, ◌↔◌, ◌++◌, ◌∙◌, ℕ, Bo
 use Rattle.std.proofs.lemmas.List.{append-nil}
 use Rattle.std.specs.Global.{Global}
 use Rattle.language.specs.declared.tree.Definition.{Definition}
-use Rattle.language.specs.declared.value.InputValue.{InputValue}
-use Rattle.meta.specs.Answers.{Answers}
 use Rattle.schema.specs.Catalog.{Catalog}
 use Rattle.events.specs.TypedEvent.{typed_events}
 use Rattle.events.specs.Typing.{untyped}
 use Rattle.walk.specs.declared.multi_visitor.MultiVisitorCons.{MultiVisitorCons}
 use Rattle.walk.specs.declared.multi_visitor.MultiVisitorNil.{MultiVisitorNil}
-use Rattle.walk.specs.ContextState.{ContextState, fresh_context, has_some, scope_of, typing}
+use Rattle.walk.specs.ContextState.{ContextState, IsMadeFor, fresh_context, has_some, scope_of, typing}
 use Rattle.walk.specs.ErrorValue.{ErrorValue}
-use Rattle.walk.specs.Names.{fragment_names}
 use Rattle.walk.specs.Pair.{no_step, pair_step}
 use Rattle.walk.specs.PairLaws.{pair_splits}
 use Rattle.walk.specs.RuleLaws.{nil_keeps}
 use Rattle.walk.specs.Step.{Ran, Run, StepOf}
 use Rattle.validation.proofs.Reports.{Tells}
 use Rattle.validation.proofs.Stages.{is_none}
-use Rattle.validation.specs.Stages.{IsValid, Reported}
+use Rattle.validation.specs.Stages.{IsValid, IsValidIn, Reported, Rules}
 
 module _ {S C : Type 0} (document : List (Definition S)) (alloc : Global) (schema : Catalog S C) (old : ContextState S C) (fresh : old ≡ fresh_context alloc schema document) where
   -- by all rules
-  pub by_all : (new : ContextState S C) (may : Answers (InputValue S) C) (shown : InputValue S → List ℕ) (E : S → S → Bool) (pairs : ℕ) → Tells may shown E document old new pairs
-      → Reported may shown E [] (scope_of schema document) untyped document new.errors pairs
-  by_all new may shown E pairs tells =
+  pub by_all : (new : ContextState S C) (rules : Rules S C) (pairs : ℕ) → Tells rules document old new pairs
+      → Reported rules [] (scope_of schema document) untyped document new.errors pairs
+  by_all new rules pairs tells =
       let (es, told, appended) = tells (ap (λ w. w.known) fresh) in
-      let Of : ContextState S C → Type 0 = λ w. Reported may shown E w.errors (scope_of w.schema document) (typing w) document es pairs in
+      let Of : ContextState S C → Type 0 = λ w. Reported rules w.errors (scope_of w.schema document) (typing w) document es pairs in
       let same : new.errors ≡ es = ap (λ w. w.errors) appended ∙ ap (λ w. w.errors ++ es) fresh in
-      subst (λ found. Reported may shown E [] (scope_of schema document) untyped document found pairs) (sym same) (subst Of fresh told)
+      subst (λ found. Reported rules [] (scope_of schema document) untyped document found pairs) (sym same) (subst Of fresh told)
 
-  -- nothing by all rules exactly where it is valid
-  pub none_by_all : (errors : List ErrorValue) (some : Bool) (may : Answers (InputValue S) C) (shown : InputValue S → List ℕ) (E : S → S → Bool) → some ≡ has_some errors
-      → (old.known ≡ fragment_names document → old.errors ≡ [] → (errors ≡ []) ↔ IsValid may shown E (scope_of old.schema document) (typing old) document)
-      → (some ≡ false) ↔ IsValid may shown E (scope_of schema document) untyped document
-  none_by_all errors some may shown E asked valid =
-      let Of : ContextState S C → Type 0 = λ w. (errors ≡ []) ↔ IsValid may shown E (scope_of w.schema document) (typing w) document in
+  -- nothing by all rules if and only if it is valid
+  pub none_by_all : (errors : List ErrorValue) (some : Bool) (rules : Rules S C) → some ≡ has_some errors
+      → (IsMadeFor old document → old.errors ≡ [] → (errors ≡ []) ↔ IsValidIn rules old document)
+      → (some ≡ false) ↔ IsValid rules (scope_of schema document) untyped document
+  none_by_all errors some rules asked valid =
+      let Of : ContextState S C → Type 0 = λ w. (errors ≡ []) ↔ IsValidIn rules w document in
       let (is_valid, is_silent) = subst Of fresh (valid (ap (λ w. w.known) fresh) (ap (λ w. w.errors) fresh)) in
       (λ no. is_valid (is_none errors (sym asked ∙ no)), λ is. asked ∙ ap has_some (is_silent is))
 
@@ -53,6 +50,6 @@ module _ {S C : Type 0} (document : List (Definition S)) (alloc : Global) (schem
       let all : both.by_newer ++ both.by_other ≡ both.by_newer = ap (λ others. both.by_newer ++ others) none_else ∙ append-nil both.by_newer in
       let reported : IsPermutation (both.by_newer ++ both.by_other) new.errors = subst (IsPermutation (both.by_newer ++ both.by_other)) (sym (ap (λ w. w.errors) appended)) both.together in (
         both.by_newer,
-        subst (λ rules. Run (step (scope_of schema document)) events rules.0 b.0 both.by_newer) alone both.newer_runs,
+        subst (λ list. Run (step (scope_of schema document)) events list.0 b.0 both.by_newer) alone both.newer_runs,
         subst (λ found. IsPermutation found new.errors) all reported,
       )

@@ -1,17 +1,15 @@
 -- What is told of a document.
-use Rattle.std.specs.Prelude.{◌≡◌, Bool, ℕ, List, [], ◌∷◌, ◌++◌, IsPermutation, IsSorted}
+use Rattle.std.specs.Prelude.{◌≡◌, ℕ, List, [], ◌∷◌, ◌++◌, IsPermutation, IsSorted}
 use Rattle.std.specs.Fmt.{decimal}
 use Rattle.std.specs.List.{flat_map}
 use Rattle.language.specs.declared.tree.Definition.{Definition}
-use Rattle.language.specs.declared.value.InputValue.{InputValue}
-use Rattle.meta.specs.Answers.{Answers}
 use Rattle.schema.specs.Catalog.{Catalog}
 use Rattle.events.specs.TypedEvent.{typed_events}
 use Rattle.events.specs.Typing.{untyped}
 use Rattle.walk.specs.ContextState.{scope_of}
 use Rattle.walk.specs.ErrorValue.{ErrorValue, error_cmp, printed_error}
 use Rattle.walk.specs.Step.{Run, StepOf}
-use Rattle.validation.specs.Stages.{Reported}
+use Rattle.validation.specs.Stages.{Reported, Rules}
 
 -- each error, and the end of its line
 abbrev pub error_lines : List ErrorValue → List ℕ
@@ -23,10 +21,10 @@ pub record InOrder (found errors : List ErrorValue) : Type 0 where
   pub sorted : IsSorted error_cmp errors
 
 -- a text tells what all rules report of a document, and then how many pairs were compared
-pub record TellsAll {S C : Type 0} (may : Answers (InputValue S) C) (shown : InputValue S → List ℕ) (E : S → S → Bool) (schema : Catalog S C) (document : List (Definition S)) (text : List ℕ) : Type 0 where
+pub record TellsAll {S C : Type 0} (rules : Rules S C) (schema : Catalog S C) (document : List (Definition S)) (text : List ℕ) : Type 0 where
   pub found : List ErrorValue
   pub compared : ℕ
-  pub reported : Reported may shown E [] (scope_of schema document) untyped document found compared
+  pub reported : Reported rules [] (scope_of schema document) untyped document found compared
   pub errors : List ErrorValue
   pub in_order : InOrder found errors
   pub written : text ≡ error_lines errors ++ decimal compared

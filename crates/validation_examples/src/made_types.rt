@@ -12,7 +12,11 @@ use validation::{
     validate_literal_value,
 };
 
-/// The fault of a value against a type of the schema that is written so, as a text.
+/// The fault of a value against a type of the schema, as a text, by how the type is written.
+///
+/// # Errors
+///
+/// Out of memory.
 pub fn fault_of(
     alloc: Global,
     schema: &SchemaType<DefaultScalarValue>,

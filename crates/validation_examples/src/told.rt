@@ -1,7 +1,6 @@
-//! What is told of documents, as texts.
+//! What is reported of documents, as texts.
 
 ghost use Rattle.std.specs.Prelude.{◌≡◌, IfOk, string_bytes};
-ghost use Rattle.language.specs.ValuesPrinted.{printed_value};
 ghost use Rattle.validation_examples.specs.Told.{TellsAll, TellsVisit, error_lines};
 
 use language::error::OutOfMemory;
@@ -10,9 +9,13 @@ use meta::check::CheckedScalar;
 use schema::model::SchemaType;
 use std::alloc::Global;
 use validation::rules::visit_all_rules;
-use validation::{MultiVisitorNil, RuleError, ValidatorContext, Visitor, visit};
+use validation::{AllRules, MultiVisitorNil, RuleError, ValidatorContext, Visitor, visit};
 
 /// The errors, a line each.
+///
+/// # Errors
+///
+/// Out of memory.
 pub fn lines(alloc: Global, errors: Vec<RuleError>) -> Result<String, OutOfMemory>
     ensures { IfOk result (λ told. string_bytes told ≡ error_lines errors.items) }
 {
@@ -24,13 +27,16 @@ pub fn lines(alloc: Global, errors: Vec<RuleError>) -> Result<String, OutOfMemor
 }
 
 /// The errors of a validation, a line each, and then the number of pairs that were compared.
+///
+/// # Errors
+///
+/// Out of memory.
 pub fn told_by_all<'a, S: CheckedScalar>(
     alloc: Global,
     schema: &'a SchemaType<S>,
     document: &'a [Definition<'_, S>],
 ) -> Result<String, OutOfMemory>
-    ensures { IfOk result (λ told. TellsAll S.may_answer (printed_value S.text S.str_of) S.eq schema.now document.now
-        (string_bytes told)) }
+    ensures { IfOk result (λ told. TellsAll ⟦<S as AllRules>⟧.rules schema.now document.now (string_bytes told)) }
 {
     let mut ctx = ValidatorContext::new(alloc, schema, document)?;
     let compared = visit_all_rules(&mut ctx, document)?;
@@ -40,6 +46,10 @@ pub fn told_by_all<'a, S: CheckedScalar>(
 }
 
 /// The errors of a rule alone, a line each.
+///
+/// # Errors
+///
+/// Out of memory, or an error of the rule.
 pub fn told_by_one<'a, S: CheckedScalar, V: Visitor<'a, S> + Drop>(
     alloc: Global,
     schema: &'a SchemaType<S>,

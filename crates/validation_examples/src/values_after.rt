@@ -1,4 +1,4 @@
-//! Values of variables, judged after a validation that reported nothing, with no other check of the operation.
+//! Values of variables, checked after a validation that reported nothing, with no other check of the operation.
 
 ghost use Rattle.std.specs.Prelude.{◌≡◌, IfNone, IfOk, IfSome, option_copied};
 ghost use Rattle.validation_examples.specs.ValuesAfter.{FaultsAfter, NothingToJudge, first_operation};
@@ -10,10 +10,15 @@ use language::value::Variables;
 use meta::check::CheckedScalar;
 use schema::model::SchemaType;
 use std::alloc::Global;
+use validation::laws::clean_documents;
 use validation::rules::visit_all_rules;
-use validation::{RuleError, ValidatorContext, validate_input_values};
+use validation::{AllRules, RuleError, ValidatorContext, validate_input_values};
 
-/// The faults of the values for the first operation of a document, if it has no errors and begins with an operation.
+/// The faults of the values for the first operation of a document, if the document has no errors and begins with an operation.
+///
+/// # Errors
+///
+/// Out of memory.
 pub fn values_after<'a, 't, S: CheckedScalar>(
     alloc: Global,
     schema: &'a SchemaType<S>,
@@ -21,11 +26,13 @@ pub fn values_after<'a, 't, S: CheckedScalar>(
     values: &Variables<S>,
 ) -> Result<Option<Vec<RuleError>>, OutOfMemory>
     ensures judged { IfOk result
-        (λ answer. IfSome answer (λ errors. FaultsAfter S.may_answer S.text S.str_of S.eq schema.now document.now
+        (λ answer. IfSome answer (λ errors. FaultsAfter ⟦<S as AllRules>⟧.rules S.may_answer S.text S.str_of schema.now document.now
         values.now errors.items)) }
     ensures nothing { IfOk result
-        (λ answer. IfNone answer (NothingToJudge S.may_answer S.text S.str_of S.eq schema.now document.now)) }
+        (λ answer. IfNone answer (NothingToJudge ⟦<S as AllRules>⟧.rules S.may_answer S.text S.str_of schema.now document.now)) }
 {
+    // The types of the variables of a document without errors are input types.
+    clean_documents::<S>();
     let mut ctx = ValidatorContext::new(alloc, schema, document)?;
     visit_all_rules(&mut ctx, document)?;
     if ctx.has_errors() {

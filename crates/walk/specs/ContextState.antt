@@ -57,6 +57,10 @@ module _ {S C : Type 0} where
   abbrev pub scope_of : Catalog S C → List (Definition S) → DocumentScope S C
   scope_of schema doc = record { schema = schema; known = fragment_names doc }
 
+  -- the context was made for this document
+  abbrev pub IsMadeFor : ContextState S C → List (Definition S) → Type 0
+  IsMadeFor w doc = w.known ≡ fragment_names doc
+
   -- a context that was made for a document: no types, and nothing reported
   abbrev pub fresh_context : Global → Catalog S C → List (Definition S) → ContextState S C
   fresh_context alloc schema doc = record { allocator = alloc; schema = schema; known = fragment_names doc; typings = []; errors = []; failed = false }

@@ -102,10 +102,10 @@ module _ {S C : Type 0} where
   abbrev pub nothing_on_the_way : {K : Type 0} → DocumentScope S C → Occurrence S C → K → List ErrorValue
   nothing_on_the_way scope o k = []
 
-  -- just what is given at the end, in some order
+  -- exactly what is given at the end, in some order
   abbrev pub closing_findings : {K : Type 0} → (DocumentScope S C → Occurrence S C → K → K) → (DocumentScope S C → K → List ErrorValue) → K → Collection S C
   closing_findings next late k scope t doc = late scope (kept_after (next scope) k (occurrences scope.schema t doc))
 
-  -- just these, whatever the end
+  -- exactly these, whatever the end
   abbrev pub just : {V K : Type 0} → (DocumentScope S C → K → List ErrorValue) → DocumentScope S C → K → V → List ErrorValue → Type 0
   just late scope k b es = es ≡ late scope k

@@ -21,7 +21,7 @@ position_cmp = then_cmp (on index_of nat_cmp) (then_cmp (on line_of nat_cmp) (on
 abbrev pub error_cmp : ErrorValue → ErrorValue → Ordering
 error_cmp = then_cmp (on (λ e. e.locations) (slice_cmp position_cmp)) (on (λ e. e.message) (slice_cmp nat_cmp))
 
--- two errors compare as equal just if they are the same error
+-- two errors compare as equal if and only if they are the same error
 abbrev pub EqualMeansSame : Type 0
 EqualMeansSame = (a b : ErrorValue) → (error_cmp a b ≡ Equal) ↔ (a ≡ b)
 

@@ -4,11 +4,10 @@ use Rattle.language.specs.declared.tree.Definition.{Definition}
 use Rattle.schema.specs.Catalog.{Catalog}
 use Rattle.walk.specs.declared.multi_visitor.MultiVisitorCons.{MultiVisitorCons}
 use Rattle.walk.specs.ErrorValue.{ErrorValue}
-use Rattle.walk.specs.ContextState.{ContextState, DocumentScope, scope_of, typing, with_errors}
-use Rattle.walk.specs.Names.{fragment_names}
+use Rattle.walk.specs.ContextState.{ContextState, DocumentScope, IsMadeFor, scope_of, typing, with_errors}
 use Rattle.events.specs.Typing.{Typing}
 use Rattle.events.specs.TypedEvent.{typed_events}
-use Rattle.walk.specs.Step.{StepOf, Run, Ran}
+use Rattle.walk.specs.Step.{StepOf, Run, Ran, events_in}
 
 -- which lists of errors may be reported of each document, which stands at the types given
 abbrev pub Allowance : Type 0 → Type 0 → Type 1
@@ -23,7 +22,7 @@ abbrev pub Condition : Type 0 → Type 0 → Type 1
 Condition S C = DocumentScope S C → Typing S C → List (Definition S) → Type 0
 
 module _ {S C : Type 0} where
-  -- just these errors, in some order
+  -- exactly these errors, in some order
   abbrev pub exactly : Collection S C → Allowance S C
   exactly collection scope t doc es = IsPermutation (collection scope t doc) es
 
@@ -41,19 +40,10 @@ module _ {S C : Type 0} where
   sum_of [] = nothing
   sum_of (allowance ∷ rest) = together allowance (sum_of rest)
 
-  -- each of these allows that nothing is reported
-  abbrev pub AllowNothing : List (Allowance S C) → DocumentScope S C → Typing S C → List (Definition S) → Type 0
-  AllowNothing [] scope t doc = Unit {0}
-  AllowNothing (allowance ∷ rest) scope t doc = allowance scope t doc [] × AllowNothing rest scope t doc
-
   -- where nothing may be reported, nothing else may
   abbrev pub Settled : Allowance S C → Type 0
   Settled allowance =
       (scope : DocumentScope S C) (t : Typing S C) (doc : List (Definition S)) (es : List ErrorValue) → allowance scope t doc [] → allowance scope t doc es → es ≡ []
-
-  abbrev pub AllSettled : List (Allowance S C) → Type 0
-  AllSettled [] = Unit {0}
-  AllSettled (allowance ∷ rest) = Settled allowance × AllSettled rest
 
   -- whatever state a rule ends in
   abbrev pub always : {V : Type 0} → Allowance S C → V → Allowance S C
@@ -86,21 +76,33 @@ module _ {S C : Type 0} where
   abbrev pub both_so : Condition S C → Condition S C → Condition S C
   both_so newer other scope t doc = newer scope t doc × other scope t doc
 
-  -- whatever is allowed is nothing just where this is so
-  abbrev pub NoneJustWhere : {V : Type 0} → (V → Allowance S C) → Condition S C → Type 0
-  NoneJustWhere {V} allows condition =
+  -- what is allowed of a document is nothing if and only if the document meets the condition
+  abbrev pub SilentIff : {V : Type 0} → (V → Allowance S C) → Condition S C → Type 0
+  SilentIff {V} allows condition =
       (end : V) (scope : DocumentScope S C) (t : Typing S C) (doc : List (Definition S)) (es : List ErrorValue) → allows end scope t doc es → (es ≡ []) ↔ condition scope t doc
 
   -- errors of which P holds were appended, and nothing else has changed
   abbrev pub Appended : (List ErrorValue → Type 0) → ContextState S C → ContextState S C → Type 0
   Appended P old new = (es : List ErrorValue) × P es × (new ≡ with_errors old es)
 
+  -- a document meets a condition, at the types of a context
+  abbrev pub Meets : Condition S C → ContextState S C → List (Definition S) → Type 0
+  Meets condition w doc = condition (scope_of w.schema doc) (typing w) doc
+
+  -- the errors that were appended are allowed of a document, at the types of the context
+  abbrev pub AppendsAllowed : Allowance S C → List (Definition S) → ContextState S C → ContextState S C → Type 0
+  AppendsAllowed allowance doc old new = Appended (allowance (scope_of old.schema doc) (typing old) doc) old new
+
+  -- they are allowed at one of the ends that a rule may have
+  abbrev pub at_some_end : {V : Type 0} → (V → Allowance S C) → Allowance S C
+  at_some_end {V} allows scope t doc es = (end : V) × allows end scope t doc es
+
   -- a walk from a fresh value appends what is allowed at its end, in each context that was made for the document
   abbrev pub WalksAppend : {V : Type 0} → StepOf S C V → (V → Type 0) → (V → Allowance S C) → Type 0
   WalksAppend {V} step fresh allows =
       (start end : V) (old new : ContextState S C) (doc : List (Definition S))
-      → fresh start → old.known ≡ fragment_names doc → Ran step (typed_events old.schema (typing old) doc) start end old new
-      → Appended (allows end (scope_of old.schema doc) (typing old) doc) old new
+      → fresh start → IsMadeFor old doc → Ran step (events_in old doc) start end old new
+      → AppendsAllowed (allows end) doc old new
 
 -- both of a pair are fresh
 abbrev pub pair_fresh : {V W : Type 0} → (V → Type 0) → (W → Type 0) → MultiVisitorCons V W → Type 0

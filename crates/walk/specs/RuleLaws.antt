@@ -10,7 +10,7 @@ use Rattle.walk.specs.ContextState.{DocumentScope, scope_of}
 use Rattle.events.specs.TypedEvent.{TypedEvent, typed_events}
 use Rattle.walk.specs.Step.{StepOf, Run}
 use Rattle.walk.specs.Pair.{pair_step, no_step}
-use Rattle.walk.specs.Rule.{Allowance, AllowsFrom, Collection, Condition, NoneJustWhere, Settled, allows_none, always, anywhere, both_so, exactly, is_empty, nothing, pair_allows, pair_fresh, any_value}
+use Rattle.walk.specs.Rule.{Allowance, AllowsFrom, Collection, Condition, SilentIff, Settled, allows_none, always, anywhere, both_so, exactly, is_empty, nothing, pair_allows, pair_fresh, any_value}
 use Rattle.walk.specs.PairLaws.{pair_splits}
 
 nothing_reports : {S C : Type 0} (scope : DocumentScope S C) (ms : List (TypedEvent S C)) (a b : MultiVisitorNil) (es : List ErrorValue) → Run (no_step scope) ms a b es → es ≡ []
@@ -47,11 +47,11 @@ none_both : {X : Type 0} (xs ys : List X) → xs ≡ [] → ys ≡ [] → xs ++ 
 none_both xs ys e f = ap (λ z. z ++ ys) e ∙ f
 
 -- no rule reports nothing, in any document
-pub nil_silent : {S C : Type 0} → NoneJustWhere (always {V = MultiVisitorNil} (nothing {S = S} {C = C})) anywhere
+pub nil_silent : {S C : Type 0} → SilentIff (always {V = MultiVisitorNil} (nothing {S = S} {C = C})) anywhere
 nil_silent end scope t doc es none = (λ e. tt, λ u. none)
 
 -- two rules report nothing where each finds nothing
-pub pair_silent : {S C V W : Type 0} (c : V → Allowance S C) (d : W → Allowance S C) (f g : Condition S C) → NoneJustWhere c f → NoneJustWhere d g → NoneJustWhere (pair_allows c d) (both_so f g)
+pub pair_silent : {S C V W : Type 0} (c : V → Allowance S C) (d : W → Allowance S C) (f g : Condition S C) → SilentIff c f → SilentIff d g → SilentIff (pair_allows c d) (both_so f g)
 pair_silent c d f g h k end scope t doc es (fs, gs, p, q, r) =
     let first = h end.0 scope t doc fs p in
     let second = k end.1 scope t doc gs q in (
@@ -60,15 +60,15 @@ pair_silent c d f g h k end scope t doc es (fs, gs, p, q, r) =
     )
 
 module _ {S C V : Type 0} where
-  -- a rule that reports just a collection reports nothing where the collection is empty
-  pub exactly_silent : (collection : Collection S C) → NoneJustWhere {V = V} (always (exactly collection)) (is_empty collection)
+  -- a rule that reports exactly a collection reports nothing where the collection is empty
+  pub exactly_silent : (collection : Collection S C) → SilentIff {V = V} (always (exactly collection)) (is_empty collection)
   exactly_silent collection end scope t doc es p = (
     λ e. none_permuted (collection scope t doc) (subst (IsPermutation (collection scope t doc)) e p),
     λ e. permuted_none es (subst (λ z. IsPermutation z es) e p),
   )
 
   -- a rule that is settled reports nothing where it may report nothing
-  pub settled_silent : (allowance : Allowance S C) → Settled allowance → NoneJustWhere {V = V} (always allowance) (allows_none allowance)
+  pub settled_silent : (allowance : Allowance S C) → Settled allowance → SilentIff {V = V} (always allowance) (allows_none allowance)
   settled_silent allowance h end scope t doc es p = (
     λ e. subst (allowance scope t doc) e p,
     λ none. h scope t doc es none p,

@@ -26,10 +26,10 @@ use schema::model::SchemaTypeOf;
 use std::alloc::Global;
 use std::marker::Model;
 
-/// The schema, the names of the document's fragments, the types at the node at hand, and the errors that were reported.
+/// The schema, the names of the document's fragments, the types at the current node, and the errors that were reported.
 ///
-/// A context that has failed, since memory was refused in one of its calls or in a walk over it, or since `fail` was called, refuses
-/// each later call that reports, pushes or ends, and each later walk.
+/// A context fails if memory runs out in one of its calls or in a walk over it, or if `fail` is called. From then on each call that
+/// reports, pushes or ends returns an error, and so does each walk.
 #[derive(Drop)]
 pub struct ValidatorContextOf<'a, S, C> {
     pub schema: &'a SchemaTypeOf<S, C>,
@@ -59,6 +59,10 @@ impl<'a, S, C> Model for ValidatorContextOf<'a, S, C> {
 
 impl<'a, S, C> ValidatorContextOf<'a, S, C> {
     /// A context for a document, in which no types are pushed and nothing is reported.
+    ///
+    /// # Errors
+    ///
+    /// Out of memory.
     pub fn new<'t>(
         alloc: Global,
         schema: &'a SchemaTypeOf<S, C>,
@@ -77,7 +81,7 @@ impl<'a, S, C> ValidatorContextOf<'a, S, C> {
         })
     }
 
-    /// What the context allocates by.
+    /// The allocator of the context.
     pub fn allocator(&self) -> Global
         ensures { result ≡ self.now.allocator }
     {
@@ -91,8 +95,12 @@ impl<'a, S, C> ValidatorContextOf<'a, S, C> {
         self.fragment_names.has(name)
     }
 
-    /// The names of the fragments of a document, numbered: those of the document that the context was made for are numbered once,
-    /// for all that ask.
+    /// The names of the fragments of a document, numbered. Those of the document that the context was made for are numbered once,
+    /// for all callers.
+    ///
+    /// # Errors
+    ///
+    /// Out of memory. The context is unchanged.
     pub fn numbered_names(
         &self,
         document: &'a [Definition<'a, S>],
@@ -110,7 +118,7 @@ impl<'a, S, C> ValidatorContextOf<'a, S, C> {
         !self.errors.is_empty()
     }
 
-    /// The types at the node at hand.
+    /// The types at the current node.
     pub(crate) fn types(&self) -> TypesOf<'a, S, C>
         ensures { typing_of result ≡ typing self.now }
     {
@@ -125,28 +133,28 @@ impl<'a, S, C> ValidatorContextOf<'a, S, C> {
         }
     }
 
-    /// The type of the schema at the node at hand, where there is one.
+    /// The type of the schema at the current node, if there is one.
     pub fn current_type(&self) -> Option<&'a MetaTypeOf<S, C>>
         ensures { option_copied result ≡ (typing self.now).current }
     {
         self.types().current
     }
 
-    /// That type as it was written.
+    /// The type at the current node as it was written, with its lists and non-null marks.
     pub fn current_type_literal(&self) -> Option<BorrowedType<'a>>
         ensures { option_map borrowed_shape result ≡ (typing self.now).literal }
     {
         self.types().literal
     }
 
-    /// The type of the selection set round the node at hand, where there is one.
+    /// The type of the selection set around the current node, if there is one.
     pub fn parent_type(&self) -> Option<&'a MetaTypeOf<S, C>>
         ensures { option_copied result ≡ (typing self.now).parent }
     {
         self.types().parent
     }
 
-    /// The type of the input that is expected at the node at hand, as it was written.
+    /// The type of the input that is expected at the current node, as it was written.
     pub fn current_input_type_literal(&self) -> Option<BorrowedType<'a>>
         ensures { option_map borrowed_shape result ≡ (typing self.now).input }
     {
@@ -154,6 +162,10 @@ impl<'a, S, C> ValidatorContextOf<'a, S, C> {
     }
 
     /// Adds an error with this message, at these places.
+    ///
+    /// # Errors
+    ///
+    /// Out of memory, or the context has failed before. Nothing is added, and the context fails from then on.
     pub fn report_error(
         &mut self,
         message: &str,
@@ -189,6 +201,10 @@ impl<'a, S, C> ValidatorContextOf<'a, S, C> {
     }
 
     /// Adds errors, in their order.
+    ///
+    /// # Errors
+    ///
+    /// Out of memory, or the context has failed before. Nothing is added, and the context fails from then on.
     pub fn append_errors(&mut self, mut errors: Vec<RuleError>) -> Result<(), OutOfMemory>
         ensures ok { OnOk result (self.new ≡ with_errors self.old errors.items) }
         ensures err { OnErr result (self.new ≡ failing self.old) }
@@ -205,6 +221,10 @@ impl<'a, S, C> ValidatorContextOf<'a, S, C> {
     }
 
     /// The errors that were reported, in ascending order, each as often as it was reported.
+    ///
+    /// # Errors
+    ///
+    /// Out of memory, or the context has failed before.
     pub fn into_errors(self) -> Result<Vec<RuleError>, OutOfMemory>
         ensures all { IfOk result (λ errors. IsPermutation self.entry.errors errors.items) }
         ensures sorted { IfOk result (λ errors. IsSorted error_cmp errors.items) }
@@ -218,7 +238,7 @@ impl<'a, S, C> ValidatorContextOf<'a, S, C> {
         Ok(errors)
     }
 
-    // Goes to a node of these types.
+    // Goes to a node of these types, or makes the context fail.
     pub(crate) fn push_types(&mut self, types: TypesOf<'a, S, C>) -> Result<(), OutOfMemory>
         ensures ok { OnOk result (self.new ≡ pushed self.old (typing_of types.entry)) }
         ensures err { OnErr result (self.new ≡ failing self.old) }
@@ -241,7 +261,7 @@ impl<'a, S, C> ValidatorContextOf<'a, S, C> {
         let _ = self.types.pop();
     }
 
-    // Goes to the node of the next event of a cursor: its types take the place of those that were pushed last.
+    // Goes to the node of the next event of a cursor: its types replace those that were pushed last.
     pub(crate) fn next_event(
         &mut self,
         cursor: &mut EventCursorOf<'a, S, C>,
@@ -261,14 +281,14 @@ impl<'a, S, C> ValidatorContextOf<'a, S, C> {
         found
     }
 
-    /// Makes the context fail, where memory was refused to work on its document that no call of the context did.
+    /// Makes the context fail, when memory ran out in work on its document outside of the calls of the context.
     pub fn fail(&mut self)
         ensures { self.new ≡ failing self.old }
     {
         self.failed = true;
     }
 
-    // Calls f at these types, or not at all where they can't be pushed.
+    // Calls f at these types, or not at all if they can't be pushed.
     fn with_types<R, F: FnOnce(&mut ValidatorContextOf<'a, S, C>) -> R + Drop>(
         &mut self,
         types: TypesOf<'a, S, C>,
@@ -285,10 +305,13 @@ impl<'a, S, C> ValidatorContextOf<'a, S, C> {
         Ok(answer)
     }
 
-    /// Calls f once with the context, in which this type, as it is written, is the type at hand.
+    /// Calls `f` once, at a node of this type as it is written, and returns what `f` returns. The type is popped again.
     ///
-    /// What f answers is handed on, and what was pushed is taken off again. Where the push is refused f is not called, and the
-    /// context has failed. A refusal of a call that f makes is told by the context, which has failed then, too.
+    /// If memory runs out in a call that `f` makes on the context, the context fails from then on.
+    ///
+    /// # Errors
+    ///
+    /// Out of memory to push the type, or the context has failed before. `f` is not called, and the context fails from then on.
     pub fn with_pushed_type<R, F: FnOnce(&mut ValidatorContextOf<'a, S, C>) -> R + Drop>(
         &mut self,
         t: Option<BorrowedType<'a>>,
@@ -306,10 +329,14 @@ impl<'a, S, C> ValidatorContextOf<'a, S, C> {
         self.with_types(types, f)
     }
 
-    /// Calls f once with the context, in which the type at hand is the parent type.
+    /// Calls `f` once, in the selection set of the current node, whose type is the parent type there, and returns what `f` returns.
+    /// The parent type is popped again.
     ///
-    /// What f answers is handed on, and what was pushed is taken off again. Where the push is refused f is not called, and the
-    /// context has failed. A refusal of a call that f makes is told by the context, which has failed then, too.
+    /// If memory runs out in a call that `f` makes on the context, the context fails from then on.
+    ///
+    /// # Errors
+    ///
+    /// Out of memory to push the type, or the context has failed before. `f` is not called, and the context fails from then on.
     pub fn with_pushed_parent_type<R, F: FnOnce(&mut ValidatorContextOf<'a, S, C>) -> R + Drop>(
         &mut self,
         f: F,
@@ -323,10 +350,13 @@ impl<'a, S, C> ValidatorContextOf<'a, S, C> {
         self.with_types(types, f)
     }
 
-    /// Calls f once with the context, in which an input of this type is expected.
+    /// Calls `f` once, where an input of this type is expected, and returns what `f` returns. The type is popped again.
     ///
-    /// What f answers is handed on, and what was pushed is taken off again. Where the push is refused f is not called, and the
-    /// context has failed. A refusal of a call that f makes is told by the context, which has failed then, too.
+    /// If memory runs out in a call that `f` makes on the context, the context fails from then on.
+    ///
+    /// # Errors
+    ///
+    /// Out of memory to push the type, or the context has failed before. `f` is not called, and the context fails from then on.
     pub fn with_pushed_input_type<R, F: FnOnce(&mut ValidatorContextOf<'a, S, C>) -> R + Drop>(
         &mut self,
         t: Option<BorrowedType<'a>>,

@@ -13,7 +13,7 @@ pub use context::{ValidatorContext, ValidatorContextOf};
 pub use events::Event;
 pub use language::error::OutOfMemory;
 pub use multi_visitor::{MultiVisitorCons, MultiVisitorNil};
-pub use rule::{Rule, SettledRule};
+pub use rule::{Criterion, Rule, SettledRule};
 pub use rule_error::RuleError;
 pub use visitor::{Fresh, Machine, Visitor};
 pub use walk::{visit, visit_rules, visit_settled, walk_with};

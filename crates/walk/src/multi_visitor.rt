@@ -16,7 +16,7 @@ use meta::check::CheckedScalar;
 #[derive(Drop)]
 pub struct MultiVisitorNil;
 
-/// A visitor, and others that were there before it; it hears of each event first.
+/// A visitor, and the others that were there before it. It is called first at each event.
 #[derive(Drop)]
 pub struct MultiVisitorCons<A, B>(A, B);
 
@@ -41,7 +41,7 @@ impl MultiVisitorNil {
 }
 
 impl<A: Fresh, B: Fresh> MultiVisitorCons<A, B> {
-    /// The list with one rule more; where it was fresh, and the rule is, it is fresh.
+    /// The list with one more rule. It is fresh, since the list and the rule are.
     pub fn with_rule<V: Fresh>(self, rule: V) -> MultiVisitorCons<V, MultiVisitorCons<A, B>>
         requires rule { V.fresh rule }
         requires others { ⟦<MultiVisitorCons<A, B> as Fresh>⟧.fresh self }
@@ -53,7 +53,7 @@ impl<A: Fresh, B: Fresh> MultiVisitorCons<A, B> {
 }
 
 impl<A, B> MultiVisitorCons<A, B> {
-    /// The list with one visitor more, which hears of each event first.
+    /// The list with one more visitor, which is called first at each event.
     pub fn with<V>(self, visitor: V) -> MultiVisitorCons<V, MultiVisitorCons<A, B>>
         ensures { result ≡ record { 0 = visitor; 1 = self } }
     {

@@ -16,7 +16,7 @@ use std::error::Error;
 use std::fmt;
 use std::marker::Model;
 
-/// A message, and the places of the document that it speaks of.
+/// A message, and the places of the document that it is about.
 ///
 /// Errors are ordered by their places, one by one, where a list stands before a longer one that begins with it; errors at
 /// the same places are ordered by the bytes of their messages.
@@ -37,6 +37,10 @@ impl Model for RuleError {
 
 impl RuleError {
     /// An error with this message, at these places, which are copied.
+    ///
+    /// # Errors
+    ///
+    /// Out of memory.
     pub fn new(
         alloc: Global,
         message: &str,
@@ -65,7 +69,7 @@ impl RuleError {
     }
 }
 
-/// The message, then `. At `, then the places as `line:column` with commas between them.
+/// The message, then `. At `, then the places as `line:column`, each of them 0-based, with `, ` between them.
 impl fmt::Display for RuleError {
     ghost output = { λ e. Some (printed_error e) };
 

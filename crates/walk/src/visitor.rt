@@ -1,4 +1,4 @@
-//! What is told of the events of a walk.
+//! What is called at the events of a walk.
 
 ghost use Rattle.std.specs.Prelude.{IfOk, OnErr};
 ghost use Rattle.walk.specs.ContextState.{typing};
@@ -10,18 +10,21 @@ use events::Event;
 use language::error::OutOfMemory;
 use meta::check::CheckedScalar;
 
-/// What may happen at an event.
+/// A machine that goes from state to state, event by event.
 pub trait Machine<S, C> {
-    // The state before and after, and the errors that are appended; earlier errors play no part.
+    // At an event: the state before and after, and the errors that are appended. Earlier errors play no part.
     ghost step: { StepOf S C Self };
 }
 
-/// A visitor hears of each event of a walk, at the types of its node, and may report errors.
+/// A visitor is called at each event of a walk, at the types of its node, and may report errors.
 pub trait Visitor<'a, S: CheckedScalar>: Machine<S, S::Check> {
-    /// Hears of an event, at the types that the context has.
+    /// Is called at an event, at the types that the context has.
     ///
-    /// On success the step of the machine was made, and nothing of the context changed but that its errors were appended; on
-    /// failure the types are those from before.
+    /// It makes a step of the machine and appends the errors of that step to the context, which it leaves alone otherwise.
+    ///
+    /// # Errors
+    ///
+    /// Out of memory. Errors may have been appended, and the context has the types from before.
     fn on(
         &mut self,
         ctx: &mut ValidatorContext<'a, S>,
@@ -32,7 +35,7 @@ pub trait Visitor<'a, S: CheckedScalar>: Machine<S, S::Check> {
         ensures err { OnErr result (KeepsPlace ctx.old ctx.new) };
 }
 
-/// What its maker makes ready for one walk.
+/// A type whose maker makes each value ready for one walk.
 pub trait Fresh {
     // The value is as its maker makes it.
     ghost fresh: { Self → Type 0 };

@@ -1,14 +1,13 @@
 //! The walk over a document.
 
 ghost use Rattle.std.specs.Prelude.{◌≡◌, ◌↔◌, IfOk, OnOk, OnErr, IsErr, true};
-ghost use Rattle.walk.specs.ContextState.{typing, popped, scope_of};
-ghost use Rattle.walk.specs.Names.{fragment_names};
-ghost use Rattle.walk.specs.Rule.{Appended, any_value};
+ghost use Rattle.walk.specs.ContextState.{IsMadeFor, popped, typing};
+ghost use Rattle.walk.specs.Rule.{Appended, AppendsAllowed, Meets, any_value};
 ghost use Rattle.events.specs.EventValue.{typed_event, typing_of};
 ghost use Rattle.events.specs.Cursor.{events_left};
 ghost use Rattle.events.specs.Outline.{each, outline_of_definition};
-ghost use Rattle.walk.specs.Step.{Ran, Stepped, KeepsPlace};
-ghost use Rattle.events.specs.TypedEvent.{events_of, typed_events};
+ghost use Rattle.walk.specs.Step.{KeepsPlace, Ran, Stepped, events_in};
+ghost use Rattle.events.specs.TypedEvent.{events_of};
 
 use crate::ValidatorContext;
 use crate::multi_visitor::MultiVisitorCons;
@@ -20,7 +19,7 @@ use language::shorten::shorten;
 use language::tree::Definition;
 use meta::check::CheckedScalar;
 
-// Tells a visitor of one event, at the types at hand.
+// Calls a visitor at one event, at the current types.
 fn tell_here<'a, S: CheckedScalar, V: Visitor<'a, S>>(
     v: &mut V,
     ctx: &mut ValidatorContext<'a, S>,
@@ -37,7 +36,7 @@ fn tell_here<'a, S: CheckedScalar, V: Visitor<'a, S>>(
     done
 }
 
-// Tells a visitor of one event, at these types.
+// Calls a visitor at one event, at these types.
 fn tell_one<'a, S: CheckedScalar, V: Visitor<'a, S>>(
     v: &mut V,
     ctx: &mut ValidatorContext<'a, S>,
@@ -56,7 +55,7 @@ fn tell_one<'a, S: CheckedScalar, V: Visitor<'a, S>>(
     done
 }
 
-// Tells a visitor of the events that are left, each at types that take the place of those at hand.
+// Calls a visitor at the events that are left, each at types that replace the current ones.
 fn tell_all<'a, S: CheckedScalar, V: Visitor<'a, S>>(
     v: &mut V,
     ctx: &mut ValidatorContext<'a, S>,
@@ -74,7 +73,7 @@ fn tell_all<'a, S: CheckedScalar, V: Visitor<'a, S>>(
     }
 }
 
-// The same at types that are pushed for it, and taken off again.
+// The same at types that are pushed for it, and popped again.
 fn tell_pushed<'a, S: CheckedScalar, V: Visitor<'a, S>>(
     v: &mut V,
     ctx: &mut ValidatorContext<'a, S>,
@@ -91,7 +90,7 @@ fn tell_pushed<'a, S: CheckedScalar, V: Visitor<'a, S>>(
     done
 }
 
-// Tells a visitor of the events of definitions, which stand at these types.
+// Calls a visitor at the events of definitions, which stand at these types.
 fn visit_definitions<'a, S: CheckedScalar, V: Visitor<'a, S>>(
     v: &mut V,
     ctx: &mut ValidatorContext<'a, S>,
@@ -114,16 +113,19 @@ fn visit_definitions<'a, S: CheckedScalar, V: Visitor<'a, S>>(
     }
 }
 
-/// Tells a visitor of all events of a document, in their order, each at the types of its node.
+/// Calls a visitor at all events of a document, in their order, each at the types of its node.
 ///
-/// It takes memory for the nodes round the one at hand, and stops at the first refusal.
+/// It allocates for the nodes around the current one.
+///
+/// # Errors
+///
+/// Out of memory, or an error of the visitor, where it stops. The context fails from then on.
 pub fn walk_with<'a, S: CheckedScalar, V: Visitor<'a, S>>(
     v: &mut V,
     ctx: &mut ValidatorContext<'a, S>,
     document: &'a [Definition<'a, S>],
 ) -> Result<(), OutOfMemory>
-    ensures ran { IfOk result (λ _. Ran V.step (typed_events ctx.old.schema (typing ctx.old) document.now) v.old v.new ctx.old
-        ctx.new) }
+    ensures ran { IfOk result (λ _. Ran V.step (events_in ctx.old document.now) v.old v.new ctx.old ctx.new) }
     ensures err { OnErr result (KeepsPlace ctx.old ctx.new) }
     ensures failed { OnErr result (ctx.new.failed ≡ true) }
     ensures stays { ctx.old.failed ≡ true → IsErr result }
@@ -134,17 +136,21 @@ pub fn walk_with<'a, S: CheckedScalar, V: Visitor<'a, S>>(
     tell_one(v, ctx, &Event::ExitDocument(document), types)
 }
 
-/// Walks over a document with the visitors of the list, of which the newest hears of each event first.
+/// Walks over a document with the visitors of the list, of which the newest is called first at each event.
 ///
-/// What the errors are that rules append in such a walk is said by `laws::rules_append`.
+/// `laws::rules_append` says which errors rules append in such a walk.
+///
+/// # Errors
+///
+/// Out of memory, or an error of a visitor, where it stops. The context fails from then on.
 pub fn visit<'a, 't, A: Visitor<'a, S>, B: Visitor<'a, S>, S: CheckedScalar>(
     v: &mut MultiVisitorCons<A, B>,
     ctx: &mut ValidatorContext<'a, S>,
     document: &'a [Definition<'t, S>],
 ) -> Result<(), OutOfMemory>
     ensures ran { IfOk result
-        (λ _. Ran ⟦<MultiVisitorCons<A, B> as Machine<S, S::Check>>⟧.step
-        (typed_events ctx.old.schema (typing ctx.old) document.now) v.old v.new ctx.old ctx.new) }
+        (λ _. Ran ⟦<MultiVisitorCons<A, B> as Machine<S, S::Check>>⟧.step (events_in ctx.old document.now)
+        v.old v.new ctx.old ctx.new) }
     ensures err { OnErr result (KeepsPlace ctx.old ctx.new) }
     ensures failed { OnErr result (ctx.new.failed ≡ true) }
     ensures stays { ctx.old.failed ≡ true → IsErr result }
@@ -152,21 +158,23 @@ pub fn visit<'a, 't, A: Visitor<'a, S>, B: Visitor<'a, S>, S: CheckedScalar>(
     walk_with(v, ctx, shorten(document))
 }
 
-/// Walks over a document with rules that are fresh.
+/// Walks over a document with fresh rules.
 ///
 /// In a context that was made for this document the rules append what they are allowed to, in the states that they end in. In any
-/// other they append errors alone. In both they go through the document's events, each by its step.
+/// other they only append errors. In both they go through the document's events, each by its step.
+///
+/// # Errors
+///
+/// Out of memory. The context fails from then on.
 pub fn visit_rules<'a, 't, S: CheckedScalar, R: Visitor<'a, S> + Rule<S, S::Check>>(
     rules: &mut R,
     ctx: &mut ValidatorContext<'a, S>,
     document: &'a [Definition<'t, S>],
 ) -> Result<(), OutOfMemory>
     requires fresh { R.fresh rules.old }
-    ensures appended { OnOk result (ctx.old.known ≡ fragment_names document.now
-        → Appended (R.allows rules.new (scope_of ctx.old.schema document.now) (typing ctx.old) document.now) ctx.old
-        ctx.new) }
-    ensures ran { OnOk result (Ran R.step (typed_events ctx.old.schema (typing ctx.old) document.now) rules.old rules.new
-        ctx.old ctx.new) }
+    ensures appended { OnOk result (IsMadeFor ctx.old document.now
+        → AppendsAllowed (R.allows rules.new) document.now ctx.old ctx.new) }
+    ensures ran { OnOk result (Ran R.step (events_in ctx.old document.now) rules.old rules.new ctx.old ctx.new) }
     ensures only { OnOk result (Appended any_value ctx.old ctx.new) }
     ensures err { OnErr result (KeepsPlace ctx.old ctx.new) }
     ensures failed { OnErr result (ctx.new.failed ≡ true) }
@@ -175,21 +183,23 @@ pub fn visit_rules<'a, 't, S: CheckedScalar, R: Visitor<'a, S> + Rule<S, S::Chec
     walk_with(rules, ctx, shorten(document))
 }
 
-/// The same with rules of which it is known where they report nothing: in a context that was made for this document they do just where
-/// each of them finds nothing.
+/// Walks over a document with fresh rules, as `visit_rules`. In a context that was made for this document they report nothing if and
+/// only if each of them finds nothing.
+///
+/// # Errors
+///
+/// Out of memory. The context fails from then on.
 pub fn visit_settled<'a, 't, S: CheckedScalar, R: Visitor<'a, S> + SettledRule<S, S::Check>>(
     rules: &mut R,
     ctx: &mut ValidatorContext<'a, S>,
     document: &'a [Definition<'t, S>],
 ) -> Result<(), OutOfMemory>
     requires fresh { R.fresh rules.old }
-    ensures appended { OnOk result (ctx.old.known ≡ fragment_names document.now
-        → Appended (R.allows rules.new (scope_of ctx.old.schema document.now) (typing ctx.old) document.now) ctx.old
-        ctx.new) }
-    ensures silent { OnOk result (ctx.old.known ≡ fragment_names document.now → (ctx.new.errors ≡ ctx.old.errors)
-        ↔ R.finds_nothing (scope_of ctx.old.schema document.now) (typing ctx.old) document.now) }
-    ensures ran { OnOk result (Ran R.step (typed_events ctx.old.schema (typing ctx.old) document.now) rules.old rules.new
-        ctx.old ctx.new) }
+    ensures appended { OnOk result (IsMadeFor ctx.old document.now
+        → AppendsAllowed (R.allows rules.new) document.now ctx.old ctx.new) }
+    ensures silent { OnOk result (IsMadeFor ctx.old document.now
+        → (ctx.new.errors ≡ ctx.old.errors) ↔ Meets R.finds_nothing ctx.old document.now) }
+    ensures ran { OnOk result (Ran R.step (events_in ctx.old document.now) rules.old rules.new ctx.old ctx.new) }
     ensures only { OnOk result (Appended any_value ctx.old ctx.new) }
     ensures err { OnErr result (KeepsPlace ctx.old ctx.new) }
     ensures failed { OnErr result (ctx.new.failed ≡ true) }

@@ -1,9 +1,8 @@
 //! The smallest rule that keeps nodes of a document, and a caller that owns the document and frees it after the walk.
 
 ghost use Rattle.std.specs.Prelude.{◌≡◌, [], IfOk, length};
-ghost use Rattle.walk.specs.ContextState.{typing, scope_of};
+ghost use Rattle.walk.specs.ContextState.{IsMadeFor, typing, scope_of};
 ghost use Rattle.walk.specs.Entering.{keeping_step, kept_to, nothing_on_the_way};
-ghost use Rattle.walk.specs.Names.{fragment_names};
 ghost use Rattle.walk.proofs.Entering.{keeping_keeps_to};
 ghost use Rattle.walk_examples.specs.KeptFields.{field_count, fields_kept, fields_of, next_fields};
 
@@ -15,7 +14,7 @@ use schema::model::SchemaType;
 use std::alloc::Global;
 use walk::{Event, Fresh, Machine, MultiVisitorNil, Rule, ValidatorContext, Visitor, visit_rules};
 
-/// Keeps the fields that it hears of, and reports nothing.
+/// Keeps the fields that it is called at, and reports nothing.
 #[derive(Drop)]
 pub struct KeptFields<'a, S> {
     fields: Vec<&'a Spanning<Field<'a, S>>>,
@@ -58,11 +57,15 @@ impl<'a, S: CheckedScalar> Visitor<'a, S> for KeptFields<'a, S> {
 }
 
 /// How many fields a document has, by a walk that keeps them.
+///
+/// # Errors
+///
+/// Out of memory. The context fails from then on.
 pub fn count_fields<'a, S: CheckedScalar>(
     ctx: &mut ValidatorContext<'a, S>,
     document: &'a [Definition<'_, S>],
 ) -> Result<usize, OutOfMemory>
-    ensures { IfOk result (λ count. ctx.old.known ≡ fragment_names document.now
+    ensures { IfOk result (λ count. IsMadeFor ctx.old document.now
         → count ≡ length (fields_of (scope_of ctx.old.schema document.now) (typing ctx.old) document.now)) }
 {
     let alloc = ctx.allocator();
@@ -83,7 +86,11 @@ fn count_lent<'a, S: CheckedScalar>(
     count_fields(&mut ctx, document)
 }
 
-/// The same of a document that the caller owns, which is freed after the walk.
+/// How many fields a document has that the caller owns. The document is freed after the walk.
+///
+/// # Errors
+///
+/// Out of memory. The document is freed.
 pub fn count_and_free<S: CheckedScalar>(
     alloc: Global,
     schema: &SchemaType<S>,

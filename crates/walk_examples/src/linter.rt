@@ -1,9 +1,8 @@
-//! A linter, which tries a rule of its choice on a document by the calls that are there for any visitor.
+//! A linter, which tries a rule of its choice on a document, by the calls that any visitor has.
 
-ghost use Rattle.std.specs.Prelude.{◌≡◌, OnOk};
-ghost use Rattle.walk.specs.ContextState.{typing, scope_of};
-ghost use Rattle.walk.specs.Names.{fragment_names};
-ghost use Rattle.walk.specs.Rule.{Appended};
+ghost use Rattle.std.specs.Prelude.{OnOk};
+ghost use Rattle.walk.specs.ContextState.{IsMadeFor};
+ghost use Rattle.walk.specs.Rule.{AppendsAllowed};
 
 use language::error::OutOfMemory;
 use language::tree::Definition;
@@ -12,15 +11,18 @@ use walk::laws::rules_append;
 use walk::{MultiVisitorNil, Rule, ValidatorContext, Visitor, visit};
 
 /// Tries a fresh rule on a document. In a context that was made for it the rule appends what it allows, in the state that it ends in.
+///
+/// # Errors
+///
+/// Out of memory, or an error of the rule. The context fails from then on.
 pub fn try_rule<'a, 't, S: CheckedScalar, R: Visitor<'a, S> + Rule<S, S::Check> + Drop>(
     rule: R,
     ctx: &mut ValidatorContext<'a, S>,
     document: &'a [Definition<'t, S>],
 ) -> Result<(), OutOfMemory>
     requires { R.fresh rule }
-    ensures { OnOk result (ctx.old.known ≡ fragment_names document.now → (end : R)
-        × Appended (R.allows end (scope_of ctx.old.schema document.now) (typing ctx.old) document.now) ctx.old
-        ctx.new) }
+    ensures { OnOk result (IsMadeFor ctx.old document.now
+        → (end : R) × AppendsAllowed (R.allows end) document.now ctx.old ctx.new) }
 {
     rules_append::<S, S::Check, R>();
     let mut rules = MultiVisitorNil.with(rule);

@@ -1,6 +1,5 @@
-use Rattle.language.specs.ValuesPrinted.{printed_value}
 use Rattle.merge_field_laws.proofs.CleanMerging.{valid_merges_with_itself}
 use Rattle.merge_field_laws.proofs.clean.merges_where_valid.Goals as goal
 
 pub returns : goal.returns
-returns g c = λ schema t document valid a i e. valid_merges_with_itself g.S.CheckedScalar.may_answer (printed_value g.S.ScalarValue.text g.S.ScalarValue.str_of) g.S.PartialEq.eq g.met.S.Eq.laws schema t document valid a i e
+returns g c = λ schema t document valid a i e. valid_merges_with_itself _ c.clean_documents.ensures g.met.S.Eq.laws schema t document valid a i e

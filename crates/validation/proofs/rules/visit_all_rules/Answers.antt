@@ -1,22 +1,21 @@
 use Rattle.std.proofs.Common.{sym, ap, ◌∙◌}
 use Rattle.std.proofs.lemmas.Result.{IfOk-weaker, on_ok_weaker}
-use Rattle.language.specs.ValuesPrinted.{printed_value}
 use Rattle.walk.specs.ContextState.{scope_of, typing}
 use Rattle.validation.proofs.Reports.{only_more}
-use Rattle.validation.proofs.Stages.{after_one, after_two, few_pairs, valid_just_if}
+use Rattle.validation.proofs.Stages.{after_one, after_two, few_pairs, valid_iff}
 use Rattle.validation.proofs.rules.visit_all_rules.Goals as goal
 
 pub returns-then-has_errors-clause-appended : goal.returns-then-has_errors-clause-appended
 returns-then-has_errors-clause-appended g c =
     λ known.
-    after_one g.S.CheckedScalar.may_answer (printed_value g.S.ScalarValue.text g.S.ScalarValue.str_of) g.S.PartialEq.eq c.args.ctx.now c.visit_stage_one.new.ctx c.args.document.now
+    after_one _ c.args.ctx.now c.visit_stage_one.new.ctx c.args.document.now
     (c.in_ok-cycles.ensures.appended known) (sym c.has_errors.ensures ∙ c.if-has_errors.true)
 
 pub returns-clause-appended : goal.returns-clause-appended
 returns-clause-appended g c =
     IfOk-weaker c.visit_stage_two.result _ _
     (λ pairs two known.
-    after_two g.S.CheckedScalar.may_answer (printed_value g.S.ScalarValue.text g.S.ScalarValue.str_of) g.S.PartialEq.eq c.args.ctx.now c.visit_stage_one.new.ctx c.visit_stage_two.new.ctx c.args.document.now
+    after_two _ c.args.ctx.now c.visit_stage_one.new.ctx c.visit_stage_two.new.ctx c.args.document.now
     (c.in_ok-cycles.ensures.appended known) (c.in_ok-cycles.ensures.silent known) (sym c.has_errors.ensures ∙ c.if-has_errors.false) pairs
     (two (ap (λ w. w.known) c.in_ok-cycles.ensures.only.2 ∙ known)))
     c.visit_stage_two.ensures.appended
@@ -25,7 +24,7 @@ pub returns-clause-valid : goal.returns-clause-valid
 returns-clause-valid g c =
     IfOk-weaker c.visit_stage_two.result _ _
     (λ pairs told known.
-    valid_just_if g.S.CheckedScalar.may_answer (printed_value g.S.ScalarValue.text g.S.ScalarValue.str_of) g.S.PartialEq.eq g.met.S.CheckedScalar.one_answer c.args.ctx.now c.visit_stage_two.new.ctx c.args.document.now
+    valid_iff _ c.clean_documents.ensures c.first_stage_is_settled.ensures c.args.ctx.now c.visit_stage_two.new.ctx c.args.document.now
     pairs (told known))
     (returns-clause-appended g c)
 
@@ -35,7 +34,7 @@ returns-clause-few g c =
     (λ pairs told known.
     let old = c.args.ctx.now in
     let document = c.args.document.now in
-    few_pairs g.S.CheckedScalar.may_answer (printed_value g.S.ScalarValue.text g.S.ScalarValue.str_of) g.S.PartialEq.eq old.errors (scope_of old.schema document) (typing old) document (told known).0 pairs (told known).1)
+    few_pairs _ old.errors (scope_of old.schema document) (typing old) document (told known).0 pairs (told known).1)
     (returns-clause-appended g c)
 
 pub returns-clause-only : goal.returns-clause-only

@@ -5,10 +5,8 @@ use Rattle.language.specs.declared.position.Spanning.{Spanning}
 use Rattle.language.specs.declared.tree.Definition.{Definition}
 use Rattle.language.specs.declared.tree.Definition.TheVariants as definition
 use Rattle.language.specs.declared.tree.Operation.{Operation}
-use Rattle.language.specs.ValuesPrinted.{printed_value}
 use Rattle.events.specs.Typing.{untyped}
 use Rattle.fragment_graph.proofs.Lists.{contains_at}
-use Rattle.rules_first_stage.proofs.Clean.{clean}
 use Rattle.validation_examples.proofs.Fresh.{none_by_all}
 use Rattle.validation_examples.specs.ValuesAfter.{first_operation}
 use Rattle.validation_examples.proofs.values_after.values_after.Goals as goal
@@ -23,20 +21,18 @@ stands (definition.Fragment f ∷ rest) o e = cc
 pub validate_input_values-requires : goal.validate_input_values-requires
 validate_input_values-requires g c =
     let document = c.args.document.now in
-    let may = g.S.CheckedScalar.may_answer in
-    let shown = printed_value g.S.ScalarValue.text g.S.ScalarValue.str_of in
-    let (is_valid, _) = none_by_all document _ c.args.schema.now _ c.in_ok-ctx.ensures _ _ may shown g.S.PartialEq.eq c.has_errors.ensures c.in_ok-visit_all_rules.ensures.valid in
-    let facts = clean c.args.schema.now untyped document may shown (is_valid c.if-has_errors.false).stage_one in
+    let (is_valid, _) = none_by_all document _ c.args.schema.now _ c.in_ok-ctx.ensures _ _ _ c.has_errors.ensures c.in_ok-visit_all_rules.ensures.valid in
+    let facts = c.clean_documents.ensures c.args.schema.now untyped document (is_valid c.if-has_errors.false).stage_one in
     record { known = facts.variable_types c.in-Some.operation.now (stands document _ (sym c.in-Some.ensures)) }
 
 pub returns-then-has_errors-clause-nothing : goal.returns-then-has_errors-clause-nothing
 returns-then-has_errors-clause-nothing g c =
-    let (_, is_silent) = none_by_all c.args.document.now _ c.args.schema.now _ c.in_ok-ctx.ensures _ _ _ _ _ c.has_errors.ensures c.in_ok-visit_all_rules.ensures.valid in
+    let (_, is_silent) = none_by_all c.args.document.now _ c.args.schema.now _ c.in_ok-ctx.ensures _ _ _ c.has_errors.ensures c.in_ok-visit_all_rules.ensures.valid in
     inl (λ is. let silent : c.has_errors.result ≡ false = is_silent is in cc)
 
 pub returns-in-Some-clause-judged : goal.returns-in-Some-clause-judged
 returns-in-Some-clause-judged g c =
-    let (is_valid, _) = none_by_all c.args.document.now _ c.args.schema.now _ c.in_ok-ctx.ensures _ _ _ _ _ c.has_errors.ensures c.in_ok-visit_all_rules.ensures.valid in
+    let (is_valid, _) = none_by_all c.args.document.now _ c.args.schema.now _ c.in_ok-ctx.ensures _ _ _ c.has_errors.ensures c.in_ok-visit_all_rules.ensures.valid in
     let (found, faults, all) = c.in_ok-validate_input_values-in-Some.ensures.faults in
     record {
       valid = is_valid c.if-has_errors.false;

@@ -1,5 +1,4 @@
 use Rattle.std.proofs.lemmas.Result.{IfOk-weaker}
-use Rattle.language.specs.ValuesPrinted.{printed_value}
 use Rattle.validation.proofs.Reports.{told_all}
 use Rattle.validation.proofs.Root.{root_valid}
 use Rattle.validation.proofs.root_node.RootNodeOf+S+S+Check.validate.Goals as goal
@@ -9,7 +8,7 @@ returns-clause-all g c =
     IfOk-weaker c.into_errors.result _ _
     (λ errors sorted. (
       _,
-      told_all g.S.CheckedScalar.may_answer (printed_value g.S.ScalarValue.text g.S.ScalarValue.str_of) g.S.PartialEq.eq c.args.document.now c.args.self.now.introspection_disabled
+      told_all _ c.args.document.now c.args.self.now.introspection_disabled
           _ c.args.self.now.schema _ _ errors.items _ c.in_ok-ctx.ensures c.in_ok-visit_root_rules.ensures.appended sorted,
     ))
     c.into_errors.ensures.all
@@ -18,6 +17,6 @@ pub returns-clause-valid : goal.returns-clause-valid
 returns-clause-valid g c =
     IfOk-weaker c.into_errors.result _ _
     (λ errors (pairs, report).
-    root_valid g.S.CheckedScalar.may_answer (printed_value g.S.ScalarValue.text g.S.ScalarValue.str_of) g.S.PartialEq.eq g.met.S.CheckedScalar.one_answer c.args.self.now.schema c.args.document.now
+    root_valid _ c.clean_documents.ensures c.first_stage_is_settled.ensures c.args.self.now.schema c.args.document.now
     c.args.self.now.introspection_disabled errors.items pairs report)
     (returns-clause-all g c)
