@@ -58,7 +58,7 @@ pub struct DirectiveType<S = DefaultScalarValue> {
 }
 
 impl<S: Drop> DirectiveType<S> {
-    /// A directive of this name, with no description. The one refusal is for want of memory.
+    /// A directive of this name, with no description.
     pub fn new(
         alloc: Global,
         name: &str,
@@ -81,7 +81,7 @@ impl<S: Drop> DirectiveType<S> {
         })
     }
 
-    /// Replaces the description. The one refusal is for want of memory.
+    /// Replaces the description.
     pub fn description(mut self, text: &str) -> Result<Self, OutOfMemory>
         ensures text { IfOk result (λ d. option_map string_bytes d.description ≡ Some text.now) }
         ensures others { IfOk result (λ d. d ≡ record self { description = d.description }) }

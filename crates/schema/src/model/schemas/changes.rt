@@ -107,7 +107,7 @@ impl<S, C> SchemaTypeOf<S, C> {
         as_text(&self.description)
     }
 
-    /// Replaces the description (section 3.2). The one refusal, for want of memory, changes nothing.
+    /// Replaces the description (section 3.2).
     pub fn set_description(&mut self, text: &str) -> Result<(), OutOfMemory>
         ensures ok { OnOk result (self.new ≡ record self.old { description = Some text.now }) }
         ensures err { OnErr result (self.new ≡ self.old) }
