@@ -1,5 +1,6 @@
 //! The input fields that an object lacks.
-ghost use Rattle.std.specs.Prelude.{◌≡◌, IfOk, map, option_map, string_bytes};
+ghost use Rattle.std.specs.Prelude.{◌≡◌, IfOk, option_map, string_bytes};
+ghost use Rattle.language.specs.References.{list_copied};
 ghost use Rattle.meta.specs.Kinds.{input_fields_of};
 ghost use Rattle.schema.specs.Possible.{is_among};
 ghost use Rattle.literals.specs.Judged.{keys_of, printed_name};
@@ -52,7 +53,7 @@ fn is_lacked<S>(
     names: &[&str],
     field: &Argument<S>,
 ) -> bool
-    ensures { result ≡ is_lacking (keys_of entries.now) (map (λ n. n.now) names.now) field.now }
+    ensures { result ≡ is_lacking (keys_of entries.now) (list_copied names.now) field.now }
 {
     let name = field.name.as_str();
     is_needed(field) && !is_key(entries, name) && !is_noted(names, name)
@@ -77,7 +78,7 @@ fn is_key<S>(entries: &[(Spanning<String>, Spanning<InputValue<S>>)], name: &str
 }
 
 fn is_noted(names: &[&str], name: &str) -> bool
-    ensures { result ≡ is_among (map (λ n. n.now) names.now) name.now }
+    ensures { result ≡ is_among (list_copied names.now) name.now }
 {
     for noted in names {
         if *noted == name {

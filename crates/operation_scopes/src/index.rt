@@ -1,5 +1,5 @@
 //! A document's scopes, each with what it spreads and where it is defined.
-ghost use Rattle.std.specs.Prelude.{◌≡◌, ◌-◌, Option, Some, List, ℕ, IfOk, IfSome, IfNone, OnOk, length, option_map, slice_get};
+ghost use Rattle.std.specs.Prelude.{◌≡◌, ◌-◌, Option, Some, List, ℕ, IfOk, IfSome, IfNone, OnOk, length, slice_get, option_copied};
 ghost use Rattle.fragment_graph.specs.Numbers.{NumberedDefinitions};
 ghost use Rattle.fragment_reach.specs.Reach.{operation};
 ghost use Rattle.operation_scopes.specs.Scopes.{IsLastOf, IsOperationName, operation_name};
@@ -39,7 +39,7 @@ pub fn operation_places<'m>(index: &'m ScopeIndex<'_>, number: usize) -> &'m [us
 
 // The name of an operation.
 fn name_of<'a, S>(operation: &Spanning<Operation<'a, S>>) -> Option<&'a str>
-    ensures { option_map (λ n. n.now) result ≡ operation_name operation.now }
+    ensures { option_copied result ≡ operation_name operation.now }
 {
     match &operation.item.name {
         Some(name) => Some(name.item),
@@ -55,7 +55,7 @@ fn add_operation<'a>(
     numbers: &mut OperationNumbers<'a>,
     index: &mut ScopeIndex<'a>,
 ) -> Result<(), AllocError>
-    ensures { OnOk result (AddsOperation (option_map (λ n. n.now) name.entry) place numbers.old numbers.new index.old
+    ensures { OnOk result (AddsOperation (option_copied name.entry) place numbers.old numbers.new index.old
         index.new) }
 {
     let next = index.names.len();

@@ -1,5 +1,5 @@
 //! Numbers of the names of operations.
-ghost use Rattle.std.specs.Prelude.{◌≡◌, ◌≤◌, ◌*◌, ℕ, List, min, None, Option, Some, IfOk, OnOk, option_map, if◌then◌else◌};
+ghost use Rattle.std.specs.Prelude.{◌≡◌, ◌≤◌, ◌*◌, ℕ, List, min, None, Option, Some, IfOk, OnOk, if◌then◌else◌, option_copied};
 ghost use Rattle.name_tables.specs.Maps.{slots_in};
 ghost use Rattle.fragment_graph.specs.Numbers.{or_else};
 ghost use Rattle.fragment_reach.specs.Reach.{same_name};
@@ -47,10 +47,10 @@ pub fn number_operations<'a>(
     name: Option<&'a str>,
     next: usize,
 ) -> Result<Option<usize>, AllocError>
-    ensures earlier { IfOk result (λ k. k ≡ number_at numbers.old (option_map (λ n. n.now) name.entry)) }
+    ensures earlier { IfOk result (λ k. k ≡ number_at numbers.old (option_copied name.entry)) }
     ensures noted { OnOk result ((other : Option (List ℕ)) → number_at numbers.new other
         ≡ or_else (number_at numbers.old other)
-        (if same_name (option_map (λ n. n.now) name.entry) other then Some next else None)) }
+        (if same_name (option_copied name.entry) other then Some next else None)) }
 {
     match name {
         Some(name) => numbers.named.note(name, next),

@@ -77,14 +77,14 @@ specified_by_shape = with_argument (codes "specifiedBy") (l.Scalar ∷ []) (code
 abbrev pub standard_directives : List DirectiveShape
 standard_directives = conditional (codes "skip") ∷ conditional (codes "include") ∷ deprecated_shape ∷ specified_by_shape ∷ []
 
--- The object has two fields more at its end, and is else the same.
+-- The object has two more fields at its end, and is otherwise the same.
 pub record HasAddedFields {S : Type 0} (old new : ObjectMeta S) : Type 0 where
   pub name : new.name ≡ old.name
   pub description : new.description ≡ old.description
   pub interfaces : new.interface_names ≡ old.interface_names
   pub fields : (f g : Field S) × (new.fields.items ≡ old.fields.items ++ f ∷ g ∷ []) × (field_shape f ≡ schema_field) × (field_shape g ≡ type_field)
 
--- The list has the object of this name with the two fields more, and is else the same.
+-- The object of this name has two more fields, and the list is otherwise the same.
 pub record IsExtended {S C : Type 0} (query : List ℕ) (old new : List (MetaTypeOf S C)) : Type 0 where
   pub before : List (MetaTypeOf S C)
   pub after : List (MetaTypeOf S C)

@@ -1,5 +1,5 @@
 //! Variables that are used where they are not defined.
-ghost use Rattle.std.specs.Prelude.{◌≡◌, ◌⊎◌, ◌++◌, ℕ, List, IfOk, IsTrue, OnOk, map, option_map};
+ghost use Rattle.std.specs.Prelude.{◌≡◌, ◌⊎◌, ◌++◌, ℕ, List, IfOk, IsTrue, OnOk, map, option_copied};
 ghost use Rattle.std.specs.List.{flat_map};
 ghost use Rattle.fragment_reach.specs.Reach.{operation};
 ghost use Rattle.operation_scopes.specs.Places.{places_of};
@@ -39,7 +39,7 @@ fn tell<'a>(
     used: VariableUse<'a>,
     found: &mut Vec<UndefinedVariable<'a>>,
 ) -> Result<(), OutOfMemory>
-    ensures { OnOk result (TellsUndefined (has_name defined.now) (option_map (λ n. n.now) operation.entry) start
+    ensures { OnOk result (TellsUndefined (has_name defined.now) (option_copied operation.entry) start
         used.entry (map undefined_of found.old.items) (map undefined_of found.new.items)) }
 {
     if !is_named(defined, used.name) {
@@ -62,7 +62,7 @@ fn tell_all<'a>(
     found: &mut Vec<UndefinedVariable<'a>>,
 ) -> Result<(), OutOfMemory>
     ensures { OnOk result (map undefined_of found.new.items ≡ map undefined_of found.old.items
-        ++ flat_map (told_undefined (has_name defined.now) (option_map (λ n. n.now) operation.entry) start)
+        ++ flat_map (told_undefined (has_name defined.now) (option_copied operation.entry) start)
         (map use_of uses.now)) }
 {
     for used in uses {
@@ -83,10 +83,10 @@ fn add_undefined<'a, S>(
 ) -> Result<(), OutOfMemory>
     requires index { IsDocumentIndex document.now index.now }
     requires ready { IsReady index.now.scopes search.old.search }
-    requires own { own.now ≡ places_of document.now (operation (option_map (λ n. n.now) name)) }
-    requires named { IsOperationName document.now (option_map (λ n. n.now) name) }
+    requires own { own.now ≡ places_of document.now (operation (option_copied name)) }
+    requires named { IsOperationName document.now (option_copied name) }
     ensures told { OnOk result
-        (AddsUndefined document.now (option_map (λ n. n.now) name.entry) (map undefined_of found.old.items)
+        (AddsUndefined document.now (option_copied name.entry) (map undefined_of found.old.items)
         (map undefined_of found.new.items)) }
     ensures ready { OnOk result (IsReady index.now.scopes search.new.search) }
 {

@@ -18,7 +18,7 @@ pub enum TypeTypeOf<'a, S, C> {
 /// A type of a schema, with the checks that its kind of scalars has.
 pub type TypeType<'a, S> = TypeTypeOf<'a, S, <S as CheckedScalar>::Check>;
 
-/// The same metadata with the same round it. The one refusal is for want of memory.
+/// The same metadata with the same round it.
 impl<S, C> Clone for TypeTypeOf<'_, S, C> {
     ghost is_clone = { λ t copy. wrapped_of copy ≡ wrapped_of t };
 

@@ -1,5 +1,6 @@
 //! The types of a schema in lists.
 ghost use Rattle.std.specs.Prelude.{◌≡◌, ℕ, List, ◌++◌, IfOk, OnOk, Some, option_to_list, true, map, string_bytes};
+ghost use Rattle.language.specs.References.{list_copied};
 ghost use Rattle.std.specs.List.{filter};
 ghost use Rattle.std.specs.Option.{option_copied};
 ghost use Rattle.schema.specs.Catalog.{type_in};
@@ -16,7 +17,7 @@ fn push_if_found<'a, S, C>(
     list: &mut Vec<&'a MetaTypeOf<S, C>>,
     found: Option<&'a MetaTypeOf<S, C>>,
 ) -> Result<(), OutOfMemory>
-    ensures { OnOk result (map (λ r. r.now) list.new.items ≡ map (λ r. r.now) list.old.items
+    ensures { OnOk result (list_copied list.new.items ≡ list_copied list.old.items
         ++ option_to_list (option_copied found.entry)) }
 {
     if let Some(meta) = found {
@@ -28,7 +29,7 @@ fn push_if_found<'a, S, C>(
 impl<S, C> SchemaTypeOf<S, C> {
     /// The types, in the order in which they were listed.
     pub fn concrete_type_list(&self, alloc: Global) -> Result<Vec<&MetaTypeOf<S, C>>, OutOfMemory>
-        ensures { IfOk result (λ v. map (λ r. r.now) v.items ≡ self.now.types) }
+        ensures { IfOk result (λ v. list_copied v.items ≡ self.now.types) }
     {
         let mut list = Vec::new(alloc);
         for listed in self.types.values() {
@@ -43,7 +44,7 @@ impl<S, C> SchemaTypeOf<S, C> {
         alloc: Global,
         names: &[String],
     ) -> Result<Vec<&MetaTypeOf<S, C>>, OutOfMemory>
-        ensures { IfOk result (λ v. map (λ r. r.now) v.items
+        ensures { IfOk result (λ v. list_copied v.items
             ≡ types_named self.now.types (map string_bytes names.now)) }
     {
         let mut list = Vec::new(alloc);
@@ -59,7 +60,7 @@ impl<S, C> SchemaTypeOf<S, C> {
         alloc: Global,
         interface: &str,
     ) -> Result<Vec<&MetaTypeOf<S, C>>, OutOfMemory>
-        ensures { IfOk result (λ v. map (λ r. r.now) v.items ≡ filter (is_implementer interface.now) self.now.types) }
+        ensures { IfOk result (λ v. list_copied v.items ≡ filter (is_implementer interface.now) self.now.types) }
     {
         let mut list = Vec::new(alloc);
         for meta in self.types.values() {
@@ -80,7 +81,7 @@ impl<S, C> SchemaTypeOf<S, C> {
         meta: &MetaTypeOf<S, C>,
     ) -> Result<Vec<&MetaTypeOf<S, C>>, OutOfMemory>
         requires { is_abstract_meta meta.now ≡ true }
-        ensures types { IfOk result (λ v. map (λ r. r.now) v.items
+        ensures types { IfOk result (λ v. list_copied v.items
             ≡ types_named self.now.types (possible_names self.now.types meta.now)) }
         ensures names { (n : List ℕ) → type_in n self.now ≡ Some meta.now
             → IfOk result (λ v. map (λ r. name_of_meta r.now) v.items
@@ -95,7 +96,7 @@ impl<S, C> SchemaTypeOf<S, C> {
         meta: &MetaTypeOf<S, C>,
     ) -> Result<Vec<&MetaTypeOf<S, C>>, OutOfMemory>
         requires { is_abstract_meta meta.now ≡ true }
-        ensures { IfOk result (λ v. map (λ r. r.now) v.items
+        ensures { IfOk result (λ v. list_copied v.items
             ≡ types_named self.now.types (possible_names self.now.types meta.now)) }
     {
         match meta {

@@ -1,5 +1,6 @@
 //! The types and the directives of a schema in order.
 ghost use Rattle.std.specs.Prelude.{◌≡◌, IfOk, OnOk, true, map, IsPermutation, IsSorted};
+ghost use Rattle.language.specs.References.{list_copied};
 ghost use Rattle.meta.specs.Kinds.{name_of_meta};
 ghost use Rattle.schema_validation.specs.Directives.{directive_name};
 ghost use Rattle.schema_validation.specs.Named.{are_distinct};
@@ -52,16 +53,16 @@ fn compare_directives<S>(left: &DirectiveType<S>, right: &DirectiveType<S>) -> O
 
 /// Puts metadata in the order of its kinds, then its names.
 fn sort_types<S, C>(metas: &mut Vec<&MetaTypeOf<S, C>>) -> Result<(), OutOfMemory>
-    ensures permutation { IsPermutation (map (λ r. r.now) metas.old.items) (map (λ r. r.now) metas.new.items) }
-    ensures sorted { OnOk result (IsSorted type_cmp (map (λ r. r.now) metas.new.items)) }
+    ensures permutation { IsPermutation (list_copied metas.old.items) (list_copied metas.new.items) }
+    ensures sorted { OnOk result (IsSorted type_cmp (list_copied metas.new.items)) }
 {
     metas.sort_by(|left, right| compare_types(*left, *right))?;
     Ok(())
 }
 
 fn sort_directives<S>(directives: &mut Vec<&DirectiveType<S>>) -> Result<(), OutOfMemory>
-    ensures permutation { IsPermutation (map (λ r. r.now) directives.old.items) (map (λ r. r.now) directives.new.items) }
-    ensures sorted { OnOk result (IsSorted directive_cmp (map (λ r. r.now) directives.new.items)) }
+    ensures permutation { IsPermutation (list_copied directives.old.items) (list_copied directives.new.items) }
+    ensures sorted { OnOk result (IsSorted directive_cmp (list_copied directives.new.items)) }
 {
     directives.sort_by(|left, right| compare_directives(*left, *right))?;
     Ok(())
@@ -97,9 +98,9 @@ impl<S: Drop, C: Drop> SchemaTypeOf<S, C> {
 
     /// Each directive once, by the bytes of their names.
     pub fn directive_list(&self, alloc: Global) -> Result<Vec<&DirectiveType<S>>, OutOfMemory>
-        ensures permutation { IfOk result (λ v. IsPermutation self.now.directives (map (λ r. r.now) v.items)) }
-        ensures distinct { IfOk result (λ v. are_distinct directive_name (map (λ r. r.now) v.items) ≡ true) }
-        ensures sorted { IfOk result (λ v. IsSorted directive_cmp (map (λ r. r.now) v.items)) }
+        ensures permutation { IfOk result (λ v. IsPermutation self.now.directives (list_copied v.items)) }
+        ensures distinct { IfOk result (λ v. are_distinct directive_name (list_copied v.items) ≡ true) }
+        ensures sorted { IfOk result (λ v. IsSorted directive_cmp (list_copied v.items)) }
     {
         let mut directives = self.listed_directives(alloc)?;
         sort_directives(&mut directives)?;
@@ -108,7 +109,7 @@ impl<S: Drop, C: Drop> SchemaTypeOf<S, C> {
 
     /// The directives, in the order in which they were added.
     fn listed_directives(&self, alloc: Global) -> Result<Vec<&DirectiveType<S>>, OutOfMemory>
-        ensures { IfOk result (λ v. map (λ r. r.now) v.items ≡ self.now.directives) }
+        ensures { IfOk result (λ v. list_copied v.items ≡ self.now.directives) }
     {
         let mut list = Vec::new(alloc);
         for directive in self.directives.values() {
