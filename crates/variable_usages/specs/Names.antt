@@ -27,7 +27,7 @@ HasNames set names = (name : List ℕ) → has_name set name ≡ is_among names 
 pub record AddsUse (u : VariableUse) (old new : BTreeSet (Bor (List ℕ))) : Type 0 where
   pub adds : (other : List ℕ) → has_name new other ≡ (if bytes_eq u.name.now other then true else has_name old other)
 
--- A variable's name, and where it stands.
+-- The name of a variable or a fragment, and where it stands.
 abbrev pub NameAndSpan : Type 0
 NameAndSpan = List ℕ × Span
 
