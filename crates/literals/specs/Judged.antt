@@ -141,12 +141,6 @@ module _ {S C : Type 0} where
     abbrev pub Judged : Judge S C
     Judged value w fault = judge_of value value w fault
 
-    abbrev pub Conforms : InputValue S → WrappedMeta S C → Type 0
-    Conforms value w = Judged value w None
-
-    abbrev pub Fault : InputValue S → WrappedMeta S C → List ℕ → Type 0
-    Fault value w said = Judged value w (Some said)
-
     -- that of a value under a key of an input object, of an entry, and of an object
     abbrev pub KeyedFault : MetaTypeOf S C → List ℕ → InputValue S → Option (List ℕ) → Type 0
     KeyedFault meta key value fault = keyed (λ y. y) judge_of meta key (input_field_named key meta) value fault

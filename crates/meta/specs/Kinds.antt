@@ -11,7 +11,6 @@ use Rattle.meta.specs.declared.kinds.TypeKind.{TypeKind}
 use Rattle.meta.specs.declared.kinds.TypeKind.TheVariants as k
 use Rattle.meta.specs.declared.kinds.MetaTypeOf.{MetaTypeOf}
 use Rattle.meta.specs.declared.kinds.MetaTypeOf.TheVariants as m
-use Rattle.meta.specs.Kept.{scalar_check, enum_check, input_object_check}
 
 abbrev pub is_builtin_name : List ℕ → Bool
 is_builtin_name n =
@@ -101,9 +100,9 @@ module _ {S C : Type 0} where
 
   -- the check of a kind that has one
   abbrev pub check_of_meta : MetaTypeOf S C → Option C
-  check_of_meta (m.Scalar x) = Some (scalar_check x)
-  check_of_meta (m.Enum x) = Some (enum_check x)
-  check_of_meta (m.InputObject x) = Some (input_object_check x)
+  check_of_meta (m.Scalar x) = Some x.check
+  check_of_meta (m.Enum x) = Some x.check
+  check_of_meta (m.InputObject x) = Some x.check
   check_of_meta _ = None
 
   abbrev pub is_object_meta : MetaTypeOf S C → Bool

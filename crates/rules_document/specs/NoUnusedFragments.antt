@@ -19,15 +19,12 @@ use Rattle.fragment_graph.specs.Numbers.{names_of, number_of}
 use Rattle.fragment_reach.specs.Reach.{IsReached}
 use Rattle.fragment_reach.specs.ReachedFragments.{IsNameMarked}
 use Rattle.fragment_reach.specs.declared.reached.ReachedFragments.{ReachedFragments}
+pub use Rattle.variable_usages.specs.Names.{NameAndSpan}
 use Rattle.rules_document.specs.declared.met_fragments.MetFragments.{MetFragments}
 use Rattle.rules_document.specs.declared.no_unused_fragments.NoUnusedFragments.{NoUnusedFragments}
 
 abbrev pub unused_message : List ℕ → List ℕ
 unused_message name = (codes "Fragment \"" ++ name) ++ codes "\" is never used"
-
--- a fragment's name, and where its definition stands
-abbrev pub NameAndSpan : Type 0
-NameAndSpan = List ℕ × Span
 
 abbrev pub unused_error : NameAndSpan → ErrorValue
 unused_error p = record { locations = p.1.start ∷ []; message = unused_message p.0 }

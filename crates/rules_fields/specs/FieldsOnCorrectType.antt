@@ -1,6 +1,7 @@
 -- Fields that the type around them does not have.
 use Rattle.std.specs.Prelude.{ℕ, List, [], ◌∷◌, ◌++◌, Bool, true, false, ◌||◌, ◌&&◌, Option, Some, None, is_some, if◌then◌else◌, codes}
 use Rattle.std.specs.List.{flat_map}
+use Rattle.std.specs.Option.{unwrap_or}
 use Rattle.std.specs.Str.{bytes_eq}
 use Rattle.language.specs.declared.tree.OperationType.{OperationType}
 use Rattle.language.specs.declared.tree.OperationType.TheVariants as kind
@@ -24,10 +25,6 @@ root_typename_message = codes "`__typename` may not be included as a root field 
 
 abbrev pub is_typename : List ℕ → Bool
 is_typename name = bytes_eq name (codes "__typename")
-
-abbrev pub or_empty : Option (List ℕ) → List ℕ
-or_empty None = []
-or_empty (Some name) = name
 
 -- a name, reported
 abbrev pub at_name : Name → List ℕ → List ErrorValue
@@ -57,7 +54,7 @@ module _ {S C : Type 0} where
   abbrev pub unknown_field : Option (MetaTypeOf S C) → Name → List ErrorValue
   unknown_field None name = []
   unknown_field (Some t) name =
-      if has_field t name.item.now then [] else at_name name (unknown_field_message name.item.now (or_empty (name_of_meta t)))
+      if has_field t name.item.now then [] else at_name name (unknown_field_message name.item.now (unwrap_or (name_of_meta t) []))
 
   abbrev pub wrong_type_at : Option (MetaTypeOf S C) → Node S → List ErrorValue
   wrong_type_at parent (field f) = unknown_field parent f.item.name

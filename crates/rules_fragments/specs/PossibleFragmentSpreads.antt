@@ -1,6 +1,6 @@
 -- Spreads of fragments where no object of their type can be.
 use Rattle.std.specs.Prelude.{ℕ, List, [], ◌∷◌, ◌++◌, Bool, false, ◌||◌, Option, Some, None, option_and_then, if◌then◌else◌, map, string_bytes, codes}
-use Rattle.std.specs.Option.{option_map_or}
+use Rattle.std.specs.Option.{option_map_or, unwrap_or}
 use Rattle.std.specs.Str.{bytes_eq}
 use Rattle.language.specs.declared.position.SourcePosition.{SourcePosition}
 use Rattle.language.specs.declared.tree.Definition.{Definition}
@@ -27,14 +27,10 @@ impossible_words (Some name) = (codes "Fragment \"" ++ name) ++ codes "\" cannot
 abbrev pub impossible_message : Option (List ℕ) → List ℕ → List ℕ → List ℕ
 impossible_message name parent t = (((impossible_words name ++ parent) ++ codes "\" can never be of type \"") ++ t) ++ codes "\""
 
-abbrev pub or_empty : Option (List ℕ) → List ℕ
-or_empty None = []
-or_empty (Some name) = name
-
 module _ {S C : Type 0} where
   -- the name of a type; each type of a schema has one
   abbrev pub type_name : MetaTypeOf S C → List ℕ
-  type_name t = or_empty (name_of_meta t)
+  type_name t = unwrap_or (name_of_meta t) []
 
   abbrev pub no_conditions : TypesByName S C
   no_conditions name = None

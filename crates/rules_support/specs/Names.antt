@@ -1,6 +1,5 @@
 -- Names, each with a place.
 use Rattle.std.specs.Prelude.{ℕ, List, Option, String, string_bytes}
-use denote.Ref.{Bor}
 use Rattle.std.specs.declared.alloc.Global.{Global}
 use Rattle.language.specs.declared.position.SourcePosition.{SourcePosition}
 use Rattle.events.specs.Node.{Name, Placed}
@@ -14,9 +13,6 @@ text_name entry = (entry.0.item.now, entry.0.span.start)
 
 abbrev pub key_name : {T : Type 0} → Placed (String Global) × T → Named
 key_name entry = (string_bytes entry.0.item, entry.0.span.start)
-
-abbrev pub pair_name : Bor (List ℕ) × SourcePosition → Named
-pair_name n = (n.0.now, n.1)
 
 -- a place for some names
 abbrev pub Places : Type 0

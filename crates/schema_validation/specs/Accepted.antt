@@ -1,6 +1,7 @@
 -- Which lists of types make a schema, and when a refusal applies to a list.
 use Rattle.std.specs.Prelude.{◌≡◌, ⊤, ℕ, ◌≤◌, List, [], ◌∷◌, ◌++◌, Bool, true, false, ◌&&◌, Option, Some, None, codes, Contains, count_by, string_bytes, if◌then◌else◌}
 use Rattle.std.specs.List.{list_any, list_all}
+use Rattle.std.specs.Option.{option_to_list}
 use Rattle.std.specs.Str.{bytes_eq}
 use Rattle.schema_validation.specs.declared.error.SchemaError.{SchemaError}
 use Rattle.schema_validation.specs.declared.error.SchemaError.TheVariants as e
@@ -19,10 +20,6 @@ mutation_of = root_of (codes "_EmptyMutation")
 abbrev pub subscription_of : List ℕ → Option (List ℕ)
 subscription_of = root_of (codes "_EmptySubscription")
 
-abbrev pub listed : Option (List ℕ) → List (List ℕ)
-listed None = []
-listed (Some n) = n ∷ []
-
 -- The names of the three roots of a schema.
 pub record Roots : Type 0 where
   pub query : List ℕ
@@ -34,7 +31,7 @@ abbrev pub roots_of : List ℕ → List ℕ → List ℕ → Roots
 roots_of query mutation subscription = record { query = query; mutation = mutation_of mutation; subscription = subscription_of subscription }
 
 abbrev pub root_names : Roots → List (List ℕ)
-root_names r = r.query ∷ (listed r.mutation ++ listed r.subscription)
+root_names r = r.query ∷ (option_to_list r.mutation ++ option_to_list r.subscription)
 
 module _ {S C : Type 0} where
   abbrev pub is_named : List ℕ → MetaTypeOf S C → Bool
