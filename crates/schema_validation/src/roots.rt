@@ -1,6 +1,6 @@
 //! The names of the root types (section 3.3.1).
-ghost use Rattle.std.specs.Prelude.{◌≡◌, ◌++◌, find, option_copied};
-ghost use Rattle.schema_validation.specs.Accepted.{root_of, roots_of, listed, root_names};
+ghost use Rattle.std.specs.Prelude.{◌≡◌, ◌++◌, find, option_copied, option_to_list};
+ghost use Rattle.schema_validation.specs.Accepted.{root_of, roots_of, root_names};
 ghost use Rattle.schema_validation.specs.RootNames.{roots_asked};
 
 use crate::listed::NameTest;
@@ -35,8 +35,7 @@ impl<'n> RootNames<'n> {
 }
 
 fn first_of_option<'n, T: NameTest>(test: &T, name: Option<&'n str>) -> Option<&'n str>
-    ensures { option_copied result
-        ≡ find (T.fails_at test.now) (listed (option_copied name.entry)) }
+    ensures { option_copied result ≡ find (T.fails_at test.now) (option_to_list (option_copied name.entry)) }
 {
     match name {
         Some(n) => { if test.fails(n) { Some(n) } else { None } }
@@ -46,8 +45,8 @@ fn first_of_option<'n, T: NameTest>(test: &T, name: Option<&'n str>) -> Option<&
 
 fn first_of_others<'n, T: NameTest>(test: &T, roots: RootNames<'n>) -> Option<&'n str>
     ensures { option_copied result
-        ≡ find (T.fails_at test.now) (listed (roots_asked roots.entry).mutation
-        ++ listed (roots_asked roots.entry).subscription) }
+        ≡ find (T.fails_at test.now) (option_to_list (roots_asked roots.entry).mutation
+        ++ option_to_list (roots_asked roots.entry).subscription) }
 {
     if let Some(name) = first_of_option(test, roots.mutation) {
         return Some(name);
