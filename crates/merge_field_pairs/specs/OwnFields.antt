@@ -4,8 +4,7 @@ use Rattle.std.specs.List.{flat_map}
 use Rattle.std.specs.Option.{option_or}
 use denote.Ref.{Bor}
 use Rattle.language.specs.Types.{shape}
-use Rattle.language.specs.declared.position.Span.{Span}
-use Rattle.language.specs.declared.position.Spanning.{Spanning}
+pub use Rattle.language.specs.Position.{Placed}
 use Rattle.language.specs.declared.tree.Selection.{Selection, fold-Selection}
 use Rattle.language.specs.declared.tree.Selection.TheOpen as opened
 use Rattle.language.specs.declared.tree.Selection.TheFolds.{para-Selection}
@@ -16,10 +15,6 @@ use Rattle.meta.specs.declared.kinds.MetaTypeOf.{MetaTypeOf}
 use Rattle.meta.specs.Kinds.{field_named}
 use Rattle.schema.specs.Catalog.{Catalog, type_in}
 use Rattle.merge_field_pairs.specs.Entries.{PlainEntry}
-
--- something with the stretch of the text where it stands
-abbrev pub Placed : Type 0 → Type 0
-Placed T = Spanning T Span
 
 -- what a node has of its own, under a type
 abbrev pub OwnUnder : Type 0 → Type 0 → Type 0
