@@ -12,6 +12,7 @@ pub data ScopeName : Type 0 where
   operation : Option (List ℕ) → ScopeName
   fragment : List ℕ → ScopeName
 
+-- Both have one name, or neither has a name.
 abbrev pub same_name : Option (List ℕ) → Option (List ℕ) → Bool
 same_name = option_eq bytes_eq
 

@@ -22,23 +22,29 @@ use Rattle.literals.specs.Texts.{null_text, enum_text, value_text, no_check_text
 abbrev pub Judge : Type 0 → Type 0 → Type 1
 Judge S C = InputValue S → WrappedMeta S C → Option (List ℕ) → Type 0
 
+-- there is no fault
 abbrev pub IsNone : Option (List ℕ) → Type 0
 IsNone fault = fault ≡ None
 
+-- the fault has this text
 abbrev pub Is : List ℕ → Option (List ℕ) → Type 0
 Is said fault = fault ≡ Some said
 
+-- an enum
 abbrev pub is_enum_meta : {S C : Type 0} → MetaTypeOf S C → Bool
 is_enum_meta (k.Enum x) = true
 is_enum_meta _ = false
 
+-- an input object
 abbrev pub is_input_object_meta : {S C : Type 0} → MetaTypeOf S C → Bool
 is_input_object_meta (k.InputObject x) = true
 is_input_object_meta _ = false
 
+-- the key of an entry
 abbrev pub key_of : {A : Type 0} → Entry A → List ℕ
 key_of e = string_bytes e.0.item
 
+-- the keys of an object
 abbrev pub keys_of : {A : Type 0} → List (Entry A) → List (List ℕ)
 keys_of es = map key_of es
 
@@ -92,6 +98,7 @@ module _ {S C : Type 0} where
   module _ (schema : Catalog S C) (may : Answers (InputValue S) C) (shown : InputValue S → List ℕ) where
     -- The values inside, each with what it is and its faults.
     module _ {X : Type 0} (value_of : X → InputValue S) (judge : X → Judge S C) where
+      -- a value inside another, against its type
       abbrev pub inside : WrappedMeta S C → X → Option (List ℕ) → Type 0
       inside w x fault = judge x (value_of x) w fault
 
@@ -102,6 +109,7 @@ module _ {S C : Type 0} where
           (w : WrappedMeta S C) × IsTypeOf schema (shape a.arg_type) w
           × (m : Option (List ℕ)) × inside w x m × (fault ≡ option_map (field_text (printed_name meta) key) m)
 
+      -- an entry of an object, against the input field of its key
       abbrev pub entry : MetaTypeOf S C → Entry X → Option (List ℕ) → Type 0
       entry meta e fault = keyed meta (key_of e) (input_field_named (key_of e) meta) e.1.item fault
 
@@ -131,9 +139,11 @@ module _ {S C : Type 0} where
           (FirstFault (λ x. inside (within ms meta) x.item) IsNone xs.items fault)
       against x value (m.List size ∷ ms) meta fault = sized may shown (other_length size 1) 1 value fault (against x value ms meta fault)
 
+    -- one level of a value against a type
     abbrev pub judge_step : (X : Type 0) → (X → InputValue S) → (X → Judge S C) → v.InputValue-F S X → Judge S C
     judge_step X value_of judge x value w fault = against value_of judge x value (reverse w.modifiers) w.meta fault
 
+    -- a value against a type
     abbrev pub judge_of : InputValue S → Judge S C
     judge_of = rec-InputValue S (Judge S C) judge_step
 

@@ -105,26 +105,31 @@ module _ {S C : Type 0} where
   check_of_meta (m.InputObject x) = Some x.check
   check_of_meta _ = None
 
+  -- an object
   abbrev pub is_object_meta : MetaTypeOf S C → Bool
   is_object_meta (m.Object x) = true
   is_object_meta _ = false
 
+  -- an object, an interface or a union
   abbrev pub is_composite_meta : MetaTypeOf S C → Bool
   is_composite_meta (m.Object x) = true
   is_composite_meta (m.Interface x) = true
   is_composite_meta (m.Union x) = true
   is_composite_meta _ = false
 
+  -- a scalar or an enum
   abbrev pub is_leaf_meta : MetaTypeOf S C → Bool
   is_leaf_meta (m.Scalar x) = true
   is_leaf_meta (m.Enum x) = true
   is_leaf_meta _ = false
 
+  -- an interface or a union
   abbrev pub is_abstract_meta : MetaTypeOf S C → Bool
   is_abstract_meta (m.Interface x) = true
   is_abstract_meta (m.Union x) = true
   is_abstract_meta _ = false
 
+  -- a scalar, an enum or an input object
   abbrev pub is_input_meta : MetaTypeOf S C → Bool
   is_input_meta (m.Scalar x) = true
   is_input_meta (m.Enum x) = true

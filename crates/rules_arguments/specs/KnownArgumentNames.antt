@@ -29,6 +29,7 @@ unknown_message (bearer.Field name parent) = unknown_on_field_message name.now p
 unknown_message (bearer.Directive name) = unknown_on_directive_message name.now
 
 module _ {S : Type 0} where
+  -- one of these arguments has the name
   abbrev pub is_known : List (Argument S) → List ℕ → Bool
   is_known known name = is_some (find (λ a. bytes_eq (string_bytes a.name) name) known)
 
@@ -37,6 +38,7 @@ module _ {S : Type 0} where
   unknown_name message known name =
       if is_known known name.item.now then [] else record { locations = name.span.start ∷ []; message = message name.item.now } ∷ []
 
+  -- an argument, by its name
   abbrev pub unknown_argument : (List ℕ → List ℕ) → List (Argument S) → ArgumentEntry S → List ErrorValue
   unknown_argument message known a = unknown_name message known a.0
 
@@ -56,10 +58,12 @@ module _ {S C : Type 0} where
   unknown_on_field parent f =
       unknown_where_known (unknown_on_field_message f.name.item.now (name_of_known parent)) (field_arguments parent f.name.item.now) f.arguments
 
+  -- of a directive that is known, each argument that is none of its own
   abbrev pub unknown_on_directive : Catalog S C → Directive S → List ErrorValue
   unknown_on_directive schema d =
       unknown_where_known (unknown_on_directive_message d.name.item.now) (directive_arguments schema d.name.item.now) d.arguments
 
+  -- at a node: a field or a directive
   abbrev pub unknown_at : Catalog S C → Option (MetaTypeOf S C) → Node S → List ErrorValue
   unknown_at schema parent (field f) = unknown_on_field parent f.item
   unknown_at schema parent (directive d) = unknown_on_directive schema d.item

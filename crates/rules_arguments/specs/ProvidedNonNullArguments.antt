@@ -18,9 +18,11 @@ use Rattle.events.specs.SchemaView.{field_arguments, directive_arguments}
 use Rattle.rules_arguments.specs.declared.bearers.Bearer.{Bearer}
 use Rattle.rules_arguments.specs.declared.bearers.Bearer.TheVariants as bearer
 
+-- the words of the message for a field
 abbrev pub on_field : List ℕ → List ℕ
 on_field name = (codes "Field \"" ++ name) ++ codes "\" argument \""
 
+-- the words of the message for a directive
 abbrev pub on_directive : List ℕ → List ℕ
 on_directive name = (codes "Directive \"@" ++ name) ++ codes "\" argument \""
 
@@ -32,6 +34,7 @@ abbrev pub words_before : Bearer → List ℕ
 words_before (bearer.Field name parent) = on_field name.now
 words_before (bearer.Directive name) = on_directive name.now
 
+-- its outermost modifier is a non-null
 abbrev pub never_null : TypeShape → Bool
 never_null t = by_outermost true false false (outermost t.modifiers)
 
@@ -44,6 +47,7 @@ module _ {S : Type 0} where
   abbrev pub required_on_directive : Argument S → Bool
   required_on_directive a = never_null (shape a.arg_type)
 
+  -- an argument of this name is written
   abbrev pub is_given : Option (Placed (Arguments S)) → List ℕ → Bool
   is_given None name = false
   is_given (Some written) name = is_some (first_of_name name written.item.items.items)
@@ -63,14 +67,17 @@ module _ {S : Type 0} where
   is_required (bearer.Directive name) a = required_on_directive a
 
 module _ {S C : Type 0} where
+  -- the missing arguments of a field
   abbrev pub missing_on_field : Option (MetaTypeOf S C) → Placed (Field S) → List ErrorValue
   missing_on_field parent f =
       missing_where_known required_on_field (on_field f.item.name.item.now) f.span.start (field_arguments parent f.item.name.item.now) f.item.arguments
 
+  -- the missing arguments of a directive
   abbrev pub missing_on_directive : Catalog S C → Placed (Directive S) → List ErrorValue
   missing_on_directive schema d =
       missing_where_known required_on_directive (on_directive d.item.name.item.now) d.span.start (directive_arguments schema d.item.name.item.now) d.item.arguments
 
+  -- at a node: a field or a directive
   abbrev pub missing_at : Catalog S C → Option (MetaTypeOf S C) → Node S → List ErrorValue
   missing_at schema parent (field f) = missing_on_field parent f
   missing_at schema parent (directive d) = missing_on_directive schema d

@@ -11,10 +11,12 @@ use Rattle.rules_support.specs.Repeats.{repeats}
 abbrev pub repeated_argument_message : List ℕ → List ℕ
 repeated_argument_message name = (codes "There can only be one argument named \"" ++ name) ++ codes "\""
 
+-- those of a list of arguments, if there is one
 abbrev pub repeated_in : {S : Type 0} → Option (Placed (Arguments S)) → List ErrorValue
 repeated_in None = []
 repeated_in (Some arguments) = repeats repeated_argument_message (map text_name arguments.item.items.items)
 
+-- at a node: a field or a directive
 abbrev pub repeated_at : {S : Type 0} → Node S → List ErrorValue
 repeated_at (field f) = repeated_in f.item.arguments
 repeated_at (directive d) = repeated_in d.item.arguments

@@ -10,6 +10,7 @@ use Rattle.rules_support.specs.Repeats.{repeats}
 abbrev pub repeated_key_message : List ℕ → List ℕ
 repeated_key_message name = (codes "There can only be one input field named \"" ++ name) ++ codes "\""
 
+-- at a node: an object value
 abbrev pub repeated_in_object : {S : Type 0} → Node S → List ErrorValue
 repeated_in_object (object_value v) = repeats repeated_key_message (map key_name v.item)
 repeated_in_object _ = []

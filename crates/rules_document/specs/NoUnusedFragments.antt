@@ -53,9 +53,11 @@ pub record IsKeptFor (n : Numbers) (met : MetFragments) : Type 0 where
   pub behind : (p : NameAndSpan) → IsOther met.others p → (first : Span) × IsFirst n met.firsts.items (p.0, first)
 
 module _ {S : Type 0} where
+  -- the name of a fragment, and where its definition stands
   abbrev pub name_and_span : Placed (Fragment S) → NameAndSpan
   name_and_span f = (f.item.name.item.now, f.span)
 
+  -- the definition is of a fragment of this name and span
   abbrev pub IsSame : Definition S → NameAndSpan → Type 0
   IsSame (definition.Operation o) p = ⊥
   IsSame (definition.Fragment f) p = name_and_span f ≡ p

@@ -11,10 +11,12 @@ use Rattle.rules_support.specs.Repeats.{repeats}
 abbrev pub repeated_variable_message : List ℕ → List ℕ
 repeated_variable_message name = codes "There can only be one variable named " ++ name
 
+-- those of a list of variables, if there is one
 abbrev pub repeated_among : {S : Type 0} → Option (Placed (VariableDefinitions S)) → List ErrorValue
 repeated_among None = []
 repeated_among (Some definitions) = repeats repeated_variable_message (map text_name definitions.item.items.items)
 
+-- at a node: an operation
 abbrev pub repeated_in_operation : {S : Type 0} → Node S → List ErrorValue
 repeated_in_operation (operation_definition o) = repeated_among o.item.variable_definitions
 repeated_in_operation _ = []

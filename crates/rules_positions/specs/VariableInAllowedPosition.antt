@@ -24,6 +24,7 @@ position_message variable t expected =
 abbrev pub type_in_use : {S : Type 0} → VariableDefinition S → TypeShape
 type_in_use d = if is_some d.default_value then non_null_of (shape d.var_type.item) else shape d.var_type.item
 
+-- the error at a use of a variable whose type may not stand there
 abbrev pub position_error : {S : Type 0} → VariableEntry S → UseValue → ErrorValue
 position_error d u =
     record { locations = d.0.span.start ∷ u.place ∷ []; message = position_message u.variable (printed (type_in_use d.1)) (printed u.expected) }

@@ -14,6 +14,7 @@ abbrev pub wrong_argument_message : List ℕ → List ℕ → List ℕ
 wrong_argument_message name fault = codes "Invalid value for argument \"" ++ (name ++ (codes "\", reason: " ++ fault))
 
 module _ {S C : Type 0} (may : Answers (InputValue S) C) (shown : InputValue S → List ℕ) where
+  -- at a node: an argument, whose value is judged against the type that is expected
   abbrev pub wrong_argument : Catalog S C → Option TypeShape → Node S → List ErrorValue → Type 0
   wrong_argument schema t (argument a) es = reported may shown schema (wrong_argument_message a.0.item.now) t a.1 es
   wrong_argument schema t _ es = es ≡ []

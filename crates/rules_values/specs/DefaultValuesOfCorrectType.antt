@@ -25,10 +25,12 @@ module _ {S C : Type 0} (may : Answers (InputValue S) C) (shown : InputValue S �
   default_of true schema name t value es = es ≡ error_at value (needless_default_message name (printed t))
   default_of false schema name t value es = reported may shown schema (wrong_default_message name (printed t)) (Some t) value es
 
+  -- a variable with no default value has no fault
   abbrev pub default_if_there : Catalog S C → List ℕ → TypeShape → Option (Placed (InputValue S)) → List ErrorValue → Type 0
   default_if_there schema name t None es = es ≡ []
   default_if_there schema name t (Some value) es = default_of (is_never_null t) schema name t value es
 
+  -- at a node: a definition of a variable, by its type
   abbrev pub wrong_default : Catalog S C → Node S → List ErrorValue → Type 0
   wrong_default schema (variable_definition d) es = default_if_there schema d.0.item.now (shape d.1.var_type.item) d.1.default_value es
   wrong_default schema _ es = es ≡ []

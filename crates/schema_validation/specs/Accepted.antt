@@ -30,10 +30,12 @@ pub record Roots : Type 0 where
 abbrev pub roots_of : List ℕ → List ℕ → List ℕ → Roots
 roots_of query mutation subscription = record { query = query; mutation = mutation_of mutation; subscription = subscription_of subscription }
 
+-- those of the roots that there are
 abbrev pub root_names : Roots → List (List ℕ)
 root_names r = r.query ∷ (option_to_list r.mutation ++ option_to_list r.subscription)
 
 module _ {S C : Type 0} where
+  -- the type has this name
   abbrev pub is_named : List ℕ → MetaTypeOf S C → Bool
   is_named = is_called name_of_meta
 

@@ -29,6 +29,7 @@ abbrev pub NameAndSpan : Type 0
 NameAndSpan = List ℕ × Span
 
 module _ {S : Type 0} where
+  -- The variables of an operation with their definitions, if there is a list.
   abbrev pub variable_list : Spanning (Operation S) Span → List (Spanning (Bor (List ℕ)) Span × VariableDefinition S)
   variable_list o = option_map_or (λ d. d.item.items.items) o.item.variable_definitions []
 
@@ -36,5 +37,6 @@ module _ {S : Type 0} where
   abbrev pub defined_variables : Spanning (Operation S) Span → List NameAndSpan
   defined_variables o = map (λ v. (v.0.item.now, v.0.span)) (variable_list o)
 
+  -- Their names.
   abbrev pub defined_names : Spanning (Operation S) Span → List (List ℕ)
   defined_names o = map (λ v. v.0.item.now) (variable_list o)

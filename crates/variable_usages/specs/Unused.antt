@@ -23,6 +23,7 @@ pub record Unused : Type 0 where
 abbrev pub unused_of : UnusedVariable → Unused
 unused_of u = record { name = u.name.now; span = u.span; operation = option_map (λ n. n.now) u.operation }
 
+-- A variable that operations of a name define and do not use.
 abbrev pub unused_by : Option (List ℕ) → NameAndSpan → Unused
 unused_by operation v = record { name = v.0; span = v.1; operation = operation }
 
