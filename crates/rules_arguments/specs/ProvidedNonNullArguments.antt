@@ -1,4 +1,4 @@
--- Arguments that have to be given and are not.
+-- Required arguments that are not given.
 use Rattle.std.specs.Prelude.{ℕ, List, [], ◌∷◌, ◌++◌, Bool, true, false, ◌&&◌, not, Option, Some, None, is_some, is_none, if◌then◌else◌, codes, string_bytes}
 use Rattle.std.specs.List.{flat_map}
 use Rattle.language.specs.Pairs.{first_of_name}
@@ -40,7 +40,7 @@ module _ {S : Type 0} where
   abbrev pub required_on_field : Argument S → Bool
   required_on_field a = never_null (shape a.arg_type) && is_none a.default_value
 
-  -- on a directive defaults do not count
+  -- on a directive a default value does not count
   abbrev pub required_on_directive : Argument S → Bool
   required_on_directive a = never_null (shape a.arg_type)
 
@@ -48,7 +48,7 @@ module _ {S : Type 0} where
   is_given None name = false
   is_given (Some written) name = is_some (first_of_name name written.item.items.items)
 
-  -- an argument that has to be given and is not among those that were written, reported at a place
+  -- a required argument that is not among those that were written, reported at a place
   abbrev pub missing_argument : (Argument S → Bool) → List ℕ → SourcePosition → Option (Placed (Arguments S)) → Argument S → List ErrorValue
   missing_argument required words place written a =
       if required a && not (is_given written (string_bytes a.name)) then record { locations = place ∷ []; message = missing_message words (string_bytes a.name) (printed (shape a.arg_type)) } ∷ [] else []
@@ -61,6 +61,10 @@ module _ {S : Type 0} where
   abbrev pub is_required : Bearer → Argument S → Bool
   is_required (bearer.Field name parent) a = required_on_field a
   is_required (bearer.Directive name) a = required_on_directive a
+
+  -- an argument of a field or a directive, reported at a place
+  abbrev pub missing_on : Bearer → SourcePosition → Option (Placed (Arguments S)) → Argument S → List ErrorValue
+  missing_on b place written a = missing_argument (is_required b) (words_before b) place written a
 
 module _ {S C : Type 0} where
   abbrev pub missing_on_field : Option (MetaTypeOf S C) → Placed (Field S) → List ErrorValue
@@ -76,6 +80,6 @@ module _ {S C : Type 0} where
   missing_at schema parent (directive d) = missing_on_directive schema d
   missing_at schema parent _ = []
 
-  -- at a field and at a directive: each argument that has to be given and is not
+  -- at a field and at a directive: each required argument that is not given
   abbrev pub missing_arguments : DocumentScope S C → Occurrence S C → List ErrorValue
   missing_arguments scope o = missing_at scope.schema o.types.parent o.node

@@ -9,7 +9,7 @@ use Rattle.events.specs.Node.{Node, Placed, variable_definition}
 use Rattle.events.specs.Occurrence.{Occurrence}
 use Rattle.walk.specs.ContextState.{DocumentScope}
 use Rattle.walk.specs.ErrorValue.{ErrorValue}
-use Rattle.rules_values.specs.Faulty.{error_at, reported}
+use Rattle.rules_values.specs.Faults.{error_at, reported}
 
 abbrev pub needless_default_message : List ℕ → List ℕ → List ℕ
 needless_default_message name t =
