@@ -1,8 +1,8 @@
 -- Required arguments that are not given.
-use Rattle.std.specs.Prelude.{ℕ, List, [], ◌∷◌, ◌++◌, Bool, true, false, ◌&&◌, not, Option, Some, None, is_some, is_none, if◌then◌else◌, codes, string_bytes}
+use Rattle.std.specs.Prelude.{ℕ, List, [], ◌∷◌, ◌++◌, Bool, false, ◌&&◌, not, Option, Some, None, is_some, is_none, if◌then◌else◌, codes, string_bytes}
 use Rattle.std.specs.List.{flat_map}
 use Rattle.language.specs.Pairs.{first_of_name}
-use Rattle.language.specs.Types.{TypeShape, shape, printed, outermost, by_outermost}
+use Rattle.language.specs.Types.{shape, is_never_null, printed}
 use Rattle.language.specs.declared.position.SourcePosition.{SourcePosition}
 use Rattle.language.specs.declared.tree.Arguments.{Arguments}
 use Rattle.language.specs.declared.tree.Directive.{Directive}
@@ -32,17 +32,14 @@ abbrev pub words_before : Bearer → List ℕ
 words_before (bearer.Field name parent) = on_field name.now
 words_before (bearer.Directive name) = on_directive name.now
 
-abbrev pub never_null : TypeShape → Bool
-never_null t = by_outermost true false false (outermost t.modifiers)
-
 module _ {S : Type 0} where
   -- on a field: its type is not null, and no default value stands in for it
   abbrev pub required_on_field : Argument S → Bool
-  required_on_field a = never_null (shape a.arg_type) && is_none a.default_value
+  required_on_field a = is_never_null (shape a.arg_type) && is_none a.default_value
 
   -- on a directive a default value does not count
   abbrev pub required_on_directive : Argument S → Bool
-  required_on_directive a = never_null (shape a.arg_type)
+  required_on_directive a = is_never_null (shape a.arg_type)
 
   abbrev pub is_given : Option (Placed (Arguments S)) → List ℕ → Bool
   is_given None name = false

@@ -2,14 +2,14 @@
 
 ghost use Rattle.std.specs.Prelude.{◌≡◌, IfOk, OnOk, OnErr, option_copied, string_bytes};
 ghost use Rattle.std.specs.List.{flat_map};
-ghost use Rattle.language.specs.Types.{printed, shape};
+ghost use Rattle.language.specs.Types.{is_never_null, printed, shape};
 ghost use Rattle.walk.specs.ContextState.{typing, with_errors};
 ghost use Rattle.walk.specs.Entering.{finding_step, found};
 ghost use Rattle.walk.specs.Rule.{always, any_value, exactly, is_empty};
 ghost use Rattle.walk.specs.RuleLaws.{exactly_silent};
 ghost use Rattle.walk.specs.Step.{KeepsPlace};
 ghost use Rattle.walk.proofs.Entering.{finding_keeps};
-ghost use Rattle.rules_arguments.specs.ProvidedNonNullArguments.{is_given, is_required, never_null, missing_on, missing_where_known, missing_message, missing_on_field, missing_on_directive, missing_arguments, words_before};
+ghost use Rattle.rules_arguments.specs.ProvidedNonNullArguments.{is_given, is_required, missing_on, missing_where_known, missing_message, missing_on_field, missing_on_directive, missing_arguments, words_before};
 
 use crate::bearers::{Bearer, arguments_of_directive, arguments_of_field, name_of_known};
 use language::error::OutOfMemory;
@@ -179,13 +179,13 @@ fn is_required<S>(bearer: Bearer<'_>, argument: &Argument<S>) -> bool
     ensures { result ≡ is_required bearer.entry argument.now }
 {
     match bearer {
-        Bearer::Field(_, _) => never_null(&argument.arg_type) && argument.default_value.is_none(),
-        Bearer::Directive(_) => never_null(&argument.arg_type),
+        Bearer::Field(_, _) => is_never_null(&argument.arg_type) && argument.default_value.is_none(),
+        Bearer::Directive(_) => is_never_null(&argument.arg_type),
     }
 }
 
-fn never_null(t: &Type) -> bool
-    ensures { result ≡ never_null (shape t.now) }
+fn is_never_null(t: &Type) -> bool
+    ensures { result ≡ is_never_null (shape t.now) }
 {
     matches!(t.modifier(), Some(TypeModifier::NonNull))
 }

@@ -1,7 +1,7 @@
 -- Where nothing may be reported, nothing else may. In specs/, since ghost members of an impl cite nothing else.
 use Rattle.std.proofs.Common.{◌≡◌, ℕ, List, [], Bool, true, false, Option, Some, None}
 use Rattle.language.specs.declared.value.InputValue.{InputValue}
-use Rattle.language.specs.Types.{TypeShape, shape}
+use Rattle.language.specs.Types.{TypeShape, is_never_null, shape}
 use Rattle.meta.specs.Answers.{Answers}
 use Rattle.schema.specs.Catalog.{Catalog}
 use Rattle.events.specs.Node.{Node, Placed}
@@ -10,7 +10,6 @@ use Rattle.walk.specs.ErrorValue.{ErrorValue}
 use Rattle.walk.specs.Rule.{Settled}
 use Rattle.walk.proofs.Sums.{given_settled}
 use Rattle.literals.specs.Laws.{OneAnswer}
-use Rattle.literals.specs.Missing.{is_never_null}
 use Rattle.rules_values.specs.DefaultValuesOfCorrectType.{default_of, default_if_there, wrong_default, wrong_defaults}
 use Rattle.rules_values.specs.FaultsLaws.{reported_settled}
 

@@ -2,9 +2,8 @@
 //! only a variable whose type may be null has one.
 
 ghost use Rattle.std.specs.Prelude.{◌≡◌, IfOk, OnOk, OnErr, string_bytes};
-ghost use Rattle.language.specs.Types.{printed, shape};
+ghost use Rattle.language.specs.Types.{is_never_null, printed, shape};
 ghost use Rattle.language.specs.ValuesPrinted.{printed_value};
-ghost use Rattle.literals.specs.Missing.{is_never_null};
 ghost use Rattle.walk.specs.Entering.{relating_step, given};
 ghost use Rattle.walk.specs.Rule.{allows_none, always, any_value, Appended};
 ghost use Rattle.walk.specs.RuleLaws.{settled_silent};
