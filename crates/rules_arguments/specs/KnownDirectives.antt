@@ -1,4 +1,4 @@
--- Directives that the schema does not have, or that may not stand where they stand.
+-- Directives that the schema does not define, or that are not allowed where they stand.
 use Rattle.std.specs.Prelude.{ℕ, List, [], ◌∷◌, ◌++◌, Bool, Option, Some, None, if◌then◌else◌, codes}
 use Rattle.std.specs.declared.alloc.Global.{Global}
 use Rattle.std.specs.declared.vec.Vec.{Vec}
@@ -64,6 +64,6 @@ module _ {S C : Type 0} where
   unsuitable_at schema (inline_fragment i) = unsuitable_among schema l.InlineFragment i.item.directives
   unsuitable_at schema _ = []
 
-  -- at each node that may bear directives: those that are not known, and those that may not stand there
+  -- at each node that may have directives: those that are not known, and those that are not allowed there
   abbrev pub unsuitable_directives : DocumentScope S C → Occurrence S C → List ErrorValue
   unsuitable_directives scope o = unsuitable_at scope.schema o.node

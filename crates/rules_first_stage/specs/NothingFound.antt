@@ -29,7 +29,7 @@ use Rattle.fragment_graph.specs.DocumentCycles.{HasNoCycle}
 use Rattle.rules_document.specs.NoUnusedFragments.{NoneUnused}
 use Rattle.variable_usages.specs.Undefined.{UndefinedVariables}
 use Rattle.variable_usages.specs.Unused.{UnusedVariables}
-use Rattle.rules_positions.specs.VariableInAllowedPosition.{misplaced_variables}
+use Rattle.rules_positions.specs.VariablesInAllowedPosition.{misplaced_variables}
 
 module _ {S C : Type 0} (may : Answers (InputValue S) C) (shown : InputValue S → List ℕ) where
   -- every collection of a rule is empty, no value has a fault, no fragment leads back to itself and none is unused, and no variable

@@ -1,4 +1,4 @@
--- Spreads of fragments where no object of their type can be.
+-- Spreads of fragments where no object of their type is possible.
 use Rattle.std.specs.Prelude.{ℕ, List, [], ◌∷◌, ◌++◌, Bool, false, ◌||◌, Option, Some, None, option_and_then, if◌then◌else◌, map, string_bytes, codes}
 use Rattle.std.specs.Option.{option_map_or, unwrap_or}
 use Rattle.std.specs.Str.{bytes_eq}
@@ -82,6 +82,6 @@ module _ {S C : Type 0} where
   impossible_at schema types parent (inline_fragment i) = impossible schema parent (inline_type schema i.item) None i.span.start
   impossible_at schema types parent _ = []
 
-  -- at a spread and at an inline fragment with a condition: it may not stand in the selection set round it
+  -- at a spread and at an inline fragment with a condition: it may not stand in the selection set around it
   abbrev pub impossible_spreads : DocumentScope S C → TypesByName S C → Occurrence S C → List ErrorValue
   impossible_spreads scope types o = impossible_at scope.schema types o.types.parent o.node

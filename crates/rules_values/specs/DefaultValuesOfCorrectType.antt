@@ -1,15 +1,14 @@
 -- Default values of variables that are never used, or do not conform to the variable's type.
 use Rattle.std.specs.Prelude.{◌≡◌, ℕ, List, [], ◌++◌, Bool, true, false, Option, Some, None, codes}
 use Rattle.language.specs.declared.value.InputValue.{InputValue}
-use Rattle.language.specs.Types.{TypeShape, shape, printed}
+use Rattle.language.specs.Types.{TypeShape, is_never_null, shape, printed}
 use Rattle.meta.specs.Answers.{Answers}
 use Rattle.schema.specs.Catalog.{Catalog}
-use Rattle.literals.specs.Missing.{is_never_null}
 use Rattle.events.specs.Node.{Node, Placed, variable_definition}
 use Rattle.events.specs.Occurrence.{Occurrence}
 use Rattle.walk.specs.ContextState.{DocumentScope}
 use Rattle.walk.specs.ErrorValue.{ErrorValue}
-use Rattle.rules_values.specs.Faulty.{error_at, reported}
+use Rattle.rules_values.specs.Faults.{error_at, reported}
 
 abbrev pub needless_default_message : List ℕ → List ℕ → List ℕ
 needless_default_message name t =

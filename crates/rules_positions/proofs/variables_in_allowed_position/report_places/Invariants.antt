@@ -3,7 +3,7 @@ use Rattle.walk.specs.Entering.{EachGives}
 use Rattle.walk.specs.Rule.{Appended}
 use Rattle.rules_positions.specs.FirstVariables.{kept_first}
 use Rattle.rules_positions.specs.TypedUses.{use_values}
-use Rattle.rules_positions.specs.VariableInAllowedPosition.{UsesGive, uses_in}
+use Rattle.rules_positions.specs.VariablesInAllowedPosition.{UsesGive, uses_in}
 use Rattle.rules_positions.proofs.variables_in_allowed_position.report_places.Given as goal
 
 -- those that were seen are judged
