@@ -49,7 +49,7 @@ definition_spreads (definition.Fragment f) = placed_spreads_of_all f.item.select
 abbrev pub fragment_spreads : {S : Type 0} → List (Definition S) → PlacedSpreads
 fragment_spreads document = flat_map definition_spreads document
 
--- Those of a definition, if its fragment has the name.
+-- Those of a definition, if it is that of a fragment of the name.
 abbrev pub spreads_named : {S : Type 0} → List ℕ → Definition S → PlacedSpreads
 spreads_named name (definition.Operation o) = []
 spreads_named name (definition.Fragment f) = if bytes_eq f.item.name.item.now name then placed_spreads_of_all f.item.selection_set.items else []

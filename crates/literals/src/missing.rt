@@ -1,4 +1,4 @@
-//! The input fields that an object lacks.
+//! Required input fields that an object lacks (section 5.6.4).
 ghost use Rattle.std.specs.Prelude.{◌≡◌, IfOk, option_map, string_bytes};
 ghost use Rattle.language.specs.References.{list_copied};
 ghost use Rattle.meta.specs.Kinds.{input_fields_of};
@@ -14,7 +14,11 @@ use meta::arguments::Argument;
 use meta::kinds::MetaTypeOf;
 use std::alloc::Global;
 
-/// What an input object has against an object for the fields that it lacks.
+/// The fault of an object without some required input fields; `None` if it has them all.
+///
+/// # Errors
+///
+/// Out of memory.
 pub fn lacking<S, C>(
     alloc: Global,
     meta: &MetaTypeOf<S, C>,
@@ -37,7 +41,7 @@ pub fn lacking<S, C>(
     }
 }
 
-/// The fields of an input object, and none for another kind.
+/// The fields of an input object; the empty list for any other kind of type.
 fn fields_of<'t, S, C>(meta: &'t MetaTypeOf<S, C>) -> &'t [Argument<S>]
     ensures { result.now ≡ input_fields_of meta.now }
 {
@@ -47,7 +51,7 @@ fn fields_of<'t, S, C>(meta: &'t MetaTypeOf<S, C>) -> &'t [Argument<S>]
     }
 }
 
-/// Whether the field has to be there, is not, and is not noted yet.
+/// Whether the field is required, is not a key of the object, and is not in the list of names.
 fn is_lacked<S>(
     entries: &[(Spanning<String>, Spanning<InputValue<S>>)],
     names: &[&str],
@@ -59,7 +63,7 @@ fn is_lacked<S>(
     is_needed(field) && !is_key(entries, name) && !is_noted(names, name)
 }
 
-/// Whether an object has to have the field.
+/// Whether the field is required: it is non-null and has no default value.
 fn is_needed<S>(field: &Argument<S>) -> bool
     ensures { result ≡ is_required field.now }
 {

@@ -86,7 +86,7 @@ module _ {S C : Type 0} where
   abbrev pub input_field_named : List ℕ → MetaTypeOf S C → Option (Argument S)
   input_field_named name t = find (λ a. bytes_eq (string_bytes a.name) name) (input_fields_of t)
 
-  -- the type that stands for the metadata
+  -- the type that the metadata describes
   abbrev pub type_of_meta : MetaTypeOf S C → TypeShape
   type_of_meta (m.Scalar x) = non_null_named (string_bytes x.name)
   type_of_meta (m.List x) = list_type_of x

@@ -22,7 +22,7 @@ same_scope (operation a) (fragment b) = false
 same_scope (fragment a) (operation b) = false
 same_scope (fragment a) (fragment b) = bytes_eq a b
 
--- No member stands twice.
+-- No item occurs twice.
 abbrev pub IsOnce : {X : Type 0} → List X → Type 0
 IsOnce {X} xs = (i j : ℕ) (x : X) → slice_get xs i ≡ Some x → slice_get xs j ≡ Some x → i ≡ j
 

@@ -1,4 +1,4 @@
-//! Numbers of the names of operations.
+//! The numbering of the names of operations.
 ghost use Rattle.std.specs.Prelude.{◌≡◌, ◌≤◌, ◌*◌, ℕ, List, min, None, Option, Some, IfOk, OnOk, if◌then◌else◌, option_copied};
 ghost use Rattle.name_tables.specs.Maps.{slots_in};
 ghost use Rattle.fragment_graph.specs.Numbers.{or_else};
@@ -8,14 +8,18 @@ ghost use Rattle.operation_scopes.specs.OperationNumbers.{number_at};
 use name_tables::map::NameMap;
 use std::alloc::{AllocError, Global};
 
-/// The numbers of operations' names, and that of the operations without one.
+/// The numbers of the names of operations, and the number of the operations without a name.
 #[derive(Drop)]
 pub struct OperationNumbers<'a> {
     unnamed: Option<usize>,
     named: NameMap<'a, usize>,
 }
 
-/// No numbers, with slots for so many names.
+/// No numbers, with slots for this many names.
+///
+/// # Errors
+///
+/// Out of memory.
 pub fn no_operations<'a>(alloc: Global, names: usize) -> Result<OperationNumbers<'a>, AllocError>
     ensures slots { IfOk result (λ n. 2 * min names 524288 ≤ slots_in n.named) }
     ensures none { IfOk result (λ n. (name : Option (List ℕ)) → number_at n name ≡ None) }
@@ -27,7 +31,8 @@ pub fn no_operations<'a>(alloc: Global, names: usize) -> Result<OperationNumbers
     })
 }
 
-// Gives the operations without a name this number, unless they have one; the number that they had.
+// Gives the operations without a name this number, unless they have one. Returns the number that they
+// had.
 fn number_unnamed(unnamed: &mut Option<usize>, next: usize) -> Option<usize>
     ensures earlier { result ≡ unnamed.old }
     ensures noted { unnamed.new ≡ or_else unnamed.old (Some next) }
@@ -41,7 +46,11 @@ fn number_unnamed(unnamed: &mut Option<usize>, next: usize) -> Option<usize>
     }
 }
 
-/// Gives the operations of a name this number, unless they have one; the number that they had.
+/// Gives the operations of a name this number, unless they have one. Returns the number that they had.
+///
+/// # Errors
+///
+/// Out of memory.
 pub fn number_operations<'a>(
     numbers: &mut OperationNumbers<'a>,
     name: Option<&'a str>,

@@ -1,4 +1,4 @@
-//! The types of a schema in lists.
+//! Lists of the types of a schema.
 ghost use Rattle.std.specs.Prelude.{◌≡◌, ℕ, List, ◌++◌, IfOk, OnOk, Some, option_to_list, true, map, string_bytes};
 ghost use Rattle.language.specs.References.{list_copied};
 ghost use Rattle.std.specs.List.{filter};
@@ -27,7 +27,11 @@ fn push_if_found<'a, S, C>(
 }
 
 impl<S, C> SchemaTypeOf<S, C> {
-    /// The types, in the order in which they were listed.
+    /// The metadata of all types, in the order of the list that made the schema.
+    ///
+    /// # Errors
+    ///
+    /// Out of memory.
     pub fn concrete_type_list(&self, alloc: Global) -> Result<Vec<&MetaTypeOf<S, C>>, OutOfMemory>
         ensures { IfOk result (λ v. list_copied v.items ≡ self.now.types) }
     {
@@ -38,7 +42,7 @@ impl<S, C> SchemaTypeOf<S, C> {
         Ok(list)
     }
 
-    /// The types of the names that are known.
+    /// The types of these names, in order, where the schema has one.
     fn types_of_names(
         &self,
         alloc: Global,
@@ -54,7 +58,7 @@ impl<S, C> SchemaTypeOf<S, C> {
         Ok(list)
     }
 
-    /// The objects that list the interface of the name.
+    /// The object types that implement the interface of this name.
     fn implementers(
         &self,
         alloc: Global,
@@ -71,10 +75,14 @@ impl<S, C> SchemaTypeOf<S, C> {
         Ok(list)
     }
 
-    /// What an interface or a union may be (section 5.5.2.3): the members of a union in their order,
-    /// or the objects that list the interface, in the order in which they were listed.
+    /// The possible types of an interface or a union (section 5.5.2.3): the members of the union, in
+    /// order, or the object types that implement the interface, in the order of the schema.
     ///
-    /// Members that the schema doesn't know are passed over; a union of the schema has none.
+    /// Members that the schema does not have are left out; a union of the schema has none.
+    ///
+    /// # Errors
+    ///
+    /// Out of memory.
     pub fn possible_types(
         &self,
         alloc: Global,
