@@ -11,7 +11,7 @@ def fill(size, piece, before="", after=""):
     return "".join(pieces) + after
 
 
-# The first of the numbers in names: as many digits in all of them, so that twice as many pieces are twice as long a text.
+# The first of the numbers in names. All have as many digits, so that twice as many pieces are twice as long a text.
 FIRST = 100_000
 
 
@@ -26,7 +26,8 @@ def operation(number, ending=""):
         f"query Screen{number}{ending}($id: String, $short: Boolean!) {{\n"
         "  human(id: $id) {\n    name(surname: true)\n    pets {\n      name\n      ... on Dog { barkVolume }\n"
         f"      ... on Cat {{ meowVolume }}\n    }}\n    ...HumanParts{number}{ending}\n  }}\n"
-        f"  dog @skip(if: $short) {{\n    nickname\n    knows: doesKnowCommand(dogCommand: SIT)\n    ...DogParts{number}{ending}\n  }}\n}}\n"
+        "  dog @skip(if: $short) {\n    nickname\n    knows: doesKnowCommand(dogCommand: SIT)\n"
+        f"    ...DogParts{number}{ending}\n  }}\n}}\n"
         + fragments(number, ending)
     )
 
@@ -41,7 +42,8 @@ def fragments(number, ending=""):
 def screen(number):
     """A part of the one operation of a document."""
     return (
-        f"  part{number}: human(id: \"{number}\") {{\n    name(surname: true)\n    pets {{\n      name\n      ... on Dog {{ barkVolume }}\n"
+        f"  part{number}: human(id: \"{number}\") {{\n    name(surname: true)\n"
+        "    pets {\n      name\n      ... on Dog { barkVolume }\n"
         "      ... on Cat { meowVolume }\n    }\n  }\n"
         f"  knows{number}: dog @include(if: $long) {{\n    nickname\n    doesKnowCommand(dogCommand: SIT)\n  }}\n"
     )
@@ -70,9 +72,11 @@ def definitions(number):
         f'"""\nA screen of the application, and what it shows.\n"""\n'
         f"type Screen{number} implements Node & Titled {{\n"
         f'  "The key of the screen."\n  id: ID!\n  title(language: String = "en", limit: Int = {number}): String!\n'
-        f"  parts(first: Int = 20, after: String, by: Order{number}): [Part{number}!]! @cost(weight: {number}, of: [\"first\"])\n"
+        f"  parts(first: Int = 20, after: String, by: Order{number}): [Part{number}!]! "
+        f"@cost(weight: {number}, of: [\"first\"])\n"
         f'  old: Boolean @deprecated(reason: "Ask for the parts.")\n}}\n'
-        f"input Filter{number} {{\n  name: String = \"\", sizes: [Float!] = [0.5, 1.5e3]\n  within: Filter{number} = {{name: null}}\n}}\n"
+        f"input Filter{number} {{\n  name: String = \"\", sizes: [Float!] = [0.5, 1.5e3]\n"
+        f"  within: Filter{number} = {{name: null}}\n}}\n"
         f'enum Order{number} {{\n  "The name, from A."\n  NAME\n  SIZE @deprecated\n}}\n'
         f"union Part{number} = Text | Image | Screen{number}\n"
         f"extend type Query {{\n  screen{number}(id: ID!, where: Filter{number}): Screen{number}\n}}\n"
@@ -86,7 +90,10 @@ def type_system(size):
 def many(size):
     return fill(
         size,
-        lambda number: f"query Q{number} {{ dog {{ ...F{number} name nickname }} }}\nfragment F{number} on Dog {{ barkVolume barks }}\n",
+        lambda number: (
+            f"query Q{number} {{ dog {{ ...F{number} name nickname }} }}\n"
+            f"fragment F{number} on Dog {{ barkVolume barks }}\n"
+        ),
     )
 
 
@@ -104,15 +111,17 @@ def deep(size):
 def chain(count):
     """Fragments that spread the next, and the field of the last one."""
     last = FIRST + count
-    return " ".join(f"fragment F{number} on Dog {{ ...F{number + 1} }}" for number in range(FIRST, last)) + f" fragment F{last} on Dog {{ name }}"
+    spreads = (f"fragment F{number} on Dog {{ ...F{number + 1} }} " for number in range(FIRST, last))
+    return "".join(spreads) + f"fragment F{last} on Dog {{ name }}"
 
 
 def operations_over_chain(count):
-    return " ".join(f"query Q{number} {{ dog {{ ...F{number} }} }}" for number in range(FIRST, FIRST + count)) + " " + chain(count)
+    operations = (f"query Q{number} {{ dog {{ ...F{number} }} }} " for number in range(FIRST, FIRST + count))
+    return "".join(operations) + chain(count)
 
 
 def towers(levels):
-    """Two towers of fragments, of which each spreads the next below two fields: written out each has 2 ** levels of its last one."""
+    """Two towers of fragments that spread the next below two fields: written out each has 2 ** levels of its last one."""
     return "{ human { ...A1 ...B1 } }" + "".join(
         "".join(
             f" fragment {x}{n} on Human {{ l: relatives {{ ...{x}{n + 1} }} r: relatives {{ ...{x}{n + 1} }} }}"
@@ -133,32 +142,41 @@ def crossing(levels):
 
 
 def beside(levels):
-    """Own fields that nest beside a tower of two fragments a level, of which each spreads both of the next level below a field."""
+    """Own fields that nest beside a tower of two fragments a level, each with both of the next level below a field."""
     return (
         "{ human { " + "relatives { " * levels + "name" + " }" * levels + " ...A1 ...C1 } }"
-        + "".join(f" fragment {x}{n} on Human {{ relatives {{ ...A{n + 1} ...C{n + 1} }} }}" for n in range(1, levels + 1) for x in "AC")
+        + "".join(
+            f" fragment {x}{n} on Human {{ relatives {{ ...A{n + 1} ...C{n + 1} }} }}"
+            for n in range(1, levels + 1)
+            for x in "AC"
+        )
         + "".join(f" fragment {x}{levels + 1} on Human {{ name }}" for x in "AC")
     )
 
 
 def all_in_one(count):
     numbers = range(FIRST, FIRST + count)
-    return "{ dog {" + "".join(f" ...F{n}" for n in numbers) + " } }" + "".join(f" fragment F{n} on Dog {{ name }}" for n in numbers)
+    spreads = "".join(f" ...F{n}" for n in numbers)
+    return f"{{ dog {{{spreads} }} }}" + "".join(f" fragment F{n} on Dog {{ name }}" for n in numbers)
 
 
 def each_later(count):
     return "{ dog { ...F0 } }" + "".join(
-        f" fragment F{n} on Dog {{ name" + "".join(f" ...F{later}" for later in range(n + 1, count)) + " }" for n in range(count)
+        f" fragment F{n} on Dog {{ name" + "".join(f" ...F{later}" for later in range(n + 1, count)) + " }"
+        for n in range(count)
     )
 
 
 def all_later(size):
-    """Fragments of which each spreads all later ones: as many as so many bytes have room for, since twice as many are four times as long."""
+    """Fragments that each spread all later ones, as many as so many bytes hold: twice as many are four times as long."""
     count = 1
     while len(each_later(count + 1)) <= size:
         count += 1
     return each_later(count)
 
+
+# What stands behind the items of an argument, and behind the keys of a default.
+ITEMS, WIDE = "]) } }", "}) { wide(input: $input) }"
 
 # What stands behind the default of a variable that is a list.
 LISTED = "]) { complicatedArgs { stringListArgField(stringListArg: $list) } }"
@@ -193,9 +211,9 @@ FAMILIES = [
     ("spreads in one set", all_in_one, 500, "pets"),
     ("spreads of all later", all_later, 10_000, "pets"),
     ("keys of a wide type", listed("{ wide(input: {", "k{0}: 1", "}) }", 0), 2_000, None),
-    ("items of a list", listed('{ complicatedArgs { stringListArgField(stringListArg: [', '"{0}"', "]) } }"), 10_000, "pets"),
+    ("items of a list", listed("{ complicatedArgs { stringListArgField(stringListArg: [", '"{0}"', ITEMS), 10_000, "pets"),
     ("list of values", listed("query ($list: [String] = [", '"{0}"', LISTED), 10_000, "pets"),
-    ("keys of a wide input", listed("query ($input: Wide = {", "k{0}: 1", "}) { wide(input: $input) }", 0), 1_000, None),
+    ("keys of a wide input", listed("query ($input: Wide = {", "k{0}: 1", WIDE, 0), 1_000, None),
     ("values that don't fit", listed("query ($list: [String] = [", "{0}", LISTED), 10_000, "pets"),
     ("SDL, 1 MB", type_system, 1_000_000, "sdl"),
     ("queries, 1 MB", realistic, 1_000_000, "queries"),

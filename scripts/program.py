@@ -1,8 +1,8 @@
 """What the scripts at the top share: how a program is proved and built, and how it runs before any proof.
 
 A first proof runs `rt all check --jobs N` in the program's own folder. It proves the crates that the program stands on,
-no other one, and works on N of them at a time. `rt run` by itself proves one crate after the other. `rt all check` at the
-top proves every crate, and first looks at each program and each crate of tests in turn, which takes many minutes.
+no other one, and works on N of them at a time. `rt run` by itself proves one crate after the other. `rt all check` at
+the top proves every crate, and first looks at each program and each crate of tests in turn, which takes many minutes.
 """
 import os
 import re
@@ -270,7 +270,7 @@ class Program:
         return int(ended[2])
 
     def main(self, usage, reads_input):
-        """Does what the script's words ask for, and returns the status to end with. The usage comes before any proof."""
+        """Does what the script's words ask for, and returns the status to end with. Help comes before any proof."""
         words = sys.argv[1:]
         own = words[: words.index("--")] if "--" in words else words
         if {"-h", "--help"} & {*own}:
