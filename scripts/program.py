@@ -1,8 +1,8 @@
-"""What the scripts at the top share: how a program of this repository is proved and built, and how it runs before any proof.
+"""What the scripts at the top share: how a program is proved and built, and how it runs before any proof.
 
-A first proof runs `rt all check --jobs N` in the program's own folder. It proves the crates that the program stands on, no other one, and
-works on N of them at a time. `rt run` by itself proves one crate after the other, and `rt all check` at the top proves every crate, after
-a quick pass over each program and each crate of tests in turn.
+A first proof runs `rt all check --jobs N` in the program's own folder. It proves the crates that the program stands on,
+no other one, and works on N of them at a time. `rt run` by itself proves one crate after the other. `rt all check` at
+the top proves every crate, and first looks at each program and each crate of tests in turn, which takes many minutes.
 """
 import os
 import re
@@ -31,16 +31,19 @@ LEAST, MOST = 5, 60
 # The names that rt try keeps in the folder in which it runs a program.
 TAKEN = ("program", "stdin", "stdout", "stderr")
 
-# What rt try writes on the standard error: what the program writes there, and then lines of its own, of which the last has the program's status.
+# What rt try writes on the standard error: what the program writes there, and then lines of its own. The last of these
+# has the program's status.
 ENDED = re.compile(
-    rb"(?s)(.*?)(?:(?:rt: a check will|checked: ended|interpreter: no-answer|races: )[^\n]*\n)*run=ended status=(\d+) [^\n]*proved=no\n"
+    rb"(?s)(.*?)(?:(?:rt: a check will|checked: ended|interpreter: no-answer|races: )[^\n]*\n)*"
+    rb"run=ended status=(\d+) [^\n]*proved=no\n"
 )
 
 
 # What the usage of a program ends with.
 FIRST_CALL = """
-The first call proves and builds the program; it tells beforehand how long that takes. Later calls start at once.
-`./{0} --try ..` runs the program with nothing proved, in a minute or two. Status 125: the program was not built or could not run.
+The first call proves and builds the program, and says before how long that takes. Later calls start at once.
+`./{0} --try ..` runs the program at once, with nothing proved, in a minute or two.
+Status 125: the program was not built, or could not run.
 """
 
 
@@ -99,10 +102,11 @@ def processors():
 
 
 def minutes_left(crates, named, each, at_once):
-    """About how many minutes it takes to prove these crates, lowest first: no less than the longest chain of them takes."""
+    """About how many minutes it takes to prove these crates, lowest first: no less than their longest chain takes."""
     chains = {}
     for crate in crates:
-        chains[crate] = each[crate] + max((chains[it] for it in named[crate] if it in chains), default=0)
+        below = [chains[it] for it in named[crate] if it in chains]
+        chains[crate] = each[crate] + max(below, default=0)
     return max(sum(each[it] for it in crates) / at_once, max(chains.values(), default=0))
 
 
@@ -179,7 +183,7 @@ class Program:
         return all(time_of(it) < built for it in files)
 
     def build(self):
-        """Proves and builds the program where it is missing or older than its sources, and returns whether it stands."""
+        """Proves and builds the program if it is missing or older than its sources, and returns whether it stands."""
         named = uses()
         crates = stands_on(self.crate, named)
         if self.is_built(crates):
@@ -195,7 +199,8 @@ class Program:
             without_rt(self.script)
             return False
         if not self.binary.exists():
-            print("".join(open(log.name, encoding="utf-8", errors="replace").readlines()[-20:]), end="", file=sys.stderr)
+            said = Path(log.name).read_text("utf-8", "replace").splitlines()
+            print(*said[-20:], sep="\n", file=sys.stderr)
             self.say(f"not built; all that rt wrote is in {log.name}")
             return False
         os.unlink(log.name)
@@ -265,7 +270,7 @@ class Program:
         return int(ended[2])
 
     def main(self, usage, reads_input):
-        """Does what the words of the script ask for, and returns the status to end with. The usage is printed before any proof."""
+        """Does what the script's words ask for, and returns the status to end with. Help comes before any proof."""
         words = sys.argv[1:]
         own = words[: words.index("--")] if "--" in words else words
         if {"-h", "--help"} & {*own}:
