@@ -313,7 +313,7 @@ added_below old grown after others limit end added far same union counted =
     ∙ (ap (λ (b : Bool). (old n || (others n && b)) && not (old n)) (le-ltb n limit h)
     ∙ (ap (λ (b : Bool). (old n || b) && not (old n)) (and_none (others n)) ∙ or_new (old n) false))))
 
--- one union after another, of sets that the functions tell
+-- one union after another, of sets that the functions define
 module _ (old grown between after first second others : ℕ → Bool) (limit : ℕ) (same : (n : ℕ) → grown n ≡ old n)
     (one_union : (n : ℕ) → between n ≡ (grown n || first n)) (next_union : (n : ℕ) → after n ≡ (between n || second n))
     (both : (n : ℕ) → (first n || second n) ≡ (others n && nat_lt n limit)) where

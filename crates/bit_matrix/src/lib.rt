@@ -1,4 +1,4 @@
-//! Sets of small numbers, one bit each, and rows of such sets.
+//! Sets of small numbers, one bit for each, and matrices of bits, which grow row by row.
 #![tactic(auto)]
 
 pub mod rows;

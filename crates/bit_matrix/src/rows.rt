@@ -1,4 +1,4 @@
-//! Rows of sets of small numbers.
+//! A matrix of bits: a set of columns for each row.
 ghost use Rattle.std.specs.Prelude.{◌≡◌, ◌<◌, ◌&&◌, ◌||◌, ℕ, false, not, nat_lt, length, IsTrue, OnOk, OnErr, IfOk};
 ghost use Rattle.bit_matrix.specs.Count.{count_below};
 ghost use Rattle.bit_matrix.specs.Rows.{marked};
@@ -7,7 +7,7 @@ ghost use Rattle.bit_matrix.specs.Set.{has};
 use crate::set::BitSet;
 use std::alloc::{AllocError, Global};
 
-/// A set of numbers for each row. Rows without a member own no words.
+/// A set of columns for each row, both counted from 0. Empty rows own no words.
 #[derive(Drop)]
 pub struct BitRows {
     alloc: Global,
@@ -15,7 +15,7 @@ pub struct BitRows {
 }
 
 impl BitRows {
-    /// Rows with nothing in them.
+    /// A matrix whose rows are all empty.
     pub fn new(alloc: Global) -> BitRows
         ensures { (i j : ℕ) → marked result i j ≡ false }
     {
@@ -35,7 +35,11 @@ impl BitRows {
         }
     }
 
-    /// Adds a column to the set of a row. Without memory the sets stay as they were.
+    /// Adds a column to the set of a row.
+    ///
+    /// # Errors
+    ///
+    /// Out of memory; no set has changed then.
     pub fn insert(&mut self, row: usize, column: usize) -> Result<(), AllocError>
         ensures there { OnOk result (IsTrue (marked self.new row column)) }
         ensures others { (i j : ℕ) → ((i ≡ row) × (j ≡ column) → ⊥) → marked self.new i j ≡ marked self.old i j }
@@ -46,7 +50,12 @@ impl BitRows {
         Ok(())
     }
 
-    /// Adds to the set of a row the members of `columns` that are less than the row's number, and answers how many of them are new. Without memory the sets stay as they were.
+    /// Adds to the set of a row the members of `columns` that are less than the number of the row.
+    /// Returns how many of them are new.
+    ///
+    /// # Errors
+    ///
+    /// Out of memory; no set has changed then.
     pub fn insert_below(&mut self, row: usize, columns: &BitSet) -> Result<usize, AllocError>
         ensures row { OnOk result ((j : ℕ) → marked self.new row j
             ≡ (marked self.old row j || (has columns.now j && nat_lt j row))) }
@@ -59,7 +68,7 @@ impl BitRows {
         self.rows[row].insert_below(columns, row)
     }
 
-    // Makes the rows up to this one, with nothing in them.
+    // Adds empty rows up to this one.
     fn grow(&mut self, row: usize) -> Result<(), AllocError>
         ensures same { (i j : ℕ) → marked self.new i j ≡ marked self.old i j }
         ensures room { OnOk result (row < length self.new.rows.items) }

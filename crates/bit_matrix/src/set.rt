@@ -1,7 +1,6 @@
-//! A set of small numbers, one bit each.
+//! A set of small numbers, one bit for each.
 ghost use Rattle.std.specs.Prelude.{◌≡◌, ◌≢◌, ◌<◌, ◌≤◌, ◌+◌, ◌*◌, ◌/◌, ◌%◌, ◌^◌, ◌&&◌, ◌||◌, ℕ, false, not, nat_eq, nat_lt, length, IsTrue, OnOk, OnErr, IfOk};
-ghost use Rattle.bit_matrix.specs.Count.{count_below};
-ghost use Rattle.bit_matrix.specs.Set.{has, bit_of, is_bit};
+ghost use Rattle.bit_matrix.specs.Set.{has, bit_of, is_bit, new_below};
 
 use std::alloc::{AllocError, Global};
 
@@ -31,7 +30,11 @@ impl BitSet {
         }
     }
 
-    /// Adds a number, and answers whether it is new. Without memory the set stays as it was.
+    /// Adds a number. Returns whether it is new.
+    ///
+    /// # Errors
+    ///
+    /// Out of memory; the set has the same members then.
     pub fn insert(&mut self, n: usize) -> Result<bool, AllocError>
         ensures there { OnOk result (IsTrue (has self.new n)) }
         ensures others { (m : ℕ) → m ≢ n → has self.new m ≡ has self.old m }
@@ -45,11 +48,15 @@ impl BitSet {
         Ok(word & bit == 0)
     }
 
-    /// Adds the members of another set that are less than `limit`, and answers how many of them are new. Without memory the set stays as it was.
+    /// Adds the members of another set that are less than `limit`. Returns how many of them are new.
+    ///
+    /// # Errors
+    ///
+    /// Out of memory; the set has the same members then.
     pub fn insert_below(&mut self, others: &BitSet, limit: usize) -> Result<usize, AllocError>
         ensures union { OnOk result ((n : ℕ) → has self.new n
             ≡ (has self.old n || (has others.now n && nat_lt n limit))) }
-        ensures added { IfOk result (λ added. added ≡ count_below (λ n. has self.new n && not (has self.old n)) limit) }
+        ensures added { IfOk result (λ added. added ≡ new_below self.old self.new limit) }
         ensures err { OnErr result ((n : ℕ) → has self.new n ≡ has self.old n) }
     {
         let whole = others.words.len().min(limit / 64);
@@ -65,14 +72,14 @@ impl BitSet {
         Ok(before + last)
     }
 
-    /// Takes all numbers out. The room stays, for those that are added next.
+    /// Removes all numbers, and keeps the memory.
     pub fn clear(&mut self)
         ensures { (n : ℕ) → has self.new n ≡ false }
     {
         self.words.clear();
     }
 
-    // Gives the set this many words, with zeros for those that it lacks.
+    // Extends the words with zeros to this many.
     fn grow(&mut self, count: usize) -> Result<(), AllocError>
         requires { count ≤ 2 ^ 58 }
         ensures same { (m : ℕ) → has self.new m ≡ has self.old m }
@@ -84,7 +91,7 @@ impl BitSet {
         Ok(())
     }
 
-    // The word in which the limit lies, without the bits from the limit on.
+    // The word that contains the limit, without the bits from the limit on.
     fn word_below(&self, limit: usize) -> u64
         ensures { (n : ℕ) → n / 64 ≡ limit / 64 → is_bit result (n % 64) ≡ (has self.now n && nat_lt n limit) }
     {
@@ -94,13 +101,12 @@ impl BitSet {
         }
     }
 
-    // Adds the numbers of words that the set has room for, and answers how many of them are new.
+    // Adds the numbers of words that the set has room for. Returns how many of them are new.
     fn insert_words(&mut self, words: &[u64]) -> usize
         requires room { length words.now ≤ length self.old.words.items }
         requires few { length words.now < 2 ^ 58 }
         ensures union { (n : ℕ) → has self.new n ≡ (has self.old n || bit_of words.now n) }
-        ensures added { (end : ℕ) → 64 * length words.now ≤ end
-            → result ≡ count_below (λ n. has self.new n && not (has self.old n)) end }
+        ensures added { (end : ℕ) → 64 * length words.now ≤ end → result ≡ new_below self.old self.new end }
         ensures room { length self.new.words.items ≡ length self.old.words.items }
     {
         let mut added = 0;
@@ -110,12 +116,11 @@ impl BitSet {
         added
     }
 
-    // Adds the numbers of the word of this index, and answers how many of them are new.
+    // Adds the numbers of the word of this index. Returns how many of them are new.
     fn insert_word(&mut self, index: usize, word: u64) -> usize
         requires { index < length self.old.words.items }
         ensures union { (n : ℕ) → has self.new n ≡ (has self.old n || (nat_eq (n / 64) index && is_bit word (n % 64))) }
-        ensures added { (end : ℕ) → 64 * index + 64 ≤ end
-            → result ≡ count_below (λ n. has self.new n && not (has self.old n)) end }
+        ensures added { (end : ℕ) → 64 * index + 64 ≤ end → result ≡ new_below self.old self.new end }
         ensures room { length self.new.words.items ≡ length self.old.words.items }
     {
         let old = self.words[index];
@@ -124,7 +129,7 @@ impl BitSet {
     }
 }
 
-// The words up to the last that is not zero, since a set owns none after that.
+// The words without the zeros at their end, since a set owns no words after its greatest member.
 fn used(words: &[u64]) -> &[u64]
     ensures same { (n : ℕ) → bit_of result.now n ≡ bit_of words.now n }
     ensures within { length result.now ≤ length words.now }

@@ -2,7 +2,7 @@
 use Rattle.std.specs.Prelude.{ℕ, List, String}
 use Rattle.std.specs.declared.alloc.Global.{Global}
 use denote.Ref.{Bor}
-use Rattle.language.specs.declared.position.Spanning.{Spanning}
+pub use Rattle.language.specs.Position.{Placed}
 use Rattle.language.specs.declared.position.Span.{Span}
 use Rattle.language.specs.declared.tree.Definition.{Definition}
 use Rattle.language.specs.declared.tree.Operation.{Operation}
@@ -14,10 +14,6 @@ use Rattle.language.specs.declared.tree.Field.{Field}
 use Rattle.language.specs.declared.tree.FragmentSpread.{FragmentSpread}
 use Rattle.language.specs.declared.tree.InlineFragment.{InlineFragment}
 use Rattle.language.specs.declared.value.InputValue.{InputValue}
-
--- something with the stretch of the text where it stands
-abbrev pub Placed : Type 0 → Type 0
-Placed T = Spanning T Span
 
 -- a name with its place
 abbrev pub Name : Type 0

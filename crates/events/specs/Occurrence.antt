@@ -12,6 +12,7 @@ pub record Occurrence (S C : Type 0) : Type 0 where
   pub types : Typing S C
 
 module _ {S C : Type 0} where
+  -- the nodes of an outline, each before what stands in it
   abbrev pub occurrences_of : Outline S C → List (Occurrence S C)
   occurrences_of empty = []
   occurrences_of (entry node types inside after) =

@@ -58,16 +58,20 @@ module _ {S C : Type 0} where
   if_there f None = empty
   if_there f (Some x) = f x
 
+  -- the outlines of a list that may be missing
   abbrev pub each_if_there : {X : Type 0} → (X → Outline S C) → Option (Vec X Global) → Outline S C
   each_if_there f None = empty
   each_if_there f (Some xs) = each f xs.items
 
+  -- a value inside a list, as a node has it
   abbrev pub item_of : Placed (InputValue S × BelowValue S C) → Placed (InputValue S)
   item_of v = record { item = v.item.0; span = v.span }
 
+  -- an entry of an object, as a node has it
   abbrev pub entry_of : Placed (String Global) × Placed (InputValue S × BelowValue S C) → ObjectEntry S
   entry_of e = (e.0, item_of e.1)
 
+  -- one level of a value, by what was made of the values in it
   abbrev pub value_step : Catalog S C → opened_value.InputValue-F S (InputValue S × BelowValue S C) → BelowValue S C
   value_step schema opened_value.Null p t = node_with (Node.null_value p) t empty
   value_step schema (opened_value.Scalar s) p t = node_with (Node.scalar_value (record { item = s; span = p })) t empty
@@ -79,9 +83,11 @@ module _ {S C : Type 0} where
       node_with (Node.object_value (record { item = map entry_of es.items; span = p })) t
       (each (λ e. let u = at_object_field schema t (string_bytes e.0.item) in node_with (Node.object_field (entry_of e)) u (e.1.item.1 e.1.span u)) es.items)
 
+  -- a value, at the stretch where it stands
   abbrev pub outline_of_bare_value : Catalog S C → InputValue S → BelowValue S C
   outline_of_bare_value schema = para-InputValue S (BelowValue S C) (value_step schema)
 
+  -- a value that stands in the text
   abbrev pub outline_of_value : Catalog S C → Typing S C → Placed (InputValue S) → Outline S C
   outline_of_value schema t v = outline_of_bare_value schema v.item v.span t
 
@@ -95,6 +101,7 @@ module _ {S C : Type 0} where
   outline_of_argument schema arguments t a =
       let u = at_argument arguments t a.0.item.now in node_with (Node.argument a) u (outline_of_value schema u a.1)
 
+  -- each argument of a list, if there is one
   abbrev pub outline_of_arguments : Catalog S C → Option (List (Argument S)) → Typing S C → Option (Placed (Arguments S)) → Outline S C
   outline_of_arguments schema arguments t written =
       if_there (λ list. each (outline_of_argument schema arguments t) list.item.items.items) written
@@ -104,6 +111,7 @@ module _ {S C : Type 0} where
   outline_of_directive schema t d =
       node_with (Node.directive d) t (outline_of_arguments schema (directive_arguments schema d.item.name.item.now) t d.item.arguments)
 
+  -- each directive of a list, if there is one
   abbrev pub outline_of_directives : Catalog S C → Typing S C → Option (Vec (Placed (Directive S)) Global) → Outline S C
   outline_of_directives schema t written = each_if_there (outline_of_directive schema t) written
 
@@ -114,6 +122,7 @@ module _ {S C : Type 0} where
       node_with (Node.variable_definition d) u
       (beside (if_there (outline_of_value schema u) d.1.default_value) (outline_of_directives schema u d.1.directives))
 
+  -- each definition of a variable, if there is a list
   abbrev pub outline_of_variable_definitions : Catalog S C → Typing S C → Option (Placed (VariableDefinitions S)) → Outline S C
   outline_of_variable_definitions schema t written =
       if_there (λ list. each (outline_of_variable_definition schema t) list.item.items.items) written
@@ -122,6 +131,7 @@ module _ {S C : Type 0} where
   abbrev pub set_step : List (Selection S × Below S C) → Below S C
   set_step children t = node_with (Node.selection_set (map (λ c. c.0) children)) (at_set t) (each (λ c. c.1 (at_set t)) children)
 
+  -- a selection set that may be missing
   abbrev pub set_step_if_there : Option (Vec (Selection S × Below S C) Global) → Below S C
   set_step_if_there None t = empty
   set_step_if_there (Some children) t = set_step children.items t
@@ -136,9 +146,11 @@ module _ {S C : Type 0} where
   abbrev pub inline_step : Catalog S C → opened.InlineFragment-F S (Selection S × Below S C) (Field S × Below S C) (InlineFragment S × Below S C) → Below S C
   inline_step schema i t = beside (outline_of_directives schema t i.directives) (set_step i.selection_set.items t)
 
+  -- a spread: its directives
   abbrev pub outline_of_spread : Catalog S C → Typing S C → Placed (FragmentSpread S) → Outline S C
   outline_of_spread schema t s = node_with (Node.fragment_spread s) t (outline_of_directives schema t s.item.directives)
 
+  -- one level of a selection, by what was made of the selections in it
   abbrev pub selection_step : Catalog S C → opened.Selection-F S (Selection S × Below S C) (Field S × Below S C) (InlineFragment S × Below S C) → Below S C
   selection_step schema (opened.Field f) t =
       let u = at_field schema t f.item.0 in node_with (Node.field (record { item = f.item.0; span = f.span })) u (f.item.1 u)
@@ -146,6 +158,7 @@ module _ {S C : Type 0} where
   selection_step schema (opened.InlineFragment i) t =
       let u = at_inline schema t i.item.0 in node_with (Node.inline_fragment (record { item = i.item.0; span = i.span })) u (i.item.1 u)
 
+  -- a selection: a field, a spread or an inline fragment
   abbrev pub outline_of_selection : Catalog S C → Typing S C → Selection S → Outline S C
   outline_of_selection schema t s = para-Selection S (Below S C) (Below S C) (Below S C) (selection_step schema) (field_step schema) (inline_step schema) s t
 
@@ -188,6 +201,7 @@ module _ {S C : Type 0} where
       node_with (Node.fragment_definition f) u
       (beside (outline_of_directives schema u f.item.directives) (outline_of_set schema u f.item.selection_set.items))
 
+  -- an operation or a fragment
   abbrev pub outline_of_definition : Catalog S C → Typing S C → Definition S → Outline S C
   outline_of_definition schema t (definition.Operation o) = outline_of_operation schema t o
   outline_of_definition schema t (definition.Fragment f) = outline_of_fragment schema t f

@@ -30,6 +30,7 @@ module _ {S C : Type 0} where
   abbrev pub field_of : Option (MetaTypeOf S C) → List ℕ → Option (Field S)
   field_of parent name = option_and_then (field_named name) parent
 
+  -- the type of that field
   abbrev pub field_literal : Option (MetaTypeOf S C) → List ℕ → Option TypeShape
   field_literal parent name = option_map (λ f. shape f.field_type) (field_of parent name)
 

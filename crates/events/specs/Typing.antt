@@ -53,6 +53,7 @@ module _ {S C : Type 0} where
   at_condition schema t None = t
   at_condition schema t (Some name) = at_type schema t (Some (non_null_named name))
 
+  -- an inline fragment, by its condition
   abbrev pub at_inline : Catalog S C → Typing S C → InlineFragment S → Typing S C
   at_inline schema t i = at_condition schema t (option_map (λ c. c.item.now) i.type_condition)
 

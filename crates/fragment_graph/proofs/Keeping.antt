@@ -57,7 +57,7 @@ module _ {S : Type 0} where
   exact_by ds n name (Some k) h e = sym (defined_is ds name ((h.defined name).0 (k, e)))
   exact_by ds n name None h e = not_true (is_among (fragment_names ds) name) (λ t. let g = (h.defined name).1 (is_defined ds name t) in none_some g.0 (sym e ∙ g.1))
 
-  -- a name has a number just if it is one of the document's
+  -- a name has a number if and only if some fragment of the document has it
   pub exact : (ds : List (Definition S)) (n : Numbers) → NumbersOf ds n → (name : List ℕ) → is_some (number_of n name) ≡ is_among (fragment_names ds) name
   exact ds n h name = exact_by ds n name (number_of n name) h refl
 

@@ -61,7 +61,7 @@ pub record SearchedDocument {S : Type 0} (document : List (Definition S)) (c : D
   pub outcome : Searched c.graph.nodes.items c.outcome
   pub found : FindsCycles document (map name_and_place c.reports.items)
   pub reports : map name_and_place c.reports.items ≡ map (told c.graph.numbers) c.outcome.reports.items
-  -- there is no report just if there is no cycle
+  -- there is no report if and only if there is no cycle
   pub none : (c.outcome.reports.items ≡ []) ↔ HasNoCycle document
   -- each spread inside a fragment's definition was looked at once
   pub looked : c.outcome.looked ≡ length (fragment_spreads document)

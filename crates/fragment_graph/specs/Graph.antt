@@ -9,7 +9,7 @@ use Rattle.fragment_graph.specs.declared.search.Report.{Report}
 abbrev pub spreads_of : List Node → ℕ → List Spread
 spreads_of graph v = option_map_or (λ n. n.spreads.items) (slice_get graph v) []
 
--- How many spreads there are.
+-- The number of spreads.
 abbrev pub spread_count : List Node → ℕ
 spread_count [] = 0
 spread_count (n ∷ ns) = length n.spreads.items + spread_count ns
@@ -17,7 +17,7 @@ spread_count (n ∷ ns) = length n.spreads.items + spread_count ns
 abbrev pub Spreads : List Node → ℕ → ℕ → Type 0
 Spreads graph u v = (x : Spread) × Contains (spreads_of graph u) x × (x.target ≡ v)
 
--- A path of one spread or more.
+-- A path of at least one spread.
 pub data Path (graph : List Node) : ℕ → ℕ → Type 0 where
   step : {u v : ℕ} → Spreads graph u v → Path graph u v
   more : {u v w : ℕ} → Spreads graph u v → Path graph v w → Path graph u w
@@ -33,6 +33,6 @@ Named reports (more {v = v} s path) = Reported reports v ⊎ Named reports path
 abbrev pub LeadsTo : List Node → ℕ → ℕ → Type 0
 LeadsTo graph u v = (u ≡ v) ⊎ Path graph u v
 
--- The spread stands in the node, and its target is the node or leads back to it.
+-- The spread is one of the node, and its target is the node or leads back to it.
 abbrev pub IsTrueReport : List Node → Report → Type 0
 IsTrueReport graph r = Contains (spreads_of graph r.node) r.spread × LeadsTo graph r.spread.target r.node

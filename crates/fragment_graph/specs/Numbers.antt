@@ -32,6 +32,7 @@ HasNumber n name = (k : ℕ) × (number_of n name ≡ Some k)
 abbrev pub WellNumbered : Numbers → Type 0
 WellNumbered n = (name : List ℕ) (k : ℕ) → (number_of n name ≡ Some k) ↔ (slice_get (names_of n) k ≡ Some name)
 
+-- The definition is of a fragment of this name.
 abbrev pub IsNamed : {S : Type 0} → List ℕ → Definition S → Type 0
 IsNamed name (definition.Operation o) = ⊥
 IsNamed name (definition.Fragment f) = f.item.name.item.now ≡ name

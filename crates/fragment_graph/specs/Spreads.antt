@@ -14,6 +14,7 @@ pub record PlacedSpread : Type 0 where
   pub name : List ℕ
   pub place : SourcePosition
 
+-- Spreads in their order, with repeats.
 abbrev pub PlacedSpreads : Type 0
 PlacedSpreads = List PlacedSpread
 
@@ -23,9 +24,11 @@ selection_step (open_tree.Field f) = f.item
 selection_step (open_tree.FragmentSpread s) = record { name = s.item.name.item.now; place = s.span.start } ∷ []
 selection_step (open_tree.InlineFragment i) = i.item
 
+-- In a field: those of its selection set.
 abbrev pub field_step : {S : Type 0} → open_tree.Field-F S PlacedSpreads PlacedSpreads PlacedSpreads → PlacedSpreads
 field_step f = option_map_or (λ v. flat_map (λ ns. ns) v.items) f.selection_set []
 
+-- In an inline fragment: those of its selection set.
 abbrev pub inline_step : {S : Type 0} → open_tree.InlineFragment-F S PlacedSpreads PlacedSpreads PlacedSpreads → PlacedSpreads
 inline_step i = flat_map (λ ns. ns) i.selection_set.items
 
@@ -33,6 +36,7 @@ inline_step i = flat_map (λ ns. ns) i.selection_set.items
 abbrev pub placed_spreads_of : {S : Type 0} → Selection S → PlacedSpreads
 placed_spreads_of {S} = fold-Selection S PlacedSpreads PlacedSpreads PlacedSpreads selection_step field_step inline_step
 
+-- Those of each selection of a set.
 abbrev pub placed_spreads_of_all : {S : Type 0} → List (Selection S) → PlacedSpreads
 placed_spreads_of_all set = flat_map placed_spreads_of set
 
@@ -45,7 +49,7 @@ definition_spreads (definition.Fragment f) = placed_spreads_of_all f.item.select
 abbrev pub fragment_spreads : {S : Type 0} → List (Definition S) → PlacedSpreads
 fragment_spreads document = flat_map definition_spreads document
 
--- Those of a definition, if its fragment has the name.
+-- Those of a definition, if it is that of a fragment of the name.
 abbrev pub spreads_named : {S : Type 0} → List ℕ → Definition S → PlacedSpreads
 spreads_named name (definition.Operation o) = []
 spreads_named name (definition.Fragment f) = if bytes_eq f.item.name.item.now name then placed_spreads_of_all f.item.selection_set.items else []

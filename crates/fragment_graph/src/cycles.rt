@@ -1,4 +1,4 @@
-//! The cycles of a document's fragments.
+//! The cycles of the fragments of a document (section 5.5.2.2).
 ghost use Rattle.std.specs.Prelude.{◌≡◌, IfOk, map};
 ghost use Rattle.fragment_graph.specs.DocumentCycles.{SearchedDocument, name_and_place, told};
 ghost use Rattle.fragment_graph.specs.Numbers.{NumberedDefinitions};
@@ -11,14 +11,14 @@ use language::position::SourcePosition;
 use language::tree::Document;
 use std::alloc::{AllocError, Global};
 
-/// A fragment that leads back to itself, and the start of a spread inside it at which a cycle goes on.
+/// A fragment on a cycle, and the start of the spread inside it that continues the cycle.
 #[derive(Clone, Copy, Debug)]
 pub struct CycleReport<'a> {
     pub fragment: &'a str,
     pub place: SourcePosition,
 }
 
-/// A document's graph, what the search found in it, and its reports by names.
+/// The graph of a document, the result of the search in it, and the reports by name.
 #[derive(Drop)]
 pub struct DocumentCycles<'a> {
     pub graph: DocumentGraph<'a>,
@@ -26,7 +26,7 @@ pub struct DocumentCycles<'a> {
     pub reports: Vec<CycleReport<'a>>,
 }
 
-// A report by its fragment's name.
+// A report by the name of its fragment.
 fn tell<'a>(numbers: &Numbers<'a>, report: &Report) -> CycleReport<'a>
     ensures { name_and_place result ≡ told numbers.now report.now }
 {
@@ -36,7 +36,7 @@ fn tell<'a>(numbers: &Numbers<'a>, report: &Report) -> CycleReport<'a>
     }
 }
 
-// The reports by names.
+// The reports by name.
 fn tell_all<'a>(
     alloc: Global,
     numbers: &Numbers<'a>,
@@ -51,14 +51,18 @@ fn tell_all<'a>(
     Ok(all)
 }
 
-/// What the search of a graph found, and its reports by names.
+/// The result of the search in a graph, and the reports by name.
 #[derive(Drop)]
 pub struct GraphCycles<'a> {
     pub outcome: Outcome,
     pub reports: Vec<CycleReport<'a>>,
 }
 
-/// Searches the spreads of a document's graph, looking at each once.
+/// Searches the graph of a document for cycles. Looks at each spread once.
+///
+/// # Errors
+///
+/// Out of memory.
 pub fn search_named<'a>(
     alloc: Global,
     graph: &DocumentGraph<'a>,
@@ -72,7 +76,12 @@ pub fn search_named<'a>(
     Ok(GraphCycles { outcome, reports })
 }
 
-/// Searches the spreads inside a document's fragments, whose names are numbered, looking at each once (GraphQL October 2021, section 5.5.2.2).
+/// Searches the fragments of a document for cycles (section 5.5.2.2), by the numbers of their names.
+/// Looks at each spread once.
+///
+/// # Errors
+///
+/// Out of memory.
 pub fn search_document<'a, S>(
     alloc: Global,
     document: Document<'a, S>,

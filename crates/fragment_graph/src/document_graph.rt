@@ -1,4 +1,5 @@
-//! The graph of a document: its fragments by number, the spreads of all definitions of a name joined.
+//! The graph of a document: its nodes are the names of its fragments. The spreads of all definitions of
+//! a name are joined.
 ghost use Rattle.std.specs.Prelude.{◌≡◌, ℕ, ◌++◌, [], length, OnOk, IfOk, Some, map};
 ghost use Rattle.fragment_graph.specs.Graph.{spreads_of, spread_count};
 ghost use Rattle.fragment_graph.specs.Spreads.{placed_spreads_of, placed_spreads_of_all};
@@ -15,12 +16,12 @@ use std::alloc::{AllocError, Global};
 #[derive(Drop)]
 pub struct DocumentGraph<'a> {
     pub numbers: Numbers<'a>,
-    /// The number of each definition's name, by its place; an operation has none.
+    /// For each definition of the document, in order, the number of its name; `None` for an operation.
     pub defined: Vec<Option<usize>>,
     pub nodes: Vec<Node>,
 }
 
-// A spread with its target's number, which is past the last where no fragment has the name.
+// A spread with the number of its target, which is past the last if no fragment has the name.
 fn resolve<S>(numbers: &Numbers<'_>, spread: &Spanning<FragmentSpread<'_, S>>) -> Spread
     ensures { result
         ≡ resolved numbers.now (record { name = spread.now.item.name.item.now; place = spread.now.span.start }) }
@@ -31,7 +32,11 @@ fn resolve<S>(numbers: &Numbers<'_>, spread: &Spanning<FragmentSpread<'_, S>>) -
     }
 }
 
-/// Adds the spreads of a selection set, at any depth.
+/// Appends the spreads of a selection set, at any depth, in order.
+///
+/// # Errors
+///
+/// Out of memory.
 #[cycle(spreads)]
 pub fn add_spreads<S>(
     numbers: &Numbers<'_>,
@@ -86,7 +91,8 @@ fn empty_nodes(alloc: Global, count: usize) -> Result<Vec<Node>, AllocError>
     Ok(nodes)
 }
 
-// Adds spreads to a node's. The first get just the room that they want, since few fragments are defined twice.
+// Adds spreads to a node. The first get exactly the memory that they need, since few fragments are
+// defined twice.
 fn join_spreads(spreads: &[Spread], node: &mut Node) -> Result<(), AllocError>
     ensures { OnOk result (node.new.spreads.items ≡ node.old.spreads.items ++ spreads.now) }
 {
@@ -96,7 +102,7 @@ fn join_spreads(spreads: &[Spread], node: &mut Node) -> Result<(), AllocError>
     node.spreads.extend_from_slice(spreads)
 }
 
-// Adds the spreads of a definition to the node of its name, whose number this is.
+// Adds the spreads of a fragment to the node of this number.
 fn join_fragment<S>(
     numbers: &Numbers<'_>,
     fragment: &Spanning<Fragment<'_, S>>,
@@ -115,7 +121,7 @@ fn join_fragment<S>(
     join_spreads(found.as_slice(), &mut nodes[place])
 }
 
-// Adds the spreads of a definition, if it is a fragment's and has a number.
+// Adds the spreads of a definition, if it is a fragment with a number.
 fn join_definition<S>(
     numbers: &Numbers<'_>,
     definition: &Definition<'_, S>,
@@ -162,7 +168,11 @@ fn join_all<S>(
     Ok(nodes)
 }
 
-/// The graph of a document, whose names are numbered.
+/// The graph of a document, by the numbers of the names of its fragments.
+///
+/// # Errors
+///
+/// Out of memory.
 pub fn graph_of<'a, S>(
     alloc: Global,
     document: Document<'a, S>,

@@ -1,4 +1,4 @@
-//! The names of a document's fragments, kept for all that ask for them.
+//! The numbered names of the fragments of a document, shared by the rules.
 ghost use Rattle.std.specs.Prelude.{◌≡◌, true, IfOk, List, ℕ, Some, slice_get};
 ghost use Rattle.std.specs.Option.{is_some};
 ghost use Rattle.fragment_graph.specs.Numbers.{number_of, names_of, WellNumbered};
@@ -8,7 +8,7 @@ use crate::numbers::{NumberedNames, Numbers, name, name_count, number, number_na
 use language::tree::{Definition, Document};
 use std::alloc::{AllocError, Global};
 
-/// The names of a document's fragments, with their numbers, so that they are numbered once for all that ask.
+/// The numbered names of the fragments of a document, so that all rules together number them once.
 #[derive(Drop)]
 pub struct KeptNames<'a> {
     names: NumberedNames<'a>,
@@ -22,7 +22,11 @@ impl<'a> KeptNames<'a> {
     ghost use Rattle.fragment_graph.specs.KeptNames.{kept_by};
     ghost use Rattle.fragment_graph.specs.Numbers.{NumberedDefinitions};
 
-    /// The names of the fragments of a document.
+    /// Numbers the names of the fragments of a document.
+    ///
+    /// # Errors
+    ///
+    /// Out of memory.
     pub fn new<S>(
         alloc: Global,
         document: &'a [Definition<'_, S>],
@@ -33,14 +37,19 @@ impl<'a> KeptNames<'a> {
         Ok(KeptNames { names })
     }
 
-    /// Whether a fragment has the name.
+    /// Whether some fragment has this name.
     pub fn has(&self, name: &str) -> bool
         ensures { result ≡ is_among (kept_by self.now) name.now }
     {
         number(&self.names.numbers, name).is_some()
     }
 
-    /// The names of a document's fragments and their numbers: a copy of those that are kept, where they are this document's.
+    /// The numbered names of the fragments of a document: a copy of the kept names, if they are those of
+    /// this document.
+    ///
+    /// # Errors
+    ///
+    /// Out of memory.
     pub fn names_of<S>(
         &self,
         alloc: Global,
@@ -56,7 +65,7 @@ impl<'a> KeptNames<'a> {
     }
 }
 
-// The same numbers, in the same map.
+// The same numbers, which share the map.
 fn shared_numbers<'a>(numbers: &Numbers<'a>) -> Result<Numbers<'a>, AllocError>
     ensures numbers { IfOk result (λ n. (name : List ℕ) → number_of n name ≡ number_of numbers.now name) }
     ensures names { IfOk result (λ n. names_of n ≡ names_of numbers.now) }
@@ -74,14 +83,14 @@ fn copied<'a>(alloc: Global, names: &NumberedNames<'a>) -> Result<NumberedNames<
     Ok(NumberedNames { numbers, defined })
 }
 
-// Whether a number is that of a name.
+// Whether the name has this number.
 fn is_number(numbers: &Numbers<'_>, number: usize, named: &str) -> bool
     ensures { result ≡ true → slice_get (names_of numbers.now) number ≡ Some named.now }
 {
     number < name_count(numbers) && name(numbers, number) == named
 }
 
-// Whether this is the number of a definition's name: none for an operation.
+// Whether this is the number of the name of a definition: `None` for an operation.
 fn is_number_of<S>(
     numbers: &Numbers<'_>,
     number: Option<usize>,
@@ -98,7 +107,7 @@ fn is_number_of<S>(
     }
 }
 
-// Whether the names are those of a document, definition by definition.
+// Whether the numbered names are those of a document, definition by definition.
 fn are_numbers_of<S>(names: &NumberedNames<'_>, document: Document<'_, S>) -> bool
     ensures { result ≡ true → AreNumbersOf names.now.numbers names.now.defined.items document.now }
 {

@@ -1,4 +1,5 @@
-//! The search for fragments of a document that lead back to themselves, by one pass over their spreads.
+//! The graph of the fragments of a document, whose edges are their spreads, and the search for cycles
+//! in it (GraphQL, October 2021, section 5.5.2.2).
 #![tactic(auto)]
 
 pub mod cycles;

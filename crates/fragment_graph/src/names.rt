@@ -1,4 +1,4 @@
-//! How the names of a document's fragments are numbered and looked up.
+//! The numbering of the names of the fragments of a document.
 ghost use Rattle.std.specs.Prelude.{◌≡◌, [], length, OnOk, IfOk, Some, slice_get};
 ghost use Rattle.std.specs.Option.{unwrap_or};
 ghost use Rattle.name_tables.specs.Adding.{Adds};
@@ -11,14 +11,14 @@ use name_tables::map::NameMap;
 use std::alloc::{AllocError, Global};
 use std::rc::Rc;
 
-/// The number of a name.
+/// The number of a name, counted from 0, if some fragment has it.
 pub fn number(numbers: &Numbers<'_>, name: &str) -> Option<usize>
     ensures { result ≡ number_of numbers.now name.now }
 {
     numbers.map.index(name)
 }
 
-/// The name of a number, and an empty one for a number past the last.
+/// The name of a number; the empty string for a number past the last.
 pub fn name<'a>(numbers: &Numbers<'a>, number: usize) -> &'a str
     ensures { result.now ≡ unwrap_or (slice_get (names_of numbers.now) number) [] }
 {
@@ -28,14 +28,14 @@ pub fn name<'a>(numbers: &Numbers<'a>, number: usize) -> &'a str
     }
 }
 
-/// How many names there are.
+/// The number of distinct names.
 pub fn name_count(numbers: &Numbers<'_>) -> usize
     ensures { result ≡ length (names_of numbers.now) }
 {
     numbers.map.len()
 }
 
-// Adds a name, unless it is there; the index that it has now.
+// Adds a name, unless the map has it. Returns its index.
 fn add_name<'a>(map: &mut NameMap<'a, ()>, name: &'a str) -> Result<usize, AllocError>
     ensures adds { OnOk result (Adds name.entry tt map.old map.new) }
     ensures index { IfOk result (λ k. index_of map.new name.now ≡ Some k) }
@@ -47,7 +47,7 @@ fn add_name<'a>(map: &mut NameMap<'a, ()>, name: &'a str) -> Result<usize, Alloc
     }
 }
 
-// Adds the name of a definition, if it is a fragment's; the index that it has now.
+// Adds the name of a definition, if it is a fragment. Returns its index.
 fn add_definition<'a, S>(
     map: &mut NameMap<'a, ()>,
     definition: &'a Definition<'_, S>,
@@ -64,7 +64,11 @@ fn add_definition<'a, S>(
     }
 }
 
-/// The names of a document's fragments, numbered.
+/// Numbers the names of the fragments of a document, from 0 in the order in which they come first.
+///
+/// # Errors
+///
+/// Out of memory.
 pub fn number_names<'a, S>(
     alloc: Global,
     document: &'a [Definition<'_, S>],

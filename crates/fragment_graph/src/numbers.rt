@@ -1,18 +1,18 @@
-//! The names of a document's fragments, by number.
+//! The numbered names of the fragments of a document.
 pub use crate::names::{name, name_count, number, number_names};
 use name_tables::map::NameMap;
 use std::rc::Rc;
 
-/// Names by number, in the order in which they were met first. All that number the same names share one map.
+/// Names with their numbers, from 0 in the order in which the names come first. Copies share one map.
 #[derive(Drop)]
 pub struct Numbers<'a> {
     pub(crate) map: Rc<NameMap<'a, ()>>,
 }
 
-/// The names of a document's fragments, numbered, and the number of each definition's name.
+/// The numbered names of the fragments of a document, and the number of each of its definitions.
 #[derive(Drop)]
 pub struct NumberedNames<'a> {
     pub numbers: Numbers<'a>,
-    /// By the definitions' places in the document; an operation has none.
+    /// For each definition of the document, in order, the number of its name; `None` for an operation.
     pub defined: Vec<Option<usize>>,
 }

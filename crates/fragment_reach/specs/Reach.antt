@@ -1,6 +1,7 @@
 -- Scopes of a document, and which of them an operation reaches.
 use Rattle.std.specs.Prelude.{ℕ, List, [], Option, Some, None, Bool, true, false, option_map, if◌then◌else◌}
 use Rattle.std.specs.List.{Contains, flat_map}
+use Rattle.std.specs.Option.{option_eq}
 use Rattle.std.specs.Str.{bytes_eq}
 use Rattle.language.specs.declared.tree.Definition.{Definition}
 use Rattle.language.specs.declared.tree.Definition.TheVariants as definition
@@ -11,11 +12,9 @@ pub data ScopeName : Type 0 where
   operation : Option (List ℕ) → ScopeName
   fragment : List ℕ → ScopeName
 
+-- Both have one name, or neither has a name.
 abbrev pub same_name : Option (List ℕ) → Option (List ℕ) → Bool
-same_name None None = true
-same_name None (Some b) = false
-same_name (Some a) None = false
-same_name (Some a) (Some b) = bytes_eq a b
+same_name = option_eq bytes_eq
 
 module _ {S : Type 0} where
   -- The spreads inside an operation.

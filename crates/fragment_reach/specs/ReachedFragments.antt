@@ -6,10 +6,10 @@ use Rattle.fragment_reach.specs.declared.reached.ReachedFragments.{ReachedFragme
 use Rattle.fragment_reach.specs.Reach.{IsReached}
 use Rattle.fragment_reach.specs.Search.{IsMarked}
 
--- The name's number has a mark.
+-- The number of the name is marked.
 abbrev pub IsNameMarked : ReachedFragments → List ℕ → Type 0
 IsNameMarked r name = (k : ℕ) × (number_of r.graph.now.numbers name ≡ Some k) × IsMarked r.marks.items k
 
--- Of the document's fragments just those have marks that some operation reaches.
+-- A fragment of the document is marked if and only if some operation reaches it.
 abbrev pub ReachedOf : {S : Type 0} → List (Definition S) → ReachedFragments → Type 0
 ReachedOf document r = (name : List ℕ) → Defines document name → IsNameMarked r name ↔ IsReached document name

@@ -48,7 +48,7 @@ pub record Marks (xs : List Spread) (order : List ℕ) (marks : List Bool) (orde
   pub here : (x : Spread) → Contains xs x → x.target < length marks → IsMarked marks' x.target
   pub only : (v : ℕ) → IsMarked marks' v → IsMarked marks v ⊎ ((x : Spread) × Contains xs x × (x.target ≡ v))
 
--- What holds where the spreads of the first so many listed nodes were looked at.
+-- What holds when the spreads of the first nodes of the list were looked at.
 pub record Searching (graph : List Node) (starts : List Spread) (order : List ℕ) (marks : List Bool) (next : ℕ) : Type 0 where
   pub well : WellMarked order marks
   pub sized : length marks ≡ length graph

@@ -1,4 +1,4 @@
-//! Which fragments of a document its operations reach by spreads.
+//! The fragments of a document that its operations reach through spreads.
 #![tactic(auto)]
 
 pub mod reached;

@@ -1,11 +1,11 @@
-//! The search for the nodes of a graph that are reached from some spreads.
+//! The search for the nodes of a graph that are reachable from some spreads.
 ghost use Rattle.std.specs.Prelude.{◌≡◌, ◌∷◌, [], length, false, Some, OnOk, IfOk, IsTrue, ◌↔◌, slice_get, slice_set};
 ghost use Rattle.fragment_reach.specs.Search.{IsClear, IsMarked, Marks, MarksReached, WellMarked};
 
 use fragment_graph::graph::{Node, Spread, spreads};
 use std::alloc::{AllocError, Global};
 
-// Whether the number is a node's that has no mark.
+// Whether there is a node of this number, without a mark.
 fn is_unmarked(marks: &[bool], node: usize) -> bool
     ensures { IsTrue result ↔ (slice_get marks.now node ≡ Some false) }
 {
@@ -15,7 +15,7 @@ fn is_unmarked(marks: &[bool], node: usize) -> bool
     }
 }
 
-/// Whether the number is that of a node with a mark.
+/// Whether there is a node of this number, with a mark.
 pub fn is_marked(marks: &[bool], node: usize) -> bool
     ensures { IsTrue result ↔ IsMarked marks.now node }
 {
@@ -25,7 +25,7 @@ pub fn is_marked(marks: &[bool], node: usize) -> bool
     }
 }
 
-// Marks the target of a spread, if it is a node, and lists it, unless it has a mark.
+// Marks the target of a spread and appends it to the list, if it is a node without a mark.
 fn mark(spread: Spread, order: &mut Vec<usize>, marks: &mut Vec<bool>) -> Result<(), AllocError>
     requires { WellMarked order.old.items marks.old.items }
     ensures marks { OnOk result (Marks (spread ∷ []) order.old.items marks.old.items order.new.items marks.new.items) }
@@ -38,7 +38,7 @@ fn mark(spread: Spread, order: &mut Vec<usize>, marks: &mut Vec<bool>) -> Result
     Ok(())
 }
 
-// Marks the targets of these.
+// Marks the targets of these spreads.
 fn mark_all(
     spreads: &[Spread],
     order: &mut Vec<usize>,
@@ -54,8 +54,12 @@ fn mark_all(
     Ok(())
 }
 
-/// Marks the nodes that are reached from these spreads, where no node has a mark, and lists them; the spreads of each are looked at
-/// once.
+/// Marks the nodes that are reachable from these spreads, and lists them. No node may have a mark
+/// before. Looks at the spreads of each node once.
+///
+/// # Errors
+///
+/// Out of memory.
 pub fn explore(
     graph: &[Node],
     starts: &[Spread],
@@ -76,7 +80,7 @@ pub fn explore(
     Ok(())
 }
 
-// Takes the mark from a node.
+// Removes the mark of a node.
 fn unmark(marks: &mut Vec<bool>, node: usize)
     ensures { marks.new.items ≡ slice_set marks.old.items node false }
 {
@@ -85,7 +89,7 @@ fn unmark(marks: &mut Vec<bool>, node: usize)
     }
 }
 
-/// Takes the marks from the nodes that are listed, and lists none.
+/// Removes the marks of all nodes in the list, and empties the list.
 pub fn forget(order: &mut Vec<usize>, marks: &mut Vec<bool>)
     requires { WellMarked order.old.items marks.old.items }
     ensures { IsClear (length marks.old.items) order.new.items marks.new.items }
@@ -95,7 +99,11 @@ pub fn forget(order: &mut Vec<usize>, marks: &mut Vec<bool>)
     }
 }
 
-/// Marks the nodes that are reached from these spreads; the spreads of each are looked at once.
+/// Marks the nodes that are reachable from these spreads. Looks at the spreads of each node once.
+///
+/// # Errors
+///
+/// Out of memory.
 pub fn mark_reached(
     alloc: Global,
     graph: &[Node],

@@ -1,22 +1,22 @@
-//! Why a text could not be read.
+//! Why a text can't be read.
 use language::error::OutOfMemory;
 use language::position::SourcePosition;
 use std::alloc::{AllocError, AllocFailed};
 use std::error::Error;
 use std::fmt;
 
-/// What stands in a text where something else was expected.
+/// What was found in a text where something else was expected.
 #[derive(Clone, Copy, Debug, PartialEq, Eq)]
 pub enum Found<'a> {
     /// A punctuator, a name or a number.
     Text(&'a str),
     /// A string.
     String,
-    /// A character inside a token, or one that begins none.
+    /// A character that doesn't fit inside a token, or that begins no token.
     Character(char),
-    /// Bytes that are no UTF-8.
+    /// Bytes that are not valid UTF-8.
     Bytes,
-    /// The text has ended.
+    /// The end of the text.
     End,
 }
 
@@ -26,34 +26,53 @@ impl fmt::Display for Found<'_> {
             Found::Text(text) => write!(f, "\"{text}\""),
             Found::String => f.write_str("a string"),
             Found::Character(character) => write!(f, "{character:?}"),
-            Found::Bytes => f.write_str("bytes that are no UTF-8"),
+            Found::Bytes => f.write_str("bytes that are not valid UTF-8"),
             Found::End => f.write_str("the end of the text"),
         }
     }
 }
 
-/// A text is no document: where that shows, what was expected there and what was found.
+/// What is wrong at a position of a text.
+#[derive(Clone, Copy, Debug, PartialEq, Eq)]
+pub enum SyntaxFault<'a> {
+    /// What was expected there, and what was found.
+    Unexpected(&'static str, Found<'a>),
+    /// Selection sets, or lists and objects of a value, nest deeper than this limit allows.
+    TooDeep(usize),
+}
+
+impl fmt::Display for SyntaxFault<'_> {
+    fn fmt<W: fmt::Write>(&self, f: &mut fmt::Formatter<W>) -> fmt::Result {
+        match self {
+            SyntaxFault::Unexpected(expected, found) => {
+                write!(f, "expected {expected}, found {found}")
+            }
+            SyntaxFault::TooDeep(limit) => write!(f, "nested more than {limit} levels deep"),
+        }
+    }
+}
+
+/// A syntax error: the first fault of a text, and its position (0-based index, line and column, in bytes).
 #[derive(Clone, Copy, Debug, PartialEq, Eq)]
 pub struct SyntaxError<'a> {
     pub position: SourcePosition,
-    pub expected: &'static str,
-    pub found: Found<'a>,
+    pub fault: SyntaxFault<'a>,
 }
 
 impl fmt::Display for SyntaxError<'_> {
     fn fmt<W: fmt::Write>(&self, f: &mut fmt::Formatter<W>) -> fmt::Result {
-        write!(f, "expected {}, found {}", self.expected, self.found)
+        write!(f, "{}", self.fault)
     }
 }
 
 impl Error for SyntaxError<'_> {}
 
-/// Why a text could not be read.
+/// Why a text can't be read.
 #[derive(Clone, Copy, Debug, PartialEq, Eq)]
 pub enum ReadError<'a> {
-    /// The text is no document.
+    /// The text has a syntax error.
     Syntax(SyntaxError<'a>),
-    /// A request for memory was refused, so nothing is known of the text.
+    /// Out of memory; nothing is known of the text.
     OutOfMemory,
 }
 

@@ -26,21 +26,21 @@ pub enum Token<'a> {
     Punctuator(Punctuator),
     /// A name (section 2.1.9).
     Name(&'a str),
-    /// An integer as it is written (section 2.9.1).
+    /// An integer as written (section 2.9.1).
     Int(&'a str),
-    /// A number with a fraction or an exponent, as it is written (section 2.9.2).
+    /// A number with a fraction or an exponent, as written (section 2.9.2).
     Float(&'a str),
-    /// What stands between the quotes of a string, escapes as they are written (section 2.9.4).
+    /// The text between the quotes of a string, with its escapes as written (section 2.9.4).
     String(&'a str),
-    /// What stands between the quotes of a block string (section 2.9.4).
+    /// The text between the quotes of a block string (section 2.9.4).
     BlockString(&'a str),
-    /// The text has ended.
+    /// The end of the text.
     End,
-    /// No token: what was expected where its length ends.
+    /// No valid token: what was expected at the byte after its length.
     Fault(&'static str),
 }
 
-/// The token at the front of a text, and how many bytes it takes.
+/// The token at the start of a text, and its length in bytes. Ignored tokens (section 2.1.7) must be skipped before.
 pub fn token_at(text: &[u8]) -> (Token<'_>, usize) {
     match text.first() {
         None => (Token::End, 0),
@@ -89,8 +89,7 @@ fn name_at(text: &[u8]) -> (Token<'_>, usize) {
     }
 }
 
-// A number takes a sign, a whole part without a zero before another digit, a fraction and an exponent; then no letter, digit or
-// point may follow.
+// A sign, a whole part without a leading zero, a fraction and an exponent; no letter, digit or point may follow.
 fn number_at(text: &[u8]) -> (Token<'_>, usize) {
     let sign: usize = if text.starts_with(b"-") { 1 } else { 0 };
     let whole = sign.saturating_add(whole_digits(rest(text, sign)));
@@ -107,7 +106,7 @@ fn number_at(text: &[u8]) -> (Token<'_>, usize) {
     }
 }
 
-// The number of this length, of which the whole part takes so many bytes.
+// The number of this length, whose whole part takes `whole` bytes.
 fn number_of(text: &[u8], length: usize, whole: usize) -> (Token<'_>, usize) {
     match rest(text, length).first() {
         Some(byte) if is_number_byte(*byte) => (Token::Fault("the end of the number"), length),
@@ -119,7 +118,7 @@ fn number_of(text: &[u8], length: usize, whole: usize) -> (Token<'_>, usize) {
     }
 }
 
-// How many digits of a whole part are at the front: a zero stands alone.
+// The number of digits of a whole part: a leading zero stands alone.
 fn whole_digits(text: &[u8]) -> usize {
     match text.first() {
         Some(b'0') => 1,
@@ -127,7 +126,7 @@ fn whole_digits(text: &[u8]) -> usize {
     }
 }
 
-// How many bytes a fraction takes, none where no point is ahead, and no answer where no digit follows the point.
+// The length of a fraction: 0 without a point, and `None` if no digit follows the point.
 fn after_point(text: &[u8]) -> Option<usize> {
     if !text.starts_with(b".") {
         return Some(0);
@@ -138,7 +137,7 @@ fn after_point(text: &[u8]) -> Option<usize> {
     }
 }
 
-// How many bytes an exponent takes, none where none is ahead; where a digit is missing, how many stand before its place.
+// The length of an exponent, 0 if there is none; if a digit is missing, the number of bytes before it.
 fn after_exponent(text: &[u8]) -> Result<usize, usize> {
     let lead: usize = match text {
         [b'e' | b'E', b'+' | b'-', ..] => 2,
@@ -173,7 +172,7 @@ fn any_string_at(text: &[u8]) -> (Token<'_>, usize) {
     }
 }
 
-// How many bytes stand before a string's closing quote, or before what no string may hold.
+// The number of bytes before a string's closing quote, or before a byte that no string may hold.
 fn string_length(body: &[u8]) -> usize {
     let mut length: usize = 0;
     let mut is_escaped = false;
@@ -203,8 +202,8 @@ fn block_string_at(text: &[u8]) -> (Token<'_>, usize) {
     }
 }
 
-// How many bytes stand before a block string's closing quotes, or before what no source text may hold. Three quotes after a
-// backslash close nothing.
+// The number of bytes before a block string's closing quotes, or before a byte that no source text may hold.
+// Three quotes after a backslash are part of the text.
 fn block_length(body: &[u8]) -> usize {
     let mut length: usize = 0;
     let mut quotes: usize = 0;
@@ -227,17 +226,17 @@ fn block_length(body: &[u8]) -> usize {
     length
 }
 
-// Whether a source text may not hold the byte (section 2.1.1).
+// Whether no source text may hold the byte (section 2.1.1).
 fn is_refused(byte: u8) -> bool {
     byte < b' ' && !matches!(byte, b'\t' | b'\n' | b'\r')
 }
 
-// The text after so many bytes.
+// The text after `length` bytes.
 fn rest(text: &[u8], length: usize) -> &[u8] {
     text.get(length..).unwrap_or(&[])
 }
 
-// The text of so many bytes at the front, if there are so many and they are text.
+// The first `length` bytes as text, if there are that many and they are valid UTF-8.
 fn front(text: &[u8], length: usize) -> Option<&str> {
     str::from_utf8(text.get(..length)?).ok()
 }

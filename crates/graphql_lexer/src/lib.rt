@@ -1,7 +1,9 @@
-//! The tokens of a GraphQL text (October 2021, sections 2.1 and 2.9), with their places, and the values of strings.
+//! The tokens of a GraphQL text (October 2021, sections 2.1 and 2.9) with their positions, and the values of strings.
 //!
-//! Places count bytes, from 0: the index from the start of the text, the column from the start of the line. A line ends with a
-//! line feed, a carriage return, or both in this order.
+//! Positions count bytes from 0: the index from the start of the text, the column from the start of the line.
+//! A line ends with a line feed, a carriage return, or both in this order.
+//!
+//! Proved of every call: it is safe and returns, whatever the text.
 #![tactic(auto)]
 
 pub mod error;

@@ -5,31 +5,36 @@ use std::alloc::Global;
 /// Why a string has no value.
 #[derive(Clone, Copy, Debug)]
 pub enum StringError {
-    /// What was expected, after so many bytes of what stands between the quotes.
+    /// The 0-based byte index between the quotes, and what was expected there.
     Escape(usize, &'static str),
-    /// A request for memory was refused.
+    /// Out of memory.
     OutOfMemory,
 }
 
-// What stands before a character of a string.
+// The escape sequence that a character of a string continues.
 #[derive(Clone, Copy, Debug)]
 enum Before {
-    // Nothing that it belongs to.
+    // None.
     Nothing,
     // A backslash.
     Backslash,
-    // The `\u` of so many hexadecimal digits more, the number that they make so far, and the first half of a pair before it.
+    // `\u`: how many hexadecimal digits are missing, their value so far, and the first half of a surrogate pair
+    // before it.
     Digits(u32, u32, Option<u32>),
-    // The first half of a pair.
+    // The first half of a surrogate pair.
     Half(u32),
-    // The first half of a pair, and a backslash.
+    // The first half of a surrogate pair and a backslash.
     HalfBackslash(u32),
 }
 
-// What a character leaves behind: what stands before the next one, and the character that is written.
+// What the next character continues, and the character to write; or what was expected.
 type Step = Result<(Before, Option<char>), &'static str>;
 
-/// The value of a string, from what stands between its quotes.
+/// The value of a string, given the text between its quotes (section 2.9.4).
+///
+/// # Errors
+///
+/// An escape sequence is invalid, or out of memory.
 pub fn string_value(alloc: Global, raw: &str) -> Result<String, StringError> {
     let mut text = String::new(alloc);
     let mut before = Before::Nothing;
@@ -102,7 +107,7 @@ fn digit_taken(left: u32, number: u32, digit: u32, half: Option<u32>) -> Step {
     }
 }
 
-// A unit of UTF-16 that stands alone or is the first half of a pair.
+// A UTF-16 code unit that is a character or the first half of a surrogate pair.
 fn first_unit(unit: u32) -> Step {
     if matches!(unit, 0xD800..=0xDBFF) {
         return Ok((Before::Half(unit), None));
@@ -126,8 +131,14 @@ fn pair(first: u32, second: u32) -> Step {
     }
 }
 
-/// The value of a block string, from what stands between its quotes: without the blanks that its lines but the first begin with
-/// alike, without blank lines at its start and end, its lines ended by line feeds.
+/// The value of a block string, given the text between its quotes (section 2.9.4).
+///
+/// The common indentation of all lines but the first is removed, and so are blank lines at both ends. Lines end with
+/// line feeds.
+///
+/// # Errors
+///
+/// Out of memory.
 pub fn block_string_value(alloc: Global, raw: &str) -> Result<String, OutOfMemory> {
     let lines = lines_of(alloc, raw)?;
     let indent = common_indent(lines.as_slice());
@@ -144,7 +155,7 @@ pub fn block_string_value(alloc: Global, raw: &str) -> Result<String, OutOfMemor
     Ok(text)
 }
 
-// The lines of a text, without what ends them.
+// The lines of a text, without their line terminators.
 fn lines_of(alloc: Global, raw: &str) -> Result<Vec<&str>, OutOfMemory> {
     let mut lines = Vec::new(alloc);
     let mut start: usize = 0;
@@ -163,7 +174,7 @@ fn lines_of(alloc: Global, raw: &str) -> Result<Vec<&str>, OutOfMemory> {
     Ok(lines)
 }
 
-// How many blanks all lines but the first begin with, of those that hold more than blanks.
+// The common indentation of all lines that are not blank, except the first line.
 fn common_indent(lines: &[&str]) -> usize {
     let mut common: Option<usize> = None;
     for line in lines.get(1..).unwrap_or(&[]) {
@@ -187,12 +198,12 @@ fn is_blank_line(line: &str) -> bool {
     leading_blanks(line) == line.len()
 }
 
-// The number of the first line that holds more than blanks, or how many lines there are.
+// The index of the first line that is not blank, or the number of lines.
 fn first_written(lines: &[&str]) -> usize {
     lines.iter().take_while(|line| is_blank_line(line)).count()
 }
 
-// The number after that of the last line that holds more than blanks.
+// The index after the last line that is not blank.
 fn after_last_written(lines: &[&str]) -> usize {
     let blank = lines
         .iter()
@@ -202,7 +213,7 @@ fn after_last_written(lines: &[&str]) -> usize {
     lines.len().saturating_sub(blank)
 }
 
-// A line without the common blanks, which the first line keeps.
+// A line without the common indentation, which the first line keeps.
 fn without_indent(line: &str, index: usize, indent: usize) -> &str {
     if index == 0 {
         line
@@ -211,7 +222,7 @@ fn without_indent(line: &str, index: usize, indent: usize) -> &str {
     }
 }
 
-// Writes a line, three quotes for an escaped three.
+// Writes a line, in which an escaped triple quote stands for three quotes.
 fn write_line(text: &mut String, line: &str) -> Result<(), OutOfMemory> {
     for (index, piece) in line.split("\\\"\"\"").enumerate() {
         if index > 0 {

@@ -1,24 +1,24 @@
-//! The tokens of a text, one ahead (GraphQL, October 2021, section 2.1).
-use crate::error::{Found, ReadError, SyntaxError};
+//! The tokens of a text, with a lookahead of one (GraphQL, October 2021, section 2.1).
+use crate::error::{Found, ReadError, SyntaxError, SyntaxFault};
 use crate::lexer::{Punctuator, Token, token_at};
 use language::position::{SourcePosition, Span, Spanning};
 use std::alloc::Global;
 use std::str;
 
-/// The tokens of a text that are left.
+/// The remaining tokens of a text.
 #[derive(Drop)]
 pub struct Tokens<'a> {
     alloc: Global,
     text: &'a [u8],
-    // Where the text after the token ahead starts.
+    // The index after the next token.
     index: usize,
     line: usize,
     line_start: usize,
-    // Whether the byte before is a carriage return.
+    // Whether the previous byte is a carriage return.
     after_return: bool,
     ahead: Token<'a>,
     span: Span,
-    // Where the token ends that was taken last.
+    // The end of the token that was taken last.
     last_end: SourcePosition,
 }
 
@@ -41,27 +41,27 @@ impl<'a> Tokens<'a> {
         tokens
     }
 
-    /// Where memory is asked for.
+    /// The allocator.
     pub fn alloc(&self) -> Global {
         self.alloc
     }
 
-    /// The token ahead.
+    /// The next token.
     pub fn ahead(&self) -> Token<'a> {
         self.ahead
     }
 
-    /// Where the token ahead starts.
+    /// The start of the next token.
     pub fn start(&self) -> SourcePosition {
         self.span.start
     }
 
-    /// The stretch of the token ahead.
+    /// The span of the next token.
     pub fn span(&self) -> Span {
         self.span
     }
 
-    /// From a place to the end of the token that was taken last.
+    /// The span from a position to the end of the token that was taken last.
     pub fn span_from(&self, start: SourcePosition) -> Span {
         Span {
             start,
@@ -69,33 +69,42 @@ impl<'a> Tokens<'a> {
         }
     }
 
-    /// More than the number of tokens, since each takes a byte: a bound for loops that is never met.
+    /// A bound for loops over tokens, never reached: each token takes a byte.
     pub fn bound(&self) -> usize {
         self.text.len().saturating_add(1)
     }
 
-    /// Whether the text has ended.
+    /// Whether no token is left.
     pub fn is_at_end(&self) -> bool {
         matches!(self.ahead, Token::End)
     }
 
-    /// The error that something else is ahead than was expected.
+    /// The error that the next token is not what was expected.
     pub fn fault(&self, expected: &'static str) -> ReadError<'a> {
         match self.ahead {
             Token::Fault(wanted) => ReadError::Syntax(SyntaxError {
                 position: self.span.end,
-                expected: wanted,
-                found: character_at(self.text, self.span.end.index()),
+                fault: SyntaxFault::Unexpected(
+                    wanted,
+                    character_at(self.text, self.span.end.index()),
+                ),
             }),
             _ => ReadError::Syntax(SyntaxError {
                 position: self.span.start,
-                expected,
-                found: self.found(),
+                fault: SyntaxFault::Unexpected(expected, self.found()),
             }),
         }
     }
 
-    // What is ahead.
+    /// The error that the next token opens one level more than the limit allows.
+    pub fn too_deep(&self, limit: usize) -> ReadError<'a> {
+        ReadError::Syntax(SyntaxError {
+            position: self.span.start,
+            fault: SyntaxFault::TooDeep(limit),
+        })
+    }
+
+    // The next token, as an error shows it.
     fn found(&self) -> Found<'a> {
         match self.ahead {
             Token::End => Found::End,
@@ -112,7 +121,7 @@ impl<'a> Tokens<'a> {
         }
     }
 
-    /// Takes the token ahead.
+    /// Takes the next token.
     pub fn advance(&mut self) {
         self.last_end = self.span.end;
         let ignored = ignored_length(self.text.get(self.index..).unwrap_or(&[]));
@@ -127,7 +136,7 @@ impl<'a> Tokens<'a> {
         };
     }
 
-    // Goes past so many bytes.
+    // Moves on by `length` bytes.
     fn pass(&mut self, length: usize) {
         let end = self.index.saturating_add(length);
         for byte in self.text.get(self.index..end).unwrap_or(&[]) {
@@ -147,12 +156,12 @@ impl<'a> Tokens<'a> {
         SourcePosition::new(self.index, self.line, column)
     }
 
-    /// Whether this punctuator is ahead.
+    /// Whether this punctuator is next.
     pub fn is(&self, punctuator: Punctuator) -> bool {
         matches!(self.ahead, Token::Punctuator(ahead) if ahead == punctuator)
     }
 
-    /// Takes this punctuator, if it is ahead.
+    /// Takes this punctuator if it is next, and returns whether it was.
     pub fn take(&mut self, punctuator: Punctuator) -> bool {
         let is_ahead = self.is(punctuator);
         if is_ahead {
@@ -161,7 +170,11 @@ impl<'a> Tokens<'a> {
         is_ahead
     }
 
-    /// Takes this punctuator, or tells that something else is ahead.
+    /// Takes this punctuator.
+    ///
+    /// # Errors
+    ///
+    /// Something else is next; nothing is taken then.
     pub fn expect(
         &mut self,
         punctuator: Punctuator,
@@ -175,6 +188,10 @@ impl<'a> Tokens<'a> {
     }
 
     /// Takes a name.
+    ///
+    /// # Errors
+    ///
+    /// Something else is next; nothing is taken then.
     pub fn name(&mut self, expected: &'static str) -> Result<Spanning<&'a str>, ReadError<'a>> {
         match self.ahead {
             Token::Name(item) => {
@@ -186,7 +203,7 @@ impl<'a> Tokens<'a> {
         }
     }
 
-    /// Whether this name is ahead.
+    /// Whether this name is next.
     pub fn is_word(&self, word: &str) -> bool {
         match self.ahead {
             Token::Name(name) => name == word,
@@ -194,7 +211,7 @@ impl<'a> Tokens<'a> {
         }
     }
 
-    /// Takes this name, if it is ahead.
+    /// Takes this name if it is next, and returns whether it was.
     pub fn take_word(&mut self, word: &str) -> bool {
         let is_ahead = self.is_word(word);
         if is_ahead {
@@ -204,6 +221,10 @@ impl<'a> Tokens<'a> {
     }
 
     /// Takes a variable: `$` and its name. Its span starts at the `$`.
+    ///
+    /// # Errors
+    ///
+    /// Something else is next, or no name follows the `$`, which is taken then.
     pub fn variable(&mut self) -> Result<Spanning<&'a str>, ReadError<'a>> {
         let start = self.start();
         self.expect(Punctuator::Dollar, "a variable")?;
@@ -215,7 +236,7 @@ impl<'a> Tokens<'a> {
     }
 }
 
-// How many bytes of blanks, commas, ends of lines, comments and byte order marks are at the front.
+// The number of leading bytes that are ignored: white space, line terminators, commas, comments, byte order marks.
 fn ignored_length(text: &[u8]) -> usize {
     let mut length: usize = 0;
     let mut is_comment = false;
@@ -233,7 +254,7 @@ fn ignored_length(text: &[u8]) -> usize {
     length
 }
 
-// Whether the byte at an index is one of a byte order mark.
+// Whether the byte at an index is part of a byte order mark.
 fn is_mark(text: &[u8], index: usize, byte: u8) -> bool {
     let back: usize = match byte {
         0xEF => 0,
@@ -250,7 +271,7 @@ fn is_mark(text: &[u8], index: usize, byte: u8) -> bool {
     }
 }
 
-// The character at an index of a text.
+// The character at an index of a text, as an error shows it.
 fn character_at(text: &[u8], index: usize) -> Found<'static> {
     let after = text.get(index..).unwrap_or(&[]);
     if after.is_empty() {

@@ -1,4 +1,4 @@
--- Where lists stand in the one that keeps them.
+-- The ranges of lists in the one that stores them.
 use Rattle.std.proofs.Common.{◌≡◌, ℕ, zero, suc, ◌+◌, List, [], ◌∷◌, ◌++◌, Option, Some, None, length, slice_get, append_assoc, append-nil, length-append, refl, ap, sym, ◌∙◌, subst, arith}
 use Rattle.std.proofs.lemmas.List.Concat.{flat_map-append}
 use Rattle.jagged_lists.specs.declared.lists.FlatLists.{FlatLists}
@@ -43,7 +43,7 @@ module _ {X : Type 0} where
   past n (l ∷ ls) zero h = cc
   past n (l ∷ ls) (suc k) h = past (n + length l) ls k h
 
-  -- more items stand in the next list
+  -- the next list has more items
   pub holds_more : (ls : List (List X)) (next more : List X) (old new : FlatLists X) → Holds ls next old
       → new.items.items ≡ old.items.items ++ more → new.ranges.items ≡ old.ranges.items → new.start ≡ old.start → Holds ls (next ++ more) new
   holds_more ls next more old new h items ranges start =

@@ -1,21 +1,21 @@
-//! A list of lists, kept in one.
+//! A list of lists, stored in one vector.
 ghost use Rattle.std.specs.Prelude.{◌≡◌, ◌+◌, ◌++◌, ◌∷◌, [], List, OnOk, length};
 ghost use Rattle.jagged_lists.specs.Lists.{Holds, list_at};
 
 use std::alloc::{AllocError, Global};
 
-/// Lists one after the other in one list, so that many ask for memory as seldom as one.
+/// Lists of items, stored one after the other in one vector, so that many lists cost few allocations.
 #[derive(Drop)]
 pub struct FlatLists<T> {
-    /// The items of all lists; then those of the next, which hasn't ended.
+    /// The items of all lists, then those of the next list, which has not ended yet.
     pub items: Vec<T>,
-    /// Where each list starts in them, and where it ends.
+    /// The index in `items` at which each list starts, and the one after its end.
     pub ranges: Vec<(usize, usize)>,
-    /// Where the next list starts.
+    /// The index in `items` at which the next list starts.
     pub start: usize,
 }
 
-// A stretch of some items.
+// The items from `start` up to `end`, or none if that range is not within them.
 fn stretch<T>(items: &[T], start: usize, end: usize) -> &[T]
     ensures { (before there after : List T) → items.now ≡ before ++ (there ++ after) → start ≡ length before
         → end ≡ length before + length there → result.now ≡ there }
@@ -38,7 +38,11 @@ impl<T> FlatLists<T> {
         }
     }
 
-    /// The items that were added since the last list ended become a list.
+    /// Ends the next list: the items that were added since the last one ended become a list.
+    ///
+    /// # Errors
+    ///
+    /// Out of memory.
     pub fn end_list(&mut self) -> Result<(), AllocError>
         ensures { OnOk result ((ls : List (List T)) (next : List T) → Holds ls next self.old
             → Holds (ls ++ next ∷ []) [] self.new) }
@@ -49,7 +53,7 @@ impl<T> FlatLists<T> {
         Ok(())
     }
 
-    /// The list of a number, counted from 0; for a number past the last, one without items.
+    /// The list of an index, counted from 0; the empty list for an index past the last.
     pub fn list(&self, number: usize) -> &[T]
         ensures { (ls : List (List T)) (next : List T) → Holds ls next self.now → result.now ≡ list_at ls number }
     {

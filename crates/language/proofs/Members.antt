@@ -9,7 +9,7 @@ use Rattle.std.proofs.lemmas.Map.Made.{length-le_from_is_member}
 use Rattle.language.specs.Each.{Each}
 use Rattle.language.specs.ValuesEqual.{are_distinct}
 
--- x stands in the list
+-- x is in the list
 abbrev pub In : {A : Type 0} → A → List A → Type 0
 In x [] = ⊥
 In x (y ∷ ys) = (y ≡ x) ⊎ In x ys
@@ -75,7 +75,7 @@ IsDistinct-from_test (k ∷ ks) h =
     let p = and_parts (not (list_any (bytes_eq k) ks)) (are_distinct ks) h in
     (none_equal k ks (not-true _ p.0), IsDistinct-from_test ks p.1)
 
--- distinct keys that all stand in a list no longer than theirs are all of that list's
+-- if distinct keys are all in a list that is no longer than theirs, the list has no others
 pub all_listed : (ks ls : List (List ℕ)) (q : List ℕ) → are_distinct ks ≡ true → length ls ≤ length ks → ((k : List ℕ) → list_any (bytes_eq k) ks ≡ true → list_any (bytes_eq k) ls ≡ true) → list_any (bytes_eq q) ls ≡ true → list_any (bytes_eq q) ks ≡ true
 all_listed ks ls q distinct fits listed there = by (cases_Bool (list_any (bytes_eq q) ks))
   where

@@ -1,4 +1,4 @@
--- Equality of values without their places is reflexive, and symmetric where no object repeats a key.
+-- Equality of values without their positions is reflexive, and symmetric if no object repeats a key.
 use Rattle.std.proofs.Common.{◌≡◌, ℕ, ◌≤◌, List, [], ◌∷◌, map, length, Bool, true, false, ◌&&◌, nat_eq, string_bytes, refl, sym, ap, ◌∙◌, subst, arith}
 use Rattle.std.specs.List.{list_any, list_all}
 use Rattle.std.specs.Str.{bytes_eq}

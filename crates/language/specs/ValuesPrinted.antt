@@ -7,12 +7,12 @@ use Rattle.language.specs.declared.value.InputValue.{InputValue, fold-InputValue
 use Rattle.language.specs.declared.value.InputValue.TheOpen.{InputValue-F}
 use Rattle.language.specs.Values.{Entry}
 
--- the pieces, with a comma and a blank between each two
+-- the pieces, separated by a comma and a space
 abbrev pub comma_separated : List (List ℕ) → List ℕ
 comma_separated [] = []
 comma_separated (p ∷ ps) = p ++ flat_map (λ q. codes ", " ++ q) ps
 
--- what stands before a piece: nothing before the first
+-- what goes before a piece: nothing before the first
 abbrev pub separator_before : Bool → List ℕ
 separator_before true = []
 separator_before false = codes ", "
@@ -27,7 +27,7 @@ module _ {S : Type 0} (text : S → List ℕ) (str_of : S → Option (List ℕ))
   abbrev pub printed_scalar : S → List ℕ
   printed_scalar s = quoted_or (str_of s) (text s)
 
-  -- a key and what stands beside it
+  -- a key and its printed value
   abbrev pub keyed : List ℕ → List ℕ → List ℕ
   keyed key bs = key ++ codes ": " ++ bs
 
@@ -45,7 +45,7 @@ module _ {S : Type 0} (text : S → List ℕ) (str_of : S → Option (List ℕ))
   --   a scalar        `printed_scalar`: a string between plain quotes, any other by its own text
   --   an enum value   its name
   --   a variable      $ and its name
-  --   a list          its items between [ and ], with a comma and a blank between each two
+  --   a list          its items between [ and ], separated by a comma and a space
   --   an object       its entries, each `key: value`, between { and } in the same way
   abbrev pub printed_value : InputValue S → List ℕ
   printed_value = fold-InputValue S (List ℕ) printed_step

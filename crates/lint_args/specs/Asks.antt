@@ -1,4 +1,4 @@
--- Which task the words ask for.
+-- Which task the command line asks for.
 use Rattle.std.specs.Prelude.{◌≡◌, ◌+◌, ◌⊎◌, ℕ, [], Bool, false, List, String, codes, cond, count_by, map, option_map, string_bytes, unwrap_or}
 use Rattle.std.specs.declared.alloc.Global.{Global}
 use Rattle.std.specs.Borrow.{Bor}
@@ -18,7 +18,7 @@ use Rattle.lint_args.specs.declared.task.Task.{Task}
 abbrev pub word_texts : List (String Global) → List Text
 word_texts = map string_bytes
 
--- the values of an argument that names files, which are none where it is not used
+-- the values of an argument that names files; none where it is not used
 abbrev pub files_of : Text → List Row → List Text
 files_of id rows = unwrap_or (all_of id rows) []
 
@@ -46,22 +46,23 @@ inputs_among = count_by (λ path. is_input path.now)
 -- how often a task names it
 abbrev pub input_count : Task → ℕ
 input_count task =
-    (inputs_among task.schemas.items + inputs_among task.queries.items) + option_map_or (λ path. cond (is_input path.now) 1 0) task.variables 0
+    (inputs_among task.schemas.items + inputs_among task.queries.items)
+    + option_map_or (λ path. cond (is_input path.now) 1 0) task.variables 0
 
--- the words have no fault, and the task has what they match
+-- the words are valid, and the task has what they match
 pub record AsksFor (words : List Text) (task : Task) : Type 0 where
   pub forms : Bor (List (Bor Text))
   pub known : HasForms forms
   pub accepted : fault_of (lint forms) words ≡ []
   pub matched : IsOfRows (matches_of (lint forms) words) task
 
--- the words have a fault of this kind; to ask for help counts as one
+-- the words have an error of this kind; asking for help counts as one
 abbrev pub HasFault : List Text → ErrorKind → Type 0
 HasFault words kind = (forms : Bor (List (Bor Text))) × HasForms forms × IsAmong kind (fault_of (lint forms) words)
 
 abbrev pub WantsHelp : List Text → Type 0
 WantsHelp words = HasFault words DisplayHelp
 
--- the words have the fault that the error tells of, or memory was refused
+-- the words have an error of this kind, or out of memory
 abbrev pub IsRefusal : List Text → Error → Type 0
 IsRefusal words error = (kind_of error ≡ OutOfMemory) ⊎ HasFault words (kind_of error)

@@ -1,4 +1,4 @@
--- The command line of `lint`, as the kit's `clap` reads it.
+-- The command line of `lint`, as `clap` reads it.
 use Rattle.std.specs.Prelude.{◌≡◌, ◌∷◌, [], true, List, Some, codes}
 use Rattle.std.specs.Borrow.{Bor}
 use Rattle.clap.specs.Lexer.{usize_max}
@@ -10,13 +10,23 @@ use Rattle.clap.specs.declared.builder.value_parser.ValueParser.TheVariants.{Nam
 
 -- `--schema FILE`, at least once
 abbrev pub schema_rule : Rule
-schema_rule = record (new_rule (codes "schema")) { long = Some (codes "schema"); action = Some Append; value_names = 1; required = true }
+schema_rule = record (new_rule (codes "schema")) {
+  long = Some (codes "schema");
+  action = Some Append;
+  value_names = 1;
+  required = true;
+}
 
 -- `--format FORM`, which is `text` where it is left out
 abbrev pub format_rule : Bor (List (Bor Text)) → Rule
-format_rule forms = record (new_rule (codes "format")) { long = Some (codes "format"); value_names = 1; parser = Some (Names forms); defaults = codes "text" ∷ [] }
+format_rule forms = record (new_rule (codes "format")) {
+  long = Some (codes "format");
+  value_names = 1;
+  parser = Some (Names forms);
+  defaults = codes "text" ∷ [];
+}
 
--- the forms that there are
+-- the known forms
 abbrev pub HasForms : Bor (List (Bor Text)) → Type 0
 HasForms forms = texts forms.now ≡ codes "text" ∷ codes "json" ∷ []
 
@@ -34,11 +44,18 @@ together_rule = record (new_rule (codes "together")) { long = Some (codes "toget
 
 -- each other word, at least one
 abbrev pub query_rule : Rule
-query_rule = record (new_rule (codes "query")) { action = Some Append; range = Some (record { start_inclusive = 1; end_inclusive = usize_max }); value_names = 1; required = true }
+query_rule = record (new_rule (codes "query")) {
+  action = Some Append;
+  range = Some (record { start_inclusive = 1; end_inclusive = usize_max });
+  value_names = 1;
+  required = true;
+}
 
 -- all of them
 abbrev pub lint : Bor (List (Bor Text)) → App
-lint forms = with_rule (with_rule (with_rule (with_rule (with_rule (with_rule (new_app (codes "lint")) schema_rule) (format_rule forms)) closed_rule) variables_rule) together_rule) query_rule
+lint forms =
+    with_rule (with_rule (with_rule (with_rule (with_rule (with_rule (new_app (codes "lint"))
+    schema_rule) (format_rule forms)) closed_rule) variables_rule) together_rule) query_rule
 
 -- a command has them
 abbrev pub IsLint : Command → Type 0

@@ -1,4 +1,4 @@
--- What words that are known, or of known form, ask for.
+-- What a sample command line, and one of file names alone, ask for.
 use Rattle.std.specs.Prelude.{◌≡◌, ◌&&◌, ◌∷◌, [], Bool, List, None, Some, codes, false, not, option_map, true}
 use Rattle.std.specs.List.{list_all}
 use Rattle.std.specs.Str.{bytes_eq}
@@ -9,7 +9,8 @@ use Rattle.lint_args.specs.declared.task.Task.{Task}
 
 abbrev pub sample_words : List Text
 sample_words =
-    codes "lint" ∷ codes "--schema" ∷ codes "types.graphql" ∷ codes "first.graphql" ∷ codes "--no-introspection" ∷ codes "--schema=more.graphql" ∷ codes "--format" ∷ codes "json"
+    codes "lint" ∷ codes "--schema" ∷ codes "types.graphql" ∷ codes "first.graphql" ∷ codes "--no-introspection"
+    ∷ codes "--schema=more.graphql" ∷ codes "--format" ∷ codes "json"
     ∷ codes "second.graphql" ∷ codes "--variables=values.json" ∷ codes "--" ∷ codes "--third" ∷ []
 
 -- both files of types, all three of queries, the values, and JSON, with introspection closed
@@ -28,7 +29,7 @@ KnowsSample = (task : Task) → AsksFor sample_words task → IsSampleTask task
 abbrev pub is_name : Text → Bool
 is_name word = not (bytes_eq word (codes "--")) && (not (is_long_word word) && not (is_short_word word))
 
--- these files, with every option as it is where no word has it
+-- these files, and every option at its default
 pub record IsPlainTask (schema : Text) (files : List Text) (task : Task) : Type 0 where
   pub schemas : texts task.schemas.items ≡ schema ∷ []
   pub queries : texts task.queries.items ≡ files
@@ -38,5 +39,8 @@ pub record IsPlainTask (schema : Text) (files : List Text) (task : Task) : Type 
   pub together : task.is_together ≡ false
 
 abbrev pub KnowsNames : Type 0
-KnowsNames = (schema query : Text) (queries : List Text) (task : Task) → list_all is_name (schema ∷ query ∷ queries) ≡ true
-    → AsksFor (codes "lint" ∷ codes "--schema" ∷ schema ∷ query ∷ queries) task → IsPlainTask schema (query ∷ queries) task
+KnowsNames =
+    (schema query : Text) (queries : List Text) (task : Task)
+    → list_all is_name (schema ∷ query ∷ queries) ≡ true
+    → AsksFor (codes "lint" ∷ codes "--schema" ∷ schema ∷ query ∷ queries) task
+    → IsPlainTask schema (query ∷ queries) task

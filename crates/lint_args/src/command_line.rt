@@ -1,4 +1,4 @@
-//! The arguments of the program.
+//! The command line of the program.
 ghost use Rattle.std.specs.Prelude.{◌≡◌, IfOk, false};
 ghost use Rattle.clap.specs.Words.{rule_of};
 ghost use Rattle.lint_args.specs.CommandLine.{HasForms, IsLint, closed_rule, format_rule, query_rule, schema_rule, together_rule, variables_rule};
@@ -8,18 +8,21 @@ use std::alloc::{AllocError, Global};
 
 static FORMATS: [&str; 2] = ["text", "json"];
 
-const ABOUT: &str = "Tells whether GraphQL queries (October 2021) fit a schema.";
+const ABOUT: &str = "Validates GraphQL queries (October 2021) against a schema.";
 
-const AFTER: &str =
-    "A file is named by its path, or by - for the standard input, which is read once.
-Lines and columns count from 1, columns in bytes. Variables of JSON: a string also stands for a value of an
-enum, and a number without fraction and exponent is an integer.
-With --together a JSON error whose places lie in several files has those of its first place's file.
+const AFTER: &str = "A file may be - for the standard input, which can be named once.
+Lines and columns count from 1, columns in bytes. In a file of variables a string may also be an enum value,
+and a number without fraction and exponent is an integer.
+With --together and --format json an error has only those locations that are in the file of its first one.
 
-Status: 0 no error, 1 errors, 2 words out of the usage, a file that can't be read, a fault of syntax or of
-the schema, or out of memory; what ends with 2 is told on the standard error.";
+Exit status: 0 for no errors, 1 for errors, 2 for invalid arguments, a file that can't be read, a syntax error,
+an invalid schema, or out of memory. What ends with 2 is reported on the standard error.";
 
 /// The command line of the program.
+///
+/// # Errors
+///
+/// Out of memory.
 pub fn command_line<'w>(alloc: Global) -> Result<Command<'w>, AllocError>
     ensures { IfOk result IsLint }
 {
@@ -42,7 +45,7 @@ fn schema_argument<'w>(alloc: Global) -> Arg<'w>
         .long("schema")
         .value_name("FILE")
         .help(
-            "Type definitions, or the JSON result of an introspection; several files of definitions are one schema",
+            "Type definitions, which may be spread over several files, or the JSON result of an introspection query",
         )
         .action(ArgAction::Append)
         .required(true)
@@ -55,7 +58,7 @@ fn format_argument<'w>(alloc: Global) -> Arg<'w>
     Arg::new(alloc, "format")
         .long("format")
         .value_name("FORM")
-        .help("How errors are told")
+        .help("How errors are printed")
         .value_parser(FORMATS.as_slice())
         .default_value("text")
 }
@@ -66,7 +69,7 @@ fn closed_argument<'w>(alloc: Global) -> Arg<'w>
 {
     Arg::new(alloc, "closed")
         .long("no-introspection")
-        .help("Introspection is an error")
+        .help("Report introspection as an error")
         .action(ArgAction::SetTrue)
 }
 
@@ -78,7 +81,7 @@ fn variables_argument<'w>(alloc: Global) -> Arg<'w>
         .long("variables")
         .value_name("FILE")
         .help(
-            "A JSON object with values of variables, judged for each operation of each document without error",
+            "A JSON object with values of variables, checked for each operation of each document without errors",
         )
 }
 
@@ -88,7 +91,7 @@ fn together_argument<'w>(alloc: Global) -> Arg<'w>
 {
     Arg::new(alloc, "together")
         .long("together")
-        .help("All queries are one document")
+        .help("Take all query files as one document")
         .action(ArgAction::SetTrue)
 }
 
@@ -98,7 +101,7 @@ fn query_argument<'w>(alloc: Global) -> Arg<'w>
 {
     Arg::new(alloc, "query")
         .value_name("QUERY_FILE")
-        .help("Operations and fragments, each file a document by itself")
+        .help("Operations and fragments; each file is a document of its own")
         .action(ArgAction::Append)
         .num_args(1..)
         .required(true)

@@ -1,4 +1,4 @@
-//! What the words ask for.
+//! What the command line asks for.
 ghost use Rattle.std.specs.Prelude.{◌≡◌, ◌+◌, ◌-◌, ◌^◌, IfErr, IfOk, cond, min};
 ghost use Rattle.clap.specs.Walk.{texts};
 ghost use Rattle.clap.specs.Words.{found_of, rows_of};
@@ -8,28 +8,32 @@ use crate::command_line::command_line;
 use clap::{ArgMatches, Error};
 use std::alloc::{AllocError, Global};
 
-/// The word for the standard input.
+/// The path of the standard input.
 pub const INPUT: &str = "-";
 
-/// What the words ask for.
+/// What the command line asks for.
 #[derive(Drop)]
 pub struct Task<'w> {
-    /// The files that are the schema.
+    /// The files of the schema.
     pub schemas: Vec<&'w str>,
-    /// The files that are judged.
+    /// The files of queries, which are validated.
     pub queries: Vec<&'w str>,
-    /// The file of values of variables.
+    /// The file of values of variables, if there is one.
     pub variables: Option<&'w str>,
-    /// Whether errors are told as JSON.
+    /// Whether errors are printed as JSON.
     pub is_json: bool,
     /// Whether introspection is an error.
     pub is_closed: bool,
-    /// Whether all files are one document.
+    /// Whether all files of queries are one document.
     pub is_together: bool,
 }
 
 impl<'w> Task<'w> {
-    /// What these words ask for, of which the first is the program's own name.
+    /// What these words ask for. The first word is the program's own name.
+    ///
+    /// # Errors
+    ///
+    /// The words are invalid arguments or ask for help, as the error says, or out of memory.
     pub fn of(alloc: Global, words: &'w [String]) -> Result<Task<'w>, Error>
         ensures asked { IfOk result (AsksFor (word_texts words.now)) }
         ensures refused { IfErr result (IsRefusal (word_texts words.now)) }
@@ -45,7 +49,7 @@ impl<'w> Task<'w> {
         })
     }
 
-    /// How often the words name the standard input, or the largest number where that is more.
+    /// How often the standard input is named, up to `usize::MAX`.
     pub fn inputs(&self) -> usize
         ensures { result ≡ min (input_count self.now) (2 ^ 64 - 1) }
     {
@@ -71,14 +75,14 @@ fn files_of<'w>(
     Ok(files)
 }
 
-// Whether an argument has this value. A flag has the value `true` where the words have it.
+// Whether an argument has this value. A flag that is set has the value `true`.
 fn is_value(matches: &ArgMatches<'_>, id: &str, value: &str) -> bool
     ensures { result ≡ is_value id.now value.now (rows_of (found_of matches.now)) }
 {
     matches.get_str(id) == Some(value)
 }
 
-// One more where the path stands for the standard input.
+// One more if the path is the standard input.
 fn inputs_with(path: &str, before: usize) -> usize
     ensures { result ≡ min (before + cond (is_input path.now) 1 0) (2 ^ 64 - 1) }
 {
@@ -89,7 +93,7 @@ fn inputs_with(path: &str, before: usize) -> usize
     }
 }
 
-// As many more as paths stand for the standard input.
+// The number before plus the number of paths that are the standard input.
 fn inputs_among(paths: &[&str], before: usize) -> usize
     ensures { result ≡ min (before + inputs_among paths.now) (2 ^ 64 - 1) }
 {

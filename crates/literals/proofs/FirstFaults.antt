@@ -4,7 +4,7 @@ use Rattle.schema_validation.proofs.Finds.{rest_at}
 use Rattle.literals.specs.FirstFault.{Telling, FirstFault}
 
 module _ {X : Type 0} (tells : Telling X) (at_end : Option (List ℕ) → Type 0) where
-  -- one that has no fault is passed over
+  -- an item without a fault is skipped
   pub passed : (xs : List X) (i : ℕ) (x : X) → i < length xs → x ≡ get_or xs i x → tells x None → (f : Option (List ℕ)) → FirstFault tells at_end (drop (i + 1) xs) f → FirstFault tells at_end (drop i xs) f
   passed xs i x here is none f rest = subst (λ ys. FirstFault tells at_end ys f) (sym (rest_at xs i x here is)) (inr (none, rest))
 

@@ -33,13 +33,13 @@ module _ {S C : Type 0} (schema : Catalog S C) (may : Answers (InputValue S) C) 
   listed : (value : InputValue S) (xs : Vec (Spanning (InputValue S) Span) Global) → value ≡ variant.List xs → list_items value ≡ Some xs.items
   listed value xs e = ap list_items (e ∙ sym (variant.rolls-List xs)) ∙ ap items_layer (out-roll-InputValue S (v.List xs))
 
-  -- what the items of a list tell
+  -- the fault of the items of a list
   pub says_items : (value : InputValue S) (xs : Vec (Spanning (InputValue S) Span) Global) (ys : List (Spanning (InputValue S) Span)) (w : WrappedMeta S C) (f : Option (List ℕ)) → value ≡ variant.List xs → ys ≡ xs.items
       → FirstFault (λ y. Judged schema may shown y.item w) IsNone ys f → SaysItems schema may shown (list_items value) w f
   says_items value xs ys w f e same h =
       subst (λ o. SaysItems schema may shown o w f) (sym (listed value xs e)) (subst (λ zs. FirstFault (λ y. Judged schema may shown y.item w) IsNone zs f) same h)
 
-  -- an object against a type that is no input object
+  -- an object against a type that is not an input object
   pub no_object : (meta : MetaTypeOf S C) (es : List (Entry (InputValue S))) (f : Option (List ℕ)) → is_input_object_meta meta ≡ false → Is (no_object_text (printed_name meta)) f → ObjectFault schema may shown meta es f
   no_object meta es f e h = subst (λ b. object schema may shown (λ y. y) (judge_of schema may shown) b meta es f) (sym e) h
 

@@ -23,7 +23,7 @@ use Rattle.literals.specs.Texts.{field_text}
 use Rattle.literals.specs.Laws.{OneAnswer, OneFault}
 use Rattle.literals.proofs.RowLaws.{Against, at_roll}
 
--- of two texts, or none, that are told of one thing
+-- for two results for one thing
 abbrev pub OneTold : (Option (List ℕ) → Type 0) → Type 0
 OneTold told = (f g : Option (List ℕ)) → told f → told g → f ≡ g
 
@@ -71,7 +71,7 @@ module _ {S C : Type 0} (schema : Catalog S C) (may : Answers (InputValue S) C) 
       let faults : n ≡ k = h u n k (subst (λ z. Judged schema may shown value z n) same told) told' in
       is ∙ ap (option_map (field_text (printed_name meta) key)) faults ∙ sym is'
 
-  -- what stands in a value has one fault
+  -- what a value contains has one fault
   abbrev Inside : v.InputValue-F S (InputValue S) → Type 0
   Inside (v.List xs) = Each (λ x. One x.item) xs.items
   Inside (v.Object es) = Each (λ e. One e.1.item) es.items

@@ -1,4 +1,4 @@
--- What stands round a type, case by case.
+-- The modifiers of a type, case by case.
 use Rattle.std.proofs.Common.{◌≡◌, ℕ, List, [], ◌∷◌, Option, Some, None, false, is_some, length, reverse, refl, ap, sym, ◌∙◌}
 use Rattle.std.proofs.Math.Path.{transport}
 use Rattle.std.proofs.lemmas.List.{reverse-append, reverse-reverse}

@@ -1,4 +1,4 @@
--- A value has a fault against a type of the schema, or none, where each check answers.
+-- A value has a fault against a type of the schema, or conforms to it, if each check answers.
 use Rattle.std.proofs.Common.{◌≡◌, ℕ, List, [], ◌∷◌, Bool, true, false, Option, Some, None, option_map, is_some, length, reverse, refl, sym, inl, inr, ◌⊎◌}
 use Rattle.std.proofs.Math.Path.{transport}
 use Rattle.language.specs.declared.position.Span.{Span}
@@ -29,7 +29,7 @@ use Rattle.literals.proofs.FieldTypes.{field_listed}
 use Rattle.literals.proofs.OneFault.{each_of}
 use Rattle.literals.proofs.RowLaws.{Against, at_roll}
 
--- a text, or none, that is told of a thing
+-- some result for a thing
 abbrev pub SomeTold : (Option (List ℕ) → Type 0) → Type 0
 SomeTold told = (f : Option (List ℕ)) × told f
 

@@ -1,4 +1,4 @@
--- A value against a type, row by row: nothing where it conforms, else the text of its first fault.
+-- A value against a type, case by case: `None` if it conforms, else the text of its first fault.
 use Rattle.std.specs.Prelude.{◌≡◌, ℕ, List, [], ◌∷◌, length, reverse, map, Bool, true, false, Option, Some, None, option_map, unwrap_or, string_bytes, nat_eq, if◌then◌else◌}
 use Rattle.language.specs.declared.types.TypeModifier.{TypeModifier}
 use Rattle.language.specs.declared.types.TypeModifier.TheVariants as m
@@ -18,31 +18,37 @@ use Rattle.literals.specs.FirstFault.{FirstFault}
 use Rattle.literals.specs.Missing.{missing, missing_fault}
 use Rattle.literals.specs.Texts.{null_text, enum_text, value_text, no_check_text, list_text, no_object_text, field_text, unknown_text, length_text}
 
--- whether a text, or none, is the fault of a value against a type
+-- whether this is the fault of a value against a type; `None` means that it conforms
 abbrev pub Judge : Type 0 → Type 0 → Type 1
 Judge S C = InputValue S → WrappedMeta S C → Option (List ℕ) → Type 0
 
+-- there is no fault
 abbrev pub IsNone : Option (List ℕ) → Type 0
 IsNone fault = fault ≡ None
 
+-- the fault has this text
 abbrev pub Is : List ℕ → Option (List ℕ) → Type 0
 Is said fault = fault ≡ Some said
 
+-- an enum
 abbrev pub is_enum_meta : {S C : Type 0} → MetaTypeOf S C → Bool
 is_enum_meta (k.Enum x) = true
 is_enum_meta _ = false
 
+-- an input object
 abbrev pub is_input_object_meta : {S C : Type 0} → MetaTypeOf S C → Bool
 is_input_object_meta (k.InputObject x) = true
 is_input_object_meta _ = false
 
+-- the key of an entry
 abbrev pub key_of : {A : Type 0} → Entry A → List ℕ
 key_of e = string_bytes e.0.item
 
+-- the keys of an object
 abbrev pub keys_of : {A : Type 0} → List (Entry A) → List (List ℕ)
 keys_of es = map key_of es
 
--- the expected length of a list, where the one that was found is another
+-- the expected length of a list, if the actual one differs
 abbrev pub other_length : Option ℕ → ℕ → Option ℕ
 other_length None found = None
 other_length (Some wanted) found = if nat_eq wanted found then None else Some wanted
@@ -55,7 +61,7 @@ module _ {S C : Type 0} where
   abbrev pub printed_name : MetaTypeOf S C → List ℕ
   printed_name meta = unwrap_or (name_of_meta meta) []
 
-  -- metadata with modifiers round it, outermost first
+  -- metadata with modifiers, outermost first
   abbrev pub within : List TypeModifier → MetaTypeOf S C → WrappedMeta S C
   within ms meta = record { meta = meta; modifiers = reverse ms }
 
@@ -71,9 +77,9 @@ module _ {S C : Type 0} where
   abbrev pub LacksFields : MetaTypeOf S C → List (List ℕ) → Option (List ℕ) → Type 0
   LacksFields meta keys fault = fault ≡ missing_fault (printed_name meta) (missing keys (input_fields_of meta))
 
-  -- What has no values inside: by what a check may answer, and a value as it is printed.
+  -- Values without values inside: by the answers that a check may give, and the printed form of a value.
   module _ (may : Answers (InputValue S) C) (shown : InputValue S → List ℕ) where
-    -- what the check of a type has against a value, and a type without one
+    -- the fault of a value by the check of a type; a type without one accepts no value
     abbrev pub checked : Option C → InputValue S → MetaTypeOf S C → Option (List ℕ) → Type 0
     checked None value meta fault = Is (no_check_text (printed_name meta)) fault
     checked (Some c) value meta None = Accepts may c value
@@ -84,7 +90,7 @@ module _ {S C : Type 0} where
     unless_enum true value meta fault = Is (enum_text (shown value) (printed_name meta)) fault
     unless_enum false value meta fault = checked (check_of_meta meta) value meta fault
 
-    -- a list of another length than the expected one, and otherwise what its items say
+    -- a list of another length than expected, or else the fault of its items
     abbrev pub sized : Option ℕ → ℕ → InputValue S → Option (List ℕ) → Type 0 → Type 0
     sized None found value fault Otherwise = Otherwise
     sized (Some wanted) found value fault Otherwise = Is (length_text wanted (shown value) found) fault
@@ -92,6 +98,7 @@ module _ {S C : Type 0} where
   module _ (schema : Catalog S C) (may : Answers (InputValue S) C) (shown : InputValue S → List ℕ) where
     -- The values inside, each with what it is and its faults.
     module _ {X : Type 0} (value_of : X → InputValue S) (judge : X → Judge S C) where
+      -- a value inside another, against its type
       abbrev pub inside : WrappedMeta S C → X → Option (List ℕ) → Type 0
       inside w x fault = judge x (value_of x) w fault
 
@@ -102,6 +109,7 @@ module _ {S C : Type 0} where
           (w : WrappedMeta S C) × IsTypeOf schema (shape a.arg_type) w
           × (m : Option (List ℕ)) × inside w x m × (fault ≡ option_map (field_text (printed_name meta) key) m)
 
+      -- an entry of an object, against the input field of its key
       abbrev pub entry : MetaTypeOf S C → Entry X → Option (List ℕ) → Type 0
       entry meta e fault = keyed meta (key_of e) (input_field_named (key_of e) meta) e.1.item fault
 
@@ -119,7 +127,7 @@ module _ {S C : Type 0} where
       against_name (v.List xs) value meta fault = Is list_text fault
       against_name (v.Object es) value meta fault = object (is_input_object_meta meta) meta es.items fault
 
-      -- a value against a name with modifiers round it, outermost first
+      -- a value against a name with modifiers, outermost first
       abbrev pub against : v.InputValue-F S X → InputValue S → List TypeModifier → MetaTypeOf S C → Option (List ℕ) → Type 0
       against x value [] meta fault = against_name x value meta fault
       against v.Null value (m.NonNull ∷ ms) meta fault = Is (null_text (printed_type (within (m.NonNull ∷ ms) meta))) fault
@@ -131,21 +139,17 @@ module _ {S C : Type 0} where
           (FirstFault (λ x. inside (within ms meta) x.item) IsNone xs.items fault)
       against x value (m.List size ∷ ms) meta fault = sized may shown (other_length size 1) 1 value fault (against x value ms meta fault)
 
+    -- one level of a value against a type
     abbrev pub judge_step : (X : Type 0) → (X → InputValue S) → (X → Judge S C) → v.InputValue-F S X → Judge S C
     judge_step X value_of judge x value w fault = against value_of judge x value (reverse w.modifiers) w.meta fault
 
+    -- a value against a type
     abbrev pub judge_of : InputValue S → Judge S C
     judge_of = rec-InputValue S (Judge S C) judge_step
 
-    -- the fault of a value against a type, none where it conforms
+    -- the fault of a value against a type, `None` if it conforms
     abbrev pub Judged : Judge S C
     Judged value w fault = judge_of value value w fault
-
-    abbrev pub Conforms : InputValue S → WrappedMeta S C → Type 0
-    Conforms value w = Judged value w None
-
-    abbrev pub Fault : InputValue S → WrappedMeta S C → List ℕ → Type 0
-    Fault value w said = Judged value w (Some said)
 
     -- that of a value under a key of an input object, of an entry, and of an object
     abbrev pub KeyedFault : MetaTypeOf S C → List ℕ → InputValue S → Option (List ℕ) → Type 0
@@ -162,6 +166,6 @@ module _ {S C : Type 0} where
     FaultAt value None fault = IsNone fault
     FaultAt value (Some w) fault = Judged value w fault
 
-    -- that of a value against a type as it is written, none where the schema has no type of its name
+    -- that of a value against a reference to a type, `None` if the schema has no type of its name
     abbrev pub WrittenFault : InputValue S → TypeShape → Option (List ℕ) → Type 0
     WrittenFault value t fault = FaultAt value (written_type schema t) fault

@@ -9,7 +9,7 @@ use Rattle.literals.specs.InSchema.{IsInSchema}
 use Rattle.literals.specs.Judged.{Judged}
 
 module _ {S C : Type 0} where
-  -- any two answers of a check to a value are the same, want of memory aside
+  -- any two answers of a check to one value are the same, unless one of them ran out of memory
   abbrev pub OneAnswer : Answers (InputValue S) C → Type 0
   OneAnswer may = (c : C) (value : InputValue S) (r s : Result (Unit {0}) CheckError) → may c value r → may c value s → SameAnswer r s
 

@@ -1,4 +1,4 @@
--- The cases of a value and a type, when its modifiers are taken off.
+-- The cases of a value and a type, after the modifiers that the value passes are removed.
 use Rattle.std.specs.Prelude.{◌≡◌, ⊤, ℕ, List, length, Option, Some, None, is_some, true}
 use Rattle.language.specs.declared.position.Span.{Span}
 use Rattle.language.specs.declared.position.Spanning.{Spanning}
@@ -15,7 +15,7 @@ use Rattle.literals.specs.FirstFault.{FirstFault}
 use Rattle.literals.specs.Judged.{IsNone, Judged, printed_type}
 use Rattle.literals.specs.Texts.{null_text, length_text}
 
--- how many items a value is for a list type
+-- the number of items that a value has for a list type
 abbrev pub item_count : {S A : Type 0} → v.InputValue-F S A → Option ℕ
 item_count v.Null = None
 item_count (v.Variable n) = None
@@ -39,7 +39,7 @@ module _ {S C : Type 0} where
   IsListRow value _ = ⊤
 
   module _ (schema : Catalog S C) (may : Answers (InputValue S) C) (shown : InputValue S → List ℕ) where
-    -- the first faulty item's
+    -- the fault of the first faulty item
     abbrev pub SaysItems : Option (List (Spanning (InputValue S) Span)) → WrappedMeta S C → Option (List ℕ) → Type 0
     SaysItems None inner fault = ⊥
     SaysItems (Some xs) inner fault = FirstFault (λ x. Judged schema may shown x.item inner) IsNone xs fault

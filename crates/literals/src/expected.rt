@@ -1,4 +1,4 @@
-//! Types that values are held against.
+//! The types that values are checked against.
 ghost use Rattle.std.specs.Prelude.{◌≡◌, IfSome, Some, option_map, true, fold};
 ghost use Rattle.std.specs.Fmt.{WritesOnOk};
 ghost use Rattle.language.specs.Types.{borrowed_shape, shape, with_modifier};
@@ -15,15 +15,15 @@ use meta::kinds::MetaTypeOf;
 use schema::model::{SchemaTypeOf, TypeTypeOf};
 use std::fmt;
 
-/// A type that a value is held against: one that was made, or metadata with the modifiers that a
-/// schema writes round it. Nothing is copied.
+/// The type that a value is checked against: one that was made, or metadata with modifiers. Nothing is
+/// copied.
 #[derive_where(Clone, Copy)]
 pub enum Expected<'t, 'a, S, C> {
     Made(&'t TypeTypeOf<'a, S, C>),
     Written(&'a MetaTypeOf<S, C>, &'a [TypeModifier]),
 }
 
-/// What is outermost in a type.
+/// The outermost layer of a type.
 #[derive_where(Clone, Copy)]
 pub enum Layer<'t, 'a, S, C> {
     Plain(&'a MetaTypeOf<S, C>),
@@ -32,6 +32,7 @@ pub enum Layer<'t, 'a, S, C> {
 }
 
 impl<'t, 'a, S, C> Expected<'t, 'a, S, C> {
+    /// The outermost layer.
     pub fn layer(self) -> Layer<'t, 'a, S, C>
         ensures { IsLayerOf result (expected_type self.entry) }
     {
@@ -70,7 +71,7 @@ pub fn type_of_field<'t, 'a, S, C>(
     }
 }
 
-/// The type of the schema that a type names, where there is one.
+/// The type of the schema for a reference to a type, if the schema has one.
 pub fn type_written<'t, 'a, S, C>(
     schema: &'a SchemaTypeOf<S, C>,
     written: BorrowedType<'a>,
@@ -84,14 +85,14 @@ pub fn type_written<'t, 'a, S, C>(
     }
 }
 
-/// The name of metadata, and nothing where it has none.
+/// The name of metadata; the empty string if it has none.
 pub fn name_text<S, C>(meta: &MetaTypeOf<S, C>) -> &str
     ensures { result.now ≡ printed_name meta.now }
 {
     meta.name().unwrap_or("")
 }
 
-/// `Name`, `T!` and `[T]`.
+/// `Name`, `T!` or `[T]`.
 impl<S, C> fmt::Display for Expected<'_, '_, S, C> {
     ghost output = { λ t. Some (printed_type (expected_type t)) };
 

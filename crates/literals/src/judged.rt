@@ -23,11 +23,14 @@ use meta::kinds::MetaTypeOf;
 use schema::model::{SchemaType, TypeType};
 use std::alloc::Global;
 
-/// What is wrong with the first faulty place in a value, if there is one (GraphQL, section 5.6.1).
+/// The text of the first fault in a value, or `None` if the value conforms to the type (section 5.6.1).
 ///
-/// The metadata of the type has to stand in the schema. A value that conforms takes no memory but what the checks of its
-/// scalars and enum values take: no type is printed and no text made before there is a fault. An input field is looked up by
-/// `SchemaTypeOf::input_field_by_name`. `OutOfMemory` is answered where a text or a check wants memory.
+/// The metadata of the type has to be that of a type of the schema. Allocates nothing for a value that
+/// conforms, apart from what the checks allocate.
+///
+/// # Errors
+///
+/// Out of memory, for the text or in a check.
 pub fn validate_literal_value<'a, S: CheckedScalar>(
     alloc: Global,
     schema: &'a SchemaType<S>,
@@ -44,6 +47,11 @@ pub fn validate_literal_value<'a, S: CheckedScalar>(
     fault_of(alloc, schema, Expected::Made(arg_type), value)
 }
 
+/// The text of the first fault in a value, or `None` if the value conforms to the type.
+///
+/// # Errors
+///
+/// Out of memory, for the text or in a check.
 #[cycle(fault_of)]
 pub fn fault_of<'t, 'a, S: CheckedScalar>(
     alloc: Global,
@@ -142,7 +150,7 @@ fn fault_of_entry<'a, S: CheckedScalar>(
     }
 }
 
-// What a type has against a scalar.
+// The fault of a scalar.
 fn fault_of_scalar<S: CheckedScalar>(
     alloc: Global,
     meta: &MetaTypeOf<S, S::Check>,
@@ -158,7 +166,7 @@ fn fault_of_scalar<S: CheckedScalar>(
     }
 }
 
-// What the check of a type has against a scalar or an enum value.
+// The fault of a scalar or an enum value, by the check of the type.
 fn ask<S: CheckedScalar>(
     alloc: Global,
     meta: &MetaTypeOf<S, S::Check>,

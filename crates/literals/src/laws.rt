@@ -1,4 +1,4 @@
-//! Laws of faults.
+//! Laws about faults.
 
 ghost use Rattle.language.specs.ValuesPrinted.{printed_value};
 ghost use Rattle.literals.specs.Laws.{AnswersAll, OneFault, SomeFault};
@@ -6,12 +6,14 @@ ghost use Rattle.schema.specs.Catalog.{Catalog};
 
 use meta::check::CheckedScalar;
 
-/// A value has one fault against a type, or conforms to it, and not both: two judgements of one value and one type are the same.
+/// A value has at most one first fault against a type, and none if it conforms: any two results for one
+/// value and one type are the same.
 pub fn one_fault<S: CheckedScalar>()
     ensures { (schema : Catalog S S.Check) → OneFault schema S.may_answer (printed_value S.text S.str_of) }
 {}
 
-/// Where each check accepts or refuses each value, a value has a fault against each type of the schema, or conforms to it.
+/// If each check accepts or refuses each value, then every value conforms to each type of the schema or
+/// has a fault against it.
 pub fn some_fault<S: CheckedScalar>()
     ensures { (schema : Catalog S S.Check) → AnswersAll S.may_answer
         → SomeFault schema S.may_answer (printed_value S.text S.str_of) }

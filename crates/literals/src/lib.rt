@@ -1,4 +1,5 @@
-//! Values of a document against the types of a schema (GraphQL, October 2021, section 5.6.1).
+//! The check of input values in a document against the types of a schema (GraphQL, October 2021,
+//! section 5.6.1).
 #![tactic(auto)]
 
 mod expected;

@@ -1,5 +1,6 @@
-//! The input fields that an object lacks.
-ghost use Rattle.std.specs.Prelude.{◌≡◌, IfOk, map, option_map, string_bytes};
+//! Required input fields that an object lacks (section 5.6.4).
+ghost use Rattle.std.specs.Prelude.{◌≡◌, IfOk, option_map, string_bytes};
+ghost use Rattle.language.specs.References.{list_copied};
 ghost use Rattle.meta.specs.Kinds.{input_fields_of};
 ghost use Rattle.schema.specs.Possible.{is_among};
 ghost use Rattle.literals.specs.Judged.{keys_of, printed_name};
@@ -13,7 +14,11 @@ use meta::arguments::Argument;
 use meta::kinds::MetaTypeOf;
 use std::alloc::Global;
 
-/// What an input object has against an object for the fields that it lacks.
+/// The fault of an object without some required input fields; `None` if it has them all.
+///
+/// # Errors
+///
+/// Out of memory.
 pub fn lacking<S, C>(
     alloc: Global,
     meta: &MetaTypeOf<S, C>,
@@ -36,7 +41,7 @@ pub fn lacking<S, C>(
     }
 }
 
-/// The fields of an input object, and none for another kind.
+/// The fields of an input object; the empty list for any other kind of type.
 fn fields_of<'t, S, C>(meta: &'t MetaTypeOf<S, C>) -> &'t [Argument<S>]
     ensures { result.now ≡ input_fields_of meta.now }
 {
@@ -46,19 +51,19 @@ fn fields_of<'t, S, C>(meta: &'t MetaTypeOf<S, C>) -> &'t [Argument<S>]
     }
 }
 
-/// Whether the field has to be there, is not, and is not noted yet.
+/// Whether the field is required, is not a key of the object, and is not in the list of names.
 fn is_lacked<S>(
     entries: &[(Spanning<String>, Spanning<InputValue<S>>)],
     names: &[&str],
     field: &Argument<S>,
 ) -> bool
-    ensures { result ≡ is_lacking (keys_of entries.now) (map (λ n. n.now) names.now) field.now }
+    ensures { result ≡ is_lacking (keys_of entries.now) (list_copied names.now) field.now }
 {
     let name = field.name.as_str();
     is_needed(field) && !is_key(entries, name) && !is_noted(names, name)
 }
 
-/// Whether an object has to have the field.
+/// Whether the field is required: it is non-null and has no default value.
 fn is_needed<S>(field: &Argument<S>) -> bool
     ensures { result ≡ is_required field.now }
 {
@@ -77,7 +82,7 @@ fn is_key<S>(entries: &[(Spanning<String>, Spanning<InputValue<S>>)], name: &str
 }
 
 fn is_noted(names: &[&str], name: &str) -> bool
-    ensures { result ≡ is_among (map (λ n. n.now) names.now) name.now }
+    ensures { result ≡ is_among (list_copied names.now) name.now }
 {
     for noted in names {
         if *noted == name {

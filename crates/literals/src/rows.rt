@@ -1,4 +1,4 @@
-//! Which case of a value and a type stands.
+//! The cases of a value and a type.
 ghost use Rattle.std.specs.Prelude.{◌≡◌, ℕ, List, Option, is_some};
 ghost use Rattle.language.specs.declared.value.InputValue.{out-InputValue};
 ghost use Rattle.language.specs.Values.{list_items};
@@ -13,21 +13,23 @@ use language::value::InputValue;
 use meta::check::CheckedScalar;
 use meta::kinds::MetaTypeOf;
 
-/// What a type has against a value that stands under all its modifiers.
+/// The case of a value and a type, after the modifiers that the value passes are removed.
 #[derive_where(Clone, Copy)]
 pub enum Row<'t, 'a, S, C> {
+    /// The value conforms, whatever its items are.
     Conforms,
-    /// A null, where this type is never null.
+    /// A null, where this type is non-null.
     Null(Expected<'t, 'a, S, C>),
-    /// A list of another length than the one that is expected.
+    /// A list that is not of the expected length: the expected length, then the actual one.
     Length(usize, usize),
-    /// A list, whose items have this type.
+    /// A list, whose items have to conform to this type.
     Items(Expected<'t, 'a, S, C>),
-    /// A value of a plain type.
+    /// A value for a type without modifiers.
     Plain(&'a MetaTypeOf<S, C>),
 }
 
-/// How many items a value is for a list type; none for null and a variable, which may be any list.
+/// The number of items that a value has for a list type; `None` for null and for a variable, which may
+/// be any list.
 fn count_items<S>(value: &InputValue<S>) -> Option<usize>
     ensures { result ≡ item_count (out-InputValue S value.now) }
 {
@@ -47,7 +49,7 @@ fn is_list<S>(value: &InputValue<S>) -> bool
     matches!(value, InputValue::List(_))
 }
 
-/// The expected length, if the one that was found is another.
+/// The expected length, if the actual one differs from it.
 fn length_expected(size: Option<usize>, found: usize) -> Option<usize>
     ensures { result ≡ other_length size found }
 {
@@ -57,7 +59,7 @@ fn length_expected(size: Option<usize>, found: usize) -> Option<usize>
     }
 }
 
-/// The case of the value and the type.
+/// The case of a value and a type.
 pub fn row_of<'t, 'a, S: CheckedScalar>(
     expected: Expected<'t, 'a, S, S::Check>,
     value: &InputValue<S>,

@@ -1,4 +1,4 @@
-//! What faults say.
+//! The texts of faults.
 ghost use Rattle.std.specs.Prelude.{◌≡◌, ◌++◌, IfOk, codes, map, string_bytes};
 ghost use Rattle.language.specs.ValuesPrinted.{printed_value, comma_separated};
 ghost use Rattle.literals.specs.Expected.{expected_type};
@@ -11,12 +11,22 @@ use language::value::InputValue;
 use meta::kinds::MetaTypeOf;
 use std::alloc::{AllocError, Global};
 
+/// The text for a null where the type is non-null.
+///
+/// # Errors
+///
+/// Out of memory.
 pub fn null_fault<S, C>(alloc: Global, at: Expected<'_, '_, S, C>) -> Result<String, AllocError>
     ensures { IfOk result (λ t. string_bytes t ≡ null_text (printed_type (expected_type at.entry))) }
 {
     format!(in alloc; "\"null\" specified for not nullable type \"{at}\"")
 }
 
+/// The text for a value that is not one of the enum.
+///
+/// # Errors
+///
+/// Out of memory.
 pub fn enum_fault<S: ScalarValue, C>(
     alloc: Global,
     meta: &MetaTypeOf<S, C>,
@@ -29,6 +39,11 @@ pub fn enum_fault<S: ScalarValue, C>(
     format!(in alloc; "Invalid value \"{value}\" for enum \"{name}\"")
 }
 
+/// The text for a value that the check of its type refused.
+///
+/// # Errors
+///
+/// Out of memory.
 pub fn value_fault<S: ScalarValue, C>(
     alloc: Global,
     meta: &MetaTypeOf<S, C>,
@@ -41,6 +56,11 @@ pub fn value_fault<S: ScalarValue, C>(
     format!(in alloc; "Invalid value \"{value}\" for type \"{name}\"")
 }
 
+/// The text for a value of a type without a check.
+///
+/// # Errors
+///
+/// Out of memory.
 pub fn no_check_fault<S, C>(alloc: Global, meta: &MetaTypeOf<S, C>) -> Result<String, AllocError>
     ensures { IfOk result (λ t. string_bytes t ≡ no_check_text (printed_name meta.now)) }
 {
@@ -48,12 +68,22 @@ pub fn no_check_fault<S, C>(alloc: Global, meta: &MetaTypeOf<S, C>) -> Result<St
     format!(in alloc; "Parser error for \"{name}\": no parser present")
 }
 
+/// The text for a list where the type is not a list.
+///
+/// # Errors
+///
+/// Out of memory.
 pub fn list_fault(alloc: Global) -> Result<String, AllocError>
     ensures { IfOk result (λ t. string_bytes t ≡ list_text) }
 {
     String::from_str(alloc, "Input lists are not literals")
 }
 
+/// The text for an object where the type is not an input object.
+///
+/// # Errors
+///
+/// Out of memory.
 pub fn no_object_fault<S, C>(alloc: Global, meta: &MetaTypeOf<S, C>) -> Result<String, AllocError>
     ensures { IfOk result (λ t. string_bytes t ≡ no_object_text (printed_name meta.now)) }
 {
@@ -61,6 +91,11 @@ pub fn no_object_fault<S, C>(alloc: Global, meta: &MetaTypeOf<S, C>) -> Result<S
     format!(in alloc; "\"{name}\" is not an input object")
 }
 
+/// The text for a faulty input field: its key, and the text of its fault.
+///
+/// # Errors
+///
+/// Out of memory.
 pub fn field_fault<S, C>(
     alloc: Global,
     meta: &MetaTypeOf<S, C>,
@@ -73,6 +108,11 @@ pub fn field_fault<S, C>(
     format!(in alloc; "Error on \"{name}\" field \"{key}\": {fault}")
 }
 
+/// The text for a key that the input object does not have.
+///
+/// # Errors
+///
+/// Out of memory.
 pub fn unknown_fault<S, C>(
     alloc: Global,
     meta: &MetaTypeOf<S, C>,
@@ -84,6 +124,11 @@ pub fn unknown_fault<S, C>(
     format!(in alloc; "Field \"{key}\" does not exist on type \"{name}\"")
 }
 
+/// The text for a list of another length than expected.
+///
+/// # Errors
+///
+/// Out of memory.
 pub fn length_fault<S: ScalarValue>(
     alloc: Global,
     expected: usize,
@@ -95,6 +140,11 @@ pub fn length_fault<S: ScalarValue>(
     format!(in alloc; "Expected list of length {expected}, but \"{value}\" has length {found}")
 }
 
+/// The text for an object without these required input fields.
+///
+/// # Errors
+///
+/// Out of memory.
 pub fn missing_fields_fault<S, C>(
     alloc: Global,
     meta: &MetaTypeOf<S, C>,
@@ -108,7 +158,7 @@ pub fn missing_fields_fault<S, C>(
     format!(in alloc; "\"{name}\" is missing fields: {list}")
 }
 
-/// The names, each quoted, with a comma and a blank between each two.
+/// The names in quotes, separated by a comma and a space.
 fn quoted_list(alloc: Global, names: &[&str]) -> Result<String, AllocError>
     ensures { IfOk result (λ t. string_bytes t ≡ comma_separated (map (λ n. quoted n.now) names.now)) }
 {

@@ -1,4 +1,4 @@
-//! Values against types as they are written.
+//! The check of values against references to types.
 ghost use Rattle.std.specs.Prelude.{◌≡◌, IfOk, List, Option, option_map, string_bytes, ℕ};
 ghost use Rattle.language.specs.Types.{borrowed_shape};
 ghost use Rattle.language.specs.ValuesPrinted.{printed_value};
@@ -13,10 +13,15 @@ use meta::check::CheckedScalar;
 use schema::model::SchemaType;
 use std::alloc::Global;
 
-/// What is wrong with the first faulty place in a value, for a type as it is written; nothing where the schema has no type of its
-/// name.
+/// The text of the first fault in a value, for a reference to a type (section 5.6.1). `None` if the value
+/// conforms, or if the schema has no type of this name.
 ///
-/// As `validate_literal_value` takes no memory for a value that conforms, and here no type is made either.
+/// Like [`crate::validate_literal_value`], but no type has to be made. Allocates nothing for a value that
+/// conforms, apart from what the checks allocate.
+///
+/// # Errors
+///
+/// Out of memory, for the text or in a check.
 pub fn validate_written_value<'a, S: CheckedScalar>(
     alloc: Global,
     schema: &'a SchemaType<S>,

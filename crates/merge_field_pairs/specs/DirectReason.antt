@@ -20,6 +20,7 @@ reason_of exclusive name arguments conflict =
     else None
 
 module _ {S C : Type 0} where
+  -- the fields have one name, whatever their aliases
   abbrev pub is_same_name : PlainEntry S C → PlainEntry S C → Bool
   is_same_name a b = bytes_eq a.field.item.name.item.now b.field.item.name.item.now
 

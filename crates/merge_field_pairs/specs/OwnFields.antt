@@ -4,8 +4,7 @@ use Rattle.std.specs.List.{flat_map}
 use Rattle.std.specs.Option.{option_or}
 use denote.Ref.{Bor}
 use Rattle.language.specs.Types.{shape}
-use Rattle.language.specs.declared.position.Span.{Span}
-use Rattle.language.specs.declared.position.Spanning.{Spanning}
+pub use Rattle.language.specs.Position.{Placed}
 use Rattle.language.specs.declared.tree.Selection.{Selection, fold-Selection}
 use Rattle.language.specs.declared.tree.Selection.TheOpen as opened
 use Rattle.language.specs.declared.tree.Selection.TheFolds.{para-Selection}
@@ -17,13 +16,11 @@ use Rattle.meta.specs.Kinds.{field_named}
 use Rattle.schema.specs.Catalog.{Catalog, type_in}
 use Rattle.merge_field_pairs.specs.Entries.{PlainEntry}
 
-abbrev pub Placed : Type 0 → Type 0
-Placed T = Spanning T Span
-
 -- what a node has of its own, under a type
 abbrev pub OwnUnder : Type 0 → Type 0 → Type 0
 OwnUnder S C = Option (MetaTypeOf S C) → List (PlainEntry S C)
 
+-- a list of names
 abbrev pub Names : Type 0
 Names = List (List ℕ)
 
@@ -50,9 +47,11 @@ module _ {S C : Type 0} where
   selection_step (opened.FragmentSpread s) parent = []
   selection_step (opened.InlineFragment i) parent = i.item.1 parent
 
+  -- what stands below a field is not its set's own
   abbrev pub field_step : opened.Field-F S (Selection S × OwnUnder S C) (Field S × OwnUnder S C) (InlineFragment S × OwnUnder S C) → OwnUnder S C
   field_step f parent = []
 
+  -- an inline fragment has what its members have, under the type inside it
   abbrev pub inline_step : Catalog S C → opened.InlineFragment-F S (Selection S × OwnUnder S C) (Field S × OwnUnder S C) (InlineFragment S × OwnUnder S C) → OwnUnder S C
   inline_step schema i parent = flat_map (λ c. c.1 (type_inside schema parent i.type_condition)) i.selection_set.items
 
@@ -68,14 +67,17 @@ module _ {S C : Type 0} where
   abbrev pub own_fields : Catalog S C → Option (MetaTypeOf S C) → List (Selection S) → List (PlainEntry S C)
   own_fields schema parent set = flat_map (own_fields_of schema parent) set
 
+-- one level of each kind of node, with the names of each node inside
 abbrev pub spread_step : {S : Type 0} → opened.Selection-F S Names Names Names → Names
 spread_step (opened.Field f) = []
 spread_step (opened.FragmentSpread s) = s.item.name.item.now ∷ []
 spread_step (opened.InlineFragment i) = i.item
 
+-- nothing that stands below a field
 abbrev pub no_spread_step : {S : Type 0} → opened.Field-F S Names Names Names → Names
 no_spread_step f = []
 
+-- those of each member of an inline fragment
 abbrev pub inline_spread_step : {S : Type 0} → opened.InlineFragment-F S Names Names Names → Names
 inline_spread_step i = flat_map (λ ns. ns) i.selection_set.items
 

@@ -42,6 +42,7 @@ module _ {S C : Type 0} (schema : Catalog S C) where
   abbrev pub do_names_conflict : List ℕ → List ℕ → Bool
   do_names_conflict l r = (is_leaf_named l || is_leaf_named r) && not (bytes_eq l r)
 
+  -- whether two types conflict: by their modifiers, outermost first, and then by their names
   abbrev pub do_types_conflict : TypeShape → TypeShape → Bool
   do_types_conflict t u = do_layers_conflict (do_names_conflict t.name u.name) (reverse t.modifiers) (reverse u.modifiers)
 

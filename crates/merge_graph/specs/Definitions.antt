@@ -24,6 +24,7 @@ module _ {S C : Type 0} where
   type_round schema (definition.Fragment f) = type_in f.item.type_condition.item.now schema
 
 module _ {S : Type 0} where
+  -- the selection set of a definition
   abbrev pub selections_of : Definition S → List (Selection S)
   selections_of (definition.Operation o) = o.item.selection_set.items
   selections_of (definition.Fragment f) = f.item.selection_set.items

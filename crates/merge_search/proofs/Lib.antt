@@ -13,6 +13,7 @@ pub mod Logs
 pub mod Opened
 pub mod Order
 pub mod Rows
+pub mod SpreadLoops
 pub mod Spreads
 pub mod Tallying
 pub mod TallyingBelow

@@ -2,6 +2,7 @@
 use Rattle.std.specs.Prelude.{ℕ, ◌<◌, List, [], ◌∷◌, ◌++◌, length, Bool, true, false, ◌≡◌, ◌⊎◌}
 use Rattle.std.specs.List.{All, Contains}
 use Rattle.merge_search.specs.declared.node.Entry.{Entry}
+use Rattle.merge_search.specs.declared.state.Search.{Search}
 use Rattle.merge_search.specs.declared.state.Finding.{Finding}
 use Rattle.merge_search.specs.declared.state.Finding.TheVariants.{Direct, Nested}
 use Rattle.merge_search.specs.Judgement.{Lawful}
@@ -41,6 +42,13 @@ Tells w e P roots = (r : Root) → P r → conflict_of w e r.left r.right ≡ tr
 pub record AddsAll (w : World) (e : Bool) (P Q : Root → Type 0) (old new : List Finding) : Type 0 where
   pub adds : Adds w e P old new
   pub tells : Tells w e Q adds.roots
+
+-- The same of what a search has found.
+abbrev pub Finds : World → Bool → (Root → Type 0) → Search → Search → Type 0
+Finds w e P old new = Adds w e P old.found.items new.found.items
+
+abbrev pub FindsAll : World → Bool → (Root → Type 0) → (Root → Type 0) → Search → Search → Type 0
+FindsAll w e P Q old new = AddsAll w e P Q old.found.items new.found.items
 
 abbrev pub AtFields : Entry → Entry → Root → Type 0
 AtFields a b r = (r.left ≡ a) × (r.right ≡ b)

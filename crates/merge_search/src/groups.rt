@@ -77,7 +77,11 @@ fn repeated_firsts(
     Ok(Some(list_firsts(alloc, own, by_name)?))
 }
 
-/// A set of these own fields, which spreads these fragments.
+/// Makes a set of these own fields, which spreads these fragments.
+///
+/// # Errors
+///
+/// Out of memory.
 pub fn make_set(alloc: Global, own: Vec<Entry>, spreads: Vec<usize>) -> Result<SetNode, AllocError>
     ensures own { IfOk result (λ set. set.own ≡ own) }
     ensures spreads { IfOk result (λ set. set.spreads ≡ spreads) }

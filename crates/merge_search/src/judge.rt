@@ -3,7 +3,7 @@ ghost use Rattle.std.specs.Prelude.{◌≡◌, ℕ};
 ghost use Rattle.std.specs.Bool.{OnTrue};
 ghost use Rattle.merge_search.specs.Judgement.{AlikeAgree, Judgement};
 
-/// Judges two fields by their numbers, and nothing of what stands below them.
+/// Judges two fields by their numbers, regardless of what stands below them.
 pub trait Judge {
     ghost judgement: { Self → Judgement };
     // one field, and another that is plainly like it
@@ -11,17 +11,18 @@ pub trait Judge {
 
     ghost agree: { (j : Self) → AlikeAgree (judgement j) (are_alike j) };
 
-    /// Whether no object is asked for both; `exclusive` says that it is so already where they stand.
+    /// Whether no object is asked for both; `exclusive` says that this holds already for the fields around them.
     fn are_exclusive(&self, exclusive: bool, left: usize, right: usize) -> bool
         ensures { result ≡ (judgement self.now).exclusive exclusive left right };
 
-    /// Whether it is plain that a field is like another one. False says nothing.
+    /// Whether it is plain that a field is like another one. `false` says nothing.
     ///
-    /// Two fields that are like a third fail with each other under no flag, so that many of one name need not be compared pair by pair.
+    /// Two fields that are like a third do not conflict under any flag, so many of one name need not be compared pair
+    /// by pair.
     fn is_plainly_like(&self, one: usize, other: usize) -> bool
         ensures { OnTrue result (are_alike self.now one other) };
 
-    /// Whether the two fail of themselves, by their names, arguments or types.
+    /// Whether the two conflict by themselves: by their names, arguments or types.
     fn are_in_conflict(&self, exclusive: bool, left: usize, right: usize) -> bool
         ensures { result ≡ (judgement self.now).conflict exclusive left right };
 }

@@ -34,6 +34,10 @@ pub fn is_in(log: &Log, e: bool, f: usize, g: usize) -> bool
 }
 
 /// Adds a question.
+///
+/// # Errors
+///
+/// Out of memory.
 pub fn note(log: &mut Log, e: bool, f: usize, g: usize) -> Result<(), AllocError>
     ensures { OnOk result (Notes e f g (in_log log.old) (in_log log.new)) }
 {

@@ -47,8 +47,8 @@ fn open(opening: &mut Opening, f: usize) -> Result<(), AllocError>
 
 // Opens the fragments that one spreads.
 fn follow<J: Judge>(graph: &Graph<J>, f: usize, opening: &mut Opening) -> Result<(), AllocError>
-    ensures { OnOk result (Gains (spreads_of (world J.judgement graph.now) (set_of (world J.judgement graph.now) f))
-        (spreads_of (world J.judgement graph.now) (set_of (world J.judgement graph.now) f)) opening.old opening.new) }
+    ensures { let w = world J.judgement graph.now in
+        OnOk result (Gains (spreads_of w (set_of w f)) (spreads_of w (set_of w f)) opening.old opening.new) }
 {
     for h in spreads(graph, set(graph, f)) {
         open(opening, *h)?;
@@ -80,9 +80,13 @@ fn open_from<J: Judge>(graph: &Graph<J>, g: usize, opening: &mut Opening) -> Res
     Ok(())
 }
 
-/// The fragments that `g` reaches, in the order in which a search opens them. They are counted.
+/// Lists the fragments that `g` reaches, in the order in which a search opens them, and counts them.
 ///
-/// All that one spreads are opened in turn, and the search goes on with the one that it opened last.
+/// All fragments that one spreads are opened in turn, and the search continues with the one that it opened last.
+///
+/// # Errors
+///
+/// Out of memory.
 pub fn opened<J: Judge>(
     graph: &Graph<J>,
     g: usize,

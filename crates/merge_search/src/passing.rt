@@ -1,4 +1,5 @@
-//! Fragments that a search passes over, since nothing in them can fail. Their pairs are noted all the same, and counted.
+//! Fragments that a search passes over, since nothing in them can conflict. Their pairs are noted and counted
+//! nonetheless.
 ghost use Rattle.std.specs.Prelude.{◌≡◌, ◌<◌, ℕ, OnOk, IfOk, length, true, false};
 ghost use Rattle.std.specs.List.{All, Contains};
 ghost use Rattle.bit_matrix.specs.Set.{has};
@@ -14,7 +15,7 @@ use crate::state::{Search, is_compared, note_below, note_pair};
 use bit_matrix::set::BitSet;
 use std::alloc::{AllocError, Global};
 
-/// Two fragments of which one is plain: there is nothing to find, and it is only noted that they were compared.
+/// Passes over two fragments of which one is plain: there is nothing to find, so it only notes that they were compared.
 pub(crate) fn pass_over<J: Judge>(
     graph: &Graph<J>,
     f: usize,
@@ -48,7 +49,7 @@ fn set_of_numbers(alloc: Global, list: &[usize]) -> Result<BitSet, AllocError>
     Ok(set)
 }
 
-// A fragment, where it is plain, with those of some others that have smaller numbers.
+// Notes a fragment, if it is plain, with those of some others that have smaller numbers.
 fn note_with<J: Judge>(
     graph: &Graph<J>,
     f: usize,
@@ -58,8 +59,9 @@ fn note_with<J: Judge>(
 ) -> Result<(), AllocError>
     requires first { f < length graph.now.fragments.items }
     requires plain { ArePlain (world J.judgement graph.now) plain.now }
-    ensures done { OnOk result (Did (world J.judgement graph.now) (λ M. has plain.now (set_of (world J.judgement graph.now) f)
-        ≡ true → (g : ℕ) → has list.now g ≡ true → g < f → Pair M false f g) search.old search.new) }
+    ensures done { let w = world J.judgement graph.now in
+        OnOk result (Did w (λ M. has plain.now (set_of w f) ≡ true → (g : ℕ) → has list.now g ≡ true → g < f
+        → Pair M false f g) search.old search.new) }
     ensures real { OnOk result (search.new.found.items ≡ search.old.found.items) }
 {
     if is_plain(graph, f, plain) {
@@ -69,7 +71,7 @@ fn note_with<J: Judge>(
     }
 }
 
-/// The plain ones of a list, with all of the list: there is nothing to find, and many are noted at once.
+/// Notes the plain fragments of a list with all of the list: there is nothing to find, and many are noted at once.
 pub(crate) fn note_plain<J: Judge>(
     graph: &Graph<J>,
     list: &[usize],
@@ -78,9 +80,8 @@ pub(crate) fn note_plain<J: Judge>(
 ) -> Result<(), AllocError>
     requires list { All (λ g. g < length graph.now.fragments.items) list.now }
     requires plain { ArePlain (world J.judgement graph.now) plain.now }
-    ensures done { OnOk result
-        (Did (world J.judgement graph.now)
-        (λ M. All (MarkedDone (world J.judgement graph.now) M plain.now list.now) list.now) search.old search.new) }
+    ensures done { let w = world J.judgement graph.now in
+        OnOk result (Did w (λ M. All (MarkedDone w M plain.now list.now) list.now) search.old search.new) }
     ensures real { OnOk result (search.new.found.items ≡ search.old.found.items) }
 {
     if list.len() < 2 {

@@ -1,4 +1,4 @@
-//! Sets in which nothing can fail, so that a search passes over them.
+//! Sets in which nothing can conflict, so that a search passes over them.
 ghost use Rattle.std.specs.Prelude.{◌≡◌, IfOk};
 ghost use Rattle.std.specs.Bool.{OnTrue};
 ghost use Rattle.std.specs.List.{All};
@@ -18,7 +18,7 @@ use std::alloc::{AllocError, Global};
 pub fn is_plain<J: Judge>(graph: &Graph<J>, f: usize, sets: &BitSet) -> bool
     requires { ArePlain (world J.judgement graph.now) sets.now }
     ensures marked { result ≡ has sets.now (set_of (world J.judgement graph.now) f) }
-    ensures plain { OnTrue result (IsPlain (world J.judgement graph.now) (set_of (world J.judgement graph.now) f)) }
+    ensures plain { let w = world J.judgement graph.now in OnTrue result (IsPlain w (set_of w f)) }
 {
     sets.contains(set(graph, f))
 }
@@ -56,8 +56,8 @@ fn are_plain_fields<J: Judge>(
 
 fn are_plain_fragments<J: Judge>(graph: &Graph<J>, fragments: &[usize], sets: &BitSet) -> bool
     requires { ArePlain (world J.judgement graph.now) sets.now }
-    ensures { OnTrue result (All (λ f. IsPlain (world J.judgement graph.now) (set_of (world J.judgement graph.now) f))
-        fragments.now) }
+    ensures { let w = world J.judgement graph.now in
+        OnTrue result (All (λ f. IsPlain w (set_of w f)) fragments.now) }
 {
     for f in fragments {
         if !is_plain(graph, *f, sets) {
@@ -91,10 +91,11 @@ fn plain_sets<J: Judge>(alloc: Global, graph: &Graph<J>) -> Result<BitSet, Alloc
     Ok(sets)
 }
 
-/// Of fewer fragments so few pairs are compared that nothing is gained by passing some over.
+/// With fewer fragments, so few pairs are compared that passing some over gains nothing.
 pub const MANY: usize = 8;
 
-// Whether some set may be met more than once: one spreads two fragments, or a fragment with fields of its own spreads another.
+// Whether some set may be met more than once: one spreads two fragments, or a fragment with fields of its own spreads
+// another.
 fn is_worthwhile<J>(graph: &Graph<J>) -> bool {
     let fragments = graph.fragments.as_slice();
     let sets = graph.sets.as_slice();
@@ -110,7 +111,11 @@ fn may_be_met_again(sets: &[SetNode], s: usize) -> bool {
     }
 }
 
-/// The sets that a search passes over. They are plain, and none is told where little would be compared.
+/// Lists sets that a search may pass over: they are plain. Where few pairs would be compared, it lists none.
+///
+/// # Errors
+///
+/// Out of memory.
 pub fn passed_over<J: Judge>(alloc: Global, graph: &Graph<J>) -> Result<BitSet, AllocError>
     ensures { IfOk result (λ sets. ArePlain (world J.judgement graph.now) sets) }
 {

@@ -11,7 +11,7 @@ use crate::view::own;
 use bit_matrix::set::BitSet;
 use std::alloc::{AllocError, Global};
 
-/// What fields that were looked through say of their response names.
+/// What the fields seen so far say of their response names.
 #[derive(Drop)]
 pub struct Seen {
     /// The first field of each response name.
@@ -40,7 +40,7 @@ fn make_place(seen: &mut Seen, name: usize) -> Result<(), AllocError>
     Ok(())
 }
 
-// The first field of a field's response name: the field itself, where none stood before.
+// The first field of a field's response name: the field itself, if it is the first.
 fn first_like(seen: &mut Seen, field: Entry) -> Result<usize, AllocError>
     ensures mixed { seen.new.mixed ≡ seen.old.mixed }
     ensures kept { (n one : ℕ) → IsFirst seen.old n one → IsFirst seen.new n one }
@@ -72,8 +72,8 @@ fn note_field<J: Judge>(graph: &Graph<J>, field: Entry, seen: &mut Seen) -> Resu
 
 // Looks at the own fields of a set.
 fn note_own<J: Judge>(graph: &Graph<J>, s: usize, seen: &mut Seen) -> Result<(), AllocError>
-    ensures { OnOk result (Notes (J.are_alike graph.now.judge) (own_of (world J.judgement graph.now) s) seen.old
-        seen.new) }
+    ensures { let w = world J.judgement graph.now in
+        OnOk result (Notes (J.are_alike graph.now.judge) (own_of w s) seen.old seen.new) }
 {
     for field in own(graph, s) {
         note_field(graph, *field, seen)?;
@@ -81,9 +81,13 @@ fn note_own<J: Judge>(graph: &Graph<J>, s: usize, seen: &mut Seen) -> Result<(),
     Ok(())
 }
 
-/// The response names of which two fields may fail with each other. All others are plain.
+/// Lists the response names of which two fields may conflict. All others are plain.
 ///
-/// Each field is held against the first one of its name alone, so that this takes as long as there are fields.
+/// Each field is compared with the first one of its name alone, so the time is linear in the number of fields.
+///
+/// # Errors
+///
+/// Out of memory.
 pub fn mixed_names<J: Judge>(alloc: Global, graph: &Graph<J>) -> Result<BitSet, AllocError>
     ensures { IfOk result (λ mixed. ArePlainBut (world J.judgement graph.now) mixed) }
 {

@@ -1,7 +1,8 @@
-//! Which searches below fields are made once more.
+//! Which searches below fields are repeated.
 //!
-//! A search that found nothing says nothing when it is made again. One that found a conflict is made again for the next pair of fields
-//! above it, so that each of them tells of what lies below it. Two bounds keep documents with many conflicts from taking long.
+//! A search that found nothing finds nothing again. One that found a conflict is repeated for the next pair of fields
+//! above it, so that the conflict is reported for each pair. Two bounds keep documents with many conflicts from
+//! taking long.
 ghost use Rattle.std.specs.Prelude.{◌≡◌, ◌≤◌, true};
 ghost use Rattle.merge_search.specs.Log.{covers_of};
 ghost use Rattle.merge_search.specs.Work.{search_in};
@@ -12,13 +13,13 @@ use crate::node::Entry;
 use crate::state::{Search, is_searched};
 use crate::view::{own, set};
 
-/// How many searches below fields are made once more in one document, at most.
+/// The most searches below fields that are repeated in one document.
 pub const REPEATS: usize = 100;
 
-/// A search is made once more only if fewer fields stand in its two sets and below them, what they spread left out.
+/// A search is repeated only if fewer fields stand in its two sets and below them, without what they spread.
 pub const FEW: usize = 50;
 
-/// Whether a search below a field need not be made: it was made, under the flag or without one, and isn't made once more.
+/// Whether a search below a field can be left out: it was made, under the flag or without one, and is not repeated.
 pub fn is_settled<J: Judge>(graph: &Graph<J>, search: &Search, i: usize, g: usize, e: bool) -> bool
     ensures { result ≡ true → covers_of (search_in search.now) e i g ≡ true }
 {
@@ -33,7 +34,7 @@ fn are_few<J: Judge>(graph: &Graph<J>, i: usize, j: usize) -> bool {
     less_fields(graph, j, less_fields(graph, i, FEW)) > 0
 }
 
-// A number less the fields of a set and of the sets below them, down to 0.
+// The number, less one for each field of a set and of the sets below them, down to 0.
 #[cycle(fields)]
 fn less_fields<J: Judge>(graph: &Graph<J>, s: usize, number: usize) -> usize
     ensures { result ≤ number }

@@ -1,11 +1,11 @@
-//! The comparing of fields, sets and fragments.
+//! Comparing fields, sets and fragments.
 ghost use Rattle.std.specs.Prelude.{◌≡◌, ◌<◌, OnOk, length, Some, false};
 ghost use Rattle.std.specs.List.{All, Contains};
 ghost use Rattle.merge_search.specs.Names.{named};
 ghost use Rattle.merge_search.specs.World.{world, own_of, spreads_of, set_of, conflict_of, exclusive_of, Same};
 ghost use Rattle.merge_search.specs.Opening.{Opens};
 ghost use Rattle.merge_search.specs.Work.{Did, Owes, Done, Searched, Pair, OwnPairs, SetsDone};
-ghost use Rattle.merge_search.specs.Reports.{Adds, AddsAll, AtFields, AtWith, AtNamed, AtOwn, AtSearch, AtSearches, AtFragments, AtFirst, AtSecond, AtSpreads, AtBelow};
+ghost use Rattle.merge_search.specs.Reports.{Finds, FindsAll, AtFields, AtWith, AtNamed, AtOwn, AtSearch, AtSearches, AtFragments, AtFirst, AtSecond, AtSpreads, AtBelow};
 
 use crate::graph::Graph;
 use crate::judge::Judge;
@@ -18,7 +18,11 @@ use crate::state::{
 use crate::view::{are_exclusive, are_in_conflict, are_plainly_alike, firsts, group, set, spreads};
 use std::alloc::AllocError;
 
-/// Two fields of one response name.
+/// Compares two fields of one response name.
+///
+/// # Errors
+///
+/// Out of memory. Some of the work may have been done.
 #[cycle(search)]
 pub fn compare_fields<J: Judge>(
     graph: &Graph<J>,
@@ -27,10 +31,10 @@ pub fn compare_fields<J: Judge>(
     e: bool,
     search: &mut Search,
 ) -> Result<(), AllocError>
-    ensures done { OnOk result (Did (world J.judgement graph.now) (λ M. Done (world J.judgement graph.now) M e a b) search.old
-        search.new) }
-    ensures real { OnOk result (AddsAll (world J.judgement graph.now) e (AtFields a b) (AtFields a b) search.old.found.items
-        search.new.found.items) }
+    ensures done { let w = world J.judgement graph.now in
+        OnOk result (Did w (λ M. Done w M e a b) search.old search.new) }
+    ensures real { let w = world J.judgement graph.now in
+        OnOk result (FindsAll w e (AtFields a b) (AtFields a b) search.old search.new) }
 {
     if are_in_conflict(graph, e, a, b) {
         return report(search, Finding::Direct(a, b, e));
@@ -41,7 +45,7 @@ pub fn compare_fields<J: Judge>(
     }
 }
 
-/// The sets below two fields.
+/// Compares the sets below two fields.
 #[cycle(search)]
 fn compare_nested<J: Judge>(
     graph: &Graph<J>,
@@ -52,13 +56,11 @@ fn compare_nested<J: Judge>(
     e: bool,
     search: &mut Search,
 ) -> Result<(), AllocError>
-    ensures done { OnOk result
-        (Did (world J.judgement graph.now)
-        (λ M. SetsDone (world J.judgement graph.now) M (exclusive_of (world J.judgement graph.now) e a b) i j)
-        search.old search.new) }
-    ensures real { conflict_of (world J.judgement graph.now) e a b ≡ false → a.below ≡ Some i → b.below ≡ Some j
-        → OnOk result
-        (Adds (world J.judgement graph.now) e (AtFields a b) search.old.found.items search.new.found.items) }
+    ensures done { let w = world J.judgement graph.now in
+        OnOk result (Did w (λ M. SetsDone w M (exclusive_of w e a b) i j) search.old search.new) }
+    ensures real { let w = world J.judgement graph.now in
+        conflict_of w e a b ≡ false → a.below ≡ Some i → b.below ≡ Some j
+        → OnOk result (Finds w e (AtFields a b) search.old search.new) }
 {
     let start = search.found.len();
     compare_below(graph, i, j, are_exclusive(graph, e, a, b), search)?;
@@ -69,7 +71,7 @@ fn compare_nested<J: Judge>(
     Ok(())
 }
 
-/// Two sets, what they spread written out.
+/// Compares two sets, with what they spread written out.
 #[cycle(search)]
 fn compare_below<J: Judge>(
     graph: &Graph<J>,
@@ -78,10 +80,10 @@ fn compare_below<J: Judge>(
     e: bool,
     search: &mut Search,
 ) -> Result<(), AllocError>
-    ensures done { OnOk result (Did (world J.judgement graph.now) (λ M. SetsDone (world J.judgement graph.now) M e i j)
-        search.old search.new) }
-    ensures real { OnOk result (Adds (world J.judgement graph.now) e (AtBelow (world J.judgement graph.now) i j)
-        search.old.found.items search.new.found.items) }
+    ensures done { let w = world J.judgement graph.now in
+        OnOk result (Did w (λ M. SetsDone w M e i j) search.old search.new) }
+    ensures real { let w = world J.judgement graph.now in
+        OnOk result (Finds w e (AtBelow w i j) search.old search.new) }
 {
     compare_own(graph, i, j, e, search)?;
     own_against_all(graph, i, j, e, search)?;
@@ -89,7 +91,7 @@ fn compare_below<J: Judge>(
     all_against_all(graph, i, j, e, search)
 }
 
-/// A field and the own fields of a set that have its response name.
+/// Compares a field with the own fields of a set that have its response name.
 #[cycle(search)]
 fn compare_with<J: Judge>(
     graph: &Graph<J>,
@@ -98,12 +100,10 @@ fn compare_with<J: Judge>(
     e: bool,
     search: &mut Search,
 ) -> Result<(), AllocError>
-    ensures done { OnOk result
-        (Did (world J.judgement graph.now)
-        (λ M. All (λ b. Done (world J.judgement graph.now) M e a b)
-        (named a.response (own_of (world J.judgement graph.now) j))) search.old search.new) }
-    ensures real { OnOk result (AddsAll (world J.judgement graph.now) e (AtWith (world J.judgement graph.now) a j)
-        (AtWith (world J.judgement graph.now) a j) search.old.found.items search.new.found.items) }
+    ensures done { let w = world J.judgement graph.now in
+        OnOk result (Did w (λ M. All (λ b. Done w M e a b) (named a.response (own_of w j))) search.old search.new) }
+    ensures real { let w = world J.judgement graph.now in
+        OnOk result (FindsAll w e (AtWith w a j) (AtWith w a j) search.old search.new) }
 {
     for b in group(graph, j, a.response) {
         compare_fields(graph, a, *b, e, search)?;
@@ -111,7 +111,8 @@ fn compare_with<J: Judge>(
     Ok(())
 }
 
-/// The own fields of two sets that have one response name. Many that are alike are looked at once, since there is nothing to find.
+/// Compares the own fields of two sets that have one response name. Many that are alike are passed at once, since
+/// there is nothing to find.
 #[cycle(search)]
 fn compare_named<J: Judge>(
     graph: &Graph<J>,
@@ -121,14 +122,13 @@ fn compare_named<J: Judge>(
     e: bool,
     search: &mut Search,
 ) -> Result<(), AllocError>
-    ensures done { OnOk result
-        (Did (world J.judgement graph.now)
-        (λ M. All
-        (λ a. All (λ b. Done (world J.judgement graph.now) M e a b)
-        (named a.response (own_of (world J.judgement graph.now) j)))
-        (named name (own_of (world J.judgement graph.now) i))) search.old search.new) }
-    ensures real { OnOk result (AddsAll (world J.judgement graph.now) e (AtNamed (world J.judgement graph.now) i j name)
-        (AtNamed (world J.judgement graph.now) i j name) search.old.found.items search.new.found.items) }
+    ensures done { let w = world J.judgement graph.now in
+        OnOk result
+        (Did w
+        (λ M. All (λ a. All (λ b. Done w M e a b) (named a.response (own_of w j))) (named name (own_of w i)))
+        search.old search.new) }
+    ensures real { let w = world J.judgement graph.now in
+        OnOk result (FindsAll w e (AtNamed w i j name) (AtNamed w i j name) search.old search.new) }
 {
     let left = group(graph, i, name);
     if left.len() > 1 && are_plainly_alike(graph, left, group(graph, j, name)) {
@@ -140,7 +140,11 @@ fn compare_named<J: Judge>(
     Ok(())
 }
 
-/// The own fields of two sets.
+/// Compares the own fields of two sets.
+///
+/// # Errors
+///
+/// Out of memory. Some of the work may have been done.
 #[cycle(search)]
 pub fn compare_own<J: Judge>(
     graph: &Graph<J>,
@@ -149,10 +153,10 @@ pub fn compare_own<J: Judge>(
     e: bool,
     search: &mut Search,
 ) -> Result<(), AllocError>
-    ensures done { OnOk result (Did (world J.judgement graph.now) (λ M. OwnPairs (world J.judgement graph.now) M e i j)
-        search.old search.new) }
-    ensures real { OnOk result (AddsAll (world J.judgement graph.now) e (AtOwn (world J.judgement graph.now) i j)
-        (AtOwn (world J.judgement graph.now) i j) search.old.found.items search.new.found.items) }
+    ensures done { let w = world J.judgement graph.now in
+        OnOk result (Did w (λ M. OwnPairs w M e i j) search.old search.new) }
+    ensures real { let w = world J.judgement graph.now in
+        OnOk result (FindsAll w e (AtOwn w i j) (AtOwn w i j) search.old search.new) }
 {
     for first in firsts(graph, i) {
         compare_named(graph, i, j, first.response, e, search)?;
@@ -160,7 +164,7 @@ pub fn compare_own<J: Judge>(
     Ok(())
 }
 
-/// The own fields of `i`, and those of one fragment that a search opens.
+/// Compares the own fields of `i` with those of one fragment that a search opens.
 #[cycle(search)]
 fn open_fragment<J: Judge>(
     graph: &Graph<J>,
@@ -169,15 +173,12 @@ fn open_fragment<J: Judge>(
     e: bool,
     search: &mut Search,
 ) -> Result<(), AllocError>
-    ensures done { OnOk result
-        (Owes (world J.judgement graph.now)
-        (λ M. All (λ h. Searched M e i h)
-        (spreads_of (world J.judgement graph.now) (set_of (world J.judgement graph.now) g))) (λ M. Searched M e i g)
-        search.old search.new) }
-    ensures real { OnOk result
-        (Adds (world J.judgement graph.now) e
-        (AtOwn (world J.judgement graph.now) i (set_of (world J.judgement graph.now) g)) search.old.found.items
-        search.new.found.items) }
+    ensures done { let w = world J.judgement graph.now in
+        OnOk result
+        (Owes w (λ M. All (λ h. Searched M e i h) (spreads_of w (set_of w g))) (λ M. Searched M e i g) search.old
+        search.new) }
+    ensures real { let w = world J.judgement graph.now in
+        OnOk result (Finds w e (AtOwn w i (set_of w g)) search.old search.new) }
 {
     if is_settled(graph, search, i, g, e) {
         return Ok(());
@@ -188,7 +189,7 @@ fn open_fragment<J: Judge>(
     note_conflicts(search, i, start)
 }
 
-/// The own fields of `i`, and those of each fragment that a search from `g` opens.
+/// Compares the own fields of `i` with those of each fragment that a search from `g` opens.
 #[cycle(search)]
 fn open_all<J: Judge>(
     graph: &Graph<J>,
@@ -199,10 +200,12 @@ fn open_all<J: Judge>(
     search: &mut Search,
 ) -> Result<(), AllocError>
     requires { Opens (world J.judgement graph.now) g opening.now }
-    ensures done { OnOk result (Owes (world J.judgement graph.now) (λ M. All (λ h. Searched M e i h) opening.now)
-        (λ M. All (λ h. Searched M e i h) opening.now) search.old search.new) }
-    ensures real { OnOk result (Adds (world J.judgement graph.now) e (AtSearch (world J.judgement graph.now) i g)
-        search.old.found.items search.new.found.items) }
+    ensures done { let w = world J.judgement graph.now in
+        OnOk result
+        (Owes w (λ M. All (λ h. Searched M e i h) opening.now) (λ M. All (λ h. Searched M e i h) opening.now)
+        search.old search.new) }
+    ensures real { let w = world J.judgement graph.now in
+        OnOk result (Finds w e (AtSearch w i g) search.old search.new) }
 {
     for h in opening {
         open_fragment(graph, i, *h, e, search)?;
@@ -210,7 +213,7 @@ fn open_all<J: Judge>(
     Ok(())
 }
 
-/// The own fields of `i`, and the fragment `g` written out.
+/// Compares the own fields of `i` with the fragment `g` written out.
 #[cycle(search)]
 fn own_against<J: Judge>(
     graph: &Graph<J>,
@@ -221,8 +224,8 @@ fn own_against<J: Judge>(
 ) -> Result<(), AllocError>
     requires { g < length graph.now.fragments.items }
     ensures done { OnOk result (Did (world J.judgement graph.now) (λ M. Searched M e i g) search.old search.new) }
-    ensures real { OnOk result (Adds (world J.judgement graph.now) e (AtSearch (world J.judgement graph.now) i g)
-        search.old.found.items search.new.found.items) }
+    ensures real { let w = world J.judgement graph.now in
+        OnOk result (Finds w e (AtSearch w i g) search.old search.new) }
 {
     if is_settled(graph, search, i, g, e) {
         return Ok(());
@@ -232,7 +235,7 @@ fn own_against<J: Judge>(
     put_opening(search, opening)
 }
 
-/// The own fields of `i`, and each fragment that `j` spreads.
+/// Compares the own fields of `i` with each fragment that `j` spreads.
 #[cycle(search)]
 fn own_against_all<J: Judge>(
     graph: &Graph<J>,
@@ -241,11 +244,10 @@ fn own_against_all<J: Judge>(
     e: bool,
     search: &mut Search,
 ) -> Result<(), AllocError>
-    ensures done { OnOk result
-        (Did (world J.judgement graph.now)
-        (λ M. All (λ h. Searched M e i h) (spreads_of (world J.judgement graph.now) j)) search.old search.new) }
-    ensures real { OnOk result (Adds (world J.judgement graph.now) e (AtSearches (world J.judgement graph.now) i j)
-        search.old.found.items search.new.found.items) }
+    ensures done { let w = world J.judgement graph.now in
+        OnOk result (Did w (λ M. All (λ h. Searched M e i h) (spreads_of w j)) search.old search.new) }
+    ensures real { let w = world J.judgement graph.now in
+        OnOk result (Finds w e (AtSearches w i j) search.old search.new) }
 {
     for h in spreads(graph, j) {
         own_against(graph, i, *h, e, search)?;
@@ -253,7 +255,11 @@ fn own_against_all<J: Judge>(
     Ok(())
 }
 
-/// Two fragments, both written out.
+/// Compares two fragments, both written out.
+///
+/// # Errors
+///
+/// Out of memory. Some of the work may have been done.
 #[cycle(search)]
 pub fn compare_fragments<J: Judge>(
     graph: &Graph<J>,
@@ -265,8 +271,8 @@ pub fn compare_fragments<J: Judge>(
     requires first { f < length graph.now.fragments.items }
     requires second { g < length graph.now.fragments.items }
     ensures done { OnOk result (Did (world J.judgement graph.now) (λ M. Pair M e f g) search.old search.new) }
-    ensures real { OnOk result (Adds (world J.judgement graph.now) e (AtFragments (world J.judgement graph.now) f g)
-        search.old.found.items search.new.found.items) }
+    ensures real { let w = world J.judgement graph.now in
+        OnOk result (Finds w e (AtFragments w f g) search.old search.new) }
 {
     if f == g {
         return Ok(());
@@ -280,7 +286,7 @@ pub fn compare_fragments<J: Judge>(
     all_against_fragment(graph, set(graph, f), g, e, search)
 }
 
-/// A fragment, and each that `j` spreads.
+/// Compares a fragment with each that `j` spreads.
 #[cycle(search)]
 fn fragment_against_all<J: Judge>(
     graph: &Graph<J>,
@@ -290,11 +296,10 @@ fn fragment_against_all<J: Judge>(
     search: &mut Search,
 ) -> Result<(), AllocError>
     requires { f < length graph.now.fragments.items }
-    ensures done { OnOk result
-        (Did (world J.judgement graph.now) (λ M. All (λ h. Pair M e f h) (spreads_of (world J.judgement graph.now) j))
-        search.old search.new) }
-    ensures real { OnOk result (Adds (world J.judgement graph.now) e (AtFirst (world J.judgement graph.now) f j)
-        search.old.found.items search.new.found.items) }
+    ensures done { let w = world J.judgement graph.now in
+        OnOk result (Did w (λ M. All (λ h. Pair M e f h) (spreads_of w j)) search.old search.new) }
+    ensures real { let w = world J.judgement graph.now in
+        OnOk result (Finds w e (AtFirst w f j) search.old search.new) }
 {
     for h in spreads(graph, j) {
         compare_fragments(graph, f, *h, e, search)?;
@@ -302,7 +307,7 @@ fn fragment_against_all<J: Judge>(
     Ok(())
 }
 
-/// Each fragment that `i` spreads, and a fragment.
+/// Compares each fragment that `i` spreads with a fragment.
 #[cycle(search)]
 fn all_against_fragment<J: Judge>(
     graph: &Graph<J>,
@@ -312,11 +317,10 @@ fn all_against_fragment<J: Judge>(
     search: &mut Search,
 ) -> Result<(), AllocError>
     requires { g < length graph.now.fragments.items }
-    ensures done { OnOk result
-        (Did (world J.judgement graph.now) (λ M. All (λ h. Pair M e h g) (spreads_of (world J.judgement graph.now) i))
-        search.old search.new) }
-    ensures real { OnOk result (Adds (world J.judgement graph.now) e (AtSecond (world J.judgement graph.now) i g)
-        search.old.found.items search.new.found.items) }
+    ensures done { let w = world J.judgement graph.now in
+        OnOk result (Did w (λ M. All (λ h. Pair M e h g) (spreads_of w i)) search.old search.new) }
+    ensures real { let w = world J.judgement graph.now in
+        OnOk result (Finds w e (AtSecond w i g) search.old search.new) }
 {
     for h in spreads(graph, i) {
         compare_fragments(graph, *h, g, e, search)?;
@@ -324,7 +328,7 @@ fn all_against_fragment<J: Judge>(
     Ok(())
 }
 
-/// Each fragment that `i` spreads, and each that `j` spreads.
+/// Compares each fragment that `i` spreads with each that `j` spreads.
 #[cycle(search)]
 fn all_against_all<J: Judge>(
     graph: &Graph<J>,
@@ -333,12 +337,11 @@ fn all_against_all<J: Judge>(
     e: bool,
     search: &mut Search,
 ) -> Result<(), AllocError>
-    ensures done { OnOk result
-        (Did (world J.judgement graph.now)
-        (λ M. All (λ g. All (λ h. Pair M e g h) (spreads_of (world J.judgement graph.now) j))
-        (spreads_of (world J.judgement graph.now) i)) search.old search.new) }
-    ensures real { OnOk result (Adds (world J.judgement graph.now) e (AtSpreads (world J.judgement graph.now) i j)
-        search.old.found.items search.new.found.items) }
+    ensures done { let w = world J.judgement graph.now in
+        OnOk result (Did w (λ M. All (λ g. All (λ h. Pair M e g h) (spreads_of w j)) (spreads_of w i))
+        search.old search.new) }
+    ensures real { let w = world J.judgement graph.now in
+        OnOk result (Finds w e (AtSpreads w i j) search.old search.new) }
 {
     for g in spreads(graph, i) {
         fragment_against_all(graph, *g, j, e, search)?;

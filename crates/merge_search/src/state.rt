@@ -1,4 +1,4 @@
-//! What a search has found and noted.
+//! The state of a search: what it has found and noted.
 ghost use Rattle.std.specs.Prelude.{◌≡◌, ◌≤◌, ◌++◌, ◌∷◌, [], OnOk, ℕ, Bool, false, max, min, length};
 ghost use Rattle.bit_matrix.specs.Set.{has};
 ghost use Rattle.merge_search.specs.Log.{covers_of};
@@ -14,14 +14,14 @@ use std::alloc::{AllocError, Global};
 
 /// What was found, in postfix order: a nested conflict stands after those below it, with their number.
 ///
-/// A direct one has the flag under which its two fields fail.
+/// A direct one has the flag under which its two fields conflict.
 #[derive(Clone, Copy, Debug)]
 pub enum Finding {
     Direct(Entry, Entry, bool),
     Nested(Entry, Entry, usize),
 }
 
-/// A search as far as it has come.
+/// The state of a search.
 #[derive(Drop)]
 pub struct Search {
     pub alloc: Global,
@@ -73,6 +73,10 @@ pub fn take_opening(search: &mut Search) -> Opening
 }
 
 /// Keeps the opening of a search that has ended, for the next.
+///
+/// # Errors
+///
+/// Out of memory.
 pub fn put_opening(search: &mut Search, opening: Opening) -> Result<(), AllocError>
     ensures { OnOk result (Keeps search.old search.new) }
 {
@@ -97,6 +101,10 @@ pub fn is_searched(search: &Search, i: usize, g: usize, e: bool) -> bool
 }
 
 /// Notes that two fragments are compared.
+///
+/// # Errors
+///
+/// Out of memory.
 pub fn note_pair(search: &mut Search, f: usize, g: usize, e: bool) -> Result<(), AllocError>
     ensures { OnOk result (NotesPair f g e search.old search.new) }
 {
@@ -105,7 +113,11 @@ pub fn note_pair(search: &mut Search, f: usize, g: usize, e: bool) -> Result<(),
     Ok(())
 }
 
-/// Notes that a fragment is compared with each of some that have smaller numbers, many at once.
+/// Notes that a fragment is compared with each of `among` that has a smaller number, many at once.
+///
+/// # Errors
+///
+/// Out of memory.
 pub fn note_below(search: &mut Search, f: usize, among: &BitSet) -> Result<(), AllocError>
     ensures { OnOk result (NotesBelow f (has among.now) search.old search.new) }
 {
@@ -114,7 +126,11 @@ pub fn note_below(search: &mut Search, f: usize, among: &BitSet) -> Result<(), A
     Ok(())
 }
 
-/// Notes that the own fields of a set are compared with a fragment's. Where they were before, one repetition is taken.
+/// Notes that the own fields of a set are compared with a fragment's. If they were before, it takes one repetition.
+///
+/// # Errors
+///
+/// Out of memory.
 pub fn note_search(search: &mut Search, i: usize, g: usize, e: bool) -> Result<(), AllocError>
     ensures { OnOk result (NotesSearch i g e search.old search.new) }
 {
@@ -124,7 +140,11 @@ pub fn note_search(search: &mut Search, i: usize, g: usize, e: bool) -> Result<(
     note(&mut search.searched, e, i, g)
 }
 
-/// Notes that the own fields of a set conflict with a fragment's, where something was found since `start`.
+/// Notes that the own fields of a set conflict with a fragment's, if something was found since `start`.
+///
+/// # Errors
+///
+/// Out of memory.
 pub fn note_conflicts(search: &mut Search, i: usize, start: usize) -> Result<(), AllocError>
     ensures { OnOk result (Keeps search.old search.new) }
 {
@@ -134,7 +154,11 @@ pub fn note_conflicts(search: &mut Search, i: usize, start: usize) -> Result<(),
     Ok(())
 }
 
-/// Keeps what was found.
+/// Adds a finding.
+///
+/// # Errors
+///
+/// Out of memory.
 pub fn report(search: &mut Search, finding: Finding) -> Result<(), AllocError>
     ensures { OnOk result (Reports finding search.old search.new) }
 {

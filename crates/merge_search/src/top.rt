@@ -5,7 +5,7 @@ ghost use Rattle.merge_search.specs.World.{world, set_of, spreads_of};
 ghost use Rattle.merge_search.specs.Opening.{Opens};
 ghost use Rattle.merge_search.specs.Work.{Did, Done, OwnPairs, Pair};
 ghost use Rattle.merge_search.specs.Merging.{Top, OwnWithin, OwnWritten};
-ghost use Rattle.merge_search.specs.Reports.{Adds, AddsAll, AtFragments, AtPlaces, Judged};
+ghost use Rattle.merge_search.specs.Reports.{Finds, FindsAll, AtFragments, AtPlaces, Judged};
 ghost use Rattle.merge_search.specs.Plain.{ArePlain};
 ghost use Rattle.merge_search.specs.Tops.{AllBefore, AtBefore, AtListed, AtRest, AtSpread, AtTop, AtWithin, AtWritten, AtWrittenOrListed, MarkedDone, SpreadDone, Together};
 
@@ -21,18 +21,17 @@ use crate::view::{are_plainly_alike, firsts, group, order, set, spreads};
 use bit_matrix::set::BitSet;
 use std::alloc::{AllocError, Global};
 
-// A field and those after it.
+// Compares a field with those after it.
 fn compare_rest<J: Judge>(
     graph: &Graph<J>,
     a: Entry,
     rest: &[Entry],
     search: &mut Search,
 ) -> Result<(), AllocError>
-    ensures done { OnOk result
-        (Did (world J.judgement graph.now) (λ M. All (λ b. Done (world J.judgement graph.now) M false a b) rest.now)
-        search.old search.new) }
-    ensures real { OnOk result (AddsAll (world J.judgement graph.now) false (AtRest a rest.now) (AtRest a rest.now)
-        search.old.found.items search.new.found.items) }
+    ensures done { let w = world J.judgement graph.now in
+        OnOk result (Did w (λ M. All (λ b. Done w M false a b) rest.now) search.old search.new) }
+    ensures real { let w = world J.judgement graph.now in
+        OnOk result (FindsAll w false (AtRest a rest.now) (AtRest a rest.now) search.old search.new) }
 {
     for b in rest {
         compare_fields(graph, a, *b, false, search)?;
@@ -40,17 +39,16 @@ fn compare_rest<J: Judge>(
     Ok(())
 }
 
-// Some fields, each with those after it. Many that are alike are looked at once, since there is nothing to find.
+// Compares each field with those after it. Many that are alike are passed at once, since there is nothing to find.
 fn compare_each<J: Judge>(
     graph: &Graph<J>,
     fields: &[Entry],
     search: &mut Search,
 ) -> Result<(), AllocError>
-    ensures done { OnOk result
-        (Did (world J.judgement graph.now) (λ M. AllBefore (Done (world J.judgement graph.now) M false) fields.now)
-        search.old search.new) }
-    ensures real { OnOk result (AddsAll (world J.judgement graph.now) false (AtBefore fields.now) (AtBefore fields.now)
-        search.old.found.items search.new.found.items) }
+    ensures done { let w = world J.judgement graph.now in
+        OnOk result (Did w (λ M. AllBefore (Done w M false) fields.now) search.old search.new) }
+    ensures real { let w = world J.judgement graph.now in
+        OnOk result (FindsAll w false (AtBefore fields.now) (AtBefore fields.now) search.old search.new) }
 {
     if fields.len() > 2 && are_plainly_alike(graph, fields, fields) {
         return Ok(());
@@ -61,16 +59,16 @@ fn compare_each<J: Judge>(
     Ok(())
 }
 
-// The own fields of a set, by response names.
+// Compares the own fields of a set, by response names.
 fn compare_within<J: Judge>(
     graph: &Graph<J>,
     s: usize,
     search: &mut Search,
 ) -> Result<(), AllocError>
-    ensures done { OnOk result (Did (world J.judgement graph.now) (λ M. OwnWithin (world J.judgement graph.now) M s) search.old
-        search.new) }
-    ensures real { OnOk result (AddsAll (world J.judgement graph.now) false (AtWithin (world J.judgement graph.now) s)
-        (AtWithin (world J.judgement graph.now) s) search.old.found.items search.new.found.items) }
+    ensures done { let w = world J.judgement graph.now in
+        OnOk result (Did w (λ M. OwnWithin w M s) search.old search.new) }
+    ensures real { let w = world J.judgement graph.now in
+        OnOk result (FindsAll w false (AtWithin w s) (AtWithin w s) search.old search.new) }
 {
     for first in firsts(graph, s) {
         compare_each(graph, group(graph, s, first.response), search)?;
@@ -78,7 +76,7 @@ fn compare_within<J: Judge>(
     Ok(())
 }
 
-// The own fields of a set, and those of each fragment that a search from `g` opens.
+// Compares the own fields of a set with those of each fragment that a search from `g` opens.
 fn write_all<J: Judge>(
     graph: &Graph<J>,
     s: usize,
@@ -87,12 +85,10 @@ fn write_all<J: Judge>(
     search: &mut Search,
 ) -> Result<(), AllocError>
     requires { Opens (world J.judgement graph.now) g opening.now }
-    ensures done { OnOk result
-        (Did (world J.judgement graph.now)
-        (λ M. All (λ h. OwnPairs (world J.judgement graph.now) M false s (set_of (world J.judgement graph.now) h))
-        opening.now) search.old search.new) }
-    ensures real { OnOk result (AddsAll (world J.judgement graph.now) false (AtWritten (world J.judgement graph.now) s g)
-        (AtWritten (world J.judgement graph.now) s g) search.old.found.items search.new.found.items) }
+    ensures done { let w = world J.judgement graph.now in
+        OnOk result (Did w (λ M. All (λ h. OwnPairs w M false s (set_of w h)) opening.now) search.old search.new) }
+    ensures real { let w = world J.judgement graph.now in
+        OnOk result (FindsAll w false (AtWritten w s g) (AtWritten w s g) search.old search.new) }
 {
     for h in opening {
         compare_own(graph, s, set(graph, *h), false, search)?;
@@ -100,7 +96,7 @@ fn write_all<J: Judge>(
     Ok(())
 }
 
-// The own fields of a set, and a fragment written out: a search that always runs.
+// Compares the own fields of a set with a fragment written out. This search always runs.
 fn write_out<J: Judge>(
     graph: &Graph<J>,
     s: usize,
@@ -108,17 +104,17 @@ fn write_out<J: Judge>(
     search: &mut Search,
 ) -> Result<(), AllocError>
     requires { g < length graph.now.fragments.items }
-    ensures done { OnOk result (Did (world J.judgement graph.now) (λ M. OwnWritten (world J.judgement graph.now) M s g)
-        search.old search.new) }
-    ensures real { OnOk result (AddsAll (world J.judgement graph.now) false (AtWritten (world J.judgement graph.now) s g)
-        (AtWritten (world J.judgement graph.now) s g) search.old.found.items search.new.found.items) }
+    ensures done { let w = world J.judgement graph.now in
+        OnOk result (Did w (λ M. OwnWritten w M s g) search.old search.new) }
+    ensures real { let w = world J.judgement graph.now in
+        OnOk result (FindsAll w false (AtWritten w s g) (AtWritten w s g) search.old search.new) }
 {
     let opening = opened(graph, g, search)?;
     write_all(graph, s, g, opening.order.as_slice(), search)?;
     put_opening(search, opening)
 }
 
-// The same, where the set has fields of its own: without them there is nothing to hold against the fragment.
+// The same, if the set has fields of its own: without them there is nothing to compare.
 fn write_own<J: Judge>(
     graph: &Graph<J>,
     s: usize,
@@ -126,10 +122,10 @@ fn write_own<J: Judge>(
     search: &mut Search,
 ) -> Result<(), AllocError>
     requires { g < length graph.now.fragments.items }
-    ensures done { OnOk result (Did (world J.judgement graph.now) (λ M. OwnWritten (world J.judgement graph.now) M s g)
-        search.old search.new) }
-    ensures real { OnOk result (AddsAll (world J.judgement graph.now) false (AtWritten (world J.judgement graph.now) s g)
-        (AtWritten (world J.judgement graph.now) s g) search.old.found.items search.new.found.items) }
+    ensures done { let w = world J.judgement graph.now in
+        OnOk result (Did w (λ M. OwnWritten w M s g) search.old search.new) }
+    ensures real { let w = world J.judgement graph.now in
+        OnOk result (FindsAll w false (AtWritten w s g) (AtWritten w s g) search.old search.new) }
 {
     if firsts(graph, s).is_empty() {
         return Ok(());
@@ -137,7 +133,7 @@ fn write_own<J: Judge>(
     write_out(graph, s, g, search)
 }
 
-// Two fragments.
+// Compares two fragments.
 fn compare_pair<J: Judge>(
     graph: &Graph<J>,
     f: usize,
@@ -149,8 +145,8 @@ fn compare_pair<J: Judge>(
     requires second { g < length graph.now.fragments.items }
     requires plain { ArePlain (world J.judgement graph.now) plain.now }
     ensures done { OnOk result (Did (world J.judgement graph.now) (λ M. Pair M false f g) search.old search.new) }
-    ensures real { OnOk result (Adds (world J.judgement graph.now) false (AtFragments (world J.judgement graph.now) f g)
-        search.old.found.items search.new.found.items) }
+    ensures real { let w = world J.judgement graph.now in
+        OnOk result (Finds w false (AtFragments w f g) search.old search.new) }
 {
     if is_plain(graph, g, plain) {
         return pass_over(graph, f, g, search);
@@ -158,7 +154,7 @@ fn compare_pair<J: Judge>(
     compare_fragments(graph, f, g, false, search)
 }
 
-// A fragment, and each of a list.
+// Compares a fragment with each of a list.
 fn pair_all<J: Judge>(
     graph: &Graph<J>,
     f: usize,
@@ -169,10 +165,10 @@ fn pair_all<J: Judge>(
     requires first { f < length graph.now.fragments.items }
     requires list { All (λ g. g < length graph.now.fragments.items) list.now }
     requires plain { ArePlain (world J.judgement graph.now) plain.now }
-    ensures done { OnOk result (Did (world J.judgement graph.now) (λ M. All (λ g. Pair M false f g) list.now) search.old
-        search.new) }
-    ensures real { OnOk result (Adds (world J.judgement graph.now) false (AtListed (world J.judgement graph.now) f list.now)
-        search.old.found.items search.new.found.items) }
+    ensures done { let w = world J.judgement graph.now in
+        OnOk result (Did w (λ M. All (λ g. Pair M false f g) list.now) search.old search.new) }
+    ensures real { let w = world J.judgement graph.now in
+        OnOk result (Finds w false (AtListed w f list.now) search.old search.new) }
 {
     for g in list {
         compare_pair(graph, f, *g, plain, search)?;
@@ -180,7 +176,7 @@ fn pair_all<J: Judge>(
     Ok(())
 }
 
-// A spread of a set, with the own fields and with each spread. A plain one is left to `note_plain`.
+// Compares a spread of a set with its own fields and with each spread. A plain one is left to `note_plain`.
 fn compare_spread<J: Judge>(
     graph: &Graph<J>,
     s: usize,
@@ -192,12 +188,10 @@ fn compare_spread<J: Judge>(
     requires first { f < length graph.now.fragments.items }
     requires list { All (λ g. g < length graph.now.fragments.items) list.now }
     requires plain { ArePlain (world J.judgement graph.now) plain.now }
-    ensures done { OnOk result
-        (Did (world J.judgement graph.now) (λ M. SpreadDone (world J.judgement graph.now) M plain.now s list.now f)
-        search.old search.new) }
-    ensures real { OnOk result
-        (AddsAll (world J.judgement graph.now) false (AtWrittenOrListed (world J.judgement graph.now) s f list.now)
-        (AtWritten (world J.judgement graph.now) s f) search.old.found.items search.new.found.items) }
+    ensures done { let w = world J.judgement graph.now in
+        OnOk result (Did w (λ M. SpreadDone w M plain.now s list.now f) search.old search.new) }
+    ensures real { let w = world J.judgement graph.now in
+        OnOk result (FindsAll w false (AtWrittenOrListed w s f list.now) (AtWritten w s f) search.old search.new) }
 {
     if is_plain(graph, f, plain) {
         return Ok(());
@@ -206,7 +200,7 @@ fn compare_spread<J: Judge>(
     pair_all(graph, f, list, plain, search)
 }
 
-// The spreads of a set, each with the own fields and with the other spreads.
+// Compares each spread of a set with its own fields and with the other spreads.
 fn compare_spreads<J: Judge>(
     graph: &Graph<J>,
     s: usize,
@@ -214,12 +208,11 @@ fn compare_spreads<J: Judge>(
     search: &mut Search,
 ) -> Result<(), AllocError>
     requires { ArePlain (world J.judgement graph.now) plain.now }
-    ensures done { OnOk result
-        (Did (world J.judgement graph.now)
-        (λ M. All (λ f. OwnWritten (world J.judgement graph.now) M s f) (spreads_of (world J.judgement graph.now) s)
-        × AllBefore (Pair M false) (spreads_of (world J.judgement graph.now) s)) search.old search.new) }
-    ensures real { OnOk result (AddsAll (world J.judgement graph.now) false (AtPlaces (world J.judgement graph.now) s)
-        (AtSpread (world J.judgement graph.now) s) search.old.found.items search.new.found.items) }
+    ensures done { let w = world J.judgement graph.now in
+        OnOk result (Did w (λ M. All (λ f. OwnWritten w M s f) (spreads_of w s)
+        × AllBefore (Pair M false) (spreads_of w s)) search.old search.new) }
+    ensures real { let w = world J.judgement graph.now in
+        OnOk result (FindsAll w false (AtPlaces w s) (AtSpread w s) search.old search.new) }
 {
     let list = spreads(graph, s);
     for f in list {
@@ -228,7 +221,7 @@ fn compare_spreads<J: Judge>(
     note_plain(graph, list, plain, search)
 }
 
-// All that one set asks for.
+// Compares all that stands in one set.
 fn compare_set<J: Judge>(
     graph: &Graph<J>,
     s: usize,
@@ -236,24 +229,28 @@ fn compare_set<J: Judge>(
     search: &mut Search,
 ) -> Result<(), AllocError>
     requires { ArePlain (world J.judgement graph.now) plain.now }
-    ensures done { OnOk result (Did (world J.judgement graph.now) (λ M. Top (world J.judgement graph.now) M s) search.old
-        search.new) }
-    ensures real { OnOk result (AddsAll (world J.judgement graph.now) false (AtPlaces (world J.judgement graph.now) s)
-        (AtTop (world J.judgement graph.now) s) search.old.found.items search.new.found.items) }
+    ensures done { let w = world J.judgement graph.now in
+        OnOk result (Did w (λ M. Top w M s) search.old search.new) }
+    ensures real { let w = world J.judgement graph.now in
+        OnOk result (FindsAll w false (AtPlaces w s) (AtTop w s) search.old search.new) }
 {
     compare_within(graph, s, search)?;
     compare_spreads(graph, s, plain, search)
 }
 
-/// The search over all sets, in the graph's order.
+/// Searches all sets, in the graph's order.
 ///
-/// What was found is true and nothing is missed. Of `n` fragments at most `n (n - 1)` pairs are compared, and at least those that
-/// some set spreads together; no search opens more than `n` fragments.
+/// What is found is true, and nothing is missed. Of `n` fragments at most `n (n - 1)` pairs are compared, and at
+/// least those that some set spreads together; no search opens more than `n` fragments.
+///
+/// # Errors
+///
+/// Out of memory.
 pub fn search_all<J: Judge>(alloc: Global, graph: &Graph<J>) -> Result<Search, AllocError>
     ensures judged { IfOk result (λ m. Judged (world J.judgement graph.now) m.found.items) }
-    ensures few { IfOk result (λ m. m.compared ≤ length graph.now.fragments.items * (length graph.now.fragments.items - 1)) }
-    ensures enough { IfOk result (λ m. (ps : List (ℕ × ℕ)) → Together (world J.judgement graph.now) ps
-        → length ps ≤ m.compared) }
+    ensures few { let n = length graph.now.fragments.items in IfOk result (λ m. m.compared ≤ n * (n - 1)) }
+    ensures enough { let w = world J.judgement graph.now in
+        IfOk result (λ m. (ps : List (ℕ × ℕ)) → Together w ps → length ps ≤ m.compared) }
     ensures opened { IfOk result (λ m. m.opened ≤ length graph.now.fragments.items * m.lists) }
 {
     let plain = passed_over(alloc, graph)?;

@@ -75,16 +75,17 @@ pub fn are_exclusive<J: Judge>(graph: &Graph<J>, e: bool, a: Entry, b: Entry) ->
     graph.judge.are_exclusive(e, a.field, b.field)
 }
 
-/// Whether two fields fail of themselves.
+/// Whether two fields conflict by themselves.
 pub fn are_in_conflict<J: Judge>(graph: &Graph<J>, e: bool, a: Entry, b: Entry) -> bool
     ensures { result ≡ conflict_of (world J.judgement graph.now) e a b }
 {
     graph.judge.are_in_conflict(e, a.field, b.field)
 }
 
-/// Whether it is plain that no field of the one list fails with one of the other, nor any that stand below them. False says nothing.
+/// Whether it is plain that no field of the one list, nor any below it, conflicts with one of the other. `false` says
+/// nothing.
 ///
-/// Nothing stands below the first list, so there is nothing below to compare. It takes as long as the two lists are.
+/// Nothing stands below the first list, so there is nothing below to compare. The time is linear in the two lists.
 pub fn are_plainly_alike<J: Judge>(graph: &Graph<J>, left: &[Entry], right: &[Entry]) -> bool
     ensures { OnTrue result (AreClear (world J.judgement graph.now) left.now right.now) }
 {

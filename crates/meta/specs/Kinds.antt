@@ -11,7 +11,6 @@ use Rattle.meta.specs.declared.kinds.TypeKind.{TypeKind}
 use Rattle.meta.specs.declared.kinds.TypeKind.TheVariants as k
 use Rattle.meta.specs.declared.kinds.MetaTypeOf.{MetaTypeOf}
 use Rattle.meta.specs.declared.kinds.MetaTypeOf.TheVariants as m
-use Rattle.meta.specs.Kept.{scalar_check, enum_check, input_object_check}
 
 abbrev pub is_builtin_name : List ℕ → Bool
 is_builtin_name n =
@@ -87,7 +86,7 @@ module _ {S C : Type 0} where
   abbrev pub input_field_named : List ℕ → MetaTypeOf S C → Option (Argument S)
   input_field_named name t = find (λ a. bytes_eq (string_bytes a.name) name) (input_fields_of t)
 
-  -- the type that stands for the metadata
+  -- the type that the metadata describes
   abbrev pub type_of_meta : MetaTypeOf S C → TypeShape
   type_of_meta (m.Scalar x) = non_null_named (string_bytes x.name)
   type_of_meta (m.List x) = list_type_of x
@@ -101,31 +100,36 @@ module _ {S C : Type 0} where
 
   -- the check of a kind that has one
   abbrev pub check_of_meta : MetaTypeOf S C → Option C
-  check_of_meta (m.Scalar x) = Some (scalar_check x)
-  check_of_meta (m.Enum x) = Some (enum_check x)
-  check_of_meta (m.InputObject x) = Some (input_object_check x)
+  check_of_meta (m.Scalar x) = Some x.check
+  check_of_meta (m.Enum x) = Some x.check
+  check_of_meta (m.InputObject x) = Some x.check
   check_of_meta _ = None
 
+  -- an object
   abbrev pub is_object_meta : MetaTypeOf S C → Bool
   is_object_meta (m.Object x) = true
   is_object_meta _ = false
 
+  -- an object, an interface or a union
   abbrev pub is_composite_meta : MetaTypeOf S C → Bool
   is_composite_meta (m.Object x) = true
   is_composite_meta (m.Interface x) = true
   is_composite_meta (m.Union x) = true
   is_composite_meta _ = false
 
+  -- a scalar or an enum
   abbrev pub is_leaf_meta : MetaTypeOf S C → Bool
   is_leaf_meta (m.Scalar x) = true
   is_leaf_meta (m.Enum x) = true
   is_leaf_meta _ = false
 
+  -- an interface or a union
   abbrev pub is_abstract_meta : MetaTypeOf S C → Bool
   is_abstract_meta (m.Interface x) = true
   is_abstract_meta (m.Union x) = true
   is_abstract_meta _ = false
 
+  -- a scalar, an enum or an input object
   abbrev pub is_input_meta : MetaTypeOf S C → Bool
   is_input_meta (m.Scalar x) = true
   is_input_meta (m.Enum x) = true

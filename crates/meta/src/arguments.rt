@@ -19,7 +19,11 @@ pub struct Argument<S> {
 
 impl<S> Argument<S> {
     /// An argument of this name and this type, with no description and no default value (section
-    /// 3.6.1). Its one error is `OutOfMemory`.
+    /// 3.6.1).
+    ///
+    /// # Errors
+    ///
+    /// Out of memory.
     pub fn new(alloc: Global, name: &str, arg_type: Type) -> Result<Self, OutOfMemory>
         ensures name { IfOk result (λ a. string_bytes a.name ≡ name.now) }
         ensures arg_type { IfOk result (λ a. a.arg_type ≡ arg_type) }
@@ -34,7 +38,11 @@ impl<S> Argument<S> {
         })
     }
 
-    /// Replaces the description (section 3.2). Its one error is `OutOfMemory`.
+    /// Replaces the description (section 3.2).
+    ///
+    /// # Errors
+    ///
+    /// Out of memory.
     pub fn description(mut self, text: &str) -> Result<Self, OutOfMemory>
     where
         S: Drop,
@@ -45,7 +53,7 @@ impl<S> Argument<S> {
         Ok(self)
     }
 
-    /// Replaces the default value (section 3.6.1). It has no error.
+    /// Replaces the default value (section 3.6.1).
     pub fn default_value(mut self, value: InputValue<S>) -> Self
     where
         S: Drop,

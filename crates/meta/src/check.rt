@@ -1,4 +1,4 @@
-//! What a check of values is.
+//! Checks of values.
 ghost use Rattle.std.specs.Prelude.{Result};
 ghost use Rattle.meta.specs.Answers.{SameAnswer};
 ghost use Rattle.language.specs.declared.value.InputValue.{InputValue};
@@ -9,18 +9,22 @@ use language::scalar::ScalarValue;
 use language::value::InputValue;
 use std::alloc::Global;
 
-/// A scalar that says what the checks of its types are.
+/// A type of scalar values together with its type of checks.
 ///
-/// A check may be run on every value, and any two answers to one value are the same, the text of a
-/// refusal included, unless memory was wanting.
+/// A check can run on every value. It gives the same answer to the same value each time, down to the
+/// text of a refusal, unless it runs out of memory.
 pub trait CheckedScalar: ScalarValue {
-    /// What a scalar, an enum or an input object keeps to tell its values.
+    /// The check that a scalar, an enum or an input object keeps.
     type Check: Drop;
 
-    // The check may give this answer to the value.
+    // The answers that the check may give to the value.
     ghost may_answer: { Self.Check → InputValue Self → Result (Unit {0}) CheckError → Type 0 };
 
-    /// Runs the check on the value.
+    /// Runs the check on a value: `Ok` if the value is of the type.
+    ///
+    /// # Errors
+    ///
+    /// `Refused` with a text if the value is not of the type, or `OutOfMemory`.
     fn run_check(
         check: &Self::Check,
         alloc: Global,
@@ -28,7 +32,7 @@ pub trait CheckedScalar: ScalarValue {
     ) -> Result<(), CheckError>
         ensures { may_answer check.now value.now result };
 
-    // Two answers to one value are the same.
+    // All answers of a check to one value are the same.
     ghost one_answer: { (c : Self.Check) (v : InputValue Self) (r s : Result (Unit {0}) CheckError) → may_answer c v r
         → may_answer c v s → SameAnswer r s };
 }

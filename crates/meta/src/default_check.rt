@@ -1,67 +1,65 @@
-//! The checks of the scalars at hand: functions of the caller.
+//! Checks over the default scalars: functions that the caller passes.
 ghost use Rattle.std.specs.Prelude.{◌≡◌};
-ghost use Rattle.meta.specs.Answers.{SameAnswer};
+ghost use Rattle.meta.specs.Answers.{AnswersAlike, TakesAll};
 
 use crate::check::CheckedScalar;
 use language::error::{CheckError, ParseError};
 use language::value::{DefaultScalarValue, InputValue};
 use std::alloc::Global;
 
-/// A check: whether a value is one of a type, and if not, why not.
+/// A check: `Ok` if the value is of the type, else the text that says why not.
 pub type InputValueParseFn = for<'b> fn(
     Global,
     &'b InputValue<DefaultScalarValue>,
 ) -> Result<(), CheckError>;
 
-/// What a token of a document is written as.
+/// The kind of a scalar token in a document.
 #[derive(Clone, Copy, Debug, PartialEq, Eq)]
 pub enum ScalarTokenKind {
-    /// A string, whose text is given without its quotes (section 3.5.3).
+    /// A string; its text comes without its quotes (section 3.5.3).
     String,
     /// A number with a point or an exponent (section 3.5.2).
     Float,
-    /// A number of digits, with or without a sign (section 3.5.1).
+    /// An integer: digits, with or without a sign (section 3.5.1).
     Int,
 }
 
-/// The scalar that a token of a document stands for, by its kind and its text.
+/// A token function: it makes a scalar from the kind and the text of a token.
 pub type ScalarTokenParseFn = for<'b> fn(
     Global,
     ScalarTokenKind,
     &'b str,
 ) -> Result<DefaultScalarValue, ParseError>;
 
-/// A check that may be called on every value and gives one answer to each, and for a scalar its
-/// token function, which no call of this crate asks.
+/// A check that takes every value and gives one answer to each. For a scalar it also keeps the token
+/// function, which this crate never calls.
 #[derive(Drop)]
 pub struct DefaultCheck {
     run: InputValueParseFn,
     token: Option<ScalarTokenParseFn>,
-    ghost callable: { (a : _) (v : _) → InputValueParseFn.pre run a v },
-    ghost one_answer: { ∥ ((a b : _) (v w : _) (r s : _) → v.now ≡ w.now → InputValueParseFn.post run a v r
-        → InputValueParseFn.post run b w s → SameAnswer r s) ∥₁ },
+    ghost callable: { TakesAll (InputValueParseFn.pre run) },
+    ghost one_answer: { ∥ AnswersAlike (InputValueParseFn.post run) ∥₁ },
 }
 
 impl DefaultCheck {
     ghost use Rattle.std.specs.Prelude.{◌≡◌, None, Some};
+    ghost use Rattle.meta.specs.Answers.{AnswersAlike, TakesAll};
     ghost use Rattle.meta.specs.Functions.{function_of, token_function_of};
 
-    /// The check of an enum or an input object. It has no error.
+    /// The check of an enum or an input object.
     pub fn new(run: InputValueParseFn) -> Self
-        requires callable { (a : _) (v : _) → InputValueParseFn.pre run a v }
-        requires one_answer { (a b : _) (v w : _) (r s : _) → v.now ≡ w.now → InputValueParseFn.post run a v r
-            → InputValueParseFn.post run b w s → SameAnswer r s }
+        requires callable { TakesAll (InputValueParseFn.pre run) }
+        requires one_answer { AnswersAlike (InputValueParseFn.post run) }
         ensures run { function_of result ≡ run }
         ensures token { token_function_of result ≡ None }
     {
         DefaultCheck { run, token: None }
     }
 
-    /// The check of a scalar, with its token function. It has no error.
+    /// The check of a scalar, with its token function.
     pub fn with_token(run: InputValueParseFn, token: ScalarTokenParseFn) -> Self
-        requires callable { (a : _) (v : _) → InputValueParseFn.pre run a v }
-        requires one_answer { (a b : _) (v w : _) (r s : _) → v.now ≡ w.now → InputValueParseFn.post run a v r
-            → InputValueParseFn.post run b w s → SameAnswer r s }
+        requires callable { TakesAll (InputValueParseFn.pre run) }
+        requires one_answer { AnswersAlike (InputValueParseFn.post run) }
         ensures run { function_of result ≡ run }
         ensures token { token_function_of result ≡ Some token }
     {

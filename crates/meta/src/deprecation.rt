@@ -1,20 +1,20 @@
-//! Whether a field or an enum value is still to be used.
-ghost use Rattle.std.specs.Prelude.{◌≡◌, option_map};
+//! The deprecation of fields and enum values.
+ghost use Rattle.std.specs.Prelude.{◌≡◌, option_copied};
 ghost use Rattle.meta.specs.Deprecation.{is_deprecated_status, reason_of};
 
 use crate::texts::as_text;
 
-/// Whether a field or an enum value is still to be used (section 3.13.3).
+/// Whether a field or an enum value is deprecated (section 3.13.3).
 #[derive(Clone, Debug, PartialEq, Eq, Hash, Drop)]
 pub enum DeprecationStatus {
-    /// It is to be used.
+    /// Not deprecated.
     Current,
-    /// It is not to be used any more, with the reason, if one is given.
+    /// Deprecated, with a reason if one is given.
     Deprecated(Option<String>),
 }
 
 impl DeprecationStatus {
-    /// Whether it is not to be used any more.
+    /// Whether the field or the enum value is deprecated.
     pub fn is_deprecated(&self) -> bool
         ensures { result ≡ is_deprecated_status self.now }
     {
@@ -24,9 +24,9 @@ impl DeprecationStatus {
         }
     }
 
-    /// The reason of what is deprecated, if one is given.
+    /// The reason of the deprecation, if one is given.
     pub fn reason(&self) -> Option<&str>
-        ensures { option_map (λ s. s.now) result ≡ reason_of self.now }
+        ensures { option_copied result ≡ reason_of self.now }
     {
         match self {
             DeprecationStatus::Current => None,

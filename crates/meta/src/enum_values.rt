@@ -1,5 +1,5 @@
 //! Values of enums.
-ghost use Rattle.std.specs.Prelude.{◌≡◌, IfOk, IsOk, None, Some, true, option_map, string_bytes};
+ghost use Rattle.std.specs.Prelude.{◌≡◌, IfOk, IsOk, None, Some, true, option_map, string_bytes, option_copied};
 ghost use Rattle.meta.specs.Deprecation.{is_deprecated_status, reason_of};
 
 use crate::deprecation::DeprecationStatus;
@@ -16,8 +16,11 @@ pub struct EnumValue {
 }
 
 impl EnumValue {
-    /// A value of this name, with no description, and not deprecated (section 3.9). Its one error is
-    /// `OutOfMemory`.
+    /// An enum value of this name, with no description, not deprecated (section 3.9).
+    ///
+    /// # Errors
+    ///
+    /// Out of memory.
     pub fn new(alloc: Global, name: &str) -> Result<Self, OutOfMemory>
         ensures name { IfOk result (λ v. string_bytes v.name ≡ name.now) }
         ensures description { IfOk result (λ v. v.description ≡ None) }
@@ -30,7 +33,11 @@ impl EnumValue {
         })
     }
 
-    /// Replaces the description (section 3.2). Its one error is `OutOfMemory`.
+    /// Replaces the description (section 3.2).
+    ///
+    /// # Errors
+    ///
+    /// Out of memory.
     pub fn description(mut self, text: &str) -> Result<Self, OutOfMemory>
         ensures text { IfOk result (λ v. option_map string_bytes v.description ≡ Some text.now) }
         ensures others { IfOk result (λ v. v ≡ record self { description = v.description }) }
@@ -39,11 +46,14 @@ impl EnumValue {
         Ok(self)
     }
 
-    /// Says that the value is deprecated, with the reason, if one is given (section 3.13.3). Its one
-    /// error is `OutOfMemory`, and with no reason it has none.
+    /// Marks the value as deprecated, with this reason, if one is given (section 3.13.3).
+    ///
+    /// # Errors
+    ///
+    /// Out of memory; never if no reason is given.
     pub fn deprecated(mut self, reason: Option<&str>) -> Result<Self, OutOfMemory>
         ensures deprecated { IfOk result (λ v. is_deprecated_status v.deprecation_status ≡ true) }
-        ensures reason { IfOk result (λ v. reason_of v.deprecation_status ≡ option_map (λ t. t.now) reason.entry) }
+        ensures reason { IfOk result (λ v. reason_of v.deprecation_status ≡ option_copied reason.entry) }
         ensures others { IfOk result (λ v. v ≡ record self { deprecation_status = v.deprecation_status }) }
         ensures succeeds { reason.entry ≡ None → IsOk result }
     {

@@ -1,6 +1,6 @@
 //! Enums.
 ghost use Rattle.std.specs.Prelude.{◌≡◌, IfOk, None, Some, option_map, string_bytes};
-ghost use Rattle.meta.specs.Answers.{SameAnswer};
+ghost use Rattle.meta.specs.Answers.{AnswersAlike, TakesAll};
 ghost use Rattle.meta.specs.Functions.{function_of};
 ghost use Rattle.meta.specs.Kept.{enum_check};
 
@@ -11,7 +11,7 @@ use crate::kinds::MetaTypeOf;
 use language::error::OutOfMemory;
 use std::alloc::Global;
 
-/// Metadata of an enum (section 3.9), whose values the check tells.
+/// Metadata of an enum (section 3.9), whose check decides which values it has.
 #[derive(Drop)]
 pub struct EnumMetaOf<C> {
     pub name: String,
@@ -20,23 +20,26 @@ pub struct EnumMetaOf<C> {
     check: C,
 }
 
-/// Metadata of an enum, with the checks that its kind of scalars has.
+/// Metadata of an enum, with the check of the scalar type `S`.
 pub type EnumMeta<S> = EnumMetaOf<<S as CheckedScalar>::Check>;
 
 impl EnumMetaOf<DefaultCheck> {
     /// An enum of this name with these values, and no description.
     ///
-    /// The caller's check has to work on any value. It has to answer a value the same each time, with
-    /// the same text where it refuses, unless it runs out of memory. Its one error is `OutOfMemory`.
+    /// The check has to take every value. It has to give the same answer to the same value each time,
+    /// down to the text of a refusal, unless it runs out of memory.
+    ///
+    /// # Errors
+    ///
+    /// Out of memory.
     pub fn new(
         alloc: Global,
         name: &str,
         values: Vec<EnumValue>,
         check: InputValueParseFn,
     ) -> Result<Self, OutOfMemory>
-        requires callable { (a : _) (v : _) → InputValueParseFn.pre check a v }
-        requires one_answer { (a b : _) (v w : _) (r s : _) → v.now ≡ w.now → InputValueParseFn.post check a v r
-            → InputValueParseFn.post check b w s → SameAnswer r s }
+        requires callable { TakesAll (InputValueParseFn.pre check) }
+        requires one_answer { AnswersAlike (InputValueParseFn.post check) }
         ensures name { IfOk result (λ m. string_bytes m.name ≡ name.now) }
         ensures description { IfOk result (λ m. m.description ≡ None) }
         ensures values { IfOk result (λ m. m.values ≡ values) }
@@ -47,8 +50,11 @@ impl EnumMetaOf<DefaultCheck> {
 }
 
 impl<C: Drop> EnumMetaOf<C> {
-    /// An enum of this name with these values that keeps this check, and no description (section
-    /// 3.9). Its one error is `OutOfMemory`.
+    /// An enum of this name with these values and this check, and no description (section 3.9).
+    ///
+    /// # Errors
+    ///
+    /// Out of memory.
     pub fn with_check(
         alloc: Global,
         name: &str,
@@ -68,7 +74,11 @@ impl<C: Drop> EnumMetaOf<C> {
         })
     }
 
-    /// Replaces the description (section 3.2). Its one error is `OutOfMemory`.
+    /// Replaces the description (section 3.2).
+    ///
+    /// # Errors
+    ///
+    /// Out of memory.
     pub fn description(mut self, text: &str) -> Result<Self, OutOfMemory>
         ensures text { IfOk result (λ m. option_map string_bytes m.description ≡ Some text.now) }
         ensures others { IfOk result (λ m. m ≡ record self { description = m.description }) }
@@ -79,7 +89,7 @@ impl<C: Drop> EnumMetaOf<C> {
 }
 
 impl<C> EnumMetaOf<C> {
-    /// The enum among the types of a schema (section 3.9). It has no error.
+    /// The enum as metadata of any kind.
     pub fn into_meta<S>(self) -> MetaTypeOf<S, C>
         ensures { result ≡ MetaTypeOf.Enum self }
     {

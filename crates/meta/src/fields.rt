@@ -1,5 +1,5 @@
 //! Fields of objects and interfaces.
-ghost use Rattle.std.specs.Prelude.{◌≡◌, IfOk, IsOk, None, Some, true, codes, nat_eq, option_map, string_bytes, ◌∷◌, [], ◌++◌};
+ghost use Rattle.std.specs.Prelude.{◌≡◌, IfOk, IsOk, None, Some, true, codes, nat_eq, option_map, string_bytes, ◌∷◌, [], ◌++◌, option_copied};
 ghost use Rattle.std.specs.List.{starts_with};
 ghost use Rattle.meta.specs.Deprecation.{is_deprecated_status, reason_of};
 ghost use Rattle.meta.specs.Arguments.{arguments_of};
@@ -16,15 +16,19 @@ use std::alloc::Global;
 pub struct Field<S> {
     pub name: String,
     pub description: Option<String>,
-    /// None is told from an empty list: with none, no argument is unknown.
+    /// With `None`, unlike with an empty list, no argument counts as unknown.
     pub arguments: Option<Vec<Argument<S>>>,
     pub field_type: Type,
     pub deprecation_status: DeprecationStatus,
 }
 
 impl<S> Field<S> {
-    /// A field of this name and this type, with no description and no arguments, and not deprecated
-    /// (section 3.6). Its one error is `OutOfMemory`.
+    /// A field of this name and this type, with no description and no arguments, not deprecated
+    /// (section 3.6).
+    ///
+    /// # Errors
+    ///
+    /// Out of memory.
     pub fn new(alloc: Global, name: &str, field_type: Type) -> Result<Self, OutOfMemory>
         ensures name { IfOk result (λ f. string_bytes f.name ≡ name.now) }
         ensures field_type { IfOk result (λ f. f.field_type ≡ field_type) }
@@ -41,7 +45,11 @@ impl<S> Field<S> {
         })
     }
 
-    /// Replaces the description (section 3.2). Its one error is `OutOfMemory`.
+    /// Replaces the description (section 3.2).
+    ///
+    /// # Errors
+    ///
+    /// Out of memory.
     pub fn description(mut self, text: &str) -> Result<Self, OutOfMemory>
     where
         S: Drop,
@@ -52,8 +60,11 @@ impl<S> Field<S> {
         Ok(self)
     }
 
-    /// Adds an argument at the end, also where one has its name (section 3.6.1). Its one error is
-    /// `OutOfMemory`.
+    /// Adds an argument at the end, even if another has its name (section 3.6.1).
+    ///
+    /// # Errors
+    ///
+    /// Out of memory.
     pub fn argument(self, argument: Argument<S>) -> Result<Self, OutOfMemory>
     where
         S: Drop,
@@ -82,13 +93,16 @@ impl<S> Field<S> {
         })
     }
 
-    /// Says that the field is deprecated, with the reason, if one is given (section 3.6.2). Its one
-    /// error is `OutOfMemory`, and with no reason it has none.
+    /// Marks the field as deprecated, with this reason, if one is given (section 3.6.2).
+    ///
+    /// # Errors
+    ///
+    /// Out of memory; never if no reason is given.
     pub fn deprecated(mut self, reason: Option<&str>) -> Result<Self, OutOfMemory>
     where
         S: Drop,
         ensures deprecated { IfOk result (λ f. is_deprecated_status f.deprecation_status ≡ true) }
-        ensures reason { IfOk result (λ f. reason_of f.deprecation_status ≡ option_map (λ t. t.now) reason.entry) }
+        ensures reason { IfOk result (λ f. reason_of f.deprecation_status ≡ option_copied reason.entry) }
         ensures others { IfOk result (λ f. f ≡ record self { deprecation_status = f.deprecation_status }) }
         ensures succeeds { reason.entry ≡ None → IsOk result }
     {

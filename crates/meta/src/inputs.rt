@@ -1,6 +1,6 @@
 //! Input objects.
 ghost use Rattle.std.specs.Prelude.{◌≡◌, IfOk, None, Some, option_map, string_bytes};
-ghost use Rattle.meta.specs.Answers.{SameAnswer};
+ghost use Rattle.meta.specs.Answers.{AnswersAlike, TakesAll};
 ghost use Rattle.meta.specs.Functions.{function_of};
 ghost use Rattle.meta.specs.Kept.{input_object_check};
 
@@ -12,7 +12,7 @@ use language::error::OutOfMemory;
 use language::value::DefaultScalarValue;
 use std::alloc::Global;
 
-/// Metadata of an input object (section 3.10), whose values the check tells.
+/// Metadata of an input object (section 3.10), whose check decides which values it has.
 #[derive(Drop)]
 pub struct InputObjectMetaOf<S, C> {
     pub name: String,
@@ -21,23 +21,26 @@ pub struct InputObjectMetaOf<S, C> {
     check: C,
 }
 
-/// Metadata of an input object, with the checks that its kind of scalars has.
+/// Metadata of an input object, with the check of the scalar type `S`.
 pub type InputObjectMeta<S> = InputObjectMetaOf<S, <S as CheckedScalar>::Check>;
 
 impl InputObjectMetaOf<DefaultScalarValue, DefaultCheck> {
     /// An input object of this name with these fields, and no description.
     ///
-    /// The caller's check has to work on any value. It has to answer a value the same each time, with
-    /// the same text where it refuses, unless it runs out of memory. Its one error is `OutOfMemory`.
+    /// The check has to take every value. It has to give the same answer to the same value each time,
+    /// down to the text of a refusal, unless it runs out of memory.
+    ///
+    /// # Errors
+    ///
+    /// Out of memory.
     pub fn new(
         alloc: Global,
         name: &str,
         input_fields: Vec<Argument<DefaultScalarValue>>,
         check: InputValueParseFn,
     ) -> Result<Self, OutOfMemory>
-        requires callable { (a : _) (v : _) → InputValueParseFn.pre check a v }
-        requires one_answer { (a b : _) (v w : _) (r s : _) → v.now ≡ w.now → InputValueParseFn.post check a v r
-            → InputValueParseFn.post check b w s → SameAnswer r s }
+        requires callable { TakesAll (InputValueParseFn.pre check) }
+        requires one_answer { AnswersAlike (InputValueParseFn.post check) }
         ensures name { IfOk result (λ m. string_bytes m.name ≡ name.now) }
         ensures description { IfOk result (λ m. m.description ≡ None) }
         ensures input_fields { IfOk result (λ m. m.input_fields ≡ input_fields) }
@@ -48,8 +51,12 @@ impl InputObjectMetaOf<DefaultScalarValue, DefaultCheck> {
 }
 
 impl<S: Drop, C: Drop> InputObjectMetaOf<S, C> {
-    /// An input object of this name with these fields that keeps this check, and no description
-    /// (section 3.10). Its one error is `OutOfMemory`.
+    /// An input object of this name with these fields and this check, and no description (section
+    /// 3.10).
+    ///
+    /// # Errors
+    ///
+    /// Out of memory.
     pub fn with_check(
         alloc: Global,
         name: &str,
@@ -69,7 +76,11 @@ impl<S: Drop, C: Drop> InputObjectMetaOf<S, C> {
         })
     }
 
-    /// Replaces the description (section 3.2). Its one error is `OutOfMemory`.
+    /// Replaces the description (section 3.2).
+    ///
+    /// # Errors
+    ///
+    /// Out of memory.
     pub fn description(mut self, text: &str) -> Result<Self, OutOfMemory>
         ensures text { IfOk result (λ m. option_map string_bytes m.description ≡ Some text.now) }
         ensures others { IfOk result (λ m. m ≡ record self { description = m.description }) }
@@ -80,7 +91,7 @@ impl<S: Drop, C: Drop> InputObjectMetaOf<S, C> {
 }
 
 impl<S, C> InputObjectMetaOf<S, C> {
-    /// The input object among the types of a schema (section 3.10). It has no error.
+    /// The input object as metadata of any kind.
     pub fn into_meta(self) -> MetaTypeOf<S, C>
         ensures { result ≡ MetaTypeOf.InputObject self }
     {

@@ -1,5 +1,5 @@
-//! Metadata of any kind.
-ghost use Rattle.std.specs.Prelude.{◌≡◌, IfOk, IsSome, Some, option_map, option_copied};
+//! Metadata of types of any kind.
+ghost use Rattle.std.specs.Prelude.{◌≡◌, IfOk, IsSome, Some, option_copied};
 ghost use Rattle.language.specs.Types.{shape};
 ghost use Rattle.meta.specs.Kinds.{name_of_meta, description_of_meta, url_of_meta, kind_of_meta, field_named, input_field_named, type_of_meta, check_of_meta, is_composite_meta, is_leaf_meta, is_abstract_meta, is_input_meta, is_builtin_meta, is_builtin_name, list_type_of};
 
@@ -20,7 +20,7 @@ use language::types::Type;
 use language::value::DefaultScalarValue;
 use std::alloc::Global;
 
-/// The kinds of types that introspection tells apart (section 4.2.2).
+/// The kind of a type, as introspection reports it (section 4.2.2).
 #[derive(Clone, Debug, PartialEq, Eq, Drop)]
 pub enum TypeKind {
     /// A scalar (section 3.5).
@@ -46,7 +46,7 @@ pub enum MetaTypeOf<S, C> {
     Scalar(ScalarMetaOf<C>),
     /// A list (section 3.11).
     List(ListMeta),
-    /// A type that may be null (section 3.12).
+    /// A nullable type (section 3.12).
     Nullable(NullableMeta),
     /// An object (section 3.6).
     Object(ObjectMeta<S>),
@@ -58,17 +58,17 @@ pub enum MetaTypeOf<S, C> {
     Union(UnionMeta),
     /// An input object (section 3.10).
     InputObject(InputObjectMetaOf<S, C>),
-    /// A type whose own metadata is not made yet; a schema refuses it.
+    /// Stands for a type whose metadata does not exist yet; a schema refuses it.
     Placeholder(PlaceholderMeta),
 }
 
-/// Metadata of a type, with the checks that its kind of scalars has.
+/// Metadata of a type, with the checks of the scalar type `S`.
 pub type MetaType<S = DefaultScalarValue> = MetaTypeOf<S, <S as CheckedScalar>::Check>;
 
 impl<S, C> MetaTypeOf<S, C> {
-    /// The name; none for a list, a nullable type and a placeholder.
+    /// The name; `None` for a list, a nullable type or a placeholder.
     pub fn name(&self) -> Option<&str>
-        ensures { option_map (λ s. s.now) result ≡ name_of_meta self.now }
+        ensures { option_copied result ≡ name_of_meta self.now }
     {
         match self {
             MetaTypeOf::Scalar(meta) => Some(meta.name.as_str()),
@@ -83,9 +83,9 @@ impl<S, C> MetaTypeOf<S, C> {
         }
     }
 
-    /// The description, if there is one; none for a list, a nullable type and a placeholder.
+    /// The description, if there is one; `None` for a list, a nullable type or a placeholder.
     pub fn description(&self) -> Option<&str>
-        ensures { option_map (λ s. s.now) result ≡ description_of_meta self.now }
+        ensures { option_copied result ≡ description_of_meta self.now }
     {
         match self {
             MetaTypeOf::Scalar(meta) => as_text(&meta.description),
@@ -100,9 +100,9 @@ impl<S, C> MetaTypeOf<S, C> {
         }
     }
 
-    /// The URL of the text that specifies a scalar, if there is one.
+    /// The URL of the specification of a scalar, if there is one (section 3.13.4).
     pub fn specified_by_url(&self) -> Option<&str>
-        ensures { option_map (λ s. s.now) result ≡ url_of_meta self.now }
+        ensures { option_copied result ≡ url_of_meta self.now }
     {
         match self {
             MetaTypeOf::Scalar(meta) => as_text(&meta.specified_by_url),
@@ -128,7 +128,7 @@ impl<S, C> MetaTypeOf<S, C> {
         }
     }
 
-    /// The first field of the name, of an object or an interface.
+    /// The first field of this name; `None` unless the type is an object or an interface.
     pub fn field_by_name(&self, name: &str) -> Option<&Field<S>>
         ensures { option_copied result ≡ field_named name.now self.now }
     {
@@ -139,7 +139,7 @@ impl<S, C> MetaTypeOf<S, C> {
         }
     }
 
-    /// The first field of the name, of an input object.
+    /// The first input field of this name; `None` unless the type is an input object.
     pub fn input_field_by_name(&self, name: &str) -> Option<&Argument<S>>
         ensures { option_copied result ≡ input_field_named name.now self.now }
     {
@@ -149,9 +149,13 @@ impl<S, C> MetaTypeOf<S, C> {
         }
     }
 
-    /// The type: a named kind is non-null; a list is the non-null list of its type, with its size;
-    /// a nullable type is its type without an outer non-null; a placeholder is its type (section
-    /// 3.4.1). Its one error is `OutOfMemory`.
+    /// The type that the metadata describes (section 3.4.1). For a type with a name it is that name,
+    /// non-null; for a list the non-null list of its type, with its size. A nullable type gives its
+    /// type without an outermost non-null, and a placeholder its type as it is.
+    ///
+    /// # Errors
+    ///
+    /// Out of memory.
     pub fn as_type(&self, alloc: Global) -> Result<Type, OutOfMemory>
         ensures { IfOk result (λ t. shape t ≡ type_of_meta self.now) }
     {
@@ -168,7 +172,7 @@ impl<S, C> MetaTypeOf<S, C> {
         }
     }
 
-    /// What tells the values of a scalar, an enum or an input object; none for another kind.
+    /// The check of a scalar, an enum or an input object; `None` for any other kind.
     pub fn input_value_parse_fn(&self) -> Option<&C>
         ensures { option_copied result ≡ check_of_meta self.now }
     {
@@ -180,8 +184,8 @@ impl<S, C> MetaTypeOf<S, C> {
         }
     }
 
-    /// Whether a selection set may stand below it: an object, an interface or a union (sections 3.6
-    /// to 3.8).
+    /// Whether a field of the type takes a selection set: an object, an interface or a union (sections
+    /// 3.6 to 3.8).
     pub fn is_composite(&self) -> bool
         ensures { result ≡ is_composite_meta self.now }
     {
@@ -191,21 +195,21 @@ impl<S, C> MetaTypeOf<S, C> {
         )
     }
 
-    /// Whether it is a scalar or an enum.
+    /// Whether the type is a scalar or an enum.
     pub fn is_leaf(&self) -> bool
         ensures { result ≡ is_leaf_meta self.now }
     {
         matches!(self, MetaTypeOf::Scalar(_) | MetaTypeOf::Enum(_))
     }
 
-    /// Whether it is an interface or a union.
+    /// Whether the type is an interface or a union.
     pub fn is_abstract(&self) -> bool
         ensures { result ≡ is_abstract_meta self.now }
     {
         matches!(self, MetaTypeOf::Interface(_) | MetaTypeOf::Union(_))
     }
 
-    /// Whether an argument may have it: a scalar, an enum or an input object (section 3.4.2).
+    /// Whether an argument may have the type: a scalar, an enum or an input object (section 3.4.2).
     pub fn is_input(&self) -> bool
         ensures { result ≡ is_input_meta self.now }
     {
@@ -215,7 +219,8 @@ impl<S, C> MetaTypeOf<S, C> {
         )
     }
 
-    /// Whether the name begins with `__` or is one of the types that every schema may have.
+    /// Whether the name begins with `__`, or is that of a standard scalar, `_EmptyMutation` or
+    /// `_EmptySubscription`.
     pub fn is_builtin(&self) -> bool
         ensures { result ≡ is_builtin_meta self.now }
     {

@@ -5,7 +5,7 @@ ghost use Rattle.std.specs.Str.{bytes_eq};
 use crate::arguments::Argument;
 use crate::fields::Field;
 
-/// What has a name.
+/// Anything with a name.
 pub trait Named {
     ghost name_of: { Self → List ℕ };
 
@@ -33,7 +33,7 @@ impl<S> Named for Argument<S> {
     }
 }
 
-/// The first of the name.
+/// The first item of this name.
 pub fn first_named<'t, T: Named>(items: &'t [T], name: &str) -> Option<&'t T>
     ensures { option_copied result ≡ find (λ x. bytes_eq (T.name_of x) name.now) items.now }
 {

@@ -15,13 +15,16 @@ pub struct ObjectMeta<S> {
     pub name: String,
     pub description: Option<String>,
     pub fields: Vec<Field<S>>,
-    /// The names of the interfaces that it implements, in their order.
+    /// The names of the interfaces that it implements, in order.
     pub interface_names: Vec<String>,
 }
 
 impl<S: Drop> ObjectMeta<S> {
     /// An object of this name with these fields, no description and no interfaces (section 3.6).
-    /// Its one error is `OutOfMemory`.
+    ///
+    /// # Errors
+    ///
+    /// Out of memory.
     pub fn new(alloc: Global, name: &str, fields: Vec<Field<S>>) -> Result<Self, OutOfMemory>
         ensures name { IfOk result (λ m. string_bytes m.name ≡ name.now) }
         ensures description { IfOk result (λ m. m.description ≡ None) }
@@ -36,7 +39,11 @@ impl<S: Drop> ObjectMeta<S> {
         })
     }
 
-    /// Replaces the description (section 3.2). Its one error is `OutOfMemory`.
+    /// Replaces the description (section 3.2).
+    ///
+    /// # Errors
+    ///
+    /// Out of memory.
     pub fn description(mut self, text: &str) -> Result<Self, OutOfMemory>
         ensures text { IfOk result (λ m. option_map string_bytes m.description ≡ Some text.now) }
         ensures others { IfOk result (λ m. m ≡ record self { description = m.description }) }
@@ -45,8 +52,11 @@ impl<S: Drop> ObjectMeta<S> {
         Ok(self)
     }
 
-    /// Replaces the interfaces by the innermost names of the types (section 3.6). Its one error is
-    /// `OutOfMemory`.
+    /// Replaces the interfaces by those that these types name, whatever their modifiers (section 3.6).
+    ///
+    /// # Errors
+    ///
+    /// Out of memory.
     pub fn interfaces(mut self, interfaces: Vec<Type>) -> Result<Self, OutOfMemory>
         ensures interfaces { IfOk result (λ m. map string_bytes m.interface_names.items
             ≡ map (λ t. (shape t).name) interfaces.items) }
@@ -58,7 +68,7 @@ impl<S: Drop> ObjectMeta<S> {
 }
 
 impl<S> ObjectMeta<S> {
-    /// The object among the types of a schema (section 3.6). It has no error.
+    /// The object as metadata of any kind.
     pub fn into_meta<C>(self) -> MetaTypeOf<S, C>
         ensures { result ≡ MetaTypeOf.Object self }
     {

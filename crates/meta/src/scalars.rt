@@ -1,6 +1,6 @@
 //! Scalars.
 ghost use Rattle.std.specs.Prelude.{◌≡◌, IfOk, None, Some, option_map, string_bytes};
-ghost use Rattle.meta.specs.Answers.{SameAnswer};
+ghost use Rattle.meta.specs.Answers.{AnswersAlike, TakesAll};
 ghost use Rattle.meta.specs.Functions.{function_of, token_function_of};
 ghost use Rattle.meta.specs.Kept.{scalar_check};
 
@@ -10,7 +10,7 @@ use crate::kinds::MetaTypeOf;
 use language::error::OutOfMemory;
 use std::alloc::Global;
 
-/// Metadata of a scalar (section 3.5), whose values the check tells.
+/// Metadata of a scalar (section 3.5), whose check decides which values it has.
 #[derive(Drop)]
 pub struct ScalarMetaOf<C> {
     pub name: String,
@@ -19,24 +19,27 @@ pub struct ScalarMetaOf<C> {
     check: C,
 }
 
-/// Metadata of a scalar, with the checks that its kind of scalars has.
+/// Metadata of a scalar, with the check of the scalar type `S`.
 pub type ScalarMeta<S> = ScalarMetaOf<<S as CheckedScalar>::Check>;
 
 impl ScalarMetaOf<DefaultCheck> {
     /// A scalar of this name, with no description and no URL.
     ///
-    /// The caller's check has to work on any value. It has to answer a value the same each time, with
-    /// the same text where it refuses, unless it runs out of memory. No call asks the token function.
-    /// Its one error is `OutOfMemory`.
+    /// The check has to take every value. It has to give the same answer to the same value each time,
+    /// down to the text of a refusal, unless it runs out of memory. This crate never calls the token
+    /// function.
+    ///
+    /// # Errors
+    ///
+    /// Out of memory.
     pub fn new(
         alloc: Global,
         name: &str,
         check: InputValueParseFn,
         token: ScalarTokenParseFn,
     ) -> Result<Self, OutOfMemory>
-        requires callable { (a : _) (v : _) → InputValueParseFn.pre check a v }
-        requires one_answer { (a b : _) (v w : _) (r s : _) → v.now ≡ w.now → InputValueParseFn.post check a v r
-            → InputValueParseFn.post check b w s → SameAnswer r s }
+        requires callable { TakesAll (InputValueParseFn.pre check) }
+        requires one_answer { AnswersAlike (InputValueParseFn.post check) }
         ensures name { IfOk result (λ m. string_bytes m.name ≡ name.now) }
         ensures description { IfOk result (λ m. m.description ≡ None) }
         ensures url { IfOk result (λ m. m.specified_by_url ≡ None) }
@@ -48,8 +51,11 @@ impl ScalarMetaOf<DefaultCheck> {
 }
 
 impl<C: Drop> ScalarMetaOf<C> {
-    /// A scalar of this name that keeps this check, with no description and no URL (section 3.5). Its
-    /// one error is `OutOfMemory`.
+    /// A scalar of this name with this check, and no description and no URL (section 3.5).
+    ///
+    /// # Errors
+    ///
+    /// Out of memory.
     pub fn with_check(alloc: Global, name: &str, check: C) -> Result<Self, OutOfMemory>
         ensures name { IfOk result (λ m. string_bytes m.name ≡ name.now) }
         ensures description { IfOk result (λ m. m.description ≡ None) }
@@ -64,7 +70,11 @@ impl<C: Drop> ScalarMetaOf<C> {
         })
     }
 
-    /// Replaces the description (section 3.2). Its one error is `OutOfMemory`.
+    /// Replaces the description (section 3.2).
+    ///
+    /// # Errors
+    ///
+    /// Out of memory.
     pub fn description(mut self, text: &str) -> Result<Self, OutOfMemory>
         ensures text { IfOk result (λ m. option_map string_bytes m.description ≡ Some text.now) }
         ensures others { IfOk result (λ m. m ≡ record self { description = m.description }) }
@@ -73,8 +83,11 @@ impl<C: Drop> ScalarMetaOf<C> {
         Ok(self)
     }
 
-    /// Replaces the URL of the text that specifies the scalar (section 3.13.4). Its one error is
-    /// `OutOfMemory`.
+    /// Replaces the URL of the text that specifies the scalar (section 3.13.4).
+    ///
+    /// # Errors
+    ///
+    /// Out of memory.
     pub fn specified_by_url(mut self, url: &str) -> Result<Self, OutOfMemory>
         ensures url { IfOk result (λ m. option_map string_bytes m.specified_by_url ≡ Some url.now) }
         ensures others { IfOk result (λ m. m ≡ record self { specified_by_url = m.specified_by_url }) }
@@ -85,7 +98,7 @@ impl<C: Drop> ScalarMetaOf<C> {
 }
 
 impl<C> ScalarMetaOf<C> {
-    /// The scalar among the types of a schema (section 3.5). It has no error.
+    /// The scalar as metadata of any kind.
     pub fn into_meta<S>(self) -> MetaTypeOf<S, C>
         ensures { result ≡ MetaTypeOf.Scalar self }
     {

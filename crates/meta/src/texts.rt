@@ -1,5 +1,5 @@
-//! Texts that a type keeps.
-ghost use Rattle.std.specs.Prelude.{◌≡◌, IfOk, IsOk, None, map, option_map, string_bytes};
+//! Texts of metadata.
+ghost use Rattle.std.specs.Prelude.{◌≡◌, IfOk, IsOk, None, map, option_map, string_bytes, option_copied};
 ghost use Rattle.language.specs.Types.{shape};
 
 use language::error::OutOfMemory;
@@ -8,7 +8,7 @@ use std::alloc::Global;
 
 /// The text, if there is one.
 pub fn as_text(text: &Option<String>) -> Option<&str>
-    ensures { option_map (λ s. s.now) result ≡ option_map string_bytes text.now }
+    ensures { option_copied result ≡ option_map string_bytes text.now }
 {
     match text {
         Some(kept) => Some(kept.as_str()),
@@ -16,9 +16,13 @@ pub fn as_text(text: &Option<String>) -> Option<&str>
     }
 }
 
-/// A copy of the text, if there is one; none is answered without memory.
+/// A copy of the text, if there is one.
+///
+/// # Errors
+///
+/// Out of memory; never if there is no text.
 pub fn copy_text(alloc: Global, text: Option<&str>) -> Result<Option<String>, OutOfMemory>
-    ensures value { IfOk result (λ t. option_map string_bytes t ≡ option_map (λ s. s.now) text.entry) }
+    ensures value { IfOk result (λ t. option_map string_bytes t ≡ option_copied text.entry) }
     ensures succeeds { text.entry ≡ None → IsOk result }
 {
     match text {
@@ -27,7 +31,11 @@ pub fn copy_text(alloc: Global, text: Option<&str>) -> Result<Option<String>, Ou
     }
 }
 
-/// The innermost names of the types, in their order.
+/// The names of the types, in order, whatever their modifiers.
+///
+/// # Errors
+///
+/// Out of memory.
 pub fn innermost_names(alloc: Global, types: &[Type]) -> Result<Vec<String>, OutOfMemory>
     ensures { IfOk result (λ v. map string_bytes v.items ≡ map (λ t. (shape t).name) types.now) }
 {

@@ -13,13 +13,17 @@ use std::alloc::Global;
 pub struct UnionMeta {
     pub name: String,
     pub description: Option<String>,
-    /// The names of the members, in their order.
+    /// The names of the members, in order.
     pub of_type_names: Vec<String>,
 }
 
 impl UnionMeta {
-    /// A union of this name, of the innermost names of the types, with no description (section 3.8).
-    /// Its one error is `OutOfMemory`.
+    /// A union of this name with no description, whose members are those that these types name,
+    /// whatever their modifiers (section 3.8).
+    ///
+    /// # Errors
+    ///
+    /// Out of memory.
     pub fn new(alloc: Global, name: &str, types: Vec<Type>) -> Result<Self, OutOfMemory>
         ensures name { IfOk result (λ m. string_bytes m.name ≡ name.now) }
         ensures description { IfOk result (λ m. m.description ≡ None) }
@@ -33,7 +37,11 @@ impl UnionMeta {
         })
     }
 
-    /// Replaces the description (section 3.2). Its one error is `OutOfMemory`.
+    /// Replaces the description (section 3.2).
+    ///
+    /// # Errors
+    ///
+    /// Out of memory.
     pub fn description(mut self, text: &str) -> Result<Self, OutOfMemory>
         ensures text { IfOk result (λ m. option_map string_bytes m.description ≡ Some text.now) }
         ensures others { IfOk result (λ m. m ≡ record self { description = m.description }) }
@@ -42,7 +50,7 @@ impl UnionMeta {
         Ok(self)
     }
 
-    /// The union among the types of a schema (section 3.8). It has no error.
+    /// The union as metadata of any kind.
     pub fn into_meta<S, C>(self) -> MetaTypeOf<S, C>
         ensures { result ≡ MetaTypeOf.Union self }
     {

@@ -9,13 +9,12 @@ use language::types::Type;
 pub struct ListMeta {
     /// The type of the items.
     pub of_type: Type,
-    /// How many items a list has, if a number is expected.
+    /// The number of items, if one is expected.
     pub expected_size: Option<usize>,
 }
 
 impl ListMeta {
-    /// The lists of this type, of so many items if a number is expected (section 3.11). It has no
-    /// error.
+    /// The lists of this type; with a number, that many items are expected (section 3.11).
     pub fn new(of_type: Type, expected_size: Option<usize>) -> Self
         ensures of_type { result.of_type ≡ of_type }
         ensures expected_size { result.expected_size ≡ expected_size }
@@ -26,7 +25,7 @@ impl ListMeta {
         }
     }
 
-    /// The list as metadata of any kind (section 3.11). It has no error; a schema refuses it.
+    /// The list as metadata of any kind (section 3.11). A schema refuses it.
     pub fn into_meta<S, C>(self) -> MetaTypeOf<S, C>
         ensures { result ≡ MetaTypeOf.List self }
     {
@@ -34,21 +33,21 @@ impl ListMeta {
     }
 }
 
-/// Metadata of a type that may be null (section 3.12).
+/// Metadata of a nullable type (section 3.12).
 #[derive(Drop)]
 pub struct NullableMeta {
     pub of_type: Type,
 }
 
 impl NullableMeta {
-    /// This type, or null (section 3.12). It has no error.
+    /// The type whose values are `null` and those of this type (section 3.12).
     pub fn new(of_type: Type) -> Self
         ensures { result.of_type ≡ of_type }
     {
         NullableMeta { of_type }
     }
 
-    /// The nullable type as metadata of any kind (section 3.12). It has no error; a schema refuses it.
+    /// The nullable type as metadata of any kind (section 3.12). A schema refuses it.
     pub fn into_meta<S, C>(self) -> MetaTypeOf<S, C>
         ensures { result ≡ MetaTypeOf.Nullable self }
     {
@@ -56,7 +55,7 @@ impl NullableMeta {
     }
 }
 
-/// Metadata that stands for a type whose own metadata is not made yet.
+/// Stands for a type whose metadata does not exist yet.
 #[derive(Drop)]
 pub struct PlaceholderMeta {
     pub of_type: Type,

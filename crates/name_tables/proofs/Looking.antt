@@ -19,7 +19,7 @@ pub other_same : (m n : Others) → n.entries ≡ m.entries → (name : List ℕ
 other_same m n e name = ap (lookup (is_at (λ (k : Bor (List ℕ)). slice_cmp nat_cmp name k.now))) e
 
 module _ {T : Type 0} (es : Entries T) (others : Others) where
-  -- a name whose slot is free isn't there
+  -- a name whose slot is free is not in the map
   pub index_free : (slots : List ℕ) (name : List ℕ) → held_by slots name ≡ Some 0 → index_in es slots others name ≡ None
   index_free slots name h = ap (index_by es others name) h
 
@@ -41,7 +41,7 @@ module _ {T : Type 0} (es : Entries T) (others : Others) where
       by true e = absurd (none_some k (sym e))
       by false e = e
 
-  -- a name that isn't there, and whose slot isn't free, isn't in the ordered map
+  -- a name that is not in the map, and whose slot is not free, is not in the ordered map
   pub other_none : (slots : List ℕ) (name : List ℕ) → (held_by slots name ≡ Some 0 → ⊥) → index_in es slots others name ≡ None → other_index others name ≡ None
   other_none slots name b h = other_by name (held_by slots name) b h
 

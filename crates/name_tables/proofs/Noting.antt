@@ -1,4 +1,4 @@
--- What belongs to names where one is added.
+-- The values of names when one is added.
 use Rattle.std.proofs.Common.{◌≡◌, ◌∙◌, ℕ, ◌<◌, List, [], ◌∷◌, ◌++◌, length, refl, sym, ap, subst, zero, suc, Bool, true, false, cond, Option, Some, None, option_map, slice_get}
 use Rattle.std.specs.Option.{is_some}
 use Rattle.std.specs.Str.{bytes_eq}

@@ -1,4 +1,4 @@
--- A name whose slot another one took goes into the ordered map.
+-- A name whose slot is taken goes into the ordered map.
 use Rattle.std.proofs.Common.{◌≡◌, ℕ, ◌<◌, List, [], ◌∷◌, ◌++◌, length, length-append, refl, sym, ap, ◌∙◌, zero, suc, Bool, true, false, cond, Option, Some, None, slice_get, arith}
 use Rattle.std.specs.Map.{update}
 use Rattle.std.specs.Str.{bytes_eq}

@@ -10,12 +10,12 @@ abbrev pub or_else : {T : Type 0} → Option T → Option T → Option T
 or_else None o = o
 or_else (Some x) o = Some x
 
--- The name is there with the next index and what belongs to it, if it wasn't; nothing else changed.
+-- A new name gets the next index, with this value; a name that the map has changes nothing.
 pub record Adds {T : Type 0} (name : Bor (List ℕ)) (value : T) (old new : NameMap T) : Type 0 where
   pub entries : entries_of new ≡ (if is_some (index_of old name.now) then entries_of old else entries_of old ++ (name, value) ∷ [])
   pub indices : (other : List ℕ) → index_of new other ≡ or_else (index_of old other) (if bytes_eq name.now other then Some (length (entries_of old)) else None)
 
--- All names are there with their indices and what belongs to them, and no others.
+-- The map has the same names, with the same indices and values.
 pub record IsUnchanged {T : Type 0} (old new : NameMap T) : Type 0 where
   pub entries : entries_of new ≡ entries_of old
   pub indices : (name : List ℕ) → index_of new name ≡ index_of old name

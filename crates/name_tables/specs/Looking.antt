@@ -1,4 +1,4 @@
--- How a name is looked up: in its slot, and where another name took that one, in the ordered map.
+-- How a name is looked up: in its slot, and if another name took that, in the ordered map.
 use Rattle.std.specs.Prelude.{ℕ, zero, suc, List, length, ◌≡◌, ◌<◌, Option, None, Some, Bool, false, slice_get, if◌then◌else◌}
 use Rattle.std.specs.BTreeMap.{BTreeMap, get_by}
 use Rattle.std.specs.Cmp.Lexicographic.{slice_cmp}
@@ -21,31 +21,31 @@ abbrev pub is_named : {T : Type 0} → Option (Bor (List ℕ) × T) → List ℕ
 is_named None name = false
 is_named (Some e) name = bytes_eq e.0.now name
 
--- The index of a name whose slot holds one more than an index, or 0, which is none.
+-- The index of a name, by the content of its slot: 0 if it is free, else 1 plus an index.
 abbrev pub index_held : {T : Type 0} → Entries T → Others → List ℕ → ℕ → Option ℕ
 index_held es others name zero = None
 index_held es others name (suc k) = if is_named (slice_get es k) name then Some k else other_index others name
 
--- The index of a name, by what its slot holds, if there are slots.
+-- The same; without slots the ordered map is asked.
 abbrev pub index_by : {T : Type 0} → Entries T → Others → List ℕ → Option ℕ → Option ℕ
 index_by es others name None = other_index others name
 index_by es others name (Some held) = index_held es others name held
 
--- What the slot of a name holds.
+-- The content of the slot of a name.
 abbrev pub held_by : List ℕ → List ℕ → Option ℕ
 held_by slots name = slice_get slots (slot_number name (length slots))
 
 abbrev pub index_in : {T : Type 0} → Entries T → List ℕ → Others → List ℕ → Option ℕ
 index_in es slots others name = index_by es others name (held_by slots name)
 
--- What the slots hold are indices.
+-- Each slot that is taken contains 1 plus a valid index.
 abbrev pub AreHeld : {T : Type 0} → Entries T → List ℕ → Type 0
 AreHeld es slots = (slot k : ℕ) → slice_get slots slot ≡ Some (suc k) → k < length es
 
--- So is what the ordered map holds.
+-- The ordered map contains valid indices.
 abbrev pub AreWithin : {T : Type 0} → Entries T → Others → Type 0
 AreWithin es others = (name : List ℕ) (k : ℕ) → other_index others name ≡ Some k → k < length es
 
--- No name that stands there has a free slot.
+-- No name in the ordered map has a free slot.
 abbrev pub AreTaken : List ℕ → Others → Type 0
 AreTaken slots others = (name : List ℕ) → held_by slots name ≡ Some 0 → other_index others name ≡ None

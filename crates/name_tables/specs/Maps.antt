@@ -1,4 +1,4 @@
--- Names with what belongs to each.
+-- What a map contains.
 use Rattle.std.specs.Prelude.{ℕ, List, length, Option, None, Some, option_map, slice_get}
 use Rattle.name_tables.specs.declared.map.NameMap.{NameMap}
 use Rattle.name_tables.specs.Looking.{Entries, index_in}
@@ -14,10 +14,10 @@ abbrev pub value_at : {T : Type 0} → Entries T → Option ℕ → Option T
 value_at es None = None
 value_at es (Some k) = option_map (λ e. e.1) (slice_get es k)
 
--- What belongs to a name.
+-- The value of a name.
 abbrev pub value_of : {T : Type 0} → NameMap T → List ℕ → Option T
 value_of m name = value_at (entries_of m) (index_of m name)
 
--- How many slots there are.
+-- The number of slots.
 abbrev pub slots_in : {T : Type 0} → NameMap T → ℕ
 slots_in m = length m.slots.items

@@ -5,10 +5,10 @@ use Rattle.std.specs.Prelude.{ℕ, List, ◌+◌, ◌-◌, ◌*◌, ◌%◌, bit
 abbrev pub as_number : List ℕ → ℕ
 as_number name = fold (λ number byte. number * 11 + byte) 0 name
 
--- What a name weighs: what is left of that number modulo 2 to the power of 32.
+-- The hash of a name: that number modulo 2 to the power of 32.
 abbrev pub weight : List ℕ → ℕ
 weight name = as_number name % 4294967296
 
--- The slot of a name among so many, which are a power of two.
+-- The slot of a name among this many, which are a power of two.
 abbrev pub slot_number : List ℕ → ℕ → ℕ
 slot_number name slots = bit_and (weight name) (slots - 1)

@@ -1,4 +1,7 @@
-//! Tables of names: where a look-up of a name looks first, and maps that look there before they look into a tree.
+//! Tables of names: a map from names to values, and the hash slots in which it looks first.
+//!
+//! [`map`] keeps each name once, with its value, in insertion order. [`slots`] computes the slot of a
+//! name; tables that keep their entries elsewhere use it alone.
 #![tactic(auto)]
 
 pub mod map;

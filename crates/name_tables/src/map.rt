@@ -1,7 +1,8 @@
-//! Names with what belongs to each, in the order in which they came.
+//! A map from names to values, in insertion order.
 //!
-//! A name has a slot, and the first name that comes to a slot takes it: most names are found there, compared with no other. A name whose slot another one
-//! took stands in an ordered map, too. Strangers choose the names, and can do no more than have that map asked each time.
+//! The first name of a slot takes it, so most look-ups compare one name. A name whose slot is taken goes
+//! into an ordered map. Hostile names can at worst send every look-up to that map, which takes
+//! logarithmic time.
 ghost use Rattle.std.specs.Prelude.{◌≡◌, ℕ, List, IfOk};
 ghost use Rattle.name_tables.specs.Looking.{other_index, AreHeld, AreTaken, AreWithin};
 
@@ -9,13 +10,13 @@ use crate::slots::{slot_count, slot_of};
 use std::alloc::{AllocError, Global};
 use std::collections::BTreeMap;
 
-/// Names, each once, with what belongs to each.
+/// Distinct names, each with a value, in insertion order.
 #[derive(Drop)]
 pub struct NameMap<'a, T> {
     entries: Vec<(&'a str, T)>,
-    /// For each slot one more than the index of the name that took it, and 0 where none did.
+    /// For each slot, 1 plus the index of the name that took it, or 0 if it is free.
     slots: Vec<usize>,
-    /// The indices of names whose slots others took.
+    /// The indices of the names whose slots other names took.
     others: BTreeMap<&'a str, usize>,
     ghost held: { AreHeld entries.items slots.items },
     ghost within: { AreWithin entries.items others },
@@ -29,7 +30,7 @@ impl<'a, T: Copy> NameMap<'a, T> {
     ghost use Rattle.name_tables.specs.Looking.{held_by, index_held, is_named, other_index};
     ghost use Rattle.name_tables.specs.Maps.{entries_of, index_of, slots_in, value_at, value_of};
 
-    /// No names, and no slots, so that each name stands in the ordered map. It asks for no memory.
+    /// An empty map without slots: each name will go into the ordered map. Allocates nothing.
     pub fn new(alloc: Global) -> NameMap<'a, T>
         ensures entries { entries_of result ≡ [] }
         ensures none { (name : List ℕ) → index_of result name ≡ None }
@@ -41,7 +42,11 @@ impl<'a, T: Copy> NameMap<'a, T> {
         }
     }
 
-    /// No names, with slots for so many: two for each, up to a million in all.
+    /// An empty map with at least two slots for each of this many names, up to a million slots.
+    ///
+    /// # Errors
+    ///
+    /// Out of memory.
     pub fn with_slots(alloc: Global, names: usize) -> Result<NameMap<'a, T>, AllocError>
         ensures slots { IfOk result (λ m. 2 * min names 524288 ≤ slots_in m) }
         ensures entries { IfOk result (λ m. entries_of m ≡ []) }
@@ -55,21 +60,21 @@ impl<'a, T: Copy> NameMap<'a, T> {
         })
     }
 
-    /// How many names there are.
+    /// The number of names.
     pub fn len(&self) -> usize
         ensures { result ≡ length (entries_of self.now) }
     {
         self.entries.len()
     }
 
-    /// The name of an index, with what belongs to it.
+    /// The name at an index, counted from 0 in insertion order, and its value.
     pub fn entry(&self, index: usize) -> Option<(&'a str, T)>
         ensures { result ≡ slice_get (entries_of self.now) index }
     {
         self.entries.get(index).copied()
     }
 
-    // What belongs to the name of an index.
+    // The value of the name at an index.
     fn value(&self, index: usize) -> Option<T>
         ensures { result ≡ value_at (entries_of self.now) (Some index) }
     {
@@ -79,7 +84,7 @@ impl<'a, T: Copy> NameMap<'a, T> {
         }
     }
 
-    // What the slot of a name holds, if there are slots.
+    // The content of the slot of a name, if there are slots.
     fn held(&self, name: &str) -> Option<usize>
         ensures { result ≡ held_by self.now.slots.items name.now }
     {
@@ -90,7 +95,7 @@ impl<'a, T: Copy> NameMap<'a, T> {
         self.slots.get(slot).copied()
     }
 
-    // Whether there are slots and no name took this one's.
+    // Whether there are slots and that of the name is free.
     fn is_free(&self, name: &str) -> bool
         ensures { IsTrue result ↔ (held_by self.now.slots.items name.now ≡ Some 0) }
     {
@@ -100,7 +105,7 @@ impl<'a, T: Copy> NameMap<'a, T> {
         }
     }
 
-    // Whether an index is that of a name.
+    // Whether the name is at this index.
     fn is_at(&self, index: usize, name: &str) -> bool
         ensures { result ≡ is_named (slice_get self.now.entries.items index) name.now }
     {
@@ -117,7 +122,7 @@ impl<'a, T: Copy> NameMap<'a, T> {
         self.others.get(name).copied()
     }
 
-    // The index of a name by what its slot holds.
+    // The index of a name, by the content of its slot.
     fn index_held(&self, held: usize, name: &str) -> Option<usize>
         ensures { result ≡ index_held self.now.entries.items self.now.others name.now held }
     {
@@ -130,7 +135,7 @@ impl<'a, T: Copy> NameMap<'a, T> {
         self.other(name)
     }
 
-    /// The index of a name, if it is there.
+    /// The index of a name, counted from 0 in insertion order, if the map has it.
     pub fn index(&self, name: &str) -> Option<usize>
         ensures { result ≡ index_of self.now name.now }
     {
@@ -140,7 +145,12 @@ impl<'a, T: Copy> NameMap<'a, T> {
         }
     }
 
-    /// Adds a name with what belongs to it, unless it is there; the index that it had. A new one gets the next index.
+    /// Adds a name with a value, unless the map has it. Returns the index of a name that the map had, and
+    /// `None` for a new one, which gets the next index.
+    ///
+    /// # Errors
+    ///
+    /// Out of memory; the map is unchanged then.
     pub fn insert(&mut self, name: &'a str, value: T) -> Result<Option<usize>, AllocError>
         ensures earlier { IfOk result (λ index. index ≡ index_of self.old name.now) }
         ensures adds { OnOk result (Adds name.entry value self.old self.new) }
@@ -159,7 +169,12 @@ impl<'a, T: Copy> NameMap<'a, T> {
         }
     }
 
-    /// Adds a name with what belongs to it, unless it is there; what belonged to it then, and stays.
+    /// Adds a name with a value, unless the map has it. Returns the value that the name had, and keeps
+    /// it; `None` for a new name.
+    ///
+    /// # Errors
+    ///
+    /// Out of memory; the map is unchanged then.
     pub fn note(&mut self, name: &'a str, value: T) -> Result<Option<T>, AllocError>
         ensures earlier { IfOk result (λ earlier. earlier ≡ value_of self.old name.now) }
         ensures noted { OnOk result ((other : List ℕ) → value_of self.new other
@@ -184,7 +199,7 @@ impl<'a, T: Copy> NameMap<'a, T> {
         Ok(())
     }
 
-    // Adds a name whose slot isn't free.
+    // Adds a name whose slot is not free.
     fn add_other(&mut self, name: &'a str, value: T) -> Result<(), AllocError>
         requires taken { held_by self.old.slots.items name.now ≡ Some 0 → ⊥ }
         requires new { index_of self.old name.now ≡ None }

@@ -1,18 +1,18 @@
-//! Slots for names: a name has one slot, and what stands in it is asked before a map is.
+//! The slot of a name: a small hash of its bytes.
 //!
-//! Two names of one slot drive each other out, and then the map is asked, so any slot is right and any number of slots. Who takes what stands in a
-//! slot compares the names first: strangers choose them, and can do no more than have the map asked each time.
+//! A table looks at the slot of a name before it looks into a map. Names may share a slot, so the table
+//! compares the name that it finds there, and asks the map if it is another. Any hash is correct.
 ghost use Rattle.std.specs.Prelude.{◌≡◌, ◌<◌, ◌≤◌, ◌+◌, ◌*◌, min};
 ghost use Rattle.name_tables.specs.Slots.{slot_number, weight};
 
-/// The most slots that are made, however many names there are.
+/// The greatest number of slots.
 const MOST: usize = 1 << 20;
 
-/// What the place of a byte weighs against the one behind it. A little above ten it keeps names apart that count up by a number in
-/// them; other names of types and fragments it spreads about as well as the best of a hundred and fifty odd numbers that were tried.
+/// The base of the hash. A little above ten, it separates names that differ in a decimal number; it
+/// spreads other names about as well as the best of the 150 odd bases that were tried.
 const BASE: u32 = 11;
 
-/// How many slots serve so many names: two to four for each, up to a million.
+/// The number of slots for this many names: two to four for each, up to a million; a power of two.
 pub fn slot_count(names: usize) -> usize
     ensures some { 0 < result }
     ensures enough { 2 * min names 524288 ≤ result }
@@ -21,7 +21,7 @@ pub fn slot_count(names: usize) -> usize
     (names.min(MOST / 2) * 2).next_power_of_two()
 }
 
-// What a name weighs. Each byte counts: many names differ in few bytes, at their start as well as at their end.
+// The hash of a name. All bytes count: many names differ in few bytes, at their start or at their end.
 fn weight(bytes: &[u8]) -> u32
     ensures { result ≡ weight bytes.now }
 {
@@ -32,7 +32,7 @@ fn weight(bytes: &[u8]) -> u32
     sum
 }
 
-/// The slot of a name among so many.
+/// The slot of a name, counted from 0, among this many, which are a power of two.
 pub fn slot_of(name: &str, slots: usize) -> usize
     requires { 0 < slots }
     ensures inside { result < slots }

@@ -1,4 +1,4 @@
--- How places that are kept at numbers grow by the place of one definition more.
+-- How the lists of places grow by the place of one more definition.
 use Rattle.std.proofs.Common.{◌≡◌, ℕ, ◌<◌, List, [], ◌∷◌, ◌++◌, length, refl, sym, subst, ap, arith, zero, suc, Bool, true, false, cond, ◌∙◌, append-nil, Vec}
 use Rattle.std.specs.declared.alloc.Global.{Global}
 use Rattle.operation_scopes.specs.Places.{AddsAt, numbered_places, places_from}
@@ -22,7 +22,7 @@ before_pushed [] v k l = absurd (omega arith)
 before_pushed (x ∷ xs) v zero l = refl
 before_pushed (x ∷ xs) v (suc k) l = before_pushed xs v k (omega (arith, l))
 
--- and what stands at its own
+-- and that of its own number
 pub at_pushed : (lists : List (Vec ℕ Global)) (v : Vec ℕ Global) → numbered_places (lists ++ v ∷ []) (length lists) ≡ v.items
 at_pushed [] v = refl
 at_pushed (x ∷ xs) v = at_pushed xs v
@@ -41,7 +41,7 @@ module _ {X : Type 0} (test : X → Bool) (xs : List X) (x : X) (place : ℕ) (l
   pub same_places : test x ≡ false → places_from test 0 (xs ++ x ∷ []) ≡ places_from test 0 xs
   same_places e = next_places false e ∙ append-nil (places_from test 0 xs)
 
--- each name's definitions are told by a test, and those of the names of one number got a place more
+-- a test picks the definitions of each name, and those of the names of one number got one more place
 module _ {N X : Type 0} (at : N → ℕ → Type 0) (test : N → X → Bool) (xs : List X) (x : X) (place : ℕ) (len : length xs ≡ place)
     (number : ℕ) (old new : List (Vec ℕ Global)) (adds : AddsAt number place old new) (low : number < length old)
     (here : (a : N) → at a number → test a x ≡ true) (only : (a : N) (k : ℕ) → at a k → test a x ≡ true → k ≡ number) where

@@ -39,7 +39,7 @@ module _ {S : Type 0} (document : List (Definition S)) where
   abbrev is_in : ScopeName → Definition S → Bool
   is_in s d = same_scope (scope_of d) s
 
-  -- what stands at a scope's places
+  -- the definitions at the places of a scope
   place_scope : (s : ScopeName) (j : ℕ) → Contains (places_of document s) j → (d : Definition S) × (slice_get document j ≡ Some d) × (scope_of d ≡ s)
   place_scope s j c =
       let m = contains_get (places_of document s) j c in

@@ -43,7 +43,7 @@ module _ {S : Type 0} where
   named_operation (definition.Operation o) name t = (o, refl, name_same (operation_name o) name t)
   named_operation (definition.Fragment f) name t = cc
 
-  -- a name has a place just if it is an operation's
+  -- a name has a place if and only if some operation has it
   pub with_place : (xs : List (Definition S)) (name : Option (List ℕ)) → IsOperationName xs name → (k : ℕ) × Contains (places_of xs (operation name)) k
   with_place xs name (o, c, e) =
       let at = contains_get xs (definition.Operation o) c in

@@ -105,7 +105,7 @@ module _ {X : Type 0} (test : X → Bool) where
       ∙ ap (λ z. z ++ flat_map g (places_from test (i + 1) xs)) (one_flat (test x) g (f x) i (ap (λ o. option_map_or f o []) (ap at (sym here) ∙ h 0)))
       ∙ ap (λ z. cond (test x) (f x) [] ++ z) (flat_from f at (i + 1) xs (λ j. let e : (i + 1) + j ≡ i + suc j = omega arith in ap at e ∙ h (suc j)))
 
-  -- what stands at these places is what stands at those of whom the test holds
+  -- the items at these places are those that pass the test
   pub flat_places : {Y : Type 0} (f : X → List Y) (xs : List X)
       → flat_map (λ k. option_map_or f (slice_get xs k) []) (places_from test 0 xs) ≡ flat_map (λ x. cond (test x) (f x) []) xs
   flat_places f xs = flat_from f (slice_get xs) 0 xs (λ j. let e : 0 + j ≡ j = omega arith in ap (slice_get xs) e)

@@ -20,7 +20,7 @@ module _ {S : Type 0} (n : Numbers) (document : List (Definition S)) where
   list_of : (k : ℕ) → list_at (resolved_lists n document) k ≡ map (resolved n) (spreads_at document k)
   list_of k = ap (λ o. unwrap_or o []) (slice_get-map (resolved_spreads n) document k) ∙ inside_one (slice_get document k)
 
-  -- as they are kept, and as they stand in the document
+  -- as they are stored, and as they are in the document
   pub lists_at : (places : List ℕ) → flat_map (list_at (resolved_lists n document)) places ≡ map (resolved n) (flat_map (spreads_at document) places)
   lists_at [] = refl
   lists_at (k ∷ places) =

@@ -15,17 +15,19 @@ abbrev pub scope_name : Scope → ScopeName
 scope_name (scope.Operation name) = operation (option_map (λ n. n.now) name)
 scope_name (scope.Fragment name) = fragment name.now
 
+-- Both are of operations of one name, or of one fragment.
 abbrev pub same_scope : ScopeName → ScopeName → Bool
 same_scope (operation a) (operation b) = same_name a b
 same_scope (operation a) (fragment b) = false
 same_scope (fragment a) (operation b) = false
 same_scope (fragment a) (fragment b) = bytes_eq a b
 
--- No member stands twice.
+-- No item occurs twice.
 abbrev pub IsOnce : {X : Type 0} → List X → Type 0
 IsOnce {X} xs = (i j : ℕ) (x : X) → slice_get xs i ≡ Some x → slice_get xs j ≡ Some x → i ≡ j
 
 module _ {S : Type 0} where
+  -- The name of an operation, if it has one.
   abbrev pub operation_name : Spanning (Operation S) Span → Option (List ℕ)
   operation_name o = option_map (λ n. n.item.now) o.item.name
 

@@ -1,4 +1,4 @@
--- What a search for the definitions in reach passes on.
+-- The search for the definitions that an operation reaches.
 use Rattle.std.specs.Prelude.{ℕ, List, [], length, slice_get}
 use Rattle.std.specs.Option.{option_map_or}
 use Rattle.language.specs.declared.tree.Definition.{Definition}
@@ -9,7 +9,7 @@ use Rattle.operation_scopes.specs.declared.index.ScopeIndex.{ScopeIndex}
 use Rattle.operation_scopes.specs.declared.reach.Search.{Search}
 use Rattle.operation_scopes.specs.Places.{numbered_places}
 
--- No fragment is noted.
+-- No fragment is marked.
 abbrev pub IsReady : ScopeIndex → Search → Type 0
 IsReady index s = IsClear (length index.graph.nodes.items) s.order.items s.marks.items
 

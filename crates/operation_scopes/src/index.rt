@@ -1,5 +1,5 @@
-//! A document's scopes, each with what it spreads and where it is defined.
-ghost use Rattle.std.specs.Prelude.{◌≡◌, ◌-◌, Option, Some, List, ℕ, IfOk, IfSome, IfNone, OnOk, length, option_map, slice_get};
+//! The index of the scopes of a document: their spreads and the places of their definitions.
+ghost use Rattle.std.specs.Prelude.{◌≡◌, ◌-◌, Option, Some, List, ℕ, IfOk, IfSome, IfNone, OnOk, length, slice_get, option_copied};
 ghost use Rattle.fragment_graph.specs.Numbers.{NumberedDefinitions};
 ghost use Rattle.fragment_reach.specs.Reach.{operation};
 ghost use Rattle.operation_scopes.specs.Scopes.{IsLastOf, IsOperationName, operation_name};
@@ -17,20 +17,22 @@ use language::position::Spanning;
 use language::tree::{Definition, Document, Operation};
 use std::alloc::{AllocError, Global};
 
-/// A document's scopes: the names of its operations, each once, in the order in which they stand there first; the places of the
-/// operations of each of these names; those of the definitions of each fragment, by the numbers of their names; what its fragments
-/// spread, and what its operations do. Places ascend.
+/// The scopes of a document. All lists of places ascend.
 #[derive(Drop)]
 pub struct ScopeIndex<'a> {
+    /// The names of the operations, each once, in the order in which they come first.
     pub names: Vec<Option<&'a str>>,
+    /// For each of these names, the places of its operations.
     pub operations: Vec<Vec<usize>>,
+    /// For the number of each fragment, the places of its definitions.
     pub fragments: Vec<Vec<usize>>,
+    /// The spreads inside the fragments.
     pub graph: DocumentGraph<'a>,
-    /// The spreads inside each definition, if it is an operation.
+    /// The spreads inside the operations: one list for each definition, which is empty for a fragment.
     pub spreads: FlatLists<Spread>,
 }
 
-/// The places of the operations of the name at a place among the names.
+/// The places of the operations of a name, by its index in `names`, counted from 0.
 pub fn operation_places<'m>(index: &'m ScopeIndex<'_>, number: usize) -> &'m [usize]
     ensures { result.now ≡ numbered_places index.now.operations.items number }
 {
@@ -39,7 +41,7 @@ pub fn operation_places<'m>(index: &'m ScopeIndex<'_>, number: usize) -> &'m [us
 
 // The name of an operation.
 fn name_of<'a, S>(operation: &Spanning<Operation<'a, S>>) -> Option<&'a str>
-    ensures { option_map (λ n. n.now) result ≡ operation_name operation.now }
+    ensures { option_copied result ≡ operation_name operation.now }
 {
     match &operation.item.name {
         Some(name) => Some(name.item),
@@ -47,7 +49,7 @@ fn name_of<'a, S>(operation: &Spanning<Operation<'a, S>>) -> Option<&'a str>
     }
 }
 
-// Adds an operation of a name, and its place.
+// Adds the place of an operation of this name.
 fn add_operation<'a>(
     alloc: Global,
     name: Option<&'a str>,
@@ -55,7 +57,7 @@ fn add_operation<'a>(
     numbers: &mut OperationNumbers<'a>,
     index: &mut ScopeIndex<'a>,
 ) -> Result<(), AllocError>
-    ensures { OnOk result (AddsOperation (option_map (λ n. n.now) name.entry) place numbers.old numbers.new index.old
+    ensures { OnOk result (AddsOperation (option_copied name.entry) place numbers.old numbers.new index.old
         index.new) }
 {
     let next = index.names.len();
@@ -71,7 +73,7 @@ fn add_operation<'a>(
     }
 }
 
-// Adds a definition of the fragment of a number, and its place.
+// Adds the place of a definition of the fragment of this number.
 fn add_fragment(
     number: Option<usize>,
     place: usize,
@@ -85,7 +87,7 @@ fn add_fragment(
     }
 }
 
-// Adds a definition, with the number of its name, and its place.
+// Adds the place of a definition, by the number of its name.
 fn add_definition<'a, S>(
     alloc: Global,
     definition: &Definition<'a, S>,
@@ -104,7 +106,11 @@ fn add_definition<'a, S>(
     }
 }
 
-/// The scopes of a document, whose names are numbered.
+/// The index of the scopes of a document, by the numbers of the names of its fragments.
+///
+/// # Errors
+///
+/// Out of memory.
 pub fn index_scopes<'a, S>(
     alloc: Global,
     document: Document<'a, S>,
@@ -138,7 +144,7 @@ pub fn index_scopes<'a, S>(
     Ok(index)
 }
 
-// The last of some places.
+// The last of these places.
 fn last_place(places: &[usize]) -> Option<usize>
     ensures { result ≡ slice_get places.now (length places.now - 1) }
 {
@@ -159,7 +165,7 @@ fn operation_at<'d, 't, S>(
     }
 }
 
-/// The last operation of a name, by the places of all of them.
+/// The last operation of a name, by the places of all operations of this name.
 pub fn last_operation<'d, 't, S>(
     document: &'d [Definition<'t, S>],
     places: &[usize],

@@ -1,5 +1,5 @@
-//! Numbers of the names of operations.
-ghost use Rattle.std.specs.Prelude.{◌≡◌, ◌≤◌, ◌*◌, ℕ, List, min, None, Option, Some, IfOk, OnOk, option_map, if◌then◌else◌};
+//! The numbering of the names of operations.
+ghost use Rattle.std.specs.Prelude.{◌≡◌, ◌≤◌, ◌*◌, ℕ, List, min, None, Option, Some, IfOk, OnOk, if◌then◌else◌, option_copied};
 ghost use Rattle.name_tables.specs.Maps.{slots_in};
 ghost use Rattle.fragment_graph.specs.Numbers.{or_else};
 ghost use Rattle.fragment_reach.specs.Reach.{same_name};
@@ -8,14 +8,18 @@ ghost use Rattle.operation_scopes.specs.OperationNumbers.{number_at};
 use name_tables::map::NameMap;
 use std::alloc::{AllocError, Global};
 
-/// The numbers of operations' names, and that of the operations without one.
+/// The numbers of the names of operations, and the number of the operations without a name.
 #[derive(Drop)]
 pub struct OperationNumbers<'a> {
     unnamed: Option<usize>,
     named: NameMap<'a, usize>,
 }
 
-/// No numbers, with slots for so many names.
+/// No numbers, with slots for this many names.
+///
+/// # Errors
+///
+/// Out of memory.
 pub fn no_operations<'a>(alloc: Global, names: usize) -> Result<OperationNumbers<'a>, AllocError>
     ensures slots { IfOk result (λ n. 2 * min names 524288 ≤ slots_in n.named) }
     ensures none { IfOk result (λ n. (name : Option (List ℕ)) → number_at n name ≡ None) }
@@ -27,7 +31,8 @@ pub fn no_operations<'a>(alloc: Global, names: usize) -> Result<OperationNumbers
     })
 }
 
-// Gives the operations without a name this number, unless they have one; the number that they had.
+// Gives the operations without a name this number, unless they have one. Returns the number that they
+// had.
 fn number_unnamed(unnamed: &mut Option<usize>, next: usize) -> Option<usize>
     ensures earlier { result ≡ unnamed.old }
     ensures noted { unnamed.new ≡ or_else unnamed.old (Some next) }
@@ -41,16 +46,20 @@ fn number_unnamed(unnamed: &mut Option<usize>, next: usize) -> Option<usize>
     }
 }
 
-/// Gives the operations of a name this number, unless they have one; the number that they had.
+/// Gives the operations of a name this number, unless they have one. Returns the number that they had.
+///
+/// # Errors
+///
+/// Out of memory.
 pub fn number_operations<'a>(
     numbers: &mut OperationNumbers<'a>,
     name: Option<&'a str>,
     next: usize,
 ) -> Result<Option<usize>, AllocError>
-    ensures earlier { IfOk result (λ k. k ≡ number_at numbers.old (option_map (λ n. n.now) name.entry)) }
+    ensures earlier { IfOk result (λ k. k ≡ number_at numbers.old (option_copied name.entry)) }
     ensures noted { OnOk result ((other : Option (List ℕ)) → number_at numbers.new other
         ≡ or_else (number_at numbers.old other)
-        (if same_name (option_map (λ n. n.now) name.entry) other then Some next else None)) }
+        (if same_name (option_copied name.entry) other then Some next else None)) }
 {
     match name {
         Some(name) => numbers.named.note(name, next),

@@ -1,10 +1,14 @@
-//! The places of a document's definitions, by the numbers of their names.
+//! The places of the definitions of a document, by the numbers of their names.
 ghost use Rattle.std.specs.Prelude.{◌≡◌, [], ℕ, IfOk, OnOk, length};
 ghost use Rattle.operation_scopes.specs.Places.{numbered_places, AddsAt};
 
 use std::alloc::{AllocError, Global};
 
-/// So many lists without places. None has room of its own.
+/// This many empty lists of places, which own no memory.
+///
+/// # Errors
+///
+/// Out of memory.
 pub fn empty_lists(alloc: Global, count: usize) -> Result<Vec<Vec<usize>>, AllocError>
     ensures len { IfOk result (λ v. length v.items ≡ count) }
     ensures empty { IfOk result (λ v. (k : ℕ) → numbered_places v.items k ≡ []) }
@@ -16,7 +20,7 @@ pub fn empty_lists(alloc: Global, count: usize) -> Result<Vec<Vec<usize>>, Alloc
     Ok(lists)
 }
 
-/// The places that are kept at a number, ascending.
+/// The places in the list of a number, ascending; the empty list for a number past the last.
 pub fn numbered_places(lists: &[Vec<usize>], number: usize) -> &[usize]
     ensures { result.now ≡ numbered_places lists.now number }
 {
@@ -26,7 +30,11 @@ pub fn numbered_places(lists: &[Vec<usize>], number: usize) -> &[usize]
     }
 }
 
-/// Adds a place at a number, if there is a list for it.
+/// Appends a place to the list of a number, if there is one.
+///
+/// # Errors
+///
+/// Out of memory.
 pub fn add_numbered(
     lists: &mut Vec<Vec<usize>>,
     number: usize,

@@ -1,4 +1,4 @@
-//! The definitions that an operation reaches.
+//! The definitions that an operation reaches through spreads.
 ghost use Rattle.std.specs.Prelude.{◌≡◌, ◌++◌, [], ℕ, List, Option, IfOk, OnOk};
 ghost use Rattle.std.specs.List.{flat_map};
 ghost use Rattle.jagged_lists.specs.Lists.{Holds, list_at};
@@ -16,8 +16,8 @@ use fragment_reach::search::{explore, forget};
 use language::tree::Definition;
 use std::alloc::{AllocError, Global};
 
-/// What a search notes, kept so that many may be made: no fragment is noted between two of them. Its lists keep their memory for
-/// the next.
+/// The state of a search. It can be used again: between two searches no fragment is marked, and the
+/// lists keep their memory.
 #[derive(Drop)]
 pub struct Search {
     order: Vec<usize>,
@@ -26,7 +26,11 @@ pub struct Search {
     found: Vec<usize>,
 }
 
-/// A search of a document's scopes.
+/// A search over the scopes of a document.
+///
+/// # Errors
+///
+/// Out of memory.
 pub fn new_search(alloc: Global, index: &ScopeIndex<'_>) -> Result<Search, AllocError>
     ensures { IfOk result (IsReady index.now) }
 {
@@ -38,14 +42,14 @@ pub fn new_search(alloc: Global, index: &ScopeIndex<'_>) -> Result<Search, Alloc
     })
 }
 
-/// The places that were found last.
+/// The places that the last search found.
 pub fn found_places(search: &Search) -> &[usize]
     ensures { result.now ≡ search.now.found.items }
 {
     search.found.as_slice()
 }
 
-// Adds the spreads inside the operation at a place.
+// Appends the spreads inside the operation at a place.
 fn add_spreads_at(
     index: &ScopeIndex<'_>,
     place: usize,
@@ -57,7 +61,7 @@ fn add_spreads_at(
     found.extend_from_slice(index.spreads.list(place))
 }
 
-// Lists the spreads inside the operations at these places, and no others.
+// Makes the list that of the spreads inside the operations at these places.
 fn list_spreads(
     index: &ScopeIndex<'_>,
     places: &[usize],
@@ -73,7 +77,7 @@ fn list_spreads(
     Ok(())
 }
 
-// Adds the places of the fragment of a number.
+// Appends the places of the fragment of this number.
 fn add_fragment(
     index: &ScopeIndex<'_>,
     number: usize,
@@ -84,7 +88,7 @@ fn add_fragment(
     places.extend_from_slice(numbered_places(index.fragments.as_slice(), number))
 }
 
-// Adds those of these numbers.
+// Appends the places of the fragments of these numbers.
 fn add_fragments(
     index: &ScopeIndex<'_>,
     order: &[usize],
@@ -98,7 +102,7 @@ fn add_fragments(
     Ok(())
 }
 
-// Lists these places and those of the fragments of these numbers, and no others.
+// Makes the list that of these places and those of the fragments of these numbers.
 fn list_places(
     index: &ScopeIndex<'_>,
     own: &[usize],
@@ -112,8 +116,12 @@ fn list_places(
     add_fragments(index, order, places)
 }
 
-/// Finds the places of the definitions that the operations of a name reach, by the places of all of these operations, each once.
-/// Each scope that is reached is looked at once.
+/// Finds the places of the definitions that the operations of a name reach, each once, by the places
+/// of these operations. Looks at each scope once. [`found_places`] returns what it found.
+///
+/// # Errors
+///
+/// Out of memory.
 pub fn reached_definitions<S>(
     document: &[Definition<'_, S>],
     index: &ScopeIndex<'_>,

@@ -1,4 +1,4 @@
--- Arguments that their field or their directive does not have.
+-- Arguments that their field or their directive does not define.
 use Rattle.std.specs.Prelude.{ℕ, List, [], ◌∷◌, ◌++◌, Bool, Option, Some, None, is_some, find, if◌then◌else◌, codes, string_bytes}
 use Rattle.std.specs.List.{flat_map}
 use Rattle.std.specs.Str.{bytes_eq}
@@ -29,18 +29,20 @@ unknown_message (bearer.Field name parent) = unknown_on_field_message name.now p
 unknown_message (bearer.Directive name) = unknown_on_directive_message name.now
 
 module _ {S : Type 0} where
+  -- one of these arguments has the name
   abbrev pub is_known : List (Argument S) → List ℕ → Bool
   is_known known name = is_some (find (λ a. bytes_eq (string_bytes a.name) name) known)
 
-  -- a name that is none of these, reported
+  -- a name that is not among these, reported
   abbrev pub unknown_name : (List ℕ → List ℕ) → List (Argument S) → Name → List ErrorValue
   unknown_name message known name =
       if is_known known name.item.now then [] else record { locations = name.span.start ∷ []; message = message name.item.now } ∷ []
 
+  -- an argument, by its name
   abbrev pub unknown_argument : (List ℕ → List ℕ) → List (Argument S) → ArgumentEntry S → List ErrorValue
   unknown_argument message known a = unknown_name message known a.0
 
-  -- each of the arguments that is none of these
+  -- each of the arguments that is not among these
   abbrev pub unknown_among : (List ℕ → List ℕ) → List (Argument S) → Option (Placed (Arguments S)) → List ErrorValue
   unknown_among message known None = []
   unknown_among message known (Some written) = flat_map (unknown_argument message known) written.item.items.items
@@ -51,20 +53,22 @@ module _ {S : Type 0} where
   unknown_where_known message (Some known) written = unknown_among message known written
 
 module _ {S C : Type 0} where
-  -- of a field whose type is known, each argument that is none of the field's
+  -- of a field whose type is known, each argument that the field does not define
   abbrev pub unknown_on_field : Option (MetaTypeOf S C) → Field S → List ErrorValue
   unknown_on_field parent f =
       unknown_where_known (unknown_on_field_message f.name.item.now (name_of_known parent)) (field_arguments parent f.name.item.now) f.arguments
 
+  -- of a directive that is known, each argument that is none of its own
   abbrev pub unknown_on_directive : Catalog S C → Directive S → List ErrorValue
   unknown_on_directive schema d =
       unknown_where_known (unknown_on_directive_message d.name.item.now) (directive_arguments schema d.name.item.now) d.arguments
 
+  -- at a node: a field or a directive
   abbrev pub unknown_at : Catalog S C → Option (MetaTypeOf S C) → Node S → List ErrorValue
   unknown_at schema parent (field f) = unknown_on_field parent f.item
   unknown_at schema parent (directive d) = unknown_on_directive schema d.item
   unknown_at schema parent _ = []
 
-  -- at a field and at a directive: each argument that it does not have
+  -- at a field and at a directive: each argument that it does not define
   abbrev pub unknown_arguments : DocumentScope S C → Occurrence S C → List ErrorValue
   unknown_arguments scope o = unknown_at scope.schema o.types.parent o.node

@@ -1,4 +1,4 @@
--- Directives that the schema does not have, or that may not stand where they stand.
+-- Directives that the schema does not define, or that are not allowed where they stand.
 use Rattle.std.specs.Prelude.{ℕ, List, [], ◌∷◌, ◌++◌, Bool, Option, Some, None, if◌then◌else◌, codes}
 use Rattle.std.specs.declared.alloc.Global.{Global}
 use Rattle.std.specs.declared.vec.Vec.{Vec}
@@ -27,6 +27,7 @@ misplaced_message name place = (codes "Directive \"" ++ name) ++ (codes "\" may 
 abbrev pub is_one_place : DirectiveLocation → DirectiveLocation → Bool
 is_one_place one other = bytes_eq (location_words one) (location_words other)
 
+-- the place is one of those
 abbrev pub is_listed : DirectiveLocation → List DirectiveLocation → Bool
 is_listed place locations = list_any (λ location. is_one_place location place) locations
 
@@ -48,10 +49,12 @@ module _ {S C : Type 0} where
   abbrev pub unsuitable : Catalog S C → DirectiveLocation → Placed (Directive S) → List ErrorValue
   unsuitable schema place d = unsuitable_by place d (directive_in d.item.name.item.now schema)
 
+  -- each directive of a list, if there is one
   abbrev pub unsuitable_among : Catalog S C → DirectiveLocation → Option (Vec (Placed (Directive S)) Global) → List ErrorValue
   unsuitable_among schema place None = []
   unsuitable_among schema place (Some ds) = flat_map (unsuitable schema place) ds.items
 
+  -- at a node: its directives, at the place that the node is
   abbrev pub unsuitable_at : Catalog S C → Node S → List ErrorValue
   unsuitable_at schema (operation_definition o) = unsuitable_among schema (operation_place o.item.operation_type) o.item.directives
   unsuitable_at schema (fragment_definition f) = unsuitable_among schema l.FragmentDefinition f.item.directives
@@ -61,6 +64,6 @@ module _ {S C : Type 0} where
   unsuitable_at schema (inline_fragment i) = unsuitable_among schema l.InlineFragment i.item.directives
   unsuitable_at schema _ = []
 
-  -- at each node that may bear directives: those that are not known, and those that may not stand there
+  -- at each node that may have directives: those that are not known, and those that are not allowed there
   abbrev pub unsuitable_directives : DocumentScope S C → Occurrence S C → List ErrorValue
   unsuitable_directives scope o = unsuitable_at scope.schema o.node

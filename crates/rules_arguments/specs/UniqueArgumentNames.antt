@@ -1,5 +1,5 @@
 -- Later arguments of a name.
-use Rattle.std.specs.Prelude.{ℕ, List, [], ◌++◌, Option, Some, None, map, codes}
+use Rattle.std.specs.Prelude.{ℕ, List, [], Option, Some, None, map, codes}
 use Rattle.language.specs.declared.tree.Arguments.{Arguments}
 use Rattle.walk.specs.ContextState.{DocumentScope}
 use Rattle.walk.specs.ErrorValue.{ErrorValue}
@@ -7,14 +7,17 @@ use Rattle.events.specs.Node.{Node, Placed, field, directive}
 use Rattle.events.specs.Occurrence.{Occurrence}
 use Rattle.rules_support.specs.Names.{text_name}
 use Rattle.rules_support.specs.Repeats.{repeats}
+use Rattle.rules_support.specs.Texts.{between}
 
 abbrev pub repeated_argument_message : List ℕ → List ℕ
-repeated_argument_message name = (codes "There can only be one argument named \"" ++ name) ++ codes "\""
+repeated_argument_message = between (codes "There can only be one argument named \"") (codes "\"")
 
+-- those of a list of arguments, if there is one
 abbrev pub repeated_in : {S : Type 0} → Option (Placed (Arguments S)) → List ErrorValue
 repeated_in None = []
 repeated_in (Some arguments) = repeats repeated_argument_message (map text_name arguments.item.items.items)
 
+-- at a node: a field or a directive
 abbrev pub repeated_at : {S : Type 0} → Node S → List ErrorValue
 repeated_at (field f) = repeated_in f.item.arguments
 repeated_at (directive d) = repeated_in d.item.arguments

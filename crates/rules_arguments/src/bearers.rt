@@ -1,4 +1,4 @@
-//! What bears arguments, and the arguments that a schema gives to it.
+//! What has arguments, fields and directives, and the arguments that the schema defines for it.
 
 ghost use Rattle.std.specs.Prelude.{◌≡◌, option_copied};
 ghost use Rattle.events.specs.SchemaView.{directive_arguments, field_arguments};

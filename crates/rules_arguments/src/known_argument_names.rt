@@ -1,6 +1,6 @@
-//! Each argument is one of its field or of its directive (GraphQL, section 5.4.1).
+//! Each argument is defined by its field or by its directive (GraphQL, October 2021, section 5.4.1).
 
-ghost use Rattle.std.specs.Prelude.{◌≡◌, IfOk, OnErr, option_copied, string_bytes};
+ghost use Rattle.std.specs.Prelude.{◌≡◌, IfOk, OnOk, OnErr, option_copied, string_bytes};
 ghost use Rattle.std.specs.List.{flat_map};
 ghost use Rattle.walk.specs.ContextState.{typing, with_errors};
 ghost use Rattle.walk.specs.Entering.{finding_step, found};
@@ -22,15 +22,15 @@ use rules_support::texts::between;
 use std::alloc::{AllocError, Global};
 use walk::{Criterion, Event, Fresh, Machine, Rule, SettledRule, ValidatorContext, Visitor};
 
-/// Reports each argument that its field, or its directive, does not have, at the argument's name.
+/// Reports each argument that its field or its directive does not define, at the argument's name.
 ///
-/// It is silent where the field or the directive is not known, and where the field has no list of arguments.
+/// It reports nothing of an unknown field or directive, nor of a field without a list of arguments.
 #[derive(Drop)]
 pub struct KnownArgumentNames {
     alloc: Global,
 }
 
-/// The rule, made ready for one document.
+/// Makes the rule, for one document.
 pub fn factory(alloc: Global) -> KnownArgumentNames
     ensures { ⟦<KnownArgumentNames as Fresh>⟧.fresh result }
 {
@@ -81,7 +81,7 @@ fn report_on_field<'a, S: CheckedScalar>(
     ctx: &mut ValidatorContext<'a, S>,
     field: &Field<'_, S>,
 ) -> Result<(), OutOfMemory>
-    ensures ok { IfOk result (λ _. ctx.new ≡ with_errors ctx.old (unknown_on_field (typing ctx.old).parent field.now)) }
+    ensures ok { OnOk result (ctx.new ≡ with_errors ctx.old (unknown_on_field (typing ctx.old).parent field.now)) }
     ensures err { OnErr result (KeepsPlace ctx.old ctx.new) }
 {
     let parent = ctx.parent_type();
@@ -97,7 +97,7 @@ fn report_on_directive<'a, S: CheckedScalar>(
     ctx: &mut ValidatorContext<'a, S>,
     directive: &Directive<'_, S>,
 ) -> Result<(), OutOfMemory>
-    ensures ok { IfOk result (λ _. ctx.new ≡ with_errors ctx.old (unknown_on_directive ctx.old.schema directive.now)) }
+    ensures ok { OnOk result (ctx.new ≡ with_errors ctx.old (unknown_on_directive ctx.old.schema directive.now)) }
     ensures err { OnErr result (KeepsPlace ctx.old ctx.new) }
 {
     let name = directive.name.item;
@@ -111,7 +111,7 @@ fn report_on_directive<'a, S: CheckedScalar>(
     )
 }
 
-// Reports those of the arguments that are none of the known ones, where both lists are there.
+// Reports each argument that is not among the known ones, if both lists are there.
 fn report<'a, S: CheckedScalar>(
     alloc: Global,
     ctx: &mut ValidatorContext<'a, S>,
@@ -119,9 +119,8 @@ fn report<'a, S: CheckedScalar>(
     known: Option<&[Argument<S>]>,
     written: &Option<Spanning<Arguments<'_, S>>>,
 ) -> Result<(), OutOfMemory>
-    ensures ok { IfOk result (λ _. ctx.new
-        ≡ with_errors ctx.old (unknown_where_known (unknown_message bearer.entry) (option_copied known.entry)
-        written.now)) }
+    ensures ok { OnOk result (ctx.new ≡ with_errors ctx.old
+        (unknown_where_known (unknown_message bearer.entry) (option_copied known.entry) written.now)) }
     ensures err { OnErr result (KeepsPlace ctx.old ctx.new) }
 {
     if let Some(known) = known {
@@ -139,8 +138,7 @@ fn report_each<'a, S: CheckedScalar>(
     known: &[Argument<S>],
     written: &Vec<(Spanning<&str>, Spanning<InputValue<S>>)>,
 ) -> Result<(), OutOfMemory>
-    ensures ok { IfOk result (λ _. ctx.new
-        ≡ with_errors ctx.old
+    ensures ok { OnOk result (ctx.new ≡ with_errors ctx.old
         (flat_map (unknown_argument (unknown_message bearer.entry) known.now) written.now.items)) }
     ensures err { OnErr result (KeepsPlace ctx.old ctx.new) }
 {
@@ -150,7 +148,7 @@ fn report_each<'a, S: CheckedScalar>(
     Ok(())
 }
 
-// Reports the name of an argument that is none of the known ones.
+// Reports the name of an argument that is not among the known ones.
 fn report_unknown<'a, S: CheckedScalar>(
     alloc: Global,
     ctx: &mut ValidatorContext<'a, S>,
@@ -158,8 +156,8 @@ fn report_unknown<'a, S: CheckedScalar>(
     known: &[Argument<S>],
     name: &Spanning<&str>,
 ) -> Result<(), OutOfMemory>
-    ensures ok { IfOk result (λ _. ctx.new
-        ≡ with_errors ctx.old (unknown_name (unknown_message bearer.entry) known.now name.now)) }
+    ensures ok { OnOk result (ctx.new ≡ with_errors ctx.old
+        (unknown_name (unknown_message bearer.entry) known.now name.now)) }
     ensures err { OnErr result (KeepsPlace ctx.old ctx.new) }
 {
     if !is_known(known, name.item) {

@@ -1,6 +1,6 @@
-//! Each directive is one of the schema, and may stand where it stands (GraphQL, sections 5.7.1 and 5.7.2).
+//! Each directive is defined by the schema, and is allowed where it stands (GraphQL, October 2021, sections 5.7.1 and 5.7.2).
 
-ghost use Rattle.std.specs.Prelude.{◌≡◌, IfOk, OnErr, string_bytes};
+ghost use Rattle.std.specs.Prelude.{◌≡◌, IfOk, OnOk, OnErr, string_bytes};
 ghost use Rattle.std.specs.List.{flat_map};
 ghost use Rattle.schema_validation.specs.Locations.{location_words};
 ghost use Rattle.walk.specs.ContextState.{with_errors};
@@ -20,13 +20,13 @@ use schema::model::DirectiveLocation;
 use std::alloc::{AllocError, Global};
 use walk::{Criterion, Event, Fresh, Machine, Rule, SettledRule, ValidatorContext, Visitor};
 
-/// Reports each directive that the schema does not have, and each that may not stand at the node that bears it, at its start.
+/// Reports each directive that the schema does not define, and each that is not allowed at its node, at the directive's start.
 #[derive(Drop)]
 pub struct KnownDirectives {
     alloc: Global,
 }
 
-/// The rule, made ready for one document.
+/// Makes the rule, for one document.
 pub fn factory(alloc: Global) -> KnownDirectives
     ensures { ⟦<KnownDirectives as Fresh>⟧.fresh result }
 {
@@ -103,15 +103,15 @@ fn operation_place(kind: OperationType) -> DirectiveLocation
     }
 }
 
-// Reports those of the directives, where there are any, that are not known or may not stand at the place.
+// Reports each of the directives, if there are any, that is not known or not allowed at the place.
 fn report<'a, S: CheckedScalar>(
     alloc: Global,
     ctx: &mut ValidatorContext<'a, S>,
     place: &DirectiveLocation,
     directives: &Option<Vec<Spanning<Directive<'_, S>>>>,
 ) -> Result<(), OutOfMemory>
-    ensures ok { IfOk result (λ _. ctx.new
-        ≡ with_errors ctx.old (unsuitable_among ctx.old.schema place.now directives.now)) }
+    ensures ok { OnOk result (ctx.new ≡ with_errors ctx.old
+        (unsuitable_among ctx.old.schema place.now directives.now)) }
     ensures err { OnErr result (KeepsPlace ctx.old ctx.new) }
 {
     match directives {
@@ -126,8 +126,8 @@ fn report_each<'a, S: CheckedScalar>(
     place: &DirectiveLocation,
     directives: &Vec<Spanning<Directive<'_, S>>>,
 ) -> Result<(), OutOfMemory>
-    ensures ok { IfOk result (λ _. ctx.new
-        ≡ with_errors ctx.old (flat_map (unsuitable ctx.old.schema place.now) directives.now.items)) }
+    ensures ok { OnOk result (ctx.new ≡ with_errors ctx.old
+        (flat_map (unsuitable ctx.old.schema place.now) directives.now.items)) }
     ensures err { OnErr result (KeepsPlace ctx.old ctx.new) }
 {
     for directive in directives {
@@ -136,14 +136,14 @@ fn report_each<'a, S: CheckedScalar>(
     Ok(())
 }
 
-// Reports a directive that is not known or may not stand at the place.
+// Reports a directive that is not known or not allowed at the place.
 fn report_unsuitable<'a, S: CheckedScalar>(
     alloc: Global,
     ctx: &mut ValidatorContext<'a, S>,
     place: &DirectiveLocation,
     directive: &Spanning<Directive<'_, S>>,
 ) -> Result<(), OutOfMemory>
-    ensures ok { IfOk result (λ _. ctx.new ≡ with_errors ctx.old (unsuitable ctx.old.schema place.now directive.now)) }
+    ensures ok { OnOk result (ctx.new ≡ with_errors ctx.old (unsuitable ctx.old.schema place.now directive.now)) }
     ensures err { OnErr result (KeepsPlace ctx.old ctx.new) }
 {
     let name = directive.item.name.item;

@@ -1,4 +1,5 @@
-//! The rules on arguments, on keys of objects and on directives (GraphQL, sections 5.4, 5.6.3 and 5.7), each in a module of its own.
+//! The rules on arguments, on keys of input objects and on directives (GraphQL, October 2021, sections 5.4, 5.6.3, 5.7.1 and
+//! 5.7.2), each in a module of its own.
 #![tactic(auto)]
 
 mod bearers;

@@ -1,15 +1,15 @@
-//! Each argument that is never null and has no default value is given (GraphQL, section 5.4.2.1).
+//! Each argument of a non-null type without a default value is given (GraphQL, October 2021, section 5.4.2.1).
 
-ghost use Rattle.std.specs.Prelude.{◌≡◌, IfOk, OnErr, option_copied, string_bytes};
+ghost use Rattle.std.specs.Prelude.{◌≡◌, IfOk, OnOk, OnErr, option_copied, string_bytes};
 ghost use Rattle.std.specs.List.{flat_map};
-ghost use Rattle.language.specs.Types.{printed, shape};
+ghost use Rattle.language.specs.Types.{is_never_null, printed, shape};
 ghost use Rattle.walk.specs.ContextState.{typing, with_errors};
 ghost use Rattle.walk.specs.Entering.{finding_step, found};
 ghost use Rattle.walk.specs.Rule.{always, any_value, exactly, is_empty};
 ghost use Rattle.walk.specs.RuleLaws.{exactly_silent};
 ghost use Rattle.walk.specs.Step.{KeepsPlace};
 ghost use Rattle.walk.proofs.Entering.{finding_keeps};
-ghost use Rattle.rules_arguments.specs.ProvidedNonNullArguments.{is_given, is_required, never_null, missing_argument, missing_where_known, missing_message, missing_on_field, missing_on_directive, missing_arguments, words_before};
+ghost use Rattle.rules_arguments.specs.ProvidedNonNullArguments.{is_given, is_required, missing_on, missing_where_known, missing_message, missing_on_field, missing_on_directive, missing_arguments, words_before};
 
 use crate::bearers::{Bearer, arguments_of_directive, arguments_of_field, name_of_known};
 use language::error::OutOfMemory;
@@ -22,15 +22,15 @@ use rules_support::texts::between;
 use std::alloc::{AllocError, Global};
 use walk::{Criterion, Event, Fresh, Machine, Rule, SettledRule, ValidatorContext, Visitor};
 
-/// Reports each argument that has to be given and isn't, at the start of its field or of its directive.
+/// Reports each required argument that is not given, at the start of its field or of its directive.
 ///
-/// An argument of a non-null type has to be given. On a field a default value stands in for it; on a directive it does not.
+/// An argument of a non-null type is required. On a field a default value makes it optional; on a directive it does not.
 #[derive(Drop)]
 pub struct ProvidedNonNullArguments {
     alloc: Global,
 }
 
-/// The rule, made ready for one document.
+/// Makes the rule, for one document.
 pub fn factory(alloc: Global) -> ProvidedNonNullArguments
     ensures { ⟦<ProvidedNonNullArguments as Fresh>⟧.fresh result }
 {
@@ -79,7 +79,7 @@ fn report_on_field<'a, S: CheckedScalar>(
     ctx: &mut ValidatorContext<'a, S>,
     field: &Spanning<Field<'_, S>>,
 ) -> Result<(), OutOfMemory>
-    ensures ok { IfOk result (λ _. ctx.new ≡ with_errors ctx.old (missing_on_field (typing ctx.old).parent field.now)) }
+    ensures ok { OnOk result (ctx.new ≡ with_errors ctx.old (missing_on_field (typing ctx.old).parent field.now)) }
     ensures err { OnErr result (KeepsPlace ctx.old ctx.new) }
 {
     let parent = ctx.parent_type();
@@ -102,7 +102,7 @@ fn report_on_directive<'a, S: CheckedScalar>(
     ctx: &mut ValidatorContext<'a, S>,
     directive: &Spanning<Directive<'_, S>>,
 ) -> Result<(), OutOfMemory>
-    ensures ok { IfOk result (λ _. ctx.new ≡ with_errors ctx.old (missing_on_directive ctx.old.schema directive.now)) }
+    ensures ok { OnOk result (ctx.new ≡ with_errors ctx.old (missing_on_directive ctx.old.schema directive.now)) }
     ensures err { OnErr result (KeepsPlace ctx.old ctx.new) }
 {
     let name = directive.item.name.item;
@@ -118,7 +118,7 @@ fn report_on_directive<'a, S: CheckedScalar>(
     )
 }
 
-// Reports those of the known arguments that have to be given and are not among those that were written.
+// Reports each of the known arguments that is required and not among those that were written.
 fn report<'a, S: CheckedScalar>(
     alloc: Global,
     ctx: &mut ValidatorContext<'a, S>,
@@ -127,9 +127,9 @@ fn report<'a, S: CheckedScalar>(
     known: Option<&[Argument<S>]>,
     written: &Option<Spanning<Arguments<'_, S>>>,
 ) -> Result<(), OutOfMemory>
-    ensures ok { IfOk result (λ _. ctx.new
-        ≡ with_errors ctx.old (missing_where_known (is_required bearer.entry) (words_before bearer.entry) place
-        (option_copied known.entry) written.now)) }
+    ensures ok { OnOk result (ctx.new ≡ with_errors ctx.old
+        (missing_where_known (is_required bearer.entry) (words_before bearer.entry) place (option_copied known.entry)
+        written.now)) }
     ensures err { OnErr result (KeepsPlace ctx.old ctx.new) }
 {
     match known {
@@ -146,10 +146,8 @@ fn report_each<'a, S: CheckedScalar>(
     known: &[Argument<S>],
     written: &Option<Spanning<Arguments<'_, S>>>,
 ) -> Result<(), OutOfMemory>
-    ensures ok { IfOk result (λ _. ctx.new
-        ≡ with_errors ctx.old
-        (flat_map (missing_argument (is_required bearer.entry) (words_before bearer.entry) place written.now)
-        known.now)) }
+    ensures ok { OnOk result (ctx.new ≡ with_errors ctx.old
+        (flat_map (missing_on bearer.entry place written.now) known.now)) }
     ensures err { OnErr result (KeepsPlace ctx.old ctx.new) }
 {
     for argument in known {
@@ -158,7 +156,7 @@ fn report_each<'a, S: CheckedScalar>(
     Ok(())
 }
 
-// Reports an argument that has to be given and is not among those that were written.
+// Reports an argument that is required and not among those that were written.
 fn report_missing<'a, S: CheckedScalar>(
     alloc: Global,
     ctx: &mut ValidatorContext<'a, S>,
@@ -167,9 +165,8 @@ fn report_missing<'a, S: CheckedScalar>(
     argument: &Argument<S>,
     written: &Option<Spanning<Arguments<'_, S>>>,
 ) -> Result<(), OutOfMemory>
-    ensures ok { IfOk result (λ _. ctx.new
-        ≡ with_errors ctx.old (missing_argument (is_required bearer.entry) (words_before bearer.entry) place
-        written.now argument.now)) }
+    ensures ok { OnOk result (ctx.new ≡ with_errors ctx.old
+        (missing_on bearer.entry place written.now argument.now)) }
     ensures err { OnErr result (KeepsPlace ctx.old ctx.new) }
 {
     if is_required(bearer, argument) && !is_given(written, argument.name.as_str()) {
@@ -179,18 +176,18 @@ fn report_missing<'a, S: CheckedScalar>(
     Ok(())
 }
 
-// Whether the argument has to be given.
+// Whether the argument is required.
 fn is_required<S>(bearer: Bearer<'_>, argument: &Argument<S>) -> bool
     ensures { result ≡ is_required bearer.entry argument.now }
 {
     match bearer {
-        Bearer::Field(_, _) => never_null(&argument.arg_type) && argument.default_value.is_none(),
-        Bearer::Directive(_) => never_null(&argument.arg_type),
+        Bearer::Field(_, _) => is_never_null(&argument.arg_type) && argument.default_value.is_none(),
+        Bearer::Directive(_) => is_never_null(&argument.arg_type),
     }
 }
 
-fn never_null(t: &Type) -> bool
-    ensures { result ≡ never_null (shape t.now) }
+fn is_never_null(t: &Type) -> bool
+    ensures { result ≡ is_never_null (shape t.now) }
 {
     matches!(t.modifier(), Some(TypeModifier::NonNull))
 }

@@ -1,6 +1,6 @@
-//! No two arguments of a field or of a directive have one name (GraphQL, section 5.4.2).
+//! No two arguments of a field or of a directive have the same name (GraphQL, October 2021, section 5.4.2).
 
-ghost use Rattle.std.specs.Prelude.{◌≡◌, IfOk, OnErr};
+ghost use Rattle.std.specs.Prelude.{◌≡◌, OnOk, OnErr};
 ghost use Rattle.walk.specs.ContextState.{with_errors};
 ghost use Rattle.walk.specs.Entering.{finding_step, found};
 ghost use Rattle.walk.specs.Rule.{always, any_value, exactly, is_empty};
@@ -17,13 +17,13 @@ use rules_support::repeats::report_repeats;
 use std::alloc::Global;
 use walk::{Criterion, Event, Fresh, Machine, Rule, SettledRule, ValidatorContext, Visitor};
 
-/// Reports each argument whose name an earlier one of its list has, at the first of the name and at its own.
+/// Reports each argument whose name an earlier argument of its list has: at the first argument of the name, and at its own.
 #[derive(Drop)]
 pub struct UniqueArgumentNames {
     alloc: Global,
 }
 
-/// The rule, made ready for one document.
+/// Makes the rule, for one document.
 pub fn factory(alloc: Global) -> UniqueArgumentNames
     ensures { ⟦<UniqueArgumentNames as Fresh>⟧.fresh result }
 {
@@ -72,7 +72,7 @@ fn report<'a, S: CheckedScalar>(
     ctx: &mut ValidatorContext<'a, S>,
     arguments: &Option<Spanning<Arguments<'_, S>>>,
 ) -> Result<(), OutOfMemory>
-    ensures ok { IfOk result (λ _. ctx.new ≡ with_errors ctx.old (repeated_in arguments.now)) }
+    ensures ok { OnOk result (ctx.new ≡ with_errors ctx.old (repeated_in arguments.now)) }
     ensures err { OnErr result (KeepsPlace ctx.old ctx.new) }
 {
     match arguments {

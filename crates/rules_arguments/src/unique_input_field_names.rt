@@ -1,4 +1,4 @@
-//! No two fields of an object value have one name (GraphQL, section 5.6.3).
+//! No two fields of an input object have the same name (GraphQL, October 2021, section 5.6.3).
 
 ghost use Rattle.walk.specs.Entering.{finding_step, found};
 ghost use Rattle.walk.specs.Rule.{always, any_value, exactly, is_empty};
@@ -12,13 +12,13 @@ use rules_support::repeats::report_repeats;
 use std::alloc::Global;
 use walk::{Criterion, Event, Fresh, Machine, Rule, SettledRule, ValidatorContext, Visitor};
 
-/// Reports each key of an object value that an earlier one is, at the first of the name and at its own.
+/// Reports each key that stands earlier in its object value: at the first key of the name, and at its own.
 #[derive(Drop)]
 pub struct UniqueInputFieldNames {
     alloc: Global,
 }
 
-/// The rule, made ready for one document.
+/// Makes the rule, for one document.
 pub fn factory(alloc: Global) -> UniqueInputFieldNames
     ensures { ⟦<UniqueInputFieldNames as Fresh>⟧.fresh result }
 {

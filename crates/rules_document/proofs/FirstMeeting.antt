@@ -15,7 +15,7 @@ use Rattle.fragment_graph.specs.Numbers.{names_of, number_of, NumbersOf, WellNum
 use Rattle.fragment_graph.proofs.Lists.{none_some, same_item, same_some, set_same, set_other, contains_at}
 use Rattle.fragment_graph.proofs.Numbering.{below, single}
 use Rattle.rules_document.specs.declared.met_fragments.MetFragments.{MetFragments}
-use Rattle.rules_document.specs.NoUnusedFragments.{IsFirst, IsKeptFor, IsMet, IsOther, NameAndSpan, Others}
+use Rattle.rules_document.specs.MetFragments.{IsFirst, IsKeptFor, IsMet, IsOther, NameAndSpan, Others}
 
 -- a fragment of the document has a number
 pub is_numbered : {S : Type 0} (document : List (Definition S)) (n : Numbers) (d : Definition S) → NumbersOf document n → Contains document d → IsNumbered n d

@@ -18,7 +18,8 @@ use Rattle.walk.specs.ErrorValue.{position_cmp}
 use Rattle.fragment_reach.specs.ReachedFragments.{IsNameMarked}
 use Rattle.fragment_reach.specs.declared.reached.ReachedFragments.{ReachedFragments}
 use Rattle.rules_document.specs.declared.met_fragments.MetFragments.{MetFragments}
-use Rattle.rules_document.specs.NoUnusedFragments.{AddsFragment, NameAndSpan, name_and_span_cmp, IsMet, IsOther, Others}
+use Rattle.rules_document.specs.MetFragments.{NameAndSpan, name_and_span_cmp, IsMet, IsOther, Others}
+use Rattle.rules_document.specs.NoUnusedFragments.{AddsFragment}
 
 both_equal : (a b : Ordering) → ordering_then a b ≡ Equal → (a ≡ Equal) × (b ≡ Equal)
 both_equal Less b e = absurd (true≢false (ap is_lt e))

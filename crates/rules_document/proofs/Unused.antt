@@ -17,7 +17,8 @@ use Rattle.walk.specs.ErrorValue.{ErrorValue}
 use Rattle.fragment_graph.specs.declared.numbers.Numbers.{Numbers}
 use Rattle.rules_document.specs.declared.met_fragments.MetFragments.{MetFragments}
 use Rattle.rules_document.specs.declared.no_unused_fragments.NoUnusedFragments.{NoUnusedFragments}
-use Rattle.rules_document.specs.NoUnusedFragments.{NameAndSpan, unused_error, unused_errors, name_and_span, IsMet, IsSame, NoneUnused, Stands, UnusedAmong, UnusedErrors, AddsFragment, AddsUnused}
+use Rattle.rules_document.specs.MetFragments.{NameAndSpan, name_and_span, IsMet}
+use Rattle.rules_document.specs.NoUnusedFragments.{unused_error, IsSame, Stands, UnusedAmong, AddsFragment, AddsUnused}
 
 once_push : (fs : List NameAndSpan) (p : NameAndSpan) → ((i j : ℕ) (q : NameAndSpan) → slice_get fs i ≡ Some q → slice_get fs j ≡ Some q → i ≡ j) → (Contains fs p → ⊥)
     → (i j : ℕ) (q : NameAndSpan) → slice_get (fs ++ p ∷ []) i ≡ Some q → slice_get (fs ++ p ∷ []) j ≡ Some q → i ≡ j
@@ -116,17 +117,17 @@ unused_none document = record {
   are = λ p. (λ c. absurd (omega (arith, c.1)), λ s. let l = s.0.1.1 in absurd (omega (arith, l)));
 }
 
--- what was told, and then more
-pub told_more : {S C : Type 0} (fs gs : List NameAndSpan) (w w₁ w₂ : ContextState S C) → w₁ ≡ with_errors w (map unused_error fs) → w₂ ≡ with_errors w₁ (map unused_error gs) → w₂ ≡ with_errors w (map unused_error (fs ++ gs))
-told_more fs gs w w₁ w₂ told more =
+-- what was reported, and then more
+pub reports_more : {S C : Type 0} (fs gs : List NameAndSpan) (w w₁ w₂ : ContextState S C) → w₁ ≡ with_errors w (map unused_error fs) → w₂ ≡ with_errors w₁ (map unused_error gs) → w₂ ≡ with_errors w (map unused_error (fs ++ gs))
+reports_more fs gs w w₁ w₂ seen more =
     more
-    ∙ ap (λ z. with_errors z (map unused_error gs)) told
+    ∙ ap (λ z. with_errors z (map unused_error gs)) seen
     ∙ ap (λ zs. record w { errors = zs }) (append_assoc w.errors (map unused_error fs) (map unused_error gs))
     ∙ ap (λ zs. with_errors w zs) (sym (map-append unused_error fs gs))
 
--- nothing told
-pub told_nothing : {S C : Type 0} (w : ContextState S C) → w ≡ with_errors w (map unused_error [])
-told_nothing w = ap (λ zs. record w { errors = zs }) (sym (append-nil w.errors))
+-- nothing was reported
+pub reports_nothing : {S C : Type 0} (w : ContextState S C) → w ≡ with_errors w (map unused_error [])
+reports_nothing w = ap (λ zs. record w { errors = zs }) (sym (append-nil w.errors))
 
 pub both : (b : Bool) → b ≡ true → b ≡ false → ⊥
 both b t f = cc

@@ -1,10 +1,10 @@
--- Rules that look at the whole document where it is left, and do nothing elsewhere.
-use Rattle.std.specs.Prelude.{◌≡◌, List, []}
+-- Rules that look at the whole document when the walk leaves it, and do nothing before.
+use Rattle.std.specs.Prelude.{◌≡◌, List, [], map}
 use Rattle.language.specs.declared.tree.Definition.{Definition}
 use Rattle.events.specs.Node.{Node, document}
 use Rattle.events.specs.TypedEvent.{Side, entering, leaving}
 use Rattle.walk.specs.ErrorValue.{ErrorValue}
-use Rattle.walk.specs.ContextState.{DocumentScope}
+use Rattle.walk.specs.ContextState.{ContextState, DocumentScope, with_errors}
 use Rattle.walk.specs.Step.{StepOf}
 use Rattle.walk.specs.Rule.{Allowance}
 
@@ -28,6 +28,15 @@ module _ {S C V : Type 0} where
   abbrev pub document_step : Gives S C V → StepOf S C V
   document_step gives scope event a b es = document_side (gives scope) event.side event.node a b es
 
+  -- a list of which P holds is found in the document, and each entry is an error
+  abbrev pub lists : {X : Type 0} → (List (Definition S) → List X → Type 0) → (X → ErrorValue) → Gives S C V
+  lists {X} P error scope doc end es = (found : List X) × P doc found × (es ≡ map error found)
+
   -- what is given of the document, with the state at the end
   abbrev pub given_at_end : Gives S C V → V → Allowance S C
   given_at_end gives end scope t doc es = gives scope doc end es
+
+module _ {S C : Type 0} where
+  -- a list of which P holds was found, and an error for each entry was appended
+  abbrev pub Listed : {X : Type 0} → (List X → Type 0) → (X → ErrorValue) → ContextState S C → ContextState S C → Type 0
+  Listed {X} P error old new = (found : List X) × P found × (new ≡ with_errors old (map error found))

@@ -1,5 +1,6 @@
--- A run of a rule that looks at the whole document where it is left.
-use Rattle.std.proofs.Common.{◌≡◌, List, [], ◌∷◌, ◌++◌, false, ap, sym, ◌∙◌, subst}
+-- What a rule reports that looks at the whole document where it is left, and when that is nothing. In specs/, since ghost members of
+-- an impl cite nothing else.
+use Rattle.std.proofs.Common.{◌≡◌, ◌↔◌, List, [], ◌∷◌, ◌++◌, false, map, refl, ap, sym, ◌∙◌, subst}
 use Rattle.std.proofs.lemmas.List.{append-nil}
 use Rattle.language.specs.declared.tree.Definition.{Definition}
 use Rattle.schema.specs.Catalog.{Catalog}
@@ -12,9 +13,9 @@ use Rattle.events.proofs.Occurrences.{Inner, inner-document}
 use Rattle.walk.specs.ErrorValue.{ErrorValue}
 use Rattle.walk.specs.ContextState.{DocumentScope, scope_of}
 use Rattle.walk.specs.Step.{Run}
-use Rattle.walk.specs.Rule.{AllowsFrom, any_value}
+use Rattle.walk.specs.Rule.{AllowsFrom, SilentIff, any_value}
 use Rattle.walk.proofs.Runs.{Run-split}
-use Rattle.rules_document.specs.AtDocument.{Gives, at_document, document_step, given_at_end}
+use Rattle.rules_document.specs.AtDocument.{Gives, at_document, document_step, given_at_end, lists}
 
 idle_at : {S V : Type 0} (gives : List (Definition S) → V → List ErrorValue → Type 0) (n : Node S) (a b : V) (es : List ErrorValue) → is_document n ≡ false → at_document gives n a b es → es ≡ []
 idle_at gives (Node.document doc) a b es e h = cc
@@ -47,3 +48,19 @@ module _ {S C V : Type 0} where
   -- so in one that was made for it
   pub document_keeps : (gives : Gives S C V) → AllowsFrom (document_step gives) any_value (given_at_end gives)
   document_keeps gives start fresh schema t doc end es r = document_given gives (scope_of schema doc) schema t doc start end es r
+
+map_none : {X : Type 0} (error : X → ErrorValue) (xs : List X) → map error xs ≡ [] → xs ≡ []
+map_none error [] e = refl
+map_none error (x ∷ xs) e = cc
+
+module _ {S C V X : Type 0} (P : List (Definition S) → List X → Type 0) (error : X → ErrorValue) where
+  -- a rule that lists what it finds reports nothing where nothing is found
+  pub lists_silent : (N : List (Definition S) → Type 0) → ((doc : List (Definition S)) (found : List X) → P doc found → (found ≡ []) ↔ N doc)
+      → SilentIff {S = S} {C = C} {V = V} (given_at_end (lists P error)) (λ scope t doc. N doc)
+  lists_silent N none end scope t doc es (found, holds, is) =
+      let h = none doc found holds in (λ e. h.0 (map_none error found (sym is ∙ e)), λ n. is ∙ ap (map error) (h.1 n))
+
+  -- so it does where it may find nothing, if it finds nothing else there
+  pub settled_lists_silent : ((doc : List (Definition S)) (found : List X) → P doc [] → P doc found → found ≡ [])
+      → SilentIff {S = S} {C = C} {V = V} (given_at_end (lists P error)) (λ scope t doc. P doc [])
+  settled_lists_silent settled = lists_silent (λ doc. P doc []) (λ doc found holds. (λ e. subst (P doc) e holds, λ none. settled doc found none holds))

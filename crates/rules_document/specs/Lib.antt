@@ -1,10 +1,12 @@
 pub mod AtDocument
 pub mod AtDocumentLaws
-pub mod CycleLaws
+pub mod MetFragments
 pub mod NoFragmentCycles
+pub mod NoFragmentCyclesLaws
 pub mod NoUndefinedVariables
+pub mod NoUndefinedVariablesLaws
 pub mod NoUnusedFragments
+pub mod NoUnusedFragmentsLaws
 pub mod NoUnusedVariables
+pub mod NoUnusedVariablesLaws
 pub mod ScopeOrder
-pub mod UnusedLaws
-pub mod VariableLaws

@@ -1,11 +1,11 @@
 -- Fragments that lead back to themselves.
-use Rattle.std.specs.Prelude.{◌≡◌, ℕ, List, [], ◌∷◌, ◌++◌, ◌↔◌, Some, codes, length, map}
+use Rattle.std.specs.Prelude.{◌≡◌, ℕ, List, [], ◌∷◌, ◌++◌, Some, codes, length, map}
 use Rattle.language.specs.declared.tree.Definition.{Definition}
 use Rattle.walk.specs.ContextState.{DocumentScope}
 use Rattle.walk.specs.ErrorValue.{ErrorValue}
 use Rattle.fragment_graph.specs.Spreads.{fragment_spreads}
 use Rattle.fragment_graph.specs.declared.cycles.DocumentCycles.{DocumentCycles}
-use Rattle.fragment_graph.specs.DocumentCycles.{NameAndPlace, FindsCycles, HasNoCycle, SearchedDocument}
+use Rattle.fragment_graph.specs.DocumentCycles.{NameAndPlace, FindsCycles, SearchedDocument}
 use Rattle.rules_document.specs.declared.no_fragment_cycles.NoFragmentCycles.{NoFragmentCycles}
 
 abbrev pub cycle_message : List ℕ → List ℕ
@@ -18,18 +18,14 @@ cycle_error r = record { locations = r.1 ∷ []; message = cycle_message r.0 }
 abbrev pub KeepsFound : {S : Type 0} → List (Definition S) → NoFragmentCycles → Type 0
 KeepsFound document end = (c : DocumentCycles) × (end.found ≡ Some c) × SearchedDocument document c
 
--- some fragments on cycles, each at a spread inside it that starts a way back, so many that every cycle has one;
--- and each spread inside a fragment's definition was looked at once
+-- fragments on cycles, each at a spread inside it on the way back, at least one for every cycle; each spread inside a definition of a
+-- fragment was looked at once
 pub record CycleErrors {S : Type 0} (document : List (Definition S)) (end : NoFragmentCycles) (es : List ErrorValue) : Type 0 where
   pub reports : List NameAndPlace
   pub found : FindsCycles document reports
-  pub told : es ≡ map cycle_error reports
+  pub errors : es ≡ map cycle_error reports
   pub looked : end.looked ≡ length (fragment_spreads document)
   pub kept : KeepsFound document end
 
 abbrev pub cycle_errors : {S C : Type 0} → DocumentScope S C → List (Definition S) → NoFragmentCycles → List ErrorValue → Type 0
 cycle_errors scope document end es = CycleErrors document end es
-
--- they are none just if no fragment leads back to itself
-abbrev pub CyclesAreTold : Type 0 → Type 0
-CyclesAreTold S = (document : List (Definition S)) (end : NoFragmentCycles) (es : List ErrorValue) → CycleErrors document end es → (es ≡ []) ↔ HasNoCycle document

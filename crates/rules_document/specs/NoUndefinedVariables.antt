@@ -1,9 +1,8 @@
 -- Variables that are used where they are not defined.
-use Rattle.std.specs.Prelude.{◌≡◌, ℕ, List, [], ◌∷◌, ◌++◌, Option, None, Some, codes, map}
-use Rattle.language.specs.declared.tree.Definition.{Definition}
-use Rattle.walk.specs.ContextState.{DocumentScope}
+use Rattle.std.specs.Prelude.{ℕ, List, [], ◌∷◌, ◌++◌, Option, None, Some, codes}
 use Rattle.walk.specs.ErrorValue.{ErrorValue}
 use Rattle.variable_usages.specs.Undefined.{Undefined, UndefinedVariables}
+use Rattle.rules_document.specs.AtDocument.{Gives, lists}
 use Rattle.rules_document.specs.declared.no_undefined_variables.NoUndefinedVariables.{NoUndefinedVariables}
 
 abbrev pub undefined_message : List ℕ → Option (List ℕ) → List ℕ
@@ -15,5 +14,5 @@ abbrev pub undefined_error : Undefined → ErrorValue
 undefined_error u = record { locations = u.place ∷ u.operation_place ∷ []; message = undefined_message u.name u.operation }
 
 -- for each name of operations: each use in their reach whose variable the last of them doesn't define
-abbrev pub undefined_errors : {S C : Type 0} → DocumentScope S C → List (Definition S) → NoUndefinedVariables → List ErrorValue → Type 0
-undefined_errors scope document end es = (found : List Undefined) × UndefinedVariables document found × (es ≡ map undefined_error found)
+abbrev pub undefined_errors : {S C : Type 0} → Gives S C NoUndefinedVariables
+undefined_errors = lists UndefinedVariables undefined_error

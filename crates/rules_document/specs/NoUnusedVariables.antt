@@ -1,9 +1,8 @@
 -- Variables that are defined and not used.
-use Rattle.std.specs.Prelude.{◌≡◌, ℕ, List, [], ◌∷◌, ◌++◌, Option, None, Some, codes, map}
-use Rattle.language.specs.declared.tree.Definition.{Definition}
-use Rattle.walk.specs.ContextState.{DocumentScope}
+use Rattle.std.specs.Prelude.{ℕ, List, [], ◌∷◌, ◌++◌, Option, None, Some, codes}
 use Rattle.walk.specs.ErrorValue.{ErrorValue}
 use Rattle.variable_usages.specs.Unused.{Unused, UnusedVariables}
+use Rattle.rules_document.specs.AtDocument.{Gives, lists}
 use Rattle.rules_document.specs.declared.no_unused_variables.NoUnusedVariables.{NoUnusedVariables}
 
 abbrev pub unused_variable_message : List ℕ → Option (List ℕ) → List ℕ
@@ -15,5 +14,5 @@ abbrev pub unused_variable_error : Unused → ErrorValue
 unused_variable_error u = record { locations = u.span.start ∷ []; message = unused_variable_message u.name u.operation }
 
 -- for each name of operations: each variable that the last of them defines and that isn't used in their reach, once
-abbrev pub unused_variable_errors : {S C : Type 0} → DocumentScope S C → List (Definition S) → NoUnusedVariables → List ErrorValue → Type 0
-unused_variable_errors scope document end es = (found : List Unused) × UnusedVariables document found × (es ≡ map unused_variable_error found)
+abbrev pub unused_variable_errors : {S C : Type 0} → Gives S C NoUnusedVariables
+unused_variable_errors = lists UnusedVariables unused_variable_error

@@ -6,7 +6,7 @@ use Rattle.std.specs.declared.cmp.Ordering.TheVariants.{Equal}
 use Rattle.operation_scopes.specs.declared.scope.Scope.{Scope}
 use Rattle.operation_scopes.specs.Scopes.{scope_name}
 
--- The order is total, and scopes compare as equal just if they are of one kind and one name.
+-- The order is total, and scopes compare as equal if and only if they have the same kind and the same name.
 pub record AreOrdered (cmp : Scope → Scope → Ordering) : Type 0 where
   pub total : IsTotalOrder cmp
   pub same : (a b : Scope) → (cmp a b ≡ Equal) ↔ (scope_name a ≡ scope_name b)

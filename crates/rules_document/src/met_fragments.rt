@@ -3,7 +3,7 @@
 ghost use Rattle.std.specs.Prelude.{◌≡◌, ◌↔◌, ◌⊎◌, Some, None, false, length, IfOk, IsTrue, OnOk};
 ghost use Rattle.std.specs.List.{All};
 ghost use Rattle.fragment_graph.specs.Numbers.{number_of, WellNumbered};
-ghost use Rattle.rules_document.specs.NoUnusedFragments.{name_and_span, IsMet, IsOther, IsKeptFor, NameAndSpan};
+ghost use Rattle.rules_document.specs.MetFragments.{name_and_span, IsMet, IsOther, IsKeptFor, NameAndSpan};
 
 use fragment_graph::numbers::{Numbers, name_count};
 use language::error::OutOfMemory;
@@ -14,7 +14,7 @@ use std::collections::BTreeSet;
 
 /// The fragments that were met: the first of each name by the name's number, and any others of it.
 ///
-/// Strangers choose the names and may repeat them, so the others are an ordered set.
+/// A hostile document may repeat a name many times, so the others are an ordered set.
 #[derive(Drop)]
 pub struct MetFragments<'a> {
     pub firsts: Vec<Option<Span>>,
@@ -29,7 +29,11 @@ fn no_firsts(alloc: Global, count: usize) -> Result<Vec<Option<Span>>, AllocErro
     vec![in alloc; None; count]
 }
 
-/// None yet, with room for the first of each of these names.
+/// No fragments, with room for the first of each of these names.
+///
+/// # Errors
+///
+/// Out of memory.
 pub fn none_met<'a>(alloc: Global, numbers: &Numbers<'_>) -> Result<MetFragments<'a>, AllocError>
     ensures none { IfOk result (λ met. (p : NameAndSpan) → IsMet numbers.now met p → ⊥) }
     ensures kept { IfOk result (IsKeptFor numbers.now) }
@@ -41,7 +45,7 @@ pub fn none_met<'a>(alloc: Global, numbers: &Numbers<'_>) -> Result<MetFragments
     })
 }
 
-// Notes that a fragment was met that isn't the first of its name, and answers whether it is the first of its name and span.
+// Notes that a fragment was met that isn't the first of its name, and returns whether it is the first of its name and span.
 fn meet_other<'a, S>(
     others: &mut BTreeSet<(&'a str, SourcePosition, SourcePosition)>,
     fragment: &Spanning<Fragment<'a, S>>,
@@ -55,7 +59,11 @@ fn meet_other<'a, S>(
     Ok(first)
 }
 
-/// Notes that a fragment was met, by the number of its name, and answers whether it is the first of its name and span.
+/// Notes that a fragment was met, by the number of its name, and returns whether it is the first of its name and span.
+///
+/// # Errors
+///
+/// Out of memory. Which fragments were met is not known then.
 pub fn meet<'a, S>(
     met: &mut MetFragments<'a>,
     numbers: &Numbers<'_>,

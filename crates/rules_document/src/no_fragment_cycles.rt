@@ -1,6 +1,6 @@
-//! No fragment spreads itself, nor leads back to itself through others (GraphQL, section 5.5.2.2).
+//! No fragment spreads itself, directly or through other fragments (GraphQL, October 2021, section 5.5.2.2).
 
-ghost use Rattle.std.specs.Prelude.{◌≡◌, List, None, IfOk, OnErr, map, string_bytes};
+ghost use Rattle.std.specs.Prelude.{◌≡◌, List, None, IfOk, OnOk, OnErr, map, string_bytes};
 ghost use Rattle.language.specs.declared.tree.Definition.{Definition};
 ghost use Rattle.walk.specs.ContextState.{with_errors};
 ghost use Rattle.walk.specs.Rule.{any_value, Appended};
@@ -10,7 +10,7 @@ ghost use Rattle.fragment_graph.specs.DocumentGraph.{IsGraphOf};
 ghost use Rattle.rules_document.specs.AtDocument.{document_step, given_at_end};
 ghost use Rattle.rules_document.specs.NoFragmentCycles.{cycle_error, cycle_errors, cycle_message, CycleErrors};
 ghost use Rattle.rules_document.specs.AtDocumentLaws.{document_keeps};
-ghost use Rattle.rules_document.specs.CycleLaws.{cycles_silent};
+ghost use Rattle.rules_document.specs.NoFragmentCyclesLaws.{cycles_silent};
 
 use fragment_graph::cycles::{CycleReport, DocumentCycles, GraphCycles, search_named};
 use fragment_graph::document_graph::{DocumentGraph, graph_of};
@@ -19,8 +19,9 @@ use meta::check::CheckedScalar;
 use std::alloc::{AllocError, Global};
 use walk::{Criterion, Event, Fresh, Machine, Rule, SettledRule, ValidatorContext, Visitor};
 
-/// Reports, where the document ends, fragments that lead back to themselves, so many that each cycle has one, at spreads inside
-/// them that start a way back. It keeps what its search found, for those who look at fragments after it.
+/// Reports, where the document ends, at least one fragment of each cycle of spreads, at a spread inside it on the way back to it.
+///
+/// It keeps what its search found, for what looks at the fragments after it.
 #[derive(Drop)]
 pub struct NoFragmentCycles<'a> {
     alloc: Global,
@@ -28,7 +29,7 @@ pub struct NoFragmentCycles<'a> {
     found: Option<DocumentCycles<'a>>,
 }
 
-/// The rule, made ready for one document.
+/// Makes the rule, for one document.
 pub fn factory<'a>(alloc: Global) -> NoFragmentCycles<'a>
     ensures { ⟦<NoFragmentCycles<'a> as Fresh>⟧.fresh result }
 {
@@ -40,27 +41,31 @@ pub fn factory<'a>(alloc: Global) -> NoFragmentCycles<'a>
 }
 
 impl<'a> NoFragmentCycles<'a> {
-    /// How many spreads inside definitions of fragments were looked at, in the document that was left last.
+    /// How many spreads inside definitions of fragments the search looked at, in the document that was left last.
     pub fn looked(&self) -> u128
         ensures { result ≡ self.now.looked }
     {
         self.looked
     }
 
-    /// What its search found, in the document that was left last.
+    /// What the search found in the document that was left last.
     pub fn into_found(self) -> Option<DocumentCycles<'a>>
         ensures { result ≡ self.entry.found }
     {
         self.found
     }
 
-    /// Leaves the document of a graph.
+    /// Reports the fragments on cycles of a document, by the document's graph, and keeps what the search found.
+    ///
+    /// # Errors
+    ///
+    /// Out of memory. The types at hand stay; some of the errors may be reported then.
     pub fn leave<S: CheckedScalar>(
         &mut self,
         ctx: &mut ValidatorContext<'a, S>,
         graph: DocumentGraph<'a>,
     ) -> Result<(), OutOfMemory>
-        ensures ok { IfOk result (λ _. (document : List (Definition S)) → IsGraphOf document graph.entry
+        ensures ok { OnOk result ((document : List (Definition S)) → IsGraphOf document graph.entry
             → Appended (CycleErrors document self.new) ctx.old ctx.new) }
         ensures err { OnErr result (KeepsPlace ctx.old ctx.new) }
     {
@@ -118,13 +123,13 @@ impl<'a, S: CheckedScalar> Visitor<'a, S> for NoFragmentCycles<'a> {
     }
 }
 
-// Reports these.
+// Reports each of these.
 fn report_all<'a, S: CheckedScalar>(
     alloc: Global,
     ctx: &mut ValidatorContext<'a, S>,
     reports: &[CycleReport<'_>],
 ) -> Result<(), OutOfMemory>
-    ensures ok { IfOk result (λ _. ctx.new ≡ with_errors ctx.old (map cycle_error (map name_and_place reports.now))) }
+    ensures ok { OnOk result (ctx.new ≡ with_errors ctx.old (map cycle_error (map name_and_place reports.now))) }
     ensures err { OnErr result (KeepsPlace ctx.old ctx.new) }
 {
     for report in reports {

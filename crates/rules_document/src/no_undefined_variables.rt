@@ -1,14 +1,14 @@
-//! Each variable that an operation uses is defined by it (GraphQL, section 5.8.3).
+//! Each variable that an operation uses is defined by the operation (GraphQL, October 2021, section 5.8.3).
 
-ghost use Rattle.std.specs.Prelude.{◌≡◌, [], List, Some, IfOk, OnErr, map, option_map, string_bytes};
+ghost use Rattle.std.specs.Prelude.{◌≡◌, [], Some, IfOk, OnOk, OnErr, map, option_map, string_bytes};
 ghost use Rattle.walk.specs.ContextState.{with_errors};
 ghost use Rattle.walk.specs.Rule.{any_value};
 ghost use Rattle.walk.specs.Step.{KeepsPlace};
 ghost use Rattle.variable_usages.specs.DocumentIndex.{IsDocumentIndex};
-ghost use Rattle.variable_usages.specs.Undefined.{Undefined, UndefinedVariables, undefined_of};
-ghost use Rattle.rules_document.specs.AtDocument.{document_step, given_at_end};
+ghost use Rattle.variable_usages.specs.Undefined.{UndefinedVariables, undefined_of};
+ghost use Rattle.rules_document.specs.AtDocument.{document_step, given_at_end, Listed};
 ghost use Rattle.rules_document.specs.AtDocumentLaws.{document_keeps};
-ghost use Rattle.rules_document.specs.VariableLaws.{undefineds_silent};
+ghost use Rattle.rules_document.specs.NoUndefinedVariablesLaws.{undefineds_silent};
 ghost use Rattle.rules_document.specs.NoUndefinedVariables.{undefined_error, undefined_errors, undefined_message};
 
 use language::error::OutOfMemory;
@@ -21,15 +21,16 @@ use variable_usages::document_index::{DocumentIndex, index_document};
 use variable_usages::undefined::{UndefinedVariable, undefined_in};
 use walk::{Criterion, Event, Fresh, Machine, Rule, SettledRule, ValidatorContext, Visitor};
 
-/// Reports, where the document ends, each use of a variable in the reach of the operations of a name that the last of them doesn't
-/// define, at the argument's value and at that operation.
+/// Reports, where the document ends, each use of a variable that is not defined: at the argument's value, and at the operation.
+///
+/// Operations of the same name count as one: it reaches all that they reach, and has the variables of the last of them.
 #[derive(Drop)]
 pub struct NoUndefinedVariables<'a> {
     alloc: Global,
     document: PhantomData<&'a str>,
 }
 
-/// The rule, made ready for one document.
+/// Makes the rule, for one document.
 pub fn factory<'a>(alloc: Global) -> NoUndefinedVariables<'a>
     ensures { ⟦<NoUndefinedVariables<'a> as Fresh>⟧.fresh result }
 {
@@ -78,13 +79,13 @@ impl<'a, S: CheckedScalar> Visitor<'a, S> for NoUndefinedVariables<'a> {
     }
 }
 
-// Reports these.
+// Reports each of these.
 fn report_all<'a, S: CheckedScalar>(
     alloc: Global,
     ctx: &mut ValidatorContext<'a, S>,
     found: &[UndefinedVariable<'_>],
 ) -> Result<(), OutOfMemory>
-    ensures ok { IfOk result (λ _. ctx.new ≡ with_errors ctx.old (map undefined_error (map undefined_of found.now))) }
+    ensures ok { OnOk result (ctx.new ≡ with_errors ctx.old (map undefined_error (map undefined_of found.now))) }
     ensures err { OnErr result (KeepsPlace ctx.old ctx.new) }
 {
     for variable in found {
@@ -97,7 +98,11 @@ fn report_all<'a, S: CheckedScalar>(
     Ok(())
 }
 
-/// Reports the uses that are not defined, by the document's index.
+/// Reports each use of a variable that is not defined, by the document's index.
+///
+/// # Errors
+///
+/// Out of memory. The types at hand stay; some of the errors may be reported then.
 pub fn report_undefined<'a, 'd, S: CheckedScalar>(
     alloc: Global,
     ctx: &mut ValidatorContext<'a, S>,
@@ -105,8 +110,7 @@ pub fn report_undefined<'a, 'd, S: CheckedScalar>(
     index: &DocumentIndex<'d>,
 ) -> Result<(), OutOfMemory>
     requires { IsDocumentIndex document.now index.now }
-    ensures ok { IfOk result (λ _. (found : List Undefined) × UndefinedVariables document.now found
-        × (ctx.new ≡ with_errors ctx.old (map undefined_error found))) }
+    ensures ok { OnOk result (Listed (UndefinedVariables document.now) undefined_error ctx.old ctx.new) }
     ensures err { OnErr result (KeepsPlace ctx.old ctx.new) }
 {
     let found = undefined_in(alloc, document, index)?;
@@ -120,8 +124,8 @@ fn named_message(alloc: Global, name: &str, called: &str) -> Result<String, Allo
 }
 
 fn error_message(alloc: Global, name: &str, operation: Option<&str>) -> Result<String, AllocError>
-    ensures { IfOk result (λ message. string_bytes message
-        ≡ undefined_message name.now (option_map (λ n. n.now) operation.entry)) }
+    ensures { IfOk result (λ message. string_bytes message ≡
+        undefined_message name.now (option_map (λ n. n.now) operation.entry)) }
 {
     match operation {
         Some(called) => named_message(alloc, name, called),

@@ -1,16 +1,17 @@
-//! Each fragment is reached from some operation (GraphQL, section 5.5.1.4).
+//! Each fragment is reached from some operation (GraphQL, October 2021, section 5.5.1.4).
 
-ghost use Rattle.std.specs.Prelude.{◌≡◌, ◌∷◌, [], List, Some, IfOk, OnOk, OnErr, map, string_bytes};
+ghost use Rattle.std.specs.Prelude.{◌≡◌, ◌∷◌, [], Some, IfOk, OnOk, OnErr, string_bytes};
 ghost use Rattle.walk.specs.ContextState.{with_errors};
 ghost use Rattle.walk.specs.Rule.{any_value};
 ghost use Rattle.walk.specs.Step.{KeepsPlace};
 ghost use Rattle.fragment_graph.specs.DocumentGraph.{IsNumbered};
 ghost use Rattle.fragment_graph.specs.Numbers.{defined_number, number_of, WellNumbered};
 ghost use Rattle.operation_scopes.specs.Index.{IsIndexOf};
-ghost use Rattle.rules_document.specs.AtDocument.{document_step, given_at_end};
+ghost use Rattle.rules_document.specs.AtDocument.{document_step, given_at_end, Listed};
 ghost use Rattle.rules_document.specs.AtDocumentLaws.{document_keeps};
-ghost use Rattle.rules_document.specs.UnusedLaws.{unused_silent};
-ghost use Rattle.rules_document.specs.NoUnusedFragments.{name_and_span, unused_error, unused_errors, NoneUnused, unused_message, AddsFragment, AddsUnused, IsKeptFor, NameAndSpan, UnusedAmong};
+ghost use Rattle.rules_document.specs.NoUnusedFragmentsLaws.{unused_silent};
+ghost use Rattle.rules_document.specs.MetFragments.{name_and_span, IsKeptFor};
+ghost use Rattle.rules_document.specs.NoUnusedFragments.{unused_error, unused_errors, NoneUnused, unused_message, AddsFragment, AddsUnused, UnusedOf};
 
 use crate::met_fragments::{MetFragments, meet, none_met};
 use fragment_reach::reached::{ReachedFragments, is_reached, reached_fragments};
@@ -22,13 +23,13 @@ use operation_scopes::index::{ScopeIndex, index_scopes};
 use std::alloc::{AllocError, Global};
 use walk::{Criterion, Event, Fresh, Machine, Rule, SettledRule, ValidatorContext, Visitor};
 
-/// Reports, where the document ends, each definition of a fragment that no operation reaches, at its start.
+/// Reports, where the document ends, each definition of a fragment that no operation reaches, at the definition's start.
 #[derive(Drop)]
 pub struct NoUnusedFragments {
     alloc: Global,
 }
 
-/// The rule, made ready for one document.
+/// Makes the rule, for one document.
 pub fn factory(alloc: Global) -> NoUnusedFragments
     ensures { ⟦<NoUnusedFragments as Fresh>⟧.fresh result }
 {
@@ -80,14 +81,14 @@ fn report_fragment<'a, S: CheckedScalar>(
     ctx: &mut ValidatorContext<'a, S>,
     fragment: &Spanning<Fragment<'_, S>>,
 ) -> Result<(), OutOfMemory>
-    ensures ok { IfOk result (λ _. ctx.new ≡ with_errors ctx.old (unused_error (name_and_span fragment.now) ∷ [])) }
+    ensures ok { OnOk result (ctx.new ≡ with_errors ctx.old (unused_error (name_and_span fragment.now) ∷ [])) }
     ensures err { OnErr result (KeepsPlace ctx.old ctx.new) }
 {
     let message = error_message(alloc, fragment.item.name.item)?;
     ctx.report_error(message.as_str(), &[fragment.span.start])
 }
 
-// Reports a fragment that is not reached, by the number of its name, the first time that its name and span are met.
+// Reports a fragment that no operation reaches, by the number of its name, the first time that its name and span are met.
 fn report_once<'a, 'd, S: CheckedScalar>(
     alloc: Global,
     ctx: &mut ValidatorContext<'a, S>,
@@ -100,9 +101,8 @@ fn report_once<'a, 'd, S: CheckedScalar>(
     requires number { number_of reached.now.graph.now.numbers fragment.now.item.name.item.now ≡ Some number }
     requires kept { IsKeptFor reached.now.graph.now.numbers met.old }
     ensures kept { OnOk result (IsKeptFor reached.now.graph.now.numbers met.new) }
-    ensures ok { IfOk result (λ _. (fs : List NameAndSpan)
-        × AddsFragment reached.now met.old met.new (name_and_span fragment.now) fs
-        × (ctx.new ≡ with_errors ctx.old (map unused_error fs))) }
+    ensures ok { OnOk result (Listed
+        (AddsFragment reached.now met.old met.new (name_and_span fragment.now)) unused_error ctx.old ctx.new) }
     ensures err { OnErr result (KeepsPlace ctx.old ctx.new) }
 {
     if is_reached(reached, Some(number)) {
@@ -114,7 +114,7 @@ fn report_once<'a, 'd, S: CheckedScalar>(
     Ok(())
 }
 
-// Does so if the definition is one of a fragment.
+// Reports a definition, if it is an unused fragment's, the first time that its name and span are met.
 fn report_if_unused<'a, 'd, S: CheckedScalar>(
     alloc: Global,
     ctx: &mut ValidatorContext<'a, S>,
@@ -128,8 +128,8 @@ fn report_if_unused<'a, 'd, S: CheckedScalar>(
     requires has { IsNumbered reached.now.graph.now.numbers definition.now }
     requires kept { IsKeptFor reached.now.graph.now.numbers met.old }
     ensures kept { OnOk result (IsKeptFor reached.now.graph.now.numbers met.new) }
-    ensures ok { IfOk result (λ _. (fs : List NameAndSpan) × AddsUnused reached.now met.old met.new definition.now fs
-        × (ctx.new ≡ with_errors ctx.old (map unused_error fs))) }
+    ensures ok { OnOk result (Listed
+        (AddsUnused reached.now met.old met.new definition.now) unused_error ctx.old ctx.new) }
     ensures err { OnErr result (KeepsPlace ctx.old ctx.new) }
 {
     match definition {
@@ -141,7 +141,11 @@ fn report_if_unused<'a, 'd, S: CheckedScalar>(
     }
 }
 
-/// Reports each name and span of a fragment that no operation reaches, once, by the document's index.
+/// Reports, once, each name and span of a fragment that no operation reaches, by the document's index.
+///
+/// # Errors
+///
+/// Out of memory. The types at hand stay; some of the errors may be reported then.
 pub fn report_unused<'a, 'd, S: CheckedScalar>(
     alloc: Global,
     ctx: &mut ValidatorContext<'a, S>,
@@ -149,8 +153,7 @@ pub fn report_unused<'a, 'd, S: CheckedScalar>(
     index: &ScopeIndex<'_>,
 ) -> Result<(), OutOfMemory>
     requires { IsIndexOf document.now index.now }
-    ensures ok { IfOk result (λ _. (fs : List NameAndSpan) × UnusedAmong document.now document.now fs
-        × (ctx.new ≡ with_errors ctx.old (map unused_error fs))) }
+    ensures ok { OnOk result (Listed (UnusedOf document.now) unused_error ctx.old ctx.new) }
     ensures err { OnErr result (KeepsPlace ctx.old ctx.new) }
 {
     let starts = index.spreads.items.as_slice();

@@ -1,14 +1,14 @@
-//! Each variable that an operation defines is used by it (GraphQL, section 5.8.4).
+//! Each variable that an operation defines is used by the operation (GraphQL, October 2021, section 5.8.4).
 
-ghost use Rattle.std.specs.Prelude.{◌≡◌, [], List, Some, IfOk, OnErr, map, option_map, string_bytes};
+ghost use Rattle.std.specs.Prelude.{◌≡◌, [], Some, IfOk, OnOk, OnErr, map, option_map, string_bytes};
 ghost use Rattle.walk.specs.ContextState.{with_errors};
 ghost use Rattle.walk.specs.Rule.{any_value};
 ghost use Rattle.walk.specs.Step.{KeepsPlace};
 ghost use Rattle.variable_usages.specs.DocumentIndex.{IsDocumentIndex};
-ghost use Rattle.variable_usages.specs.Unused.{Unused, UnusedVariables, unused_of};
-ghost use Rattle.rules_document.specs.AtDocument.{document_step, given_at_end};
+ghost use Rattle.variable_usages.specs.Unused.{UnusedVariables, unused_of};
+ghost use Rattle.rules_document.specs.AtDocument.{document_step, given_at_end, Listed};
 ghost use Rattle.rules_document.specs.AtDocumentLaws.{document_keeps};
-ghost use Rattle.rules_document.specs.VariableLaws.{unused_variables_silent};
+ghost use Rattle.rules_document.specs.NoUnusedVariablesLaws.{unused_variables_silent};
 ghost use Rattle.rules_document.specs.NoUnusedVariables.{unused_variable_error, unused_variable_errors, unused_variable_message};
 
 use language::error::OutOfMemory;
@@ -21,15 +21,16 @@ use variable_usages::document_index::{DocumentIndex, index_document};
 use variable_usages::unused::{UnusedVariable, unused_in};
 use walk::{Criterion, Event, Fresh, Machine, Rule, SettledRule, ValidatorContext, Visitor};
 
-/// Reports, where the document ends, each variable that the last operation of a name defines and that is not used in the reach of
-/// the operations of that name, at its name.
+/// Reports, where the document ends, each variable that is defined and not used, at its name in the definition.
+///
+/// Operations of the same name count as one: it reaches all that they reach, and has the variables of the last of them.
 #[derive(Drop)]
 pub struct NoUnusedVariables<'a> {
     alloc: Global,
     document: PhantomData<&'a str>,
 }
 
-/// The rule, made ready for one document.
+/// Makes the rule, for one document.
 pub fn factory<'a>(alloc: Global) -> NoUnusedVariables<'a>
     ensures { ⟦<NoUnusedVariables<'a> as Fresh>⟧.fresh result }
 {
@@ -78,13 +79,13 @@ impl<'a, S: CheckedScalar> Visitor<'a, S> for NoUnusedVariables<'a> {
     }
 }
 
-// Reports these.
+// Reports each of these.
 fn report_all<'a, S: CheckedScalar>(
     alloc: Global,
     ctx: &mut ValidatorContext<'a, S>,
     found: &[UnusedVariable<'_>],
 ) -> Result<(), OutOfMemory>
-    ensures ok { IfOk result (λ _. ctx.new ≡ with_errors ctx.old (map unused_variable_error (map unused_of found.now))) }
+    ensures ok { OnOk result (ctx.new ≡ with_errors ctx.old (map unused_variable_error (map unused_of found.now))) }
     ensures err { OnErr result (KeepsPlace ctx.old ctx.new) }
 {
     for variable in found {
@@ -94,7 +95,11 @@ fn report_all<'a, S: CheckedScalar>(
     Ok(())
 }
 
-/// Reports the variables that are not used, by the document's index.
+/// Reports each variable that is not used, by the document's index.
+///
+/// # Errors
+///
+/// Out of memory. The types at hand stay; some of the errors may be reported then.
 pub fn report_unused<'a, 'd, S: CheckedScalar>(
     alloc: Global,
     ctx: &mut ValidatorContext<'a, S>,
@@ -102,8 +107,7 @@ pub fn report_unused<'a, 'd, S: CheckedScalar>(
     index: &DocumentIndex<'d>,
 ) -> Result<(), OutOfMemory>
     requires { IsDocumentIndex document.now index.now }
-    ensures ok { IfOk result (λ _. (found : List Unused) × UnusedVariables document.now found
-        × (ctx.new ≡ with_errors ctx.old (map unused_variable_error found))) }
+    ensures ok { OnOk result (Listed (UnusedVariables document.now) unused_variable_error ctx.old ctx.new) }
     ensures err { OnErr result (KeepsPlace ctx.old ctx.new) }
 {
     let found = unused_in(alloc, document, index)?;
@@ -117,8 +121,8 @@ fn named_message(alloc: Global, name: &str, called: &str) -> Result<String, Allo
 }
 
 fn error_message(alloc: Global, name: &str, operation: Option<&str>) -> Result<String, AllocError>
-    ensures { IfOk result (λ message. string_bytes message
-        ≡ unused_variable_message name.now (option_map (λ n. n.now) operation.entry)) }
+    ensures { IfOk result (λ message. string_bytes message ≡
+        unused_variable_message name.now (option_map (λ n. n.now) operation.entry)) }
 {
     match operation {
         Some(called) => named_message(alloc, name, called),

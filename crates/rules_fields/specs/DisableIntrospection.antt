@@ -9,13 +9,16 @@ use Rattle.events.specs.Occurrence.{Occurrence}
 abbrev pub introspection_message : List ℕ → List ℕ
 introspection_message name = (codes "GraphQL introspection is not allowed, but the operation contained `" ++ name) ++ codes "`"
 
+-- `__schema` and `__type`
 abbrev pub is_introspection : List ℕ → Bool
 is_introspection name = bytes_eq name (codes "__schema") || bytes_eq name (codes "__type")
 
+-- a field of this name is reported, at its name
 abbrev pub introspection_field : Name → List ErrorValue
 introspection_field name =
     if is_introspection name.item.now then record { locations = name.span.start ∷ []; message = introspection_message name.item.now } ∷ [] else []
 
+-- at a node: a field, by its name
 abbrev pub introspection_at : {S : Type 0} → Node S → List ErrorValue
 introspection_at (field f) = introspection_field f.item.name
 introspection_at _ = []

@@ -1,6 +1,7 @@
 -- Fields that the type around them does not have.
 use Rattle.std.specs.Prelude.{ℕ, List, [], ◌∷◌, ◌++◌, Bool, true, false, ◌||◌, ◌&&◌, Option, Some, None, is_some, if◌then◌else◌, codes}
 use Rattle.std.specs.List.{flat_map}
+use Rattle.std.specs.Option.{unwrap_or}
 use Rattle.std.specs.Str.{bytes_eq}
 use Rattle.language.specs.declared.tree.OperationType.{OperationType}
 use Rattle.language.specs.declared.tree.OperationType.TheVariants as kind
@@ -22,17 +23,15 @@ unknown_field_message name t = (((codes "Unknown field \"" ++ name) ++ codes "\"
 abbrev pub root_typename_message : List ℕ
 root_typename_message = codes "`__typename` may not be included as a root field in a subscription operation"
 
+-- the field `__typename`, which each type has
 abbrev pub is_typename : List ℕ → Bool
 is_typename name = bytes_eq name (codes "__typename")
-
-abbrev pub or_empty : Option (List ℕ) → List ℕ
-or_empty None = []
-or_empty (Some name) = name
 
 -- a name, reported
 abbrev pub at_name : Name → List ℕ → List ErrorValue
 at_name name message = record { locations = name.span.start ∷ []; message = message } ∷ []
 
+-- one level of a selection
 abbrev pub typename_layer : {S : Type 0} → opened.Selection-F S (Selection S) (Field S) (InlineFragment S) → List ErrorValue
 typename_layer (opened.Field f) = if is_typename f.item.name.item.now then at_name f.item.name root_typename_message else []
 typename_layer _ = []
@@ -41,11 +40,13 @@ typename_layer _ = []
 abbrev pub root_typename : {S : Type 0} → Selection S → List ErrorValue
 root_typename {S} s = typename_layer (out-Selection S s)
 
+-- of a subscription: each of its own set
 abbrev pub root_typenames : {S : Type 0} → OperationType → List (Selection S) → List ErrorValue
 root_typenames kind.Subscription set = flat_map root_typename set
 root_typenames _ set = []
 
 module _ {S C : Type 0} where
+  -- a union
   abbrev pub is_union_meta : MetaTypeOf S C → Bool
   is_union_meta (m.Union x) = true
   is_union_meta _ = false
@@ -54,11 +55,13 @@ module _ {S C : Type 0} where
   abbrev pub has_field : MetaTypeOf S C → List ℕ → Bool
   has_field t name = is_some (field_named name t) || (is_union_meta t && is_typename name)
 
+  -- a field under a type that is known
   abbrev pub unknown_field : Option (MetaTypeOf S C) → Name → List ErrorValue
   unknown_field None name = []
   unknown_field (Some t) name =
-      if has_field t name.item.now then [] else at_name name (unknown_field_message name.item.now (or_empty (name_of_meta t)))
+      if has_field t name.item.now then [] else at_name name (unknown_field_message name.item.now (unwrap_or (name_of_meta t) []))
 
+  -- at a node: a field, and a subscription
   abbrev pub wrong_type_at : Option (MetaTypeOf S C) → Node S → List ErrorValue
   wrong_type_at parent (field f) = unknown_field parent f.item.name
   wrong_type_at parent (operation_definition o) = root_typenames o.item.operation_type o.item.selection_set.items

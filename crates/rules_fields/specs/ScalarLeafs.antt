@@ -28,6 +28,7 @@ module _ {S C : Type 0} where
   wrong_set (Some t) (Some written) f = wrong_set_of (is_leaf_meta t) (is_some f.item.selection_set) (printed written) f
   wrong_set _ _ f = []
 
+  -- at a node: a field
   abbrev pub wrong_set_at : Option (MetaTypeOf S C) → Option TypeShape → Node S → List ErrorValue
   wrong_set_at t written (field f) = wrong_set t written f
   wrong_set_at t written _ = []

@@ -1,4 +1,4 @@
-//! No field asks for the schema itself (GraphQL, section 4.1): a rule for those who do not want to show theirs.
+//! No field asks for the schema itself (GraphQL, October 2021, section 4.2): a rule for services that do not show their schema.
 
 ghost use Rattle.std.specs.Prelude.{◌≡◌, IfOk, string_bytes};
 ghost use Rattle.walk.specs.Entering.{finding_step, found};
@@ -19,7 +19,7 @@ pub struct DisableIntrospection {
     alloc: Global,
 }
 
-/// The rule, made ready for one document.
+/// Makes the rule, for one document.
 pub fn factory(alloc: Global) -> DisableIntrospection
     ensures { ⟦<DisableIntrospection as Fresh>⟧.fresh result }
 {

@@ -1,6 +1,7 @@
-//! Each field is one of the type around it (GraphQL, section 5.3.1).
+//! Each field is a field of the type around it (GraphQL, October 2021, section 5.3.1), and no subscription selects `__typename`
+//! itself (section 5.2.3.1).
 
-ghost use Rattle.std.specs.Prelude.{◌≡◌, IfOk, OnErr, string_bytes};
+ghost use Rattle.std.specs.Prelude.{◌≡◌, IfOk, OnOk, OnErr, string_bytes};
 ghost use Rattle.walk.specs.ContextState.{typing, with_errors};
 ghost use Rattle.walk.specs.Entering.{finding_step, found};
 ghost use Rattle.walk.specs.Rule.{always, any_value, exactly, is_empty};
@@ -19,15 +20,15 @@ use rules_support::texts::between;
 use std::alloc::{AllocError, Global};
 use walk::{Criterion, Event, Fresh, Machine, Rule, SettledRule, ValidatorContext, Visitor};
 
-/// Reports each field that the type around it, where it is known, does not have, at the field's name.
+/// Reports each field that the type around it does not have, at the field's name. Under an unknown type it reports nothing.
 ///
-/// `__typename` is accepted on a union; as a field of a subscription's own selection set it is reported.
+/// `__typename` is accepted on a union. In a subscription's own selection set it is reported.
 #[derive(Drop)]
 pub struct FieldsOnCorrectType {
     alloc: Global,
 }
 
-/// The rule, made ready for one document.
+/// Makes the rule, for one document.
 pub fn factory(alloc: Global) -> FieldsOnCorrectType
     ensures { ⟦<FieldsOnCorrectType as Fresh>⟧.fresh result }
 {
@@ -77,8 +78,8 @@ fn report_root_typenames<'a, S: CheckedScalar>(
     ctx: &mut ValidatorContext<'a, S>,
     operation: &Operation<'_, S>,
 ) -> Result<(), OutOfMemory>
-    ensures ok { IfOk result (λ _. ctx.new
-        ≡ with_errors ctx.old (root_typenames operation.now.operation_type operation.now.selection_set.items)) }
+    ensures ok { OnOk result (ctx.new ≡ with_errors ctx.old
+        (root_typenames operation.now.operation_type operation.now.selection_set.items)) }
     ensures err { OnErr result (KeepsPlace ctx.old ctx.new) }
 {
     match operation.operation_type {
@@ -92,7 +93,7 @@ fn report_typenames<'a, S: CheckedScalar>(
     ctx: &mut ValidatorContext<'a, S>,
     set: &Vec<Selection<'_, S>>,
 ) -> Result<(), OutOfMemory>
-    ensures ok { IfOk result (λ _. ctx.new ≡ with_errors ctx.old (flat_map root_typename set.now.items)) }
+    ensures ok { OnOk result (ctx.new ≡ with_errors ctx.old (flat_map root_typename set.now.items)) }
     ensures err { OnErr result (KeepsPlace ctx.old ctx.new) }
 {
     for selection in set {
@@ -106,7 +107,7 @@ fn report_typename<'a, S: CheckedScalar>(
     ctx: &mut ValidatorContext<'a, S>,
     selection: &Selection<'_, S>,
 ) -> Result<(), OutOfMemory>
-    ensures ok { IfOk result (λ _. ctx.new ≡ with_errors ctx.old (root_typename selection.now)) }
+    ensures ok { OnOk result (ctx.new ≡ with_errors ctx.old (root_typename selection.now)) }
     ensures err { OnErr result (KeepsPlace ctx.old ctx.new) }
 {
     if let Selection::Field(field) = selection {
@@ -127,7 +128,7 @@ fn report_unknown<'a, S: CheckedScalar>(
     ctx: &mut ValidatorContext<'a, S>,
     name: &Spanning<&str>,
 ) -> Result<(), OutOfMemory>
-    ensures ok { IfOk result (λ _. ctx.new ≡ with_errors ctx.old (unknown_field (typing ctx.old).parent name.now)) }
+    ensures ok { OnOk result (ctx.new ≡ with_errors ctx.old (unknown_field (typing ctx.old).parent name.now)) }
     ensures err { OnErr result (KeepsPlace ctx.old ctx.new) }
 {
     if let Some(parent) = ctx.parent_type() {

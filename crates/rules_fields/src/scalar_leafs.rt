@@ -1,6 +1,6 @@
-//! A field of a leaf type has no selection set, and a field of any other type has one (GraphQL, section 5.3.3).
+//! A field of a leaf type has no selection set, and a field of any other type has one (GraphQL, October 2021, section 5.3.3).
 
-ghost use Rattle.std.specs.Prelude.{◌≡◌, IfOk, OnErr, is_some, string_bytes};
+ghost use Rattle.std.specs.Prelude.{◌≡◌, IfOk, OnOk, OnErr, is_some, string_bytes};
 ghost use Rattle.language.specs.Types.{borrowed_shape, printed};
 ghost use Rattle.walk.specs.ContextState.{typing, with_errors};
 ghost use Rattle.walk.specs.Entering.{finding_step, found};
@@ -19,13 +19,13 @@ use rules_support::texts::between;
 use std::alloc::{AllocError, Global};
 use walk::{Criterion, Event, Fresh, Machine, Rule, SettledRule, ValidatorContext, Visitor};
 
-/// Reports each field of a leaf type that has a selection set, and each of another known type that has none, at its start.
+/// Reports each field of a leaf type that has a selection set, and each field of another known type that has none, at its start.
 #[derive(Drop)]
 pub struct ScalarLeafs {
     alloc: Global,
 }
 
-/// The rule, made ready for one document.
+/// Makes the rule, for one document.
 pub fn factory(alloc: Global) -> ScalarLeafs
     ensures { ⟦<ScalarLeafs as Fresh>⟧.fresh result }
 {
@@ -67,14 +67,14 @@ impl<'a, S: CheckedScalar> Visitor<'a, S> for ScalarLeafs {
     }
 }
 
-// Reports a field whose type is known, where it has a selection set and may have none, or has none and needs one.
+// Reports a field whose type is known, if it has a selection set that it may not have, or lacks one that it needs.
 fn report<'a, S: CheckedScalar>(
     alloc: Global,
     ctx: &mut ValidatorContext<'a, S>,
     field: &Spanning<Field<'_, S>>,
 ) -> Result<(), OutOfMemory>
-    ensures ok { IfOk result (λ _. ctx.new
-        ≡ with_errors ctx.old (wrong_set (typing ctx.old).current (typing ctx.old).literal field.now)) }
+    ensures ok { OnOk result (ctx.new ≡ with_errors ctx.old
+        (wrong_set (typing ctx.old).current (typing ctx.old).literal field.now)) }
     ensures err { OnErr result (KeepsPlace ctx.old ctx.new) }
 {
     if let Some(t) = ctx.current_type() {
@@ -85,7 +85,7 @@ fn report<'a, S: CheckedScalar>(
     Ok(())
 }
 
-// Reports a field of a type that is a leaf or is none.
+// Reports a field of a type that is a leaf or is not.
 fn report_set<'a, S: CheckedScalar>(
     alloc: Global,
     ctx: &mut ValidatorContext<'a, S>,
@@ -93,8 +93,7 @@ fn report_set<'a, S: CheckedScalar>(
     is_leaf: bool,
     t: BorrowedType<'_>,
 ) -> Result<(), OutOfMemory>
-    ensures ok { IfOk result (λ _. ctx.new
-        ≡ with_errors ctx.old
+    ensures ok { OnOk result (ctx.new ≡ with_errors ctx.old
         (wrong_set_of is_leaf (is_some field.now.item.selection_set) (printed (borrowed_shape t.entry)) field.now)) }
     ensures err { OnErr result (KeepsPlace ctx.old ctx.new) }
 {
@@ -127,8 +126,8 @@ fn no_subfields_message(
     field: &str,
     t: BorrowedType<'_>,
 ) -> Result<String, AllocError>
-    ensures { IfOk result (λ message. string_bytes message
-        ≡ no_subfields_message field.now (printed (borrowed_shape t.entry))) }
+    ensures { IfOk result (λ message. string_bytes message ≡
+        no_subfields_message field.now (printed (borrowed_shape t.entry))) }
 {
     let t = type_text(alloc, t)?;
     let before = between(
@@ -145,8 +144,8 @@ fn subfields_needed_message(
     field: &str,
     t: BorrowedType<'_>,
 ) -> Result<String, AllocError>
-    ensures { IfOk result (λ message. string_bytes message
-        ≡ subfields_needed_message field.now (printed (borrowed_shape t.entry))) }
+    ensures { IfOk result (λ message. string_bytes message ≡
+        subfields_needed_message field.now (printed (borrowed_shape t.entry))) }
 {
     let t = type_text(alloc, t)?;
     let before = between(alloc, "Field \"", field, "\" of type \"")?;

@@ -15,12 +15,13 @@ use Rattle.rules_document.specs.declared.no_fragment_cycles.NoFragmentCycles.{No
 use Rattle.rules_document.specs.AtDocument.{Gives, document_step}
 use Rattle.rules_document.specs.NoFragmentCycles.{CycleErrors, cycle_errors}
 use Rattle.rules_document.specs.NoUndefinedVariables.{undefined_error, undefined_errors}
-use Rattle.rules_document.specs.NoUnusedFragments.{NameAndSpan, UnusedAmong, unused_error, unused_errors}
+use Rattle.rules_document.specs.MetFragments.{NameAndSpan}
+use Rattle.rules_document.specs.NoUnusedFragments.{UnusedAmong, unused_error, unused_errors}
 use Rattle.rules_document.specs.NoUnusedVariables.{unused_variable_error, unused_variable_errors}
 use Rattle.variable_usages.specs.Undefined.{Undefined, UndefinedVariables}
 use Rattle.variable_usages.specs.Unused.{Unused, UnusedVariables}
 use Rattle.rules_positions.specs.declared.variables_in_allowed_position.VariableInAllowedPosition.{VariableInAllowedPosition}
-use Rattle.rules_positions.specs.VariableInAllowedPosition.{DocumentGives, recorded_uses}
+use Rattle.rules_positions.specs.VariablesInAllowedPosition.{DocumentGives, recorded_uses}
 use Rattle.rules_first_stage.specs.declared.across.AcrossDocument.{AcrossDocument}
 use Rattle.rules_first_stage.specs.Across.{across_step, last_four_step, last_step, last_three_step, last_two_step, leaving_document, positions_step, rule_list}
 

@@ -21,7 +21,7 @@ use Rattle.rules_document.specs.NoUnusedVariables.{unused_variable_errors}
 use Rattle.rules_positions.specs.declared.variables_in_allowed_position.VariableInAllowedPosition.{VariableInAllowedPosition}
 use Rattle.rules_positions.specs.Recording.{recording_step}
 use Rattle.rules_positions.specs.TypedUses.{next_uses}
-use Rattle.rules_positions.specs.VariableInAllowedPosition.{given_by_uses, misplaced_variables, recorded_uses}
+use Rattle.rules_positions.specs.VariablesInAllowedPosition.{given_by_uses, misplaced_variables, recorded_uses}
 use Rattle.rules_first_stage.specs.declared.across.AcrossDocument.{AcrossDocument}
 
 abbrev pub LastRule : Type 0

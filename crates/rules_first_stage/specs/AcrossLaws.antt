@@ -9,18 +9,18 @@ use Rattle.walk.specs.Step.{Run}
 use Rattle.fragment_graph.specs.DocumentCycles.{HasNoCycle}
 use Rattle.variable_usages.specs.Undefined.{UndefinedVariables}
 use Rattle.variable_usages.specs.Unused.{UnusedVariables}
-use Rattle.rules_document.specs.CycleLaws.{cycles_silent}
-use Rattle.rules_document.specs.UnusedLaws.{unused_silent}
-use Rattle.rules_document.specs.VariableLaws.{undefineds_silent, unused_variables_silent}
+use Rattle.rules_document.specs.NoFragmentCyclesLaws.{cycles_silent}
+use Rattle.rules_document.specs.NoUnusedFragmentsLaws.{unused_silent}
+use Rattle.rules_document.specs.NoUndefinedVariablesLaws.{undefineds_silent}
+use Rattle.rules_document.specs.NoUnusedVariablesLaws.{unused_variables_silent}
 use Rattle.rules_document.specs.AtDocument.{document_step, given_at_end}
 use Rattle.rules_document.specs.AtDocumentLaws.{document_keeps}
 use Rattle.rules_document.specs.NoFragmentCycles.{cycle_errors}
 use Rattle.rules_document.specs.NoUndefinedVariables.{undefined_errors}
 use Rattle.rules_document.specs.NoUnusedFragments.{NoneUnused, unused_errors}
 use Rattle.rules_document.specs.NoUnusedVariables.{unused_variable_errors}
-use Rattle.rules_positions.specs.SettledLaws.{positions_settled}
-use Rattle.rules_positions.specs.PositionLaws.{positions_keep}
-use Rattle.rules_positions.specs.VariableInAllowedPosition.{misplaced_variables}
+use Rattle.rules_positions.specs.VariablesInAllowedPositionLaws.{positions_keep, positions_settled}
+use Rattle.rules_positions.specs.VariablesInAllowedPosition.{misplaced_variables}
 use Rattle.rules_first_stage.specs.Across.{across_allows, across_fresh, across_step, any_four, any_one, any_three, any_two, last_allows, last_four_allow, last_four_step, last_step, last_three_allow, last_three_step, last_two_allow, last_two_step, list_allows, list_fresh, list_step, none_recorded, positions_step, rule_list}
 
 -- a run of what a value stands for

@@ -16,7 +16,7 @@ use Rattle.fragment_graph.specs.DocumentGraph.{IsNumbered}
 use Rattle.fragment_graph.specs.Numbers.{number_of, NumberedDefinitions, WellNumbered}
 use Rattle.fragment_graph.proofs.Lists.{contains_at, none_some, same_item, get_some, set_same, set_other}
 use Rattle.fragment_graph.proofs.Numbering.{single}
-use Rattle.rules_fragments.specs.ConditionsKept.{kept_at}
+use Rattle.rules_fragments.specs.Conditions.{kept_at}
 use Rattle.meta.specs.declared.kinds.MetaTypeOf.{MetaTypeOf}
 use Rattle.schema.specs.Catalog.{Catalog}
 use Rattle.rules_fragments.specs.PossibleFragmentSpreads.{TypesByName, conditions_in, with_definition, with_type}

@@ -14,6 +14,7 @@ not_composite_message (Some name) t = ((codes "Fragment \"" ++ name) ++ codes "\
 not_composite_message None t = (codes "Fragment cannot condition on non composite type \"" ++ t) ++ codes "\""
 
 module _ {S C : Type 0} where
+  -- a condition whose type is known: it is reported if the type has no fields
   abbrev pub not_composite : Option (MetaTypeOf S C) → Option (List ℕ) → Name → List ErrorValue
   not_composite None name condition = []
   not_composite (Some t) name condition =
@@ -24,6 +25,7 @@ module _ {S C : Type 0} where
   on_other_type schema name None = []
   on_other_type schema name (Some condition) = not_composite (type_in condition.item.now schema) name condition
 
+  -- at a node: a fragment or an inline fragment
   abbrev pub on_other_type_at : Catalog S C → Node S → List ErrorValue
   on_other_type_at schema (fragment_definition f) = on_other_type schema (Some f.item.name.item.now) (Some f.item.type_condition)
   on_other_type_at schema (inline_fragment i) = on_other_type schema None i.item.type_condition

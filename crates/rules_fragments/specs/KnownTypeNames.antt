@@ -16,10 +16,12 @@ module _ {S C : Type 0} where
   abbrev pub unknown_type : Catalog S C → List ℕ → SourcePosition → List ErrorValue
   unknown_type schema name place = if is_some (type_in name schema) then [] else record { locations = place ∷ []; message = unknown_type_message name } ∷ []
 
+  -- a type condition, if there is one
   abbrev pub unknown_condition : Catalog S C → Option Name → List ErrorValue
   unknown_condition schema None = []
   unknown_condition schema (Some name) = unknown_type schema name.item.now name.span.start
 
+  -- at a node: the type that it names
   abbrev pub unknown_type_at : Catalog S C → Node S → List ErrorValue
   unknown_type_at schema (fragment_definition f) = unknown_condition schema (Some f.item.type_condition)
   unknown_type_at schema (inline_fragment i) = unknown_condition schema i.item.type_condition

@@ -1,4 +1,4 @@
-pub mod ConditionsKept
+pub mod Conditions
 pub mod FragmentsOnCompositeTypes
 pub mod KnownFragmentNames
 pub mod KnownTypeNames

@@ -1,6 +1,6 @@
--- Spreads of fragments where no object of their type can be.
+-- Spreads of fragments where no object of their type is possible.
 use Rattle.std.specs.Prelude.{ℕ, List, [], ◌∷◌, ◌++◌, Bool, false, ◌||◌, Option, Some, None, option_and_then, if◌then◌else◌, map, string_bytes, codes}
-use Rattle.std.specs.Option.{option_map_or}
+use Rattle.std.specs.Option.{option_map_or, unwrap_or}
 use Rattle.std.specs.Str.{bytes_eq}
 use Rattle.language.specs.declared.position.SourcePosition.{SourcePosition}
 use Rattle.language.specs.declared.tree.Definition.{Definition}
@@ -16,6 +16,7 @@ use Rattle.walk.specs.ErrorValue.{ErrorValue}
 use Rattle.events.specs.Node.{Node, fragment_spread, inline_fragment}
 use Rattle.events.specs.Occurrence.{Occurrence}
 
+-- for each name the type of a fragment, where it is known
 abbrev pub TypesByName : Type 0 → Type 0 → Type 0
 TypesByName S C = List ℕ → Option (MetaTypeOf S C)
 
@@ -27,18 +28,16 @@ impossible_words (Some name) = (codes "Fragment \"" ++ name) ++ codes "\" cannot
 abbrev pub impossible_message : Option (List ℕ) → List ℕ → List ℕ → List ℕ
 impossible_message name parent t = (((impossible_words name ++ parent) ++ codes "\" can never be of type \"") ++ t) ++ codes "\""
 
-abbrev pub or_empty : Option (List ℕ) → List ℕ
-or_empty None = []
-or_empty (Some name) = name
-
 module _ {S C : Type 0} where
   -- the name of a type; each type of a schema has one
   abbrev pub type_name : MetaTypeOf S C → List ℕ
-  type_name t = or_empty (name_of_meta t)
+  type_name t = unwrap_or (name_of_meta t) []
 
+  -- no fragment is known
   abbrev pub no_conditions : TypesByName S C
   no_conditions name = None
 
+  -- with this type for the name, if there is one
   abbrev pub with_type : TypesByName S C → List ℕ → Option (MetaTypeOf S C) → TypesByName S C
   with_type types name None = types
   with_type types name (Some t) = λ n. if bytes_eq name n then Some t else types n
@@ -53,6 +52,7 @@ module _ {S C : Type 0} where
   conditions_in schema types [] = types
   conditions_in schema types (d ∷ rest) = conditions_in schema (with_definition schema types d) rest
 
+  -- the types of all fragments of a document
   abbrev pub conditions : DocumentScope S C → List (Definition S) → TypesByName S C
   conditions scope doc = conditions_in scope.schema no_conditions doc
 
@@ -76,11 +76,12 @@ module _ {S C : Type 0} where
   impossible schema (Some parent) (Some t) name place =
       if may_stand schema parent t then [] else record { locations = place ∷ []; message = impossible_message name (type_name parent) (type_name t) } ∷ []
 
+  -- at a spread by the type of its fragment, at an inline fragment by its condition
   abbrev pub impossible_at : Catalog S C → TypesByName S C → Option (MetaTypeOf S C) → Node S → List ErrorValue
   impossible_at schema types parent (fragment_spread s) = impossible schema parent (types s.item.name.item.now) (Some s.item.name.item.now) s.span.start
   impossible_at schema types parent (inline_fragment i) = impossible schema parent (inline_type schema i.item) None i.span.start
   impossible_at schema types parent _ = []
 
-  -- at a spread and at an inline fragment with a condition: it may not stand in the selection set round it
+  -- at a spread and at an inline fragment with a condition: it may not stand in the selection set around it
   abbrev pub impossible_spreads : DocumentScope S C → TypesByName S C → Occurrence S C → List ErrorValue
   impossible_spreads scope types o = impossible_at scope.schema types o.types.parent o.node

@@ -1,10 +1,10 @@
-//! The types of a document's fragments.
+//! The type conditions of a document's fragments.
 
 ghost use Rattle.std.specs.Prelude.{◌≡◌, IfOk, length, None, option_copied};
 ghost use Rattle.std.specs.List.{All};
 ghost use Rattle.fragment_graph.specs.DocumentGraph.{IsNumbered};
 ghost use Rattle.fragment_graph.specs.Numbers.{defined_number, names_of, NumberedDefinitions, WellNumbered};
-ghost use Rattle.rules_fragments.specs.ConditionsKept.{conditions_at, conditions_of, kept_at};
+ghost use Rattle.rules_fragments.specs.Conditions.{conditions_at, conditions_of, kept_at};
 ghost use Rattle.rules_fragments.specs.PossibleFragmentSpreads.{conditions_in, no_conditions, with_definition};
 
 use fragment_graph::numbers::{NumberedNames, Numbers, name_count, number};
@@ -14,8 +14,8 @@ use meta::MetaTypeOf;
 use schema::model::SchemaTypeOf;
 use std::alloc::Global;
 
-/// The type that a fragment of each name is on, by the number of the name. Where several have the name, the last one counts whose
-/// condition is a known type.
+/// The type condition of the fragments of each name, by the number of the name. Of several fragments of a name, the last one whose
+/// condition is a known type counts.
 #[derive(Drop)]
 pub(crate) struct Conditions<'a, S, C> {
     numbers: Option<Numbers<'a>>,
@@ -23,7 +23,7 @@ pub(crate) struct Conditions<'a, S, C> {
 }
 
 impl<'a, S, C> Conditions<'a, S, C> {
-    /// Of no fragment.
+    /// No conditions.
     pub(crate) fn new(alloc: Global) -> Conditions<'a, S, C>
         ensures { conditions_of result ≡ no_conditions }
     {
@@ -33,7 +33,11 @@ impl<'a, S, C> Conditions<'a, S, C> {
         }
     }
 
-    /// Of the fragments of a document, whose names are numbered.
+    /// The conditions of the fragments of a document, whose names are numbered.
+    ///
+    /// # Errors
+    ///
+    /// Out of memory.
     pub(crate) fn of(
         alloc: Global,
         schema: &'a SchemaTypeOf<S, C>,
@@ -50,7 +54,7 @@ impl<'a, S, C> Conditions<'a, S, C> {
         })
     }
 
-    /// The type of the fragment of a name.
+    /// The condition of the fragments of a name, where it is a known type.
     pub(crate) fn get(&self, name: &str) -> Option<&'a MetaTypeOf<S, C>>
         ensures { option_copied result ≡ conditions_of self.now name.now }
     {
@@ -82,7 +86,7 @@ fn no_types<'a, S, C>(
     Ok(vec![in alloc; None; count]?)
 }
 
-// Keeps the type of a definition at the number of its name.
+// Keeps the condition of a definition at the number of its name, if it is a known type.
 fn note_type<'a, S, C>(
     schema: &'a SchemaTypeOf<S, C>,
     numbers: &Numbers<'_>,
@@ -107,7 +111,7 @@ fn note_type<'a, S, C>(
     }
 }
 
-// The types of a document's fragments.
+// The conditions of a document's fragments.
 fn types_of<'a, S, C>(
     alloc: Global,
     schema: &'a SchemaTypeOf<S, C>,

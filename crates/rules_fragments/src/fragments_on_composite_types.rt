@@ -1,6 +1,6 @@
-//! A fragment stands on an object, an interface or a union (GraphQL, section 5.5.1.3).
+//! The type condition of a fragment is an object, an interface or a union (GraphQL, October 2021, section 5.5.1.3).
 
-ghost use Rattle.std.specs.Prelude.{◌≡◌, IfOk, OnErr, Some, option_map, string_bytes};
+ghost use Rattle.std.specs.Prelude.{◌≡◌, IfOk, OnOk, OnErr, Some, option_map, string_bytes};
 ghost use Rattle.walk.specs.ContextState.{with_errors};
 ghost use Rattle.walk.specs.Entering.{finding_step, found};
 ghost use Rattle.walk.specs.Rule.{always, any_value, exactly, is_empty};
@@ -16,13 +16,13 @@ use rules_support::texts::between;
 use std::alloc::{AllocError, Global};
 use walk::{Criterion, Event, Fresh, Machine, Rule, SettledRule, ValidatorContext, Visitor};
 
-/// Reports each fragment, by name or inline, whose condition is a scalar, an enum or an input object, at the condition.
+/// Reports each named or inline fragment whose condition is a scalar, an enum or an input object, at the condition.
 #[derive(Drop)]
 pub struct FragmentsOnCompositeTypes {
     alloc: Global,
 }
 
-/// The rule, made ready for one document.
+/// Makes the rule, for one document.
 pub fn factory(alloc: Global) -> FragmentsOnCompositeTypes
     ensures { ⟦<FragmentsOnCompositeTypes as Fresh>⟧.fresh result }
 {
@@ -78,8 +78,7 @@ fn report_condition<'a, S: CheckedScalar>(
     name: Option<&str>,
     condition: &Spanning<&str>,
 ) -> Result<(), OutOfMemory>
-    ensures ok { IfOk result (λ _. ctx.new
-        ≡ with_errors ctx.old
+    ensures ok { OnOk result (ctx.new ≡ with_errors ctx.old
         (on_other_type ctx.old.schema (option_map (λ n. n.now) name.entry) (Some condition.now))) }
     ensures err { OnErr result (KeepsPlace ctx.old ctx.new) }
 {
@@ -93,8 +92,8 @@ fn report_condition<'a, S: CheckedScalar>(
 }
 
 fn error_message(alloc: Global, name: Option<&str>, t: &str) -> Result<String, AllocError>
-    ensures { IfOk result (λ message. string_bytes message
-        ≡ not_composite_message (option_map (λ n. n.now) name.entry) t.now) }
+    ensures { IfOk result (λ message. string_bytes message ≡
+        not_composite_message (option_map (λ n. n.now) name.entry) t.now) }
 {
     match name {
         Some(name) => {

@@ -1,4 +1,4 @@
-//! Each spread names a fragment of the document (GraphQL, section 5.5.2.1).
+//! Each spread names a fragment of the document (GraphQL, October 2021, section 5.5.2.1).
 
 ghost use Rattle.std.specs.Prelude.{◌≡◌, IfOk, string_bytes};
 ghost use Rattle.walk.specs.Entering.{finding_step, found};
@@ -18,7 +18,7 @@ pub struct KnownFragmentNames {
     alloc: Global,
 }
 
-/// The rule, made ready for one document.
+/// Makes the rule, for one document.
 pub fn factory(alloc: Global) -> KnownFragmentNames
     ensures { ⟦<KnownFragmentNames as Fresh>⟧.fresh result }
 {

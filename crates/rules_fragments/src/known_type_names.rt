@@ -1,6 +1,6 @@
-//! Each type that a document names is a type of the schema (GraphQL, sections 5.5.1.2 and 5.8.2).
+//! Each type that a document names is a type of the schema (GraphQL, October 2021, sections 5.5.1.2 and 5.8.2).
 
-ghost use Rattle.std.specs.Prelude.{◌≡◌, IfOk, OnErr, string_bytes};
+ghost use Rattle.std.specs.Prelude.{◌≡◌, IfOk, OnOk, OnErr, string_bytes};
 ghost use Rattle.walk.specs.ContextState.{with_errors};
 ghost use Rattle.walk.specs.Entering.{finding_step, found};
 ghost use Rattle.walk.specs.Rule.{always, any_value, exactly, is_empty};
@@ -21,7 +21,7 @@ pub struct KnownTypeNames {
     alloc: Global,
 }
 
-/// The rule, made ready for one document.
+/// Makes the rule, for one document.
 pub fn factory(alloc: Global) -> KnownTypeNames
     ensures { ⟦<KnownTypeNames as Fresh>⟧.fresh result }
 {
@@ -84,7 +84,7 @@ fn report_unknown<'a, S: CheckedScalar>(
     name: &str,
     place: SourcePosition,
 ) -> Result<(), OutOfMemory>
-    ensures ok { IfOk result (λ _. ctx.new ≡ with_errors ctx.old (unknown_type ctx.old.schema name.now place)) }
+    ensures ok { OnOk result (ctx.new ≡ with_errors ctx.old (unknown_type ctx.old.schema name.now place)) }
     ensures err { OnErr result (KeepsPlace ctx.old ctx.new) }
 {
     if ctx.schema.concrete_type_by_name(name).is_none() {

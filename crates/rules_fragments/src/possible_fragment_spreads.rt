@@ -1,6 +1,6 @@
-//! A fragment stands where an object of its type can be (GraphQL, section 5.5.2.3).
+//! A fragment stands where an object of its type is possible (GraphQL, October 2021, section 5.5.2.3).
 
-ghost use Rattle.std.specs.Prelude.{◌≡◌, IfOk, OnErr, map, option_copied, option_map, string_bytes};
+ghost use Rattle.std.specs.Prelude.{◌≡◌, IfOk, OnOk, OnErr, map, option_copied, option_map, string_bytes};
 ghost use Rattle.meta.specs.Kinds.{name_of_meta};
 ghost use Rattle.schema.specs.Possible.{is_among};
 ghost use Rattle.walk.specs.ContextState.{typing, with_errors};
@@ -9,7 +9,7 @@ ghost use Rattle.walk.specs.Rule.{always, any_value, exactly, is_empty};
 ghost use Rattle.walk.specs.RuleLaws.{exactly_silent};
 ghost use Rattle.walk.specs.Step.{KeepsPlace};
 ghost use Rattle.walk.proofs.Entering.{prepared_keeps};
-ghost use Rattle.rules_fragments.specs.ConditionsKept.{conditions_of};
+ghost use Rattle.rules_fragments.specs.Conditions.{conditions_of};
 ghost use Rattle.rules_fragments.specs.PossibleFragmentSpreads.{conditions, impossible_spreads, impossible, impossible_message, impossible_words, inline_type, is_interface_below, may_stand};
 
 use crate::conditions::Conditions;
@@ -23,18 +23,18 @@ use schema::model::SchemaTypeOf;
 use std::alloc::{AllocError, Global};
 use walk::{Criterion, Event, Fresh, Machine, Rule, SettledRule, ValidatorContext, Visitor};
 
-/// Reports each spread, and each inline fragment with a condition, where no object of the type around it is one of the
-/// fragment's type, at its start.
+/// Reports each spread, and each inline fragment with a condition, at its start, if no object has both the type around it and the
+/// fragment's type.
 ///
-/// A fragment on an interface that implements the type around it is not reported. Of several fragments of one name the last
-/// counts whose condition is a type of the schema.
+/// A fragment on an interface that implements the type around it is not reported. Of several fragments of the same name, the last
+/// one whose condition is a type of the schema counts.
 #[derive(Drop)]
 pub struct PossibleFragmentSpreads<'a, S: CheckedScalar> {
     alloc: Global,
     conditions: Conditions<'a, S, S::Check>,
 }
 
-/// The rule, made ready for one document.
+/// Makes the rule, for one document.
 pub fn factory<'a, S: CheckedScalar>(alloc: Global) -> PossibleFragmentSpreads<'a, S>
     ensures { ⟦<PossibleFragmentSpreads<'a, S> as Fresh>⟧.fresh result }
 {
@@ -113,8 +113,8 @@ fn report_impossible<'a, S: CheckedScalar>(
     name: Option<&str>,
     place: SourcePosition,
 ) -> Result<(), OutOfMemory>
-    ensures ok { IfOk result (λ _. ctx.new
-        ≡ with_errors ctx.old (impossible ctx.old.schema (typing ctx.old).parent (option_copied condition.entry)
+    ensures ok { OnOk result (ctx.new ≡ with_errors ctx.old
+        (impossible ctx.old.schema (typing ctx.old).parent (option_copied condition.entry)
         (option_map (λ n. n.now) name.entry) place)) }
     ensures err { OnErr result (KeepsPlace ctx.old ctx.new) }
 {
@@ -175,8 +175,8 @@ fn error_message(
     parent: &str,
     t: &str,
 ) -> Result<String, AllocError>
-    ensures { IfOk result (λ message. string_bytes message
-        ≡ impossible_message (option_map (λ n. n.now) name.entry) parent.now t.now) }
+    ensures { IfOk result (λ message. string_bytes message ≡
+        impossible_message (option_map (λ n. n.now) name.entry) parent.now t.now) }
 {
     let words = first_words(alloc, name)?;
     let around = between(alloc, words.as_str(), parent, "\" can never be of type \"")?;

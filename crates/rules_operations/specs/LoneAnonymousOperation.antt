@@ -12,6 +12,7 @@ use Rattle.events.specs.Occurrence.{Occurrence}
 abbrev pub anonymous_message : List ℕ
 anonymous_message = codes "This anonymous operation must be the only defined operation"
 
+-- an operation, and no fragment
 abbrev pub operation_of : {S : Type 0} → Definition S → List (Placed (Operation S))
 operation_of (definition.Operation o) = o ∷ []
 operation_of (definition.Fragment f) = []
@@ -20,6 +21,7 @@ operation_of (definition.Fragment f) = []
 abbrev pub operations : {S : Type 0} → List (Definition S) → List (Placed (Operation S))
 operations doc = flat_map operation_of doc
 
+-- an operation, by its name
 abbrev pub nameless : {S : Type 0} → Placed (Operation S) → Option Name → List ErrorValue
 nameless o None = record { locations = o.span.start ∷ []; message = anonymous_message } ∷ []
 nameless o (Some name) = []
@@ -32,6 +34,7 @@ anonymous o = nameless o o.item.name
 abbrev pub has_several : {S C : Type 0} → DocumentScope S C → List (Definition S) → Bool
 has_several scope doc = nat_lt 1 (length (operations doc))
 
+-- at a node: an operation
 abbrev pub anonymous_at : {S : Type 0} → Node S → List ErrorValue
 anonymous_at (operation_definition o) = anonymous o
 anonymous_at _ = []

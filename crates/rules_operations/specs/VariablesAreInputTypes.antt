@@ -14,6 +14,7 @@ abbrev pub non_input_message : List ℕ → TypeShape → List ℕ
 non_input_message name t = (((codes "Variable \"" ++ name) ++ codes "\" cannot be of non-input type \"") ++ printed t) ++ codes "\""
 
 module _ {S C : Type 0} where
+  -- a variable of a type that is known
   abbrev pub not_input : Option (MetaTypeOf S C) → VariableEntry S → List ErrorValue
   not_input None v = []
   not_input (Some t) v =
@@ -23,9 +24,11 @@ module _ {S C : Type 0} where
   abbrev pub non_input : Catalog S C → VariableEntry S → List ErrorValue
   non_input schema v = not_input (type_in (shape v.1.var_type.item).name schema) v
 
+  -- at a node: a definition of a variable
   abbrev pub non_input_at : Catalog S C → Node S → List ErrorValue
   non_input_at schema (variable_definition v) = non_input schema v
   non_input_at schema _ = []
 
+  -- at a definition of a variable: it is reported if its type is no input type
   abbrev pub non_input_variables : DocumentScope S C → Occurrence S C → List ErrorValue
   non_input_variables scope o = non_input_at scope.schema o.node

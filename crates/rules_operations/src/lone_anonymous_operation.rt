@@ -1,4 +1,4 @@
-//! An operation without a name is the only one of its document (GraphQL, section 5.2.2.1).
+//! An operation without a name is the only operation of its document (GraphQL, October 2021, section 5.2.2.1).
 
 ghost use Rattle.std.specs.Prelude.{◌≡◌, length};
 ghost use Rattle.walk.specs.Entering.{prepared_step, found_by};
@@ -13,13 +13,13 @@ use meta::check::CheckedScalar;
 use std::alloc::Global;
 use walk::{Criterion, Event, Fresh, Machine, Rule, SettledRule, ValidatorContext, Visitor};
 
-/// Reports, in a document of two operations or more, each that has no name, at its start.
+/// Reports each operation without a name in a document of two or more operations, at the operation's start.
 #[derive(Drop)]
 pub struct LoneAnonymousOperation {
     has_several: bool,
 }
 
-/// The rule, made ready for one document.
+/// Makes the rule, for one document.
 pub fn factory(_alloc: Global) -> LoneAnonymousOperation
     ensures { ⟦<LoneAnonymousOperation as Fresh>⟧.fresh result }
 {

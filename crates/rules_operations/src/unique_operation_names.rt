@@ -1,32 +1,29 @@
-//! No two operations of a document have one name (GraphQL, section 5.2.1.1).
+//! No two operations of a document have the same name (GraphQL, October 2021, section 5.2.1.1).
 
-ghost use Rattle.std.specs.Prelude.{◌≡◌, IfOk, string_bytes};
 ghost use Rattle.walk.specs.Rule.{always, exactly, is_empty};
 ghost use Rattle.walk.specs.RuleLaws.{exactly_silent};
 ghost use Rattle.rules_support.specs.Noting.{noting_step, repeated, NothingNoted};
 ghost use Rattle.rules_support.specs.NotingLaws.{noting_keeps};
-ghost use Rattle.rules_support.specs.Places.{places_of};
+ghost use Rattle.rules_support.specs.FirstPlaces.{places_of};
 ghost use Rattle.rules_operations.specs.UniqueOperationNames.{operation_name, repeated_operation_message};
 
 use language::error::OutOfMemory;
 use meta::check::CheckedScalar;
 use rules_support::first_places::FirstPlaces;
-use std::alloc::{AllocError, Global};
+use std::alloc::Global;
 use walk::{Criterion, Event, Fresh, Machine, Rule, SettledRule, ValidatorContext, Visitor};
 
-/// Reports each operation whose name an earlier one has, at the start of the first of the name and at its own.
+/// Reports each operation whose name an earlier operation has: at the start of the first operation of the name, and at its own.
 #[derive(Drop)]
 pub struct UniqueOperationNames<'a> {
-    alloc: Global,
     names: FirstPlaces<'a>,
 }
 
-/// The rule, made ready for one document.
+/// Makes the rule, for one document.
 pub fn factory<'a>(alloc: Global) -> UniqueOperationNames<'a>
     ensures { NothingNoted (λ a. places_of a.names) result }
 {
     UniqueOperationNames {
-        alloc,
         names: FirstPlaces::new(alloc),
     }
 }
@@ -60,24 +57,18 @@ impl<'a, S: CheckedScalar> Visitor<'a, S> for UniqueOperationNames<'a> {
         event: &Event<'a, S>,
     ) -> Result<(), OutOfMemory> {
         match *event {
-            Event::EnterDocument(document) => self.names.make_room(document.len())?,
-            Event::EnterOperationDefinition(operation) => {
-                if let Some(name) = &operation.item.name {
-                    let place = operation.span.start;
-                    if let Some(first) = self.names.note(name.item, place)? {
-                        let message = error_message(self.alloc, name.item)?;
-                        ctx.report_error(message.as_str(), &[first, place])?;
-                    }
-                }
-            }
-            _ => {}
+            Event::EnterDocument(document) => self.names.make_room(document.len()),
+            Event::EnterOperationDefinition(operation) => match &operation.item.name {
+                Some(name) => self.names.note_or_report(
+                    ctx,
+                    name.item,
+                    operation.span.start,
+                    "There can only be one operation named ",
+                    "",
+                ),
+                None => Ok(()),
+            },
+            _ => Ok(()),
         }
-        Ok(())
     }
-}
-
-fn error_message(alloc: Global, name: &str) -> Result<String, AllocError>
-    ensures { IfOk result (λ message. string_bytes message ≡ repeated_operation_message name.now) }
-{
-    format!(in alloc; "There can only be one operation named {name}")
 }

@@ -1,6 +1,6 @@
-//! No two variables of an operation have one name (GraphQL, section 5.8.1).
+//! No two variables of an operation have the same name (GraphQL, October 2021, section 5.8.1).
 
-ghost use Rattle.std.specs.Prelude.{◌≡◌, IfOk, OnErr};
+ghost use Rattle.std.specs.Prelude.{◌≡◌, OnOk, OnErr};
 ghost use Rattle.walk.specs.ContextState.{with_errors};
 ghost use Rattle.walk.specs.Entering.{finding_step, found};
 ghost use Rattle.walk.specs.Rule.{always, any_value, exactly, is_empty};
@@ -18,14 +18,14 @@ use std::alloc::Global;
 use std::marker::PhantomData;
 use walk::{Criterion, Event, Fresh, Machine, Rule, SettledRule, ValidatorContext, Visitor};
 
-/// Reports each variable whose name an earlier one of its operation has, at the first of the name and at its own.
+/// Reports each variable whose name an earlier variable of its operation has: at the first variable of the name, and at its own.
 #[derive(Drop)]
 pub struct UniqueVariableNames<'a> {
     alloc: Global,
     document: PhantomData<&'a str>,
 }
 
-/// The rule, made ready for one document.
+/// Makes the rule, for one document.
 pub fn factory<'a>(alloc: Global) -> UniqueVariableNames<'a>
     ensures { ⟦<UniqueVariableNames<'a> as Fresh>⟧.fresh result }
 {
@@ -76,7 +76,7 @@ fn report<'a, S: CheckedScalar>(
     ctx: &mut ValidatorContext<'a, S>,
     definitions: &Option<Spanning<VariableDefinitions<'_, S>>>,
 ) -> Result<(), OutOfMemory>
-    ensures ok { IfOk result (λ _. ctx.new ≡ with_errors ctx.old (repeated_among definitions.now)) }
+    ensures ok { OnOk result (ctx.new ≡ with_errors ctx.old (repeated_among definitions.now)) }
     ensures err { OnErr result (KeepsPlace ctx.old ctx.new) }
 {
     match definitions {

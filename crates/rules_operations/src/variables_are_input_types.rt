@@ -1,6 +1,6 @@
-//! A variable has an input type (GraphQL, section 5.8.2).
+//! The type of a variable is an input type (GraphQL, October 2021, section 5.8.2).
 
-ghost use Rattle.std.specs.Prelude.{◌≡◌, IfOk, OnErr, option_copied, string_bytes};
+ghost use Rattle.std.specs.Prelude.{◌≡◌, IfOk, OnOk, OnErr, option_copied, string_bytes};
 ghost use Rattle.language.specs.Types.{shape};
 ghost use Rattle.schema.specs.Catalog.{type_in};
 ghost use Rattle.walk.specs.ContextState.{with_errors};
@@ -24,13 +24,13 @@ use walk::{Criterion, Event, Fresh, Machine, Rule, SettledRule, ValidatorContext
 
 /// Reports each variable whose innermost type is an object, an interface or a union, at its type.
 ///
-/// The name is juniper's.
+/// The name of the struct is juniper's.
 #[derive(Drop)]
 pub struct UniqueVariableNames {
     alloc: Global,
 }
 
-/// The rule, made ready for one document.
+/// Makes the rule, for one document.
 pub fn factory(alloc: Global) -> UniqueVariableNames
     ensures { ⟦<UniqueVariableNames as Fresh>⟧.fresh result }
 {
@@ -78,7 +78,7 @@ fn report_non_input<'a, S: CheckedScalar>(
     ctx: &mut ValidatorContext<'a, S>,
     definition: &(Spanning<&str>, VariableDefinition<'_, S>),
 ) -> Result<(), OutOfMemory>
-    ensures ok { IfOk result (λ _. ctx.new ≡ with_errors ctx.old (non_input ctx.old.schema definition.now)) }
+    ensures ok { OnOk result (ctx.new ≡ with_errors ctx.old (non_input ctx.old.schema definition.now)) }
     ensures err { OnErr result (KeepsPlace ctx.old ctx.new) }
 {
     let var_type = &definition.1.var_type;

@@ -22,7 +22,7 @@ use Rattle.walk.specs.Entering.{EachGives}
 use Rattle.rules_positions.specs.DefinedVariables.{first_of, variables_at, variables_in, variables_of}
 use Rattle.rules_positions.specs.FirstVariables.{KeepsFirst}
 use Rattle.rules_positions.specs.TypedUses.{UseValue}
-use Rattle.rules_positions.specs.VariableInAllowedPosition.{JudgedIfDefined, OperationsGive, UsesGive, uses_in}
+use Rattle.rules_positions.specs.VariablesInAllowedPosition.{JudgedIfDefined, OperationsGive, UsesGive, uses_in}
 use Rattle.rules_positions.specs.declared.first_variables.FirstVariables.{FirstVariables}
 
 -- a map without entries keeps no definition

@@ -11,10 +11,12 @@ use Rattle.events.specs.Node.{Placed, VariableEntry}
 use Rattle.operation_scopes.specs.Scopes.{same_scope, scope_of}
 
 module _ {S : Type 0} where
+  -- the variables of a list, if there is one
   abbrev pub written_variables : Option (Placed (VariableDefinitions S)) → List (VariableEntry S)
   written_variables None = []
   written_variables (Some list) = list.item.items.items
 
+  -- those that an operation defines
   abbrev pub variables_in : Definition S → List (VariableEntry S)
   variables_in (definition.Operation o) = written_variables o.item.variable_definitions
   variables_in (definition.Fragment f) = []

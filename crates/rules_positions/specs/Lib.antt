@@ -1,10 +1,9 @@
 pub mod DefinedVariables
 pub mod FirstVariables
-pub mod PositionLaws
 pub mod Recording
 pub mod RecordingLaws
-pub mod SettledLaws
 pub mod TypedUses
 pub mod UsesRecorded
-pub mod VariableInAllowedPosition
+pub mod VariablesInAllowedPosition
+pub mod VariablesInAllowedPositionLaws
 pub mod Within

@@ -1,4 +1,4 @@
--- Rules that keep something on the way, and report by it and by the document where the document is left.
+-- Rules that keep something during the walk, and report by it and by the document when the walk leaves the document.
 use Rattle.std.specs.Prelude.{◌≡◌, List, []}
 use Rattle.language.specs.declared.tree.Definition.{Definition}
 use Rattle.events.specs.Node.{Node, document}

@@ -1,4 +1,4 @@
--- What a rule gives that keeps something on the way and reports where the document is left.
+-- What a rule gives that keeps something on the way and reports where the document is left. In specs/, since the laws of the rule cite it.
 use Rattle.std.proofs.Common.{◌≡◌, List, [], ◌∷◌, ◌++◌, false, refl, ap, sym, ◌∙◌, subst}
 use Rattle.std.proofs.lemmas.List.{append-nil}
 use Rattle.language.specs.declared.tree.Definition.{Definition}

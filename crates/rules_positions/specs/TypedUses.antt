@@ -20,11 +20,13 @@ pub record UseValue : Type 0 where
   pub expected : TypeShape
 
 module _ {S : Type 0} where
+  -- a variable, if a type is expected where it stands
   abbrev pub use_at : Node S → Option TypeShape → List UseValue
   use_at (variable_value v) (Some t) = record { variable = v.item; place = v.span.start; expected = t } ∷ []
   use_at _ _ = []
 
 module _ {S C : Type 0} where
+  -- at a node of a document
   abbrev pub uses_at : Occurrence S C → List UseValue
   uses_at o = use_at o.node o.types.input
 

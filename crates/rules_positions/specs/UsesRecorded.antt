@@ -1,4 +1,4 @@
--- What is recorded of a document is, definition by definition, its uses.
+-- What is recorded of a document is, definition by definition, its uses. In specs/, since the laws of the rule cite it.
 use Rattle.std.proofs.Common.{◌≡◌, List, [], ◌∷◌, ◌++◌, Option, Some, None, false, refl, ap, sym, ◌∙◌, subst, append_assoc, map}
 use Rattle.std.specs.List.{flat_map}
 use Rattle.std.proofs.lemmas.List.{append-nil}

@@ -1,4 +1,4 @@
--- In a definition stands neither a definition nor a document.
+-- In a definition stands neither a definition nor a document. In specs/, since the laws of the rule cite it.
 use Rattle.std.proofs.Common.{◌≡◌, List, [], ◌∷◌, ◌++◌, Bool, true, false, Option, Some, None, refl, sym, subst}
 use Rattle.std.specs.Prelude.{Vec}
 use Rattle.std.specs.declared.alloc.Global.{Global}

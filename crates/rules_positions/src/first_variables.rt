@@ -1,4 +1,4 @@
-//! The first definition of each variable, where the operations of one name add up.
+//! The first definition of each variable, in all operations of a name together.
 
 ghost use Rattle.std.specs.Prelude.{◌≡◌, ◌∷◌, [], IfOk, OnOk, option_copied};
 ghost use Rattle.std.specs.Bool.{Decides};
@@ -12,17 +12,17 @@ use language::tree::{Definition, VariableDefinition};
 use std::alloc::Global;
 use std::collections::BTreeMap;
 
-/// A variable with what an operation says of it.
+/// A variable with its definition.
 pub type VariableEntry<'a, S> = (Spanning<&'a str>, VariableDefinition<'a, S>);
 
-/// The first definition of each variable. Strangers choose the names, so the map is an ordered one.
+/// The first definition of each variable. The names come from outside, so the map is an ordered one.
 #[derive(Drop)]
 pub struct FirstVariables<'a, S> {
     entries: BTreeMap<&'a str, &'a VariableEntry<'a, S>>,
 }
 
 impl<'a, S> FirstVariables<'a, S> {
-    // Of no definition.
+    // No definition.
     fn none(alloc: Global) -> FirstVariables<'a, S>
         ensures { KeepsFirst [] result }
     {
@@ -71,7 +71,7 @@ impl<'a, S> FirstVariables<'a, S> {
         Ok(())
     }
 
-    // Notes those of a definition.
+    // Notes the variables of a definition.
     fn note_definition(&mut self, definition: &'a Definition<'a, S>) -> Result<(), OutOfMemory>
         ensures { OnOk result (Notes (variables_in definition.now) self.old self.new) }
     {
@@ -83,7 +83,7 @@ impl<'a, S> FirstVariables<'a, S> {
         Ok(())
     }
 
-    // Notes those of the definition at a place.
+    // Notes the variables of the definition at a place.
     fn note_place(
         &mut self,
         document: &'a [Definition<'a, S>],
@@ -97,7 +97,11 @@ impl<'a, S> FirstVariables<'a, S> {
         }
     }
 
-    /// Of the definitions at these places of a document.
+    /// The first definitions among the definitions at these places of a document, which are 0-based indexes.
+    ///
+    /// # Errors
+    ///
+    /// Out of memory.
     pub fn at(
         alloc: Global,
         document: &'a [Definition<'a, S>],

@@ -1,12 +1,12 @@
-//! Whether variables may stand where they are used.
+//! Whether a variable is allowed where it is used.
 
-ghost use Rattle.std.specs.Prelude.{◌≡◌, ◌↔◌, IfOk, IsTrue, OnErr, string_bytes};
+ghost use Rattle.std.specs.Prelude.{◌≡◌, ◌↔◌, IfOk, IsTrue, OnOk, OnErr, string_bytes};
 ghost use Rattle.language.specs.Types.{borrowed_shape, printed, shape};
 ghost use Rattle.schema.specs.Subtype.{IsSubtype};
 ghost use Rattle.walk.specs.Rule.{Appended};
 ghost use Rattle.walk.specs.Step.{KeepsPlace};
 ghost use Rattle.rules_positions.specs.TypedUses.{use_value};
-ghost use Rattle.rules_positions.specs.VariableInAllowedPosition.{position_message, type_in_use, Judged};
+ghost use Rattle.rules_positions.specs.VariablesInAllowedPosition.{position_message, type_in_use, Judged};
 
 use crate::first_variables::VariableEntry;
 use crate::typed_uses::TypedUse;
@@ -30,7 +30,7 @@ fn type_in_use<S>(definition: &VariableDefinition<'_, S>) -> Result<Type, OutOfM
     }
 }
 
-// Whether the type that a variable has where it is used is below the one that is expected. Without a default value it is the
+// Whether the type that a variable has where it is used is a subtype of the expected one. Without a default value it is the
 // type as it is written, which needs no copy.
 fn is_below<S, C>(
     schema: &SchemaTypeOf<S, C>,
@@ -48,14 +48,18 @@ fn is_below<S, C>(
     Ok(schema.is_subtype(t.as_borrowed(), expected))
 }
 
-/// Reports a use of a variable whose type is not below the one that is expected.
+/// Reports a use of a variable, if the variable's type is not a subtype of the expected one.
+///
+/// # Errors
+///
+/// Out of memory. The types at hand stay; some of the errors may be reported then.
 pub fn judge<'a, S: CheckedScalar>(
     alloc: Global,
     ctx: &mut ValidatorContext<'a, S>,
     entry: &VariableEntry<'_, S>,
     found: &TypedUse<'_>,
 ) -> Result<(), OutOfMemory>
-    ensures ok { IfOk result (λ _. Appended (Judged ctx.old.schema.types entry.now (use_value found.now)) ctx.old ctx.new) }
+    ensures ok { OnOk result (Appended (Judged ctx.old.schema.types entry.now (use_value found.now)) ctx.old ctx.new) }
     ensures err { OnErr result (KeepsPlace ctx.old ctx.new) }
 {
     let below = is_below(ctx.schema, &entry.1, found.expected)?;
@@ -73,8 +77,8 @@ fn error_message(
     t: &Type,
     expected: BorrowedType<'_>,
 ) -> Result<String, AllocError>
-    ensures { IfOk result (λ message. string_bytes message
-        ≡ position_message variable.now (printed (shape t.now)) (printed (borrowed_shape expected.entry))) }
+    ensures { IfOk result (λ message. string_bytes message ≡
+        position_message variable.now (printed (shape t.now)) (printed (borrowed_shape expected.entry))) }
 {
     format!(in alloc;
         "Variable \"{variable}\" of type \"{t}\" used in position expecting type \"{expected}\""

@@ -16,7 +16,11 @@ pub struct TypedUse<'a> {
     pub expected: BorrowedType<'a>,
 }
 
-/// A definition begins, in which there is no use yet.
+/// Begins a definition, in which there is no use yet.
+///
+/// # Errors
+///
+/// Out of memory.
 pub fn begin_definition<'a>(
     alloc: Global,
     uses: &mut Vec<Vec<TypedUse<'a>>>,
@@ -27,7 +31,11 @@ pub fn begin_definition<'a>(
     Ok(())
 }
 
-/// One use more in the definition that began last.
+/// Adds a use to the definition that began last.
+///
+/// # Errors
+///
+/// Out of memory.
 pub fn add_use<'a>(
     uses: &mut Vec<Vec<TypedUse<'a>>>,
     found: TypedUse<'a>,

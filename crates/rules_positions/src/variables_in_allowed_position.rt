@@ -1,6 +1,6 @@
-//! Each variable is used where its type may stand (GraphQL, section 5.8.5).
+//! Each variable is used only where its type is allowed (GraphQL, October 2021, section 5.8.5).
 
-ghost use Rattle.std.specs.Prelude.{◌≡◌, [], ℕ, List, Option, IfOk, OnErr, OnOk, map, option_map};
+ghost use Rattle.std.specs.Prelude.{◌≡◌, [], ℕ, List, Option, OnErr, OnOk, map, option_map};
 ghost use Rattle.language.specs.Types.{borrowed_shape};
 ghost use Rattle.walk.specs.Entering.{EachGives};
 ghost use Rattle.walk.specs.Rule.{allows_none, always, Appended};
@@ -11,11 +11,10 @@ ghost use Rattle.operation_scopes.specs.Index.{IsIndexOf, operation_names};
 ghost use Rattle.operation_scopes.specs.Places.{places_of};
 ghost use Rattle.operation_scopes.specs.Searches.{IsReady};
 ghost use Rattle.rules_positions.specs.FirstVariables.{kept_first};
-ghost use Rattle.rules_positions.specs.PositionLaws.{positions_keep};
-ghost use Rattle.rules_positions.specs.SettledLaws.{positions_settled};
+ghost use Rattle.rules_positions.specs.VariablesInAllowedPositionLaws.{positions_keep, positions_settled};
 ghost use Rattle.rules_positions.specs.Recording.{recording_step};
 ghost use Rattle.rules_positions.specs.TypedUses.{next_uses, use_value, use_values, with_use_if_expected};
-ghost use Rattle.rules_positions.specs.VariableInAllowedPosition.{given_by_uses, misplaced_variables, recorded_uses, uses_in, DocumentGives, JudgedIfDefined, OperationsGive, UsesGive};
+ghost use Rattle.rules_positions.specs.VariablesInAllowedPosition.{given_by_uses, misplaced_variables, recorded_uses, uses_in, DocumentGives, JudgedIfDefined, OperationsGive, PlacesGive, UsesGive};
 
 use crate::first_variables::FirstVariables;
 use crate::judging::judge;
@@ -31,15 +30,15 @@ pub use operation_scopes::scope::Scope;
 use std::alloc::Global;
 use walk::{Criterion, Event, Fresh, Machine, Rule, SettledRule, ValidatorContext, Visitor};
 
-/// Reports, where the document ends, each use of a variable whose type is not below the one that is expected: at the name of the
-/// variable's first definition and at the use. The uses are recorded on the way.
+/// Reports, where the document ends, each use of a variable whose type is not a subtype of the expected one: at the name of the
+/// variable's first definition, and at the use. The uses are recorded during the walk.
 #[derive(Drop)]
 pub struct VariableInAllowedPosition<'a> {
     alloc: Global,
     uses: Vec<Vec<TypedUse<'a>>>,
 }
 
-/// The rule, made ready for one document.
+/// Makes the rule, for one document.
 pub fn factory<'a>(alloc: Global) -> VariableInAllowedPosition<'a>
     ensures { ⟦<VariableInAllowedPosition<'a> as Fresh>⟧.fresh result }
 {
@@ -50,7 +49,11 @@ pub fn factory<'a>(alloc: Global) -> VariableInAllowedPosition<'a>
 }
 
 impl<'a> VariableInAllowedPosition<'a> {
-    /// Leaves the document of an index.
+    /// Reports the misplaced variables of a document, by the document's index and the uses that were recorded.
+    ///
+    /// # Errors
+    ///
+    /// Out of memory. The types at hand stay; some of the errors may be reported then.
     pub fn leave<S: CheckedScalar>(
         &self,
         ctx: &mut ValidatorContext<'a, S>,
@@ -58,8 +61,8 @@ impl<'a> VariableInAllowedPosition<'a> {
         index: &ScopeIndex<'_>,
     ) -> Result<(), OutOfMemory>
         requires { IsIndexOf document.now index.now }
-        ensures ok { IfOk result (λ _. Appended (DocumentGives ctx.old.schema.types document.now (recorded_uses self.now))
-            ctx.old ctx.new) }
+        ensures ok { OnOk result (Appended
+            (DocumentGives ctx.old.schema.types document.now (recorded_uses self.now)) ctx.old ctx.new) }
         ensures err { OnErr result (KeepsPlace ctx.old ctx.new) }
     {
         report_document(self.alloc, ctx, document, index, self.uses.as_slice())
@@ -147,9 +150,9 @@ fn report_use<'a, S: CheckedScalar>(
     variables: &FirstVariables<'_, S>,
     found: &TypedUse<'_>,
 ) -> Result<(), OutOfMemory>
-    ensures ok { IfOk result
-        (λ _. Appended (JudgedIfDefined ctx.old.schema.types (kept_first variables.now found.now.variable.now)
-        (use_value found.now)) ctx.old ctx.new) }
+    ensures ok { OnOk result (Appended
+        (JudgedIfDefined ctx.old.schema.types (kept_first variables.now found.now.variable.now) (use_value found.now))
+        ctx.old ctx.new) }
     ensures err { OnErr result (KeepsPlace ctx.old ctx.new) }
 {
     match variables.get(found.variable) {
@@ -165,9 +168,8 @@ fn report_uses<'a, S: CheckedScalar>(
     variables: &FirstVariables<'_, S>,
     uses: &[TypedUse<'_>],
 ) -> Result<(), OutOfMemory>
-    ensures ok { IfOk result
-        (λ _. Appended (UsesGive ctx.old.schema.types (kept_first variables.now) (map use_value uses.now)) ctx.old
-        ctx.new) }
+    ensures ok { OnOk result (Appended
+        (UsesGive ctx.old.schema.types (kept_first variables.now) (map use_value uses.now)) ctx.old ctx.new) }
     ensures err { OnErr result (KeepsPlace ctx.old ctx.new) }
 {
     for found in uses {
@@ -184,10 +186,9 @@ fn report_place<'a, S: CheckedScalar>(
     uses: &[Vec<TypedUse<'_>>],
     place: usize,
 ) -> Result<(), OutOfMemory>
-    ensures ok { IfOk result
-        (λ _. Appended
-        (UsesGive ctx.old.schema.types (kept_first variables.now) (uses_in (use_values uses.now) place)) ctx.old
-        ctx.new) }
+    ensures ok { OnOk result (Appended
+        (UsesGive ctx.old.schema.types (kept_first variables.now) (uses_in (use_values uses.now) place))
+        ctx.old ctx.new) }
     ensures err { OnErr result (KeepsPlace ctx.old ctx.new) }
 {
     match uses.get(place) {
@@ -204,11 +205,8 @@ fn report_places<'a, S: CheckedScalar>(
     uses: &[Vec<TypedUse<'_>>],
     places: &[usize],
 ) -> Result<(), OutOfMemory>
-    ensures ok { IfOk result
-        (λ _. Appended
-        (EachGives
-        (λ place fs. UsesGive ctx.old.schema.types (kept_first variables.now) (uses_in (use_values uses.now) place)
-        fs) places.now) ctx.old ctx.new) }
+    ensures ok { OnOk result (Appended
+        (PlacesGive ctx.old.schema.types (kept_first variables.now) (use_values uses.now) places.now) ctx.old ctx.new) }
     ensures err { OnErr result (KeepsPlace ctx.old ctx.new) }
 {
     for place in places {
@@ -217,8 +215,8 @@ fn report_places<'a, S: CheckedScalar>(
     Ok(())
 }
 
-// Reports the uses in what the operations of a name reach, by the places of all of these operations. Where these define no variable
-// it asks nothing of what is in reach.
+// Reports the uses in what the operations of a name reach, by the places of all of these operations. If these define no
+// variable, it does not look at what they reach.
 fn report_operations<'a, S: CheckedScalar>(
     alloc: Global,
     ctx: &mut ValidatorContext<'a, S>,
@@ -230,7 +228,7 @@ fn report_operations<'a, S: CheckedScalar>(
 ) -> Result<(), OutOfMemory>
     requires index { IsIndexOf document.now index.now }
     requires ready { IsReady index.now search.old }
-    ensures ok { IfOk result (λ _. (name : Option (List ℕ)) → own.now ≡ places_of document.now (operation name)
+    ensures ok { OnOk result ((name : Option (List ℕ)) → own.now ≡ places_of document.now (operation name)
         → Appended (OperationsGive ctx.old.schema.types document.now (use_values uses.now) name) ctx.old ctx.new) }
     ensures ready { OnOk result (IsReady index.now search.new) }
     ensures err { OnErr result (KeepsPlace ctx.old ctx.new) }
@@ -254,9 +252,9 @@ fn report_names<'a, S: CheckedScalar>(
 ) -> Result<(), OutOfMemory>
     requires index { IsIndexOf document.now index.now }
     requires ready { IsReady index.now search.old }
-    ensures ok { IfOk result
-        (λ _. Appended (EachGives (OperationsGive ctx.old.schema.types document.now (use_values uses.now))
-        (operation_names index.now)) ctx.old ctx.new) }
+    ensures ok { OnOk result (Appended
+        (EachGives (OperationsGive ctx.old.schema.types document.now (use_values uses.now)) (operation_names index.now))
+        ctx.old ctx.new) }
     ensures err { OnErr result (KeepsPlace ctx.old ctx.new) }
 {
     for number in 0..index.names.len() {
@@ -275,8 +273,8 @@ fn report_document<'a, S: CheckedScalar>(
     uses: &[Vec<TypedUse<'_>>],
 ) -> Result<(), OutOfMemory>
     requires { IsIndexOf document.now index.now }
-    ensures ok { IfOk result (λ _. Appended (DocumentGives ctx.old.schema.types document.now (use_values uses.now)) ctx.old
-        ctx.new) }
+    ensures ok { OnOk result (Appended
+        (DocumentGives ctx.old.schema.types document.now (use_values uses.now)) ctx.old ctx.new) }
     ensures err { OnErr result (KeepsPlace ctx.old ctx.new) }
 {
     let mut search = new_search(alloc, index)?;

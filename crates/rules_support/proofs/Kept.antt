@@ -4,7 +4,7 @@ use mathlib.Core.Path.{fun_ext}
 use Rattle.name_tables.specs.Maps.{entries_of, index_of, value_at, value_of}
 use Rattle.rules_support.specs.declared.first_places.FirstPlaces.{FirstPlaces}
 use Rattle.rules_support.specs.Noting.{nothing_noted}
-use Rattle.rules_support.specs.Places.{places_of}
+use Rattle.rules_support.specs.FirstPlaces.{places_of}
 
 pub place_is : (f : FirstPlaces) (name : List ℕ) → places_of f name ≡ value_of f.places name
 unfolding places_of

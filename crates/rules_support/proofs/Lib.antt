@@ -1,3 +1,3 @@
 pub mod Kept
 pub mod RepeatsSeen
-pub mod Told
+pub mod Reported

@@ -1,5 +1,6 @@
+pub mod FirstPlaces
 pub mod Names
 pub mod Noting
 pub mod NotingLaws
-pub mod Places
 pub mod Repeats
+pub mod Texts

@@ -1,10 +1,10 @@
 -- Names, each with a place.
 use Rattle.std.specs.Prelude.{ℕ, List, Option, String, string_bytes}
-use denote.Ref.{Bor}
 use Rattle.std.specs.declared.alloc.Global.{Global}
 use Rattle.language.specs.declared.position.SourcePosition.{SourcePosition}
 use Rattle.events.specs.Node.{Name, Placed}
 
+-- a name with a place
 abbrev pub Named : Type 0
 Named = List ℕ × SourcePosition
 
@@ -12,11 +12,9 @@ Named = List ℕ × SourcePosition
 abbrev pub text_name : {T : Type 0} → Name × T → Named
 text_name entry = (entry.0.item.now, entry.0.span.start)
 
+-- the key of an entry of an object, with the place where it starts
 abbrev pub key_name : {T : Type 0} → Placed (String Global) × T → Named
 key_name entry = (string_bytes entry.0.item, entry.0.span.start)
-
-abbrev pub pair_name : Bor (List ℕ) × SourcePosition → Named
-pair_name n = (n.0.now, n.1)
 
 -- a place for some names
 abbrev pub Places : Type 0

@@ -8,6 +8,7 @@ use Rattle.events.specs.Occurrence.{Occurrence, occurrences}
 use Rattle.walk.specs.Step.{StepOf}
 use Rattle.walk.specs.Rule.{Collection}
 use Rattle.walk.specs.Entering.{keeping_step}
+pub use Rattle.std.specs.Option.{option_to_list as to_list}
 pub use Rattle.name_tables.specs.Adding.{or_else}
 use Rattle.rules_support.specs.Names.{Named, Places}
 use Rattle.rules_support.specs.Repeats.{repeat_at, repeats}
@@ -27,10 +28,6 @@ noted_if (Some n) places = noted places n
 abbrev pub repeat_if : (List ℕ → List ℕ) → Option Named → Places → List ErrorValue
 repeat_if message None places = []
 repeat_if message (Some n) places = repeat_at message (places n.0) n
-
-abbrev pub to_list : {T : Type 0} → Option T → List T
-to_list None = []
-to_list (Some x) = x ∷ []
 
 module _ {S C : Type 0} where
   -- the step: names that are met where nodes are entered

@@ -1,4 +1,4 @@
--- A rule that notes names reports those that stand again.
+-- A rule that notes names reports those that stand again. In specs/, since ghost members of an impl cite nothing else.
 use Rattle.std.proofs.Common.{◌≡◌, ℕ, List, [], ◌∷◌, ◌++◌, Option, None, Some, cond, true, false, refl, ap, sym, ◌∙◌, subst, IsPermutation}
 use mathlib.Core.Path.{fun_ext}
 use Rattle.std.proofs.lemmas.List.{append-nil}
@@ -39,7 +39,7 @@ module _ {S C : Type 0} (message : List ℕ → List ℕ) (name : Node S → Opt
       ∙ ap (λ z. repeat_if message (name o.node) (first_place earlier) ++ z) (found_repeats os (earlier ++ to_list (name o.node)))
       ∙ repeats-more message earlier (name o.node) (names os)
 
--- each run from a fresh value reports just the names that stand again
+-- each run from a fresh value reports exactly the names that stand again
 pub noting_keeps : {S C V : Type 0} (message : List ℕ → List ℕ) (places : V → Places) (name : Node S → Option Named) → AllowsFrom (noting_step {S = S} {C = C} places message name) (NothingNoted places) (always (exactly (repeated message name)))
 noting_keeps {S} {C} message places name start fresh schema t doc end es r =
     subst (λ z. IsPermutation z es) (found_repeats {S = S} {C = C} message name (occurrences schema t doc) [])

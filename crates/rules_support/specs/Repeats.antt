@@ -15,7 +15,7 @@ abbrev pub repeat_at : (List ℕ → List ℕ) → Option SourcePosition → Nam
 repeat_at message None n = []
 repeat_at message (Some first) n = record { locations = first ∷ n.1 ∷ []; message = message n.0 } ∷ []
 
--- behind these: each whose name stands earlier
+-- after these: each whose name stands earlier
 abbrev pub repeats_after : (List ℕ → List ℕ) → List Named → List Named → List ErrorValue
 repeats_after message earlier [] = []
 repeats_after message earlier (n ∷ rest) = repeat_at message (first_place earlier n.0) n ++ repeats_after message (earlier ++ n ∷ []) rest

@@ -1,22 +1,20 @@
-//! Lists whose entries have names.
+//! Lists whose entries have names, of which no two should be the same.
 
-ghost use Rattle.std.specs.Prelude.{◌≡◌, ◌++◌, IfOk, OnErr, map};
+ghost use Rattle.std.specs.Prelude.{◌≡◌, OnOk, OnErr, map};
 ghost use Rattle.walk.specs.ContextState.{with_errors};
 ghost use Rattle.walk.specs.Step.{KeepsPlace};
 ghost use Rattle.rules_support.specs.Names.{Named, key_name, text_name};
-ghost use Rattle.rules_support.specs.Repeats.{repeat_at, repeats};
-ghost use Rattle.rules_support.specs.Noting.{noted};
-ghost use Rattle.rules_support.specs.Places.{places_of};
+ghost use Rattle.rules_support.specs.Repeats.{repeats};
+ghost use Rattle.rules_support.specs.Texts.{between};
 
 use crate::first_places::FirstPlaces;
-use crate::texts::between;
 use language::error::OutOfMemory;
 use language::position::{SourcePosition, Spanning};
 use meta::check::CheckedScalar;
 use std::alloc::Global;
 use walk::ValidatorContext;
 
-/// An entry of a list has a name, at a place.
+/// An entry of a list, which has a name at a place.
 pub trait HasName {
     ghost named: { Self → Named };
 
@@ -51,7 +49,11 @@ impl<T> HasName for (Spanning<String>, T) {
     }
 }
 
-/// Reports each entry whose name an earlier one has, at the first of the name and at its own, by these words round the name.
+/// Reports each entry whose name an earlier one has, by the name between these words: at the first of the name and at its own.
+///
+/// # Errors
+///
+/// Out of memory. The types at hand stay; some of the errors may be reported then.
 pub fn report_repeats<'a, S: CheckedScalar, N: HasName>(
     alloc: Global,
     ctx: &mut ValidatorContext<'a, S>,
@@ -59,8 +61,8 @@ pub fn report_repeats<'a, S: CheckedScalar, N: HasName>(
     before: &str,
     after: &str,
 ) -> Result<(), OutOfMemory>
-    ensures ok { IfOk result (λ _. ctx.new
-        ≡ with_errors ctx.old (repeats (λ name. (before.now ++ name) ++ after.now) (map N.named entries.now.items))) }
+    ensures ok { OnOk result (ctx.new ≡ with_errors ctx.old
+        (repeats (between before.now after.now) (map N.named entries.now.items))) }
     ensures err { OnErr result (KeepsPlace ctx.old ctx.new) }
 {
     // most lists have one entry, for which a map would ask for memory
@@ -70,38 +72,7 @@ pub fn report_repeats<'a, S: CheckedScalar, N: HasName>(
     let mut names = FirstPlaces::new(alloc);
     names.make_room(entries.len())?;
     for entry in entries {
-        report_repeat(
-            alloc,
-            ctx,
-            &mut names,
-            entry.name(),
-            entry.place(),
-            before,
-            after,
-        )?;
-    }
-    Ok(())
-}
-
-// Notes a name, and reports it where it was noted before.
-fn report_repeat<'a, 'n, S: CheckedScalar>(
-    alloc: Global,
-    ctx: &mut ValidatorContext<'a, S>,
-    names: &mut FirstPlaces<'n>,
-    name: &'n str,
-    place: SourcePosition,
-    before: &str,
-    after: &str,
-) -> Result<(), OutOfMemory>
-    ensures kept { IfOk result (λ _. places_of names.new ≡ noted (places_of names.old) (name.now, place)) }
-    ensures ok { IfOk result (λ _. ctx.new
-        ≡ with_errors ctx.old (repeat_at (λ n. (before.now ++ n) ++ after.now) (places_of names.old name.now)
-        (name.now, place))) }
-    ensures err { OnErr result (KeepsPlace ctx.old ctx.new) }
-{
-    if let Some(first) = names.note(name, place)? {
-        let message = between(alloc, before, name, after)?;
-        ctx.report_error(message.as_str(), &[first, place])?;
+        names.note_or_report(ctx, entry.name(), entry.place(), before, after)?;
     }
     Ok(())
 }

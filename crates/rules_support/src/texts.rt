@@ -1,12 +1,17 @@
 //! Texts of messages.
 
-ghost use Rattle.std.specs.Prelude.{◌≡◌, ◌++◌, IfOk, string_bytes};
+ghost use Rattle.std.specs.Prelude.{◌≡◌, IfOk, string_bytes};
+ghost use Rattle.rules_support.specs.Texts.{between};
 
 use std::alloc::{AllocError, Global};
 
-/// A name between two texts.
+/// Puts a name between two texts.
+///
+/// # Errors
+///
+/// Out of memory.
 pub fn between(alloc: Global, before: &str, name: &str, after: &str) -> Result<String, AllocError>
-    ensures { IfOk result (λ message. string_bytes message ≡ (before.now ++ name.now) ++ after.now) }
+    ensures { IfOk result (λ message. string_bytes message ≡ between before.now after.now name.now) }
 {
     format!(in alloc; "{before}{name}{after}")
 }

@@ -1,15 +1,14 @@
 -- Default values of variables that are never used, or do not conform to the variable's type.
 use Rattle.std.specs.Prelude.{◌≡◌, ℕ, List, [], ◌++◌, Bool, true, false, Option, Some, None, codes}
 use Rattle.language.specs.declared.value.InputValue.{InputValue}
-use Rattle.language.specs.Types.{TypeShape, shape, printed}
+use Rattle.language.specs.Types.{TypeShape, is_never_null, shape, printed}
 use Rattle.meta.specs.Answers.{Answers}
 use Rattle.schema.specs.Catalog.{Catalog}
-use Rattle.literals.specs.Missing.{is_never_null}
 use Rattle.events.specs.Node.{Node, Placed, variable_definition}
 use Rattle.events.specs.Occurrence.{Occurrence}
 use Rattle.walk.specs.ContextState.{DocumentScope}
 use Rattle.walk.specs.ErrorValue.{ErrorValue}
-use Rattle.rules_values.specs.Faulty.{error_at, reported}
+use Rattle.rules_values.specs.Faults.{error_at, reported}
 
 abbrev pub needless_default_message : List ℕ → List ℕ → List ℕ
 needless_default_message name t =
@@ -25,10 +24,12 @@ module _ {S C : Type 0} (may : Answers (InputValue S) C) (shown : InputValue S �
   default_of true schema name t value es = es ≡ error_at value (needless_default_message name (printed t))
   default_of false schema name t value es = reported may shown schema (wrong_default_message name (printed t)) (Some t) value es
 
+  -- a variable with no default value has no fault
   abbrev pub default_if_there : Catalog S C → List ℕ → TypeShape → Option (Placed (InputValue S)) → List ErrorValue → Type 0
   default_if_there schema name t None es = es ≡ []
   default_if_there schema name t (Some value) es = default_of (is_never_null t) schema name t value es
 
+  -- at a node: a definition of a variable, by its type
   abbrev pub wrong_default : Catalog S C → Node S → List ErrorValue → Type 0
   wrong_default schema (variable_definition d) es = default_if_there schema d.0.item.now (shape d.1.var_type.item) d.1.default_value es
   wrong_default schema _ es = es ≡ []

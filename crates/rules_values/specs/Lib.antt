@@ -1,4 +1,6 @@
 pub mod ArgumentsOfCorrectType
+pub mod ArgumentsOfCorrectTypeLaws
 pub mod DefaultValuesOfCorrectType
-pub mod Faulty
-pub mod SettledLaws
+pub mod DefaultValuesOfCorrectTypeLaws
+pub mod Faults
+pub mod FaultsLaws

@@ -1,6 +1,6 @@
-//! The value of each argument conforms to the argument's type (GraphQL, section 5.6.1).
+//! The value of each argument conforms to the argument's type (GraphQL, October 2021, section 5.6.1).
 
-ghost use Rattle.std.specs.Prelude.{◌≡◌, IfOk, OnErr, string_bytes};
+ghost use Rattle.std.specs.Prelude.{◌≡◌, IfOk, OnOk, OnErr, string_bytes};
 ghost use Rattle.language.specs.ValuesPrinted.{printed_value};
 ghost use Rattle.walk.specs.ContextState.{typing};
 ghost use Rattle.walk.specs.Entering.{relating_step, given};
@@ -8,9 +8,8 @@ ghost use Rattle.walk.specs.Rule.{allows_none, always, any_value, Appended};
 ghost use Rattle.walk.specs.RuleLaws.{settled_silent};
 ghost use Rattle.walk.specs.Step.{KeepsPlace};
 ghost use Rattle.walk.proofs.Entering.{relating_keeps};
-ghost use Rattle.rules_values.specs.SettledLaws.{arguments_settled};
-ghost use Rattle.rules_values.specs.ArgumentsOfCorrectType.{wrong_argument_message, wrong_arguments};
-ghost use Rattle.rules_values.specs.Faulty.{reported};
+ghost use Rattle.rules_values.specs.ArgumentsOfCorrectTypeLaws.{arguments_settled};
+ghost use Rattle.rules_values.specs.ArgumentsOfCorrectType.{wrong_argument_message, wrong_arguments, wrong_value};
 
 use crate::faults::fault_at;
 use language::error::OutOfMemory;
@@ -20,16 +19,16 @@ use meta::check::CheckedScalar;
 use std::alloc::{AllocError, Global};
 use walk::{Criterion, Event, Fresh, Machine, Rule, SettledRule, ValidatorContext, Visitor};
 
-/// Reports, at its start, each value of an argument that has a fault against the type of the first argument of its name, on the
-/// known field or directive that bears it.
+/// Reports each argument's value that does not conform to its type, at the value's start. The type is that of the first argument
+/// of the name which the field or the directive defines; without such an argument nothing is reported.
 ///
-/// A value that conforms takes no memory but what the checks of its scalars and enum values take.
+/// A value that conforms takes no memory beyond what the checks of its scalars and enum values take.
 #[derive(Drop)]
 pub struct ArgumentsOfCorrectType {
     alloc: Global,
 }
 
-/// The rule, made ready for one document.
+/// Makes the rule, for one document.
 pub fn factory(alloc: Global) -> ArgumentsOfCorrectType
     ensures { ⟦<ArgumentsOfCorrectType as Fresh>⟧.fresh result }
 {
@@ -71,16 +70,15 @@ impl<'a, S: CheckedScalar> Visitor<'a, S> for ArgumentsOfCorrectType {
     }
 }
 
-// Reports the value of an argument, where it is wrong.
+// Reports the value of an argument, if it has a fault.
 fn report<'a, S: CheckedScalar>(
     alloc: Global,
     ctx: &mut ValidatorContext<'a, S>,
     argument: &(Spanning<&str>, Spanning<InputValue<S>>),
 ) -> Result<(), OutOfMemory>
-    ensures ok { IfOk result
-        (λ _. Appended
-        (reported S.may_answer (printed_value S.text S.str_of) ctx.old.schema
-        (wrong_argument_message argument.now.0.item.now) (typing ctx.old).input argument.now.1) ctx.old ctx.new) }
+    ensures ok { OnOk result (Appended
+        (wrong_value S.may_answer (printed_value S.text S.str_of) ctx.old.schema (typing ctx.old).input argument.now)
+        ctx.old ctx.new) }
     ensures err { OnErr result (KeepsPlace ctx.old ctx.new) }
 {
     if let Some(written) = ctx.current_input_type_literal() {

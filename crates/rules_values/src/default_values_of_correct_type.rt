@@ -1,15 +1,15 @@
-//! The default value of each variable conforms to the variable's type, which may be null (GraphQL, section 5.6.1).
+//! The default value of each variable conforms to the variable's type (GraphQL, October 2021, section 5.6.1). As in juniper,
+//! only a variable whose type may be null has one.
 
-ghost use Rattle.std.specs.Prelude.{◌≡◌, IfOk, OnErr, string_bytes};
-ghost use Rattle.language.specs.Types.{printed, shape};
+ghost use Rattle.std.specs.Prelude.{◌≡◌, IfOk, OnOk, OnErr, string_bytes};
+ghost use Rattle.language.specs.Types.{is_never_null, printed, shape};
 ghost use Rattle.language.specs.ValuesPrinted.{printed_value};
-ghost use Rattle.literals.specs.Missing.{is_never_null};
 ghost use Rattle.walk.specs.Entering.{relating_step, given};
 ghost use Rattle.walk.specs.Rule.{allows_none, always, any_value, Appended};
 ghost use Rattle.walk.specs.RuleLaws.{settled_silent};
 ghost use Rattle.walk.specs.Step.{KeepsPlace};
 ghost use Rattle.walk.proofs.Entering.{relating_keeps};
-ghost use Rattle.rules_values.specs.SettledLaws.{defaults_settled};
+ghost use Rattle.rules_values.specs.DefaultValuesOfCorrectTypeLaws.{defaults_settled};
 ghost use Rattle.rules_values.specs.DefaultValuesOfCorrectType.{default_of, needless_default_message, wrong_default_message, wrong_defaults};
 
 use crate::faults::fault_at;
@@ -21,16 +21,16 @@ use meta::check::CheckedScalar;
 use std::alloc::{AllocError, Global};
 use walk::{Criterion, Event, Fresh, Machine, Rule, SettledRule, ValidatorContext, Visitor};
 
-/// Reports, at its start, each default value of a variable whose type is never null, and each that has a fault against a type that
-/// may be null. A type whose name the schema does not know is passed over.
+/// Reports each default value of a variable with a non-null type, and each that does not conform to a nullable type, at the
+/// value's start. It skips nullable types whose name the schema does not know.
 ///
-/// A value that conforms takes no memory but what the checks of its scalars and enum values take.
+/// A value that conforms takes no memory beyond what the checks of its scalars and enum values take.
 #[derive(Drop)]
 pub struct DefaultValuesOfCorrectType {
     alloc: Global,
 }
 
-/// The rule, made ready for one document.
+/// Makes the rule, for one document.
 pub fn factory(alloc: Global) -> DefaultValuesOfCorrectType
     ensures { ⟦<DefaultValuesOfCorrectType as Fresh>⟧.fresh result }
 {
@@ -75,7 +75,7 @@ impl<'a, S: CheckedScalar> Visitor<'a, S> for DefaultValuesOfCorrectType {
     }
 }
 
-// Reports the default value of a variable, where it is needless or wrong.
+// Reports the default value of a variable, if it is needless or has a fault.
 fn report<'a, S: CheckedScalar>(
     alloc: Global,
     ctx: &mut ValidatorContext<'a, S>,
@@ -83,9 +83,9 @@ fn report<'a, S: CheckedScalar>(
     t: &'a Type,
     value: &Spanning<InputValue<S>>,
 ) -> Result<(), OutOfMemory>
-    ensures ok { IfOk result
-        (λ _. Appended (default_of S.may_answer (printed_value S.text S.str_of) (is_never_null (shape t.now))
-        ctx.old.schema name.now (shape t.now) value.now) ctx.old ctx.new) }
+    ensures ok { OnOk result (Appended
+        (default_of S.may_answer (printed_value S.text S.str_of) (is_never_null (shape t.now)) ctx.old.schema name.now
+        (shape t.now) value.now) ctx.old ctx.new) }
     ensures err { OnErr result (KeepsPlace ctx.old ctx.new) }
 {
     if is_never_null(t) {
@@ -105,8 +105,8 @@ fn is_never_null(t: &Type) -> bool
 }
 
 fn needless_default_message(alloc: Global, name: &str, t: &Type) -> Result<String, AllocError>
-    ensures { IfOk result (λ message. string_bytes message
-        ≡ needless_default_message name.now (printed (shape t.now))) }
+    ensures { IfOk result (λ message. string_bytes message ≡
+        needless_default_message name.now (printed (shape t.now))) }
 {
     format!(in alloc;
         "Argument \"{name}\" has type \"{t}\" and is not nullable, so it can't have a default value"
@@ -119,8 +119,8 @@ fn wrong_default_message(
     t: &Type,
     fault: &str,
 ) -> Result<String, AllocError>
-    ensures { IfOk result (λ message. string_bytes message
-        ≡ wrong_default_message name.now (printed (shape t.now)) fault.now) }
+    ensures { IfOk result (λ message. string_bytes message ≡
+        wrong_default_message name.now (printed (shape t.now)) fault.now) }
 {
     format!(in alloc;
         "Invalid default value for argument \"{name}\", expected type \"{t}\", reason: {fault}"

@@ -12,10 +12,15 @@ use language::tree::{
 use language::value::{DefaultScalarValue, InputValue};
 use std::alloc::Global;
 
-/// Reads a document, whose names are slices of the text. It takes time in proportion to the text.
+/// Parses an executable document, whose names are slices of the text. It takes time in proportion to the length of
+/// the text.
 ///
-/// Places count bytes: the index from the start of the text, the column from the start of the line. A line ends with a
-/// line feed alone. Where the text is no document the answer names the place of the token at which that shows, or its end.
+/// Positions count bytes from 0: the index from the start of the text, the column from the start of the line. Only a
+/// line feed ends a line.
+///
+/// # Errors
+///
+/// The position of the first token that doesn't fit, or out of memory.
 pub fn read_document(
     alloc: Global,
     text: &[u8],
@@ -48,7 +53,7 @@ fn read_definition<'a>(
     }
 }
 
-// A query of which only the selection set is written.
+// A query in shorthand form: only its selection set.
 fn read_bare_query<'a>(
     alloc: Global,
     tokens: &mut Tokens<'a>,

@@ -1,14 +1,14 @@
-//! Why a text is read as no document.
+//! Why a text can't be read.
 use language::error::OutOfMemory;
 use language::position::SourcePosition;
 use std::alloc::{AllocError, AllocFailed};
 
-/// Why a text is read as no document.
+/// Why a text can't be read.
 #[derive(Clone, Copy, Debug)]
 pub enum ReadError {
-    /// The text is no document: where the token starts at which that shows, or where the text ends.
+    /// A syntax error: the start of the first token that doesn't fit, or the end of the text.
     Fault(SourcePosition),
-    /// A request for memory was refused, so nothing is known of the text.
+    /// Out of memory; nothing is known of the text.
     OutOfMemory,
 }
 

@@ -1,4 +1,7 @@
-//! The reader of documents: text to trees, for ASCII outside comments and without block strings, escapes and floats.
+//! A small parser of executable documents for the samples, tests and measurements of this repository.
+//!
+//! It reads ASCII (anything in comments), without block strings, escape sequences and floats. To parse GraphQL in
+//! full, take the crate `graphql_reader`. Proved of every call: it is safe and returns, whatever the text.
 #![tactic(auto)]
 
 mod definitions;

@@ -10,7 +10,11 @@ use std::alloc::Global;
 
 type Nodes<'a> = Vec<Selection<'a, DefaultScalarValue>>;
 
-/// Reads a selection set, which is never empty.
+/// Parses a selection set, which is never empty.
+///
+/// # Errors
+///
+/// A syntax error, or out of memory.
 pub fn read_selection_set<'a>(
     alloc: Global,
     tokens: &mut Tokens<'a>,
@@ -19,7 +23,7 @@ pub fn read_selection_set<'a>(
     read_set(alloc, tokens, levels)
 }
 
-// A selection set of at most so many levels.
+// A selection set of at most `levels` levels.
 #[cycle(selections)]
 fn read_set<'a>(
     alloc: Global,
@@ -41,8 +45,8 @@ fn read_set<'a>(
     Err(tokens.fault())
 }
 
-// One selection more. The functions below add it themselves, each in a frame of its own, so that a level takes little of the
-// machine's stack.
+// Adds one selection. The functions below add it themselves, each in a frame of its own, so that a level takes little
+// stack.
 #[cycle(selections)]
 fn read_selection<'a>(
     alloc: Global,
@@ -126,7 +130,7 @@ fn read_alias_and_name<'a>(
     Ok((None, first))
 }
 
-// What follows the dots, and a type condition if there is one.
+// What follows the dots and the type condition, if there is one.
 #[inline(never)]
 #[cycle(selections)]
 fn read_inline_fragment<'a>(

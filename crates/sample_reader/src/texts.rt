@@ -1,4 +1,4 @@
-//! Texts that are no documents: a value, a type.
+//! Texts of one value or one type.
 use crate::error::ReadError;
 use crate::tokens::Tokens;
 use crate::types::{self, Sizes};
@@ -8,7 +8,11 @@ use language::types::Type;
 use language::value::{DefaultScalarValue, InputValue};
 use std::alloc::Global;
 
-/// Reads a value without variables, as the values of variables are given. It is the whole text.
+/// Parses a text that is one value without variables, as values of variables are given.
+///
+/// # Errors
+///
+/// The position of the first token that doesn't fit, or out of memory.
 pub fn read_value(
     alloc: Global,
     text: &[u8],
@@ -19,8 +23,12 @@ pub fn read_value(
     Ok(value)
 }
 
-/// Reads a type, which is the whole text. At once behind a list the size may stand that is expected of it, as in `[Int]#2!`,
-/// which no document can say.
+/// Parses a text that is one type. A list may have an expected size directly behind it, as in `[Int]#2!`, which no
+/// document can express.
+///
+/// # Errors
+///
+/// The position of the first token that doesn't fit, or out of memory.
 pub fn read_type(alloc: Global, text: &[u8]) -> Result<Spanning<Type>, ReadError> {
     let mut tokens = Tokens::new(text);
     let read = types::read_type(alloc, &mut tokens, Sizes::Allowed)?;

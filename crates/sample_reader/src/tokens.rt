@@ -1,19 +1,19 @@
-//! The tokens of a text, one ahead (GraphQL, October 2021, section 2.1).
+//! The tokens of a text, with a lookahead of one (GraphQL, October 2021, section 2.1).
 use crate::error::ReadError;
 use crate::lexer::{Punctuator, Token, ascii_text, token_at};
 use language::position::{SourcePosition, Span, Spanning};
 
-/// The tokens of a text that are left.
+/// The remaining tokens of a text.
 #[derive(Drop)]
 pub struct Tokens<'a> {
     text: &'a [u8],
-    // Where the text after the token ahead starts.
+    // The index after the next token.
     index: usize,
     line: usize,
     line_start: usize,
     ahead: Token<'a>,
     span: Span,
-    // Where the token ends that was taken last.
+    // The end of the token that was taken last.
     last_end: SourcePosition,
 }
 
@@ -34,17 +34,17 @@ impl<'a> Tokens<'a> {
         tokens
     }
 
-    /// The token ahead.
+    /// The next token.
     pub fn ahead(&self) -> Token<'a> {
         self.ahead
     }
 
-    /// Where the token ahead starts.
+    /// The start of the next token.
     pub fn start(&self) -> SourcePosition {
         self.span.start
     }
 
-    /// From a place to the end of the token that was taken last.
+    /// The span from a position to the end of the token that was taken last.
     pub fn span_from(&self, start: SourcePosition) -> Span {
         Span {
             start,
@@ -52,17 +52,17 @@ impl<'a> Tokens<'a> {
         }
     }
 
-    /// More than the number of tokens and of levels, since each takes a byte: a bound for loops that is never met.
+    /// A bound for loops over tokens and levels, never reached: each of them takes a byte.
     pub fn bound(&self) -> usize {
         self.text.len().saturating_add(1)
     }
 
-    /// The fault that the token ahead doesn't fit.
+    /// The error that the next token doesn't fit.
     pub fn fault(&self) -> ReadError {
         ReadError::Fault(self.span.start)
     }
 
-    /// Takes the token ahead.
+    /// Takes the next token.
     pub fn advance(&mut self) {
         self.last_end = self.span.end;
         self.skip_ignored();
@@ -76,12 +76,12 @@ impl<'a> Tokens<'a> {
         };
     }
 
-    /// Whether this punctuator is ahead.
+    /// Whether this punctuator is next.
     pub fn is(&self, punctuator: Punctuator) -> bool {
         matches!(self.ahead, Token::Punctuator(ahead) if ahead == punctuator)
     }
 
-    /// Takes this punctuator, if it is ahead.
+    /// Takes this punctuator if it is next, and returns whether it was.
     pub fn take(&mut self, punctuator: Punctuator) -> bool {
         let is_ahead = self.is(punctuator);
         if is_ahead {
@@ -90,7 +90,11 @@ impl<'a> Tokens<'a> {
         is_ahead
     }
 
-    /// Takes this punctuator, or tells that something else is ahead.
+    /// Takes this punctuator.
+    ///
+    /// # Errors
+    ///
+    /// Something else is next; nothing is taken then.
     pub fn expect(&mut self, punctuator: Punctuator) -> Result<(), ReadError> {
         if self.take(punctuator) {
             Ok(())
@@ -100,6 +104,10 @@ impl<'a> Tokens<'a> {
     }
 
     /// Takes a name.
+    ///
+    /// # Errors
+    ///
+    /// Something else is next; nothing is taken then.
     pub fn name(&mut self) -> Result<Spanning<&'a str>, ReadError> {
         match self.ahead {
             Token::Name(item) => {
@@ -111,7 +119,11 @@ impl<'a> Tokens<'a> {
         }
     }
 
-    /// Tells whether something is left.
+    /// Checks that no token is left.
+    ///
+    /// # Errors
+    ///
+    /// A token is left.
     pub fn expect_end(&self) -> Result<(), ReadError> {
         match self.ahead {
             Token::End => Ok(()),
@@ -119,7 +131,7 @@ impl<'a> Tokens<'a> {
         }
     }
 
-    /// Whether this name is ahead.
+    /// Whether this name is next.
     pub fn is_word(&self, word: &str) -> bool {
         match self.ahead {
             Token::Name(name) => name == word,
@@ -128,6 +140,10 @@ impl<'a> Tokens<'a> {
     }
 
     /// Takes a variable: `$` and its name. Its span starts at the `$`.
+    ///
+    /// # Errors
+    ///
+    /// Something else is next, or no name follows the `$`, which is taken then.
     pub fn variable(&mut self) -> Result<Spanning<&'a str>, ReadError> {
         let start = self.start();
         self.expect(Punctuator::Dollar)?;
@@ -138,7 +154,11 @@ impl<'a> Tokens<'a> {
         })
     }
 
-    /// Takes the end of a list, and the size that follows it at once, if one does: `#` and a number.
+    /// Takes the end of a list, and the size directly behind it, if there is one: `#` and a number.
+    ///
+    /// # Errors
+    ///
+    /// Something else is next; nothing is taken then.
     pub fn list_end_and_size(&mut self) -> Result<Option<usize>, ReadError> {
         if !self.is(Punctuator::BracketClose) {
             return Err(self.fault());
@@ -148,7 +168,7 @@ impl<'a> Tokens<'a> {
         Ok(size)
     }
 
-    // Goes past a size behind the token ahead, if there is one.
+    // Skips a size behind the next token, if there is one.
     fn skip_size(&mut self) -> Option<usize> {
         let digits = self.text.get(self.index..)?.strip_prefix(b"#")?;
         let length = digits
@@ -165,7 +185,7 @@ impl<'a> Tokens<'a> {
         SourcePosition::new(self.index, self.line, column)
     }
 
-    // Goes past blanks, commas, ends of lines and comments.
+    // Skips white space, commas, line terminators and comments.
     fn skip_ignored(&mut self) {
         let mut is_comment = false;
         for byte in self.text.get(self.index..).unwrap_or(&[]) {

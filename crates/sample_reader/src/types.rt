@@ -7,14 +7,18 @@ use language::position::Spanning;
 use language::types::Type;
 use std::alloc::Global;
 
-/// Whether the size that is expected of a list may follow it. In a document `#` begins a comment.
+/// Whether the expected size of a list may follow it. In a document `#` begins a comment.
 #[derive(Clone, Copy, Debug, PartialEq, Eq)]
 pub enum Sizes {
     Allowed,
     Refused,
 }
 
-/// Reads a type. It is read from its name outwards, so its levels need no recursion.
+/// Parses a type. It is made from its name outwards, so that its levels need no recursion.
+///
+/// # Errors
+///
+/// A syntax error, or out of memory.
 pub fn read_type(
     alloc: Global,
     tokens: &mut Tokens<'_>,

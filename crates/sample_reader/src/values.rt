@@ -18,7 +18,11 @@ pub enum Variables {
     Refused,
 }
 
-/// Reads a value.
+/// Parses a value.
+///
+/// # Errors
+///
+/// A syntax error, or out of memory.
 pub fn read_value(
     alloc: Global,
     tokens: &mut Tokens<'_>,
@@ -28,7 +32,7 @@ pub fn read_value(
     read_nested(alloc, tokens, variables, levels)
 }
 
-// A value of at most so many levels of lists and objects.
+// A value of at most `levels` levels of lists and objects.
 #[cycle(values)]
 fn read_nested(
     alloc: Global,
@@ -106,7 +110,7 @@ fn read_key(alloc: Global, tokens: &mut Tokens<'_>) -> Result<Spanning<String>, 
     })
 }
 
-// A value that holds no other one.
+// A value that holds no other value.
 fn read_plain(
     alloc: Global,
     tokens: &mut Tokens<'_>,
@@ -137,7 +141,11 @@ fn named_value(alloc: Global, name: &str) -> Result<Value, OutOfMemory> {
     })
 }
 
-/// Reads arguments, if there are any: never an empty list.
+/// Parses arguments, if there are any. The list is never empty.
+///
+/// # Errors
+///
+/// A syntax error after the parenthesis, or out of memory.
 pub fn read_arguments<'a>(
     alloc: Global,
     tokens: &mut Tokens<'a>,
@@ -163,7 +171,11 @@ pub fn read_arguments<'a>(
     Err(tokens.fault())
 }
 
-/// Reads directives, if there are any: never an empty list.
+/// Parses directives, if there are any. The list is never empty.
+///
+/// # Errors
+///
+/// A syntax error after an `@`, or out of memory.
 pub fn read_directives<'a>(
     alloc: Global,
     tokens: &mut Tokens<'a>,

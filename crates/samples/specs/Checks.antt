@@ -46,7 +46,7 @@ is_int v = is_scalar_that is_int_scalar v
 abbrev pub is_string : InputValue DefaultScalarValue → Bool
 is_string v = is_scalar_that is_string_scalar v
 
--- a truth value
+-- a Boolean
 abbrev pub is_boolean : InputValue DefaultScalarValue → Bool
 is_boolean v = is_scalar_that is_boolean_scalar v
 

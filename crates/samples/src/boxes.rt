@@ -1,4 +1,4 @@
-//! Boxes in boxes, and a connection: fields of one response name whose types conflict.
+//! Nested boxes and a connection: fields with the same response name whose types conflict.
 use crate::build::{Checks, scalar, with_int};
 use crate::rows::{InterfaceRow, ObjectRow, add_interfaces, add_objects};
 use language::error::OutOfMemory;
@@ -77,7 +77,11 @@ const CONNECTION: [ObjectRow; 4] = [
     ),
 ];
 
-/// Boxes in boxes, and a connection.
+/// The types of nested boxes and of a connection.
+///
+/// # Errors
+///
+/// Out of memory.
 pub fn types(alloc: Global, checks: Checks) -> Result<Vec<MetaType>, OutOfMemory> {
     let mut types = with_int(alloc, checks.string, checks.boolean, checks.int)?;
     types.push(scalar(alloc, "ID", checks.id)?)?;

@@ -1,4 +1,4 @@
-//! What the sample lists are built of.
+//! Helpers that build the sample lists.
 use crate::rows::{ObjectRow, add_objects};
 use language::error::OutOfMemory;
 use language::types::Type;
@@ -7,7 +7,7 @@ use meta::default_check::DefaultCheck;
 use meta::{Argument, Field, InterfaceMeta, MetaType, ObjectMeta, ScalarMetaOf, UnionMeta};
 use std::alloc::Global;
 
-/// The check of each type of the lists that has one.
+/// The check of each scalar, enum and input object of the lists.
 #[derive(Drop)]
 pub struct Checks {
     pub int: DefaultCheck,
@@ -19,7 +19,7 @@ pub struct Checks {
     pub pair_input: DefaultCheck,
 }
 
-/// The two types of introspection.
+/// The two introspection types.
 const INTROSPECTED: [ObjectRow; 2] = [
     ("__Schema", &[], &[("queryType", "__Type!", &[])]),
     ("__Type", &[], &[("name", "String", &[])]),
@@ -30,11 +30,19 @@ pub type FieldMeta = Field<DefaultScalarValue>;
 pub type ArgumentMeta = Argument<DefaultScalarValue>;
 
 /// A scalar with this check.
+///
+/// # Errors
+///
+/// Out of memory.
 pub fn scalar(alloc: Global, name: &str, check: DefaultCheck) -> Result<MetaType, OutOfMemory> {
     Ok(ScalarMetaOf::with_check(alloc, name, check)?.into_meta())
 }
 
-/// An object of these interfaces.
+/// An object that implements these interfaces.
+///
+/// # Errors
+///
+/// Out of memory.
 pub fn object(
     alloc: Global,
     name: &str,
@@ -49,7 +57,11 @@ pub fn object(
     )
 }
 
-/// An interface.
+/// An interface with these fields.
+///
+/// # Errors
+///
+/// Out of memory.
 pub fn interface(
     alloc: Global,
     name: &str,
@@ -59,11 +71,15 @@ pub fn interface(
 }
 
 /// A union of these members.
+///
+/// # Errors
+///
+/// Out of memory.
 pub fn union_of(alloc: Global, name: &str, members: &[&str]) -> Result<MetaType, OutOfMemory> {
     Ok(UnionMeta::new(alloc, name, types(alloc, members)?)?.into_meta())
 }
 
-// The types of these names, which may be null.
+// The nullable types of these names.
 fn types(alloc: Global, names: &[&str]) -> Result<Vec<Type>, OutOfMemory> {
     let mut types = Vec::new(alloc);
     for name in names {
@@ -72,21 +88,33 @@ fn types(alloc: Global, names: &[&str]) -> Result<Vec<Type>, OutOfMemory> {
     Ok(types)
 }
 
-/// The field `__typename: String!`, with which each object and interface begins.
+/// The field `__typename: String!`, which comes first in each object and interface.
+///
+/// # Errors
+///
+/// Out of memory.
 pub fn own_fields(alloc: Global) -> Result<Vec<FieldMeta>, OutOfMemory> {
     let mut fields = Vec::new(alloc);
     fields.push(Field::new(alloc, "__typename", Type::non_null(alloc, "String")?)?)?;
     Ok(fields)
 }
 
-/// The field `__typename: String!`, and then fields of these names and types that may be null.
+/// The field `__typename: String!`, then fields of these names and nullable types.
+///
+/// # Errors
+///
+/// Out of memory.
 pub fn plain_fields(alloc: Global, listed: &[(&str, &str)]) -> Result<Vec<FieldMeta>, OutOfMemory> {
     let mut fields = own_fields(alloc)?;
     add_fields(alloc, &mut fields, listed)?;
     Ok(fields)
 }
 
-/// Appends fields of these names and types that may be null.
+/// Appends fields of these names and nullable types.
+///
+/// # Errors
+///
+/// Out of memory.
 pub fn add_fields(
     alloc: Global,
     fields: &mut Vec<FieldMeta>,
@@ -98,22 +126,38 @@ pub fn add_fields(
     Ok(())
 }
 
-/// A field of a type that may be null.
+/// A field of a nullable type.
+///
+/// # Errors
+///
+/// Out of memory.
 pub fn field(alloc: Global, name: &str, type_name: &str) -> Result<FieldMeta, OutOfMemory> {
     Field::new(alloc, name, Type::nullable(alloc, type_name)?)
 }
 
-/// An argument or input field of a type that may be null.
+/// An argument or input field of a nullable type.
+///
+/// # Errors
+///
+/// Out of memory.
 pub fn argument(alloc: Global, name: &str, type_name: &str) -> Result<ArgumentMeta, OutOfMemory> {
     Argument::new(alloc, name, Type::nullable(alloc, type_name)?)
 }
 
-/// An argument or input field of a type that is never null.
+/// An argument or input field of a non-null type.
+///
+/// # Errors
+///
+/// Out of memory.
 pub fn required(alloc: Global, name: &str, type_name: &str) -> Result<ArgumentMeta, OutOfMemory> {
     Argument::new(alloc, name, Type::non_null(alloc, type_name)?)
 }
 
-/// What every list begins with: `String`, `Boolean`, `__Schema` and `__Type`.
+/// The types with which every list begins: `String`, `Boolean`, `__Schema` and `__Type`.
+///
+/// # Errors
+///
+/// Out of memory.
 pub fn common(
     alloc: Global,
     string: DefaultCheck,
@@ -127,6 +171,10 @@ pub fn common(
 }
 
 /// The same with `Int`.
+///
+/// # Errors
+///
+/// Out of memory.
 pub fn with_int(
     alloc: Global,
     string: DefaultCheck,

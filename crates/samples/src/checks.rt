@@ -1,6 +1,6 @@
 //! The checks of the sample schemas, and their token function.
 //!
-//! A check refuses with `not a value of T`, where `T` is its type's name.
+//! A check refuses with the text `not a value of T`, where `T` is the name of its type.
 ghost use Rattle.std.specs.Prelude.{◌≡◌, codes};
 ghost use Rattle.meta.specs.Answers.{AnswersBy};
 ghost use Rattle.samples.specs.Checks.{is_int, is_string, is_boolean, is_id, is_command, is_dog_command, is_object};
@@ -12,6 +12,10 @@ use meta::default_check::ScalarTokenKind;
 use std::alloc::Global;
 
 /// Accepts an integer.
+///
+/// # Errors
+///
+/// `Refused` if the value is not of the type, or `OutOfMemory`.
 pub fn check_int(alloc: Global, value: &InputValue<DefaultScalarValue>) -> Result<(), CheckError>
     ensures { AnswersBy is_int (codes "not a value of Int") value.now result }
 {
@@ -22,6 +26,10 @@ pub fn check_int(alloc: Global, value: &InputValue<DefaultScalarValue>) -> Resul
 }
 
 /// Accepts a string.
+///
+/// # Errors
+///
+/// `Refused` if the value is not of the type, or `OutOfMemory`.
 pub fn check_string(alloc: Global, value: &InputValue<DefaultScalarValue>) -> Result<(), CheckError>
     ensures { AnswersBy is_string (codes "not a value of String") value.now result }
 {
@@ -31,7 +39,11 @@ pub fn check_string(alloc: Global, value: &InputValue<DefaultScalarValue>) -> Re
     }
 }
 
-/// Accepts a truth value.
+/// Accepts a Boolean.
+///
+/// # Errors
+///
+/// `Refused` if the value is not of the type, or `OutOfMemory`.
 pub fn check_boolean(
     alloc: Global,
     value: &InputValue<DefaultScalarValue>,
@@ -45,6 +57,10 @@ pub fn check_boolean(
 }
 
 /// Accepts a string or an integer.
+///
+/// # Errors
+///
+/// `Refused` if the value is not of the type, or `OutOfMemory`.
 pub fn check_id(alloc: Global, value: &InputValue<DefaultScalarValue>) -> Result<(), CheckError>
     ensures { AnswersBy is_id (codes "not a value of ID") value.now result }
 {
@@ -55,6 +71,10 @@ pub fn check_id(alloc: Global, value: &InputValue<DefaultScalarValue>) -> Result
 }
 
 /// Accepts one of the enum values `SIT`, `HEEL` and `DOWN`.
+///
+/// # Errors
+///
+/// `Refused` if the value is not of the type, or `OutOfMemory`.
 pub fn check_dog_command(
     alloc: Global,
     value: &InputValue<DefaultScalarValue>,
@@ -74,6 +94,10 @@ fn is_command(name: &str) -> bool
 }
 
 /// Accepts an object.
+///
+/// # Errors
+///
+/// `Refused` if the value is not of the type, or `OutOfMemory`.
 pub fn check_complex_input(
     alloc: Global,
     value: &InputValue<DefaultScalarValue>,
@@ -87,6 +111,10 @@ pub fn check_complex_input(
 }
 
 /// Accepts an object.
+///
+/// # Errors
+///
+/// `Refused` if the value is not of the type, or `OutOfMemory`.
 pub fn check_pair_input(
     alloc: Global,
     value: &InputValue<DefaultScalarValue>,
@@ -99,7 +127,11 @@ pub fn check_pair_input(
     }
 }
 
-/// Refuses every token: no call of these crates asks a scalar for one.
+/// Refuses every token: these crates never call a token function.
+///
+/// # Errors
+///
+/// `Refused` for every token, or `OutOfMemory`.
 pub fn refuse_token(
     alloc: Global,
     _kind: ScalarTokenKind,

@@ -11,7 +11,11 @@ const DOG_AND_ROOT: [ObjectRow; 2] = [
     ("QueryRoot", &[], &[("dog", "Dog", &[])]),
 ];
 
-/// A dog with a name.
+/// The types of a dog with a name.
+///
+/// # Errors
+///
+/// Out of memory.
 pub fn types(alloc: Global, checks: Checks) -> Result<Vec<MetaType>, OutOfMemory> {
     let mut types = common(alloc, checks.string, checks.boolean)?;
     add_objects(alloc, &mut types, &DOG_AND_ROOT)?;
@@ -19,6 +23,10 @@ pub fn types(alloc: Global, checks: Checks) -> Result<Vec<MetaType>, OutOfMemory
 }
 
 /// `{ dog { ...A } }`
+///
+/// # Errors
+///
+/// Out of memory.
 pub fn document<'a>(alloc: Global) -> Result<Vec<Query<'a>>, OutOfMemory> {
     let selection = dog(alloc, 2, 12, spread(8, "A"))?;
     alone(alloc, query(alloc, None, 0, 16, selection)?)

@@ -1,4 +1,4 @@
-//! Documents, built in code. A text of one line has its columns equal to its indices.
+//! Documents that are built in code. Each is one line, so columns equal byte indices.
 use language::error::OutOfMemory;
 use language::position::{SourcePosition, Span, Spanning};
 use language::tree::{Definition, Field, FragmentSpread, Operation, OperationType, Selection};
@@ -9,13 +9,13 @@ pub type Node<'a> = Selection<'a, DefaultScalarValue>;
 
 pub type Query<'a> = Definition<'a, DefaultScalarValue>;
 
-// A place of the only line, so many bytes behind another.
+// The position that is this many bytes after another one.
 fn place(start: u16, more: u16) -> SourcePosition {
     let index = usize::from(start) + usize::from(more);
     SourcePosition::new(index, 0, index)
 }
 
-/// A name of so many bytes.
+/// A name that starts here and has this many bytes.
 pub fn name(text: &str, start: u16, length: u16) -> Spanning<&str> {
     Spanning {
         item: text,
@@ -26,19 +26,27 @@ pub fn name(text: &str, start: u16, length: u16) -> Spanning<&str> {
     }
 }
 
-/// The list of one.
+/// A list of one item.
+///
+/// # Errors
+///
+/// Out of memory.
 pub fn alone<T: Drop>(alloc: Global, only: T) -> Result<Vec<T>, OutOfMemory> {
     let mut list = Vec::new(alloc);
     list.push(only)?;
     Ok(list)
 }
 
-/// The field `name`, at this place.
+/// The field `name` at this position.
 pub fn name_field<'a>(start: u16) -> Node<'a> {
     field(name("name", start, 4), None, place(start, 4))
 }
 
-/// The field `dog { .. }` of so many bytes.
+/// The field `dog { .. }` with this many bytes.
+///
+/// # Errors
+///
+/// Out of memory.
 pub fn dog<'a>(
     alloc: Global,
     start: u16,
@@ -49,7 +57,7 @@ pub fn dog<'a>(
     Ok(field(name("dog", start, 3), Some(set), place(start, length)))
 }
 
-// A field with no more than a name and, where there is one, a set.
+// A field with a name, and a selection set if one is given.
 fn field<'a>(
     name: Spanning<&'a str>,
     selection_set: Option<Vec<Node<'a>>>,
@@ -68,7 +76,7 @@ fn field<'a>(
     })
 }
 
-/// A spread of a name of one byte.
+/// A spread of a fragment whose name has one byte.
 pub fn spread<'a>(start: u16, text: &'a str) -> Node<'a> {
     let end = place(start, 4);
     Selection::FragmentSpread(Spanning {
@@ -89,7 +97,11 @@ pub fn spread<'a>(start: u16, text: &'a str) -> Node<'a> {
     })
 }
 
-/// A query of so many bytes, with one selection.
+/// A query with this many bytes and one selection.
+///
+/// # Errors
+///
+/// Out of memory.
 pub fn query<'a>(
     alloc: Global,
     name: Option<Spanning<&'a str>>,

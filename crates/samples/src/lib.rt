@@ -1,4 +1,4 @@
-//! The sample schemas and what they are tried with: lists of types, each with `QueryRoot` as its root of queries, the checks of
+//! Sample schemas for tests and programs: lists of types with the query root `QueryRoot`, the checks of
 //! their values, and documents that are built in code.
 #![tactic(auto)]
 

@@ -111,7 +111,11 @@ const ROOTS: [ObjectRow; 2] = [
     ),
 ];
 
-/// Dogs, cats and humans, with arguments of every kind.
+/// The types of dogs, cats and humans, with arguments of every kind.
+///
+/// # Errors
+///
+/// Out of memory.
 pub fn types(alloc: Global, checks: Checks) -> Result<Vec<MetaType>, OutOfMemory> {
     let mut types = with_int(alloc, checks.string, checks.boolean, checks.int)?;
     types.push(dog_command(alloc, checks.dog_command)?)?;

@@ -1,4 +1,4 @@
-//! Types as rows of tables, whose fields' types are written as in a document.
+//! Types as rows of tables; the types of their fields are written as in a document.
 use crate::build::{ArgumentMeta, FieldMeta, interface, object, own_fields, union_of};
 use language::error::OutOfMemory;
 use language::types::Type;
@@ -7,16 +7,16 @@ use meta::default_check::DefaultCheck;
 use meta::{Argument, Field, InputObjectMetaOf, MetaType};
 use std::alloc::Global;
 
-/// An argument or an input field: its name and its type, behind which ` = 0` may stand.
+/// An argument or an input field: its name and its type, which ` = 0` may follow.
 pub type ArgumentRow = (&'static str, &'static str);
 
 /// A field: its name, its type and its arguments.
 pub type FieldRow = (&'static str, &'static str, &'static [ArgumentRow]);
 
-/// An object: its name, its interfaces, and its fields behind `__typename`.
+/// An object: its name, its interfaces, and its fields after `__typename`.
 pub type ObjectRow = (&'static str, &'static [&'static str], &'static [FieldRow]);
 
-/// An interface: its name, and its fields behind `__typename`.
+/// An interface: its name, and its fields after `__typename`.
 pub type InterfaceRow = (&'static str, &'static [FieldRow]);
 
 /// A union: its name and its members.
@@ -29,7 +29,11 @@ fn named(alloc: Global, text: &str) -> Result<Type, OutOfMemory> {
     }
 }
 
-/// The type that is written so, with one list at most.
+/// The type that this text denotes, with one list at most.
+///
+/// # Errors
+///
+/// Out of memory.
 pub fn written(alloc: Global, text: &str) -> Result<Type, OutOfMemory> {
     let Some(rest) = text.strip_prefix("[") else {
         return named(alloc, text);
@@ -60,7 +64,11 @@ fn arguments(alloc: Global, rows: &[ArgumentRow]) -> Result<Vec<ArgumentMeta>, O
     Ok(arguments)
 }
 
-/// A field.
+/// A field with its arguments.
+///
+/// # Errors
+///
+/// Out of memory.
 pub fn field(alloc: Global, row: &FieldRow) -> Result<FieldMeta, OutOfMemory> {
     let mut field = Field::new(alloc, row.0, written(alloc, row.1)?)?;
     if !row.2.is_empty() {
@@ -78,6 +86,10 @@ fn fields(alloc: Global, rows: &[FieldRow]) -> Result<Vec<FieldMeta>, OutOfMemor
 }
 
 /// Appends objects.
+///
+/// # Errors
+///
+/// Out of memory.
 pub fn add_objects(
     alloc: Global,
     types: &mut Vec<MetaType>,
@@ -90,6 +102,10 @@ pub fn add_objects(
 }
 
 /// Appends interfaces.
+///
+/// # Errors
+///
+/// Out of memory.
 pub fn add_interfaces(
     alloc: Global,
     types: &mut Vec<MetaType>,
@@ -102,6 +118,10 @@ pub fn add_interfaces(
 }
 
 /// Appends unions.
+///
+/// # Errors
+///
+/// Out of memory.
 pub fn add_unions(
     alloc: Global,
     types: &mut Vec<MetaType>,
@@ -113,7 +133,11 @@ pub fn add_unions(
     Ok(())
 }
 
-/// An input object.
+/// An input object with these fields.
+///
+/// # Errors
+///
+/// Out of memory.
 pub fn input_object(
     alloc: Global,
     name: &str,

@@ -98,7 +98,7 @@ module _ {T : Type 0} (name_of : T → Option (List ℕ)) where
   find-called [] n h = cc
   find-called (t ∷ ts) n h = find_step (is_called name_of n t) t (find (is_called name_of n) ts) (list_any (is_called name_of n) ts) h (find-called ts n)
 
--- nothing but want of memory is true of an accepted list
+-- only out of memory applies to an accepted list
 pub accepted-memory : {S C : Type 0} (roots : Roots) (ts : List (MetaTypeOf S C)) → IsAccepted roots ts → (r : SchemaError) → IsTrueRefusal roots ts r → r ≡ e.OutOfMemory
 accepted-memory roots ts a e.OutOfMemory h = refl
 accepted-memory roots ts a (e.MissingRoot n) h = let listed : is_listed ts (string_bytes n) ≡ true = all-at (is_listed ts) (root_names roots) (string_bytes n) a.roots_listed h.0 in let not_listed : is_listed ts (string_bytes n) ≡ false = h.1 in cc

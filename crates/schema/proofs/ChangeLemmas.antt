@@ -120,7 +120,7 @@ module _ {S : Type 0} (p : List ℕ → Bool) (d : DirectiveType S) (new : list_
       let rest = all-back p (directive_types x) (directive_inputs xs) h in
       inputs_step (is_called directive_name (string_bytes d.name) x) x xs here rest (inputs-with xs rest)
 
--- nothing but want of memory is true of a directive whose arguments all have input types
+-- only out of memory applies to a directive whose arguments all have input types
 module _ {S C : Type 0} (ts : List (MetaTypeOf S C)) (ns : List (List ℕ)) (input : list_all (is_input_listed ts) ns ≡ true) where
   listed : list_all (is_listed ts) ns ≡ true
   listed = inputs-listed ts ns input

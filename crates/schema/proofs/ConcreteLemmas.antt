@@ -1,4 +1,4 @@
--- The metadata that a type with nothing round it is.
+-- The metadata of a type without modifiers.
 use Rattle.std.proofs.Common.{◌≡◌, Some, Option, option_map, Bor, sym, ap, ◌∙◌}
 use Rattle.meta.specs.declared.kinds.MetaTypeOf.{MetaTypeOf}
 use Rattle.schema.specs.declared.model.types.TypeTypeOf.{out-roll-TypeTypeOf}

@@ -18,7 +18,7 @@ use Rattle.schema.proofs.PossibleLemmas.{or-false}
 use Rattle.schema_validation.proofs.Refusals.{any-count}
 
 module _ {T : Type 0} (name_of : T → Option (List ℕ)) where
-  -- where each name stands at most once, no other entry has the first one's name
+  -- if each name occurs at most once, no other entry has the name of the first
   alone : (o : Option (List ℕ)) (t : T) (ts : List T) → name_of t ≡ o → ((n : List ℕ) → count_by (is_called name_of n) (t ∷ ts) ≤ 1) → option_map_or (λ n. not (is_any_called name_of ts n)) o true ≡ true
   alone None t ts e few = refl
   alone (Some n) t ts e few = go (is_any_called name_of ts n) refl

@@ -1,4 +1,4 @@
--- Which names stand below which.
+-- Which names are subtypes of which.
 use Rattle.std.proofs.Common.{◌≡◌, ℕ, List, [], ◌∷◌, Bool, true, false, cond, ◌&&◌, ◌||◌, Option, Some, None, is_some, ◌<◌, zero, suc, length, get_or, arith, map, string_bytes, refl, subst, sym, ◌∙◌}
 use Rattle.std.specs.Prelude.{find, Contains}
 use Rattle.std.specs.List.{flat_map, list_any}

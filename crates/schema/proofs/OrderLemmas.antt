@@ -50,7 +50,7 @@ module _ {S C : Type 0} (vs : List (TypeTypeOf S C)) (rs : List (Bor (MetaTypeOf
   plain_parts [] = refl
   plain_parts (q ∷ qs) = ap (λ l. q.now ∷ l) (plain_parts qs)
 
-  -- the metadata of types with nothing round them
+  -- the metadata of types without modifiers
   pub metas-plain : metas_of vs ≡ map (λ r. r.now) rs
   metas-plain = metas_parts vs ∙ ap (map (λ (w : WrappedMeta S C). w.meta)) plain ∙ plain_parts rs
 

@@ -72,7 +72,7 @@ pub among-option : (o : Option (List ℕ)) (n : List ℕ) → is_among (option_t
 among-option None n = refl
 among-option (Some k) n = or-false (bytes_eq k n)
 
--- the same the other way round
+-- the converse
 pub meet-option : (o : Option (List ℕ)) (ys : List (List ℕ)) → do_meet (option_to_list o) ys ≡ option_map_or (is_among ys) o false
 meet-option None ys = refl
 meet-option (Some k) ys = or-false (is_among ys k)

@@ -12,7 +12,7 @@ use Rattle.schema.specs.Subtype.{is_name_below, IsSubtype, equal, names, both_no
 use Rattle.schema.proofs.NamesBelow.{names-same, names-trans}
 use Rattle.schema.proofs.WrappedLemmas.{outermost-push}
 
--- a name with modifiers round it, outermost first
+-- a name with modifiers, outermost first
 abbrev layered : List ℕ → List TypeModifier → TypeShape
 layered n [] = nullable_named n
 layered n (x ∷ xs) = wrapped_by x (layered n xs)
@@ -35,7 +35,7 @@ list_nullable j u e = let list : outermost (u.modifiers ++ m.List j ∷ []) ≡ 
 name_nullable : (n : List ℕ) → ¬ (IsNonNull (nullable_named n))
 name_nullable n e = cc
 
--- a non-null over a type that is none
+-- a non-null over a type that is not non-null
 over_none : (b : Bool) (xs ns ms : List TypeModifier) → ns ≡ reverse ms → ¬ (outermost ms ≡ Some m.NonNull) → are_layers_below b xs ns ≡ true → are_layers_below b (m.NonNull ∷ xs) ns ≡ true
 over_none b xs [] ms e none h = h
 over_none b xs (m.NonNull ∷ ns) ms e none h = absurd (none (outermost-first ms ns m.NonNull e))

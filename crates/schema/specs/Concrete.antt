@@ -10,7 +10,7 @@ concrete_layer (open_type.Concrete x) = Some x.now
 concrete_layer (open_type.NonNull x) = None
 concrete_layer (open_type.List x n) = None
 
--- The metadata that the type is, and none where a non-null or a list stands round it:
+-- The metadata of a type without modifiers:
 --   concrete_of (Concrete t)  = Some t
 --   concrete_of (NonNull t)   = None
 --   concrete_of (List t size) = None

@@ -1,9 +1,9 @@
--- How the code tests whether modifiers stand below modifiers; both are read from the outside.
+-- The test for subtypes, by modifiers; both lists are read from the outside.
 use Rattle.std.specs.Prelude.{List, [], ◌∷◌, Bool, false}
 use Rattle.language.specs.declared.types.TypeModifier.{TypeModifier}
 use Rattle.language.specs.declared.types.TypeModifier.TheVariants as m
 
--- whether they do, round names that do so or not
+-- whether the types are, if their names are or not
 abbrev pub are_layers_below : Bool → List TypeModifier → List TypeModifier → Bool
 are_layers_below below [] [] = below
 are_layers_below below [] (n ∷ ns) = false

@@ -22,6 +22,7 @@ module _ {S C : Type 0} where
   abbrev pub is_implementer : List ℕ → MetaTypeOf S C → Bool
   is_implementer interface t = is_object_meta t && is_among (interfaces_of t) interface
 
+  -- the names of the objects that list the interface
   abbrev pub implementer_names : List ℕ → List (MetaTypeOf S C) → List (List ℕ)
   implementer_names interface ts = filter_map name_of_meta (filter (is_implementer interface) ts)
 
@@ -39,6 +40,7 @@ module _ {S C : Type 0} where
   abbrev pub is_possible_for : List (MetaTypeOf S C) → MetaTypeOf S C → MetaTypeOf S C → Bool
   is_possible_for ts t u = option_map_or (is_among (possible_names ts t)) (name_of_meta u) false
 
+  -- both have a name, and it is one name
   abbrev pub have_one_name : MetaTypeOf S C → MetaTypeOf S C → Bool
   have_one_name t u = option_map_or (λ n. is_named n u) (name_of_meta t) false
 

@@ -1,4 +1,4 @@
--- The types of a schema: metadata, with the modifiers that stand round it.
+-- The types of a schema: metadata with modifiers.
 use Rattle.std.specs.Prelude.{List, [], ◌∷◌, ◌++◌, Option, Some, None, option_map, reverse, unwrap_or}
 use Rattle.language.specs.declared.types.TypeModifier.{TypeModifier}
 use Rattle.language.specs.declared.types.TypeModifier.TheVariants as m
@@ -9,27 +9,27 @@ use Rattle.schema.specs.declared.model.types.TypeTypeOf.TheFolds.{fold-TypeTypeO
 use Rattle.schema.specs.declared.model.types.TypeTypeOf.TheOpen as open_type
 use Rattle.meta.specs.Kinds.{name_of_meta}
 
--- Metadata, and the modifiers round it, innermost first.
+-- Metadata and its modifiers, innermost first.
 pub record WrappedMeta (S C : Type 0) : Type 0 where
   pub meta : MetaTypeOf S C
   pub modifiers : List TypeModifier
 
--- what stands in the list, where a list is outermost but for non-nulls; the modifiers are outermost first
+-- the modifiers of the items, if a list is outermost apart from non-nulls; they are read from the outside
 abbrev pub modifiers_of_items : List TypeModifier → Option (List TypeModifier)
 modifiers_of_items [] = None
 modifiers_of_items (m.NonNull ∷ ms) = modifiers_of_items ms
 modifiers_of_items (m.List size ∷ ms) = Some ms
 
 module _ {S C : Type 0} where
-  -- metadata with nothing round it
+  -- metadata without modifiers
   abbrev pub plain_meta : MetaTypeOf S C → WrappedMeta S C
   plain_meta t = record { meta = t; modifiers = [] }
 
-  -- one modifier more, as the outermost
+  -- one more modifier, as the outermost
   abbrev pub wrap_meta : TypeModifier → WrappedMeta S C → WrappedMeta S C
   wrap_meta m w = record { meta = w.meta; modifiers = w.modifiers ++ m ∷ [] }
 
-  -- one level of a type, what stands in it read already
+  -- one level of a type, with the inner type already read
   abbrev pub wrapped_layer : open_type.TypeTypeOf-F S C (WrappedMeta S C) → WrappedMeta S C
   wrapped_layer (open_type.Concrete x) = plain_meta x.now
   wrapped_layer (open_type.NonNull x) = wrap_meta m.NonNull x.value
@@ -42,10 +42,10 @@ module _ {S C : Type 0} where
   abbrev pub wrapped_of : TypeTypeOf S C → WrappedMeta S C
   wrapped_of = fold-TypeTypeOf S C (WrappedMeta S C) wrapped_layer
 
-  -- the items of a list, where one is outermost but for non-nulls
+  -- the type of the items, if a list is outermost apart from non-nulls
   abbrev pub items_of : WrappedMeta S C → Option (WrappedMeta S C)
   items_of w = option_map (λ ms. record { meta = w.meta; modifiers = reverse ms }) (modifiers_of_items (reverse w.modifiers))
 
-  -- the name of the metadata, and nothing where it has none, with the modifiers
+  -- the name of the metadata, or the empty text, with the modifiers
   abbrev pub wrapped_shape : WrappedMeta S C → TypeShape
   wrapped_shape w = record { name = unwrap_or (name_of_meta w.meta) []; modifiers = w.modifiers }

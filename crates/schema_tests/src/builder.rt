@@ -1,4 +1,4 @@
-//! Lists that are accepted, with the roots of their schemas, and lists that are refused: the samples as they are and changed.
+//! Lists that are accepted, with the roots of their schemas, and lists that are refused.
 use crate::said::{refusal, says};
 use crate::schemas::{Schema, demo_types, input_check, pets_types, schema_of};
 use language::error::OutOfMemory;
@@ -12,10 +12,10 @@ use schema::model::TypeType;
 use std::alloc::{AllocError, Global};
 use std::process::Abort;
 
-/// What is added to a list; four kinds name another type.
+/// What is added to a list; four kinds refer to another type.
 enum More {
     Nothing,
-    /// A list, which is no type of a name.
+    /// A list type, which has no name.
     List,
     /// An object `Dog` with a name.
     Dog,
@@ -39,8 +39,9 @@ enum Sample {
     Pets,
 }
 
-/// The list, the type that is left out of it, what is added, of which type, the names of the roots, and what the builder says: the
-/// refusal, or the roots of the schema. The rows are flat, since one that is built of parts is dear to prove.
+/// The list, the type that is left out, what is added, for which type, the names of the three roots, and
+/// the result: the error, or the roots of the schema. The rows are flat, since nested ones are expensive
+/// to prove.
 type Row = (
     Sample,
     &'static str,
@@ -320,7 +321,7 @@ fn add_friends(alloc: Global, types: &mut Vec<MetaType>) -> Result<(), OutOfMemo
     add_unions(alloc, types, &[("Friends", &["Friend"])])
 }
 
-/// Adds it to the list.
+/// Adds this to the list.
 fn add(
     alloc: Global,
     types: &mut Vec<MetaType>,
@@ -352,7 +353,7 @@ fn changed(rt: &impl Abort, alloc: Global, row: &Row) -> Vec<MetaType> {
     types
 }
 
-/// Adds the root's name, as its type prints, and a blank.
+/// Appends the printed root and a space.
 fn add_type(rt: &impl Abort, text: &mut String, root: Option<TypeType<'_, DefaultScalarValue>>) {
     match root {
         Some(root) => write!(text, "{root} ").expect(rt, "memory"),
@@ -360,7 +361,7 @@ fn add_type(rt: &impl Abort, text: &mut String, root: Option<TypeType<'_, Defaul
     }
 }
 
-/// The roots, as their types print.
+/// The printed roots.
 fn types_of_roots(rt: &impl Abort, alloc: Global, schema: &Schema) -> String {
     let mut text = String::new(alloc);
     add_type(rt, &mut text, Some(schema.query_type()));
@@ -384,7 +385,7 @@ fn names_of_roots(alloc: Global, schema: &Schema) -> Result<String, AllocError> 
     format!(in alloc; "{query} {mutation} {subscription} ")
 }
 
-/// The schema has these roots.
+/// Asserts that the schema has these roots.
 fn has_roots(rt: &impl Abort, alloc: Global, schema: &Schema, want: &str) {
     says(rt, Ok(types_of_roots(rt, alloc, schema)), want);
     says(rt, names_of_roots(alloc, schema), want);

@@ -1,4 +1,4 @@
-//! Changes of the schema `pets`.
+//! Changes to the schema `pets`.
 use crate::relations::directive_names;
 use crate::said::{refusal, says, words};
 use crate::schemas::{Schema, pets_schema};
@@ -13,20 +13,20 @@ use std::process::Abort;
 
 type Directive = DirectiveType<DefaultScalarValue>;
 
-/// What is done with the schema, or asked of it.
+/// What to do with the schema.
 enum Step {
     /// A directive `flag` with an argument of the type is added.
     AddFlag,
     /// A directive `skip` without arguments is added.
     AddSkip,
-    /// How many arguments `skip` has.
+    /// The number of arguments of `skip`.
     SkipArguments,
     DirectiveList,
     SetDescription,
     Description,
 }
 
-/// Steps one after another, each with its type or its text, and what comes of it.
+/// Steps in sequence, each with its type or its text, and its result.
 const STEPS: [(Step, &str, &str); 15] = [
     (Step::AddFlag, "Dog", "NotInputType(\"Dog\")"),
     (
@@ -72,7 +72,7 @@ fn bare_skip(alloc: Global) -> Result<Directive, OutOfMemory> {
     DirectiveType::new(alloc, "skip", Vec::new(alloc), Vec::new(alloc), false)
 }
 
-/// What comes of a change.
+/// The result of a change.
 fn outcome(alloc: Global, change: Result<(), SchemaError>) -> Result<String, AllocError> {
     match change {
         Ok(()) => words(alloc, "done"),

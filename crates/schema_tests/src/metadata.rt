@@ -1,4 +1,4 @@
-//! Metadata: each call that takes memory, by what it shows.
+//! Metadata: each call that allocates, by its result.
 use crate::builder::one_type;
 use crate::said::{says, words};
 use language::types::Type;
@@ -31,14 +31,14 @@ fn described_field(rt: &impl Abort, alloc: Global) -> FieldMeta {
     once.description("second").expect(rt, "memory")
 }
 
-/// A field of which everything was set, the description and the argument twice.
+/// A field with everything set, the description and the argument twice.
 fn full_field(rt: &impl Abort, alloc: Global) -> FieldMeta {
     let once = with_x(rt, alloc, described_field(rt, alloc), "String");
     let twice = with_x(rt, alloc, once, "Int");
     twice.deprecated(Some("old")).expect(rt, "memory")
 }
 
-/// An argument of which everything was set.
+/// An argument with everything set.
 fn full_argument(rt: &impl Abort, alloc: Global) -> Argument<DefaultScalarValue> {
     let plain = argument(alloc, "x", "Int").expect(rt, "memory");
     let one = InputValue::Scalar(DefaultScalarValue::Int(1));
@@ -48,7 +48,7 @@ fn full_argument(rt: &impl Abort, alloc: Global) -> Argument<DefaultScalarValue>
         .default_value(one)
 }
 
-/// An enum value of which everything was set.
+/// An enum value with everything set.
 fn full_value(rt: &impl Abort, alloc: Global) -> EnumValue {
     let plain = EnumValue::new(alloc, "SIT").expect(rt, "memory");
     plain
@@ -116,7 +116,7 @@ fn union_of_beings(rt: &impl Abort, alloc: Global) -> MetaType {
         .into_meta()
 }
 
-/// The metadata has this name, this description and this address.
+/// Asserts that the metadata has this name, this description and this URL.
 fn shows(rt: &impl Abort, alloc: Global, meta: MetaType, want: &str) {
     let name = meta.name().unwrap_or("none");
     let description = meta.description().unwrap_or("none");
@@ -144,7 +144,7 @@ fn argument_text(alloc: Global, made: &Argument<DefaultScalarValue>) -> Result<S
     }
 }
 
-/// What the field `x` of the input object shows.
+/// The texts of the field `x` of the input object.
 fn input_text(alloc: Global, meta: &MetaType) -> Result<String, AllocError> {
     match meta.input_field_by_name("x") {
         Some(field) => argument_text(alloc, field),
@@ -178,7 +178,7 @@ fn every_kind_is_made(rt: HostRuntime) {
     );
 }
 
-/// The type of the metadata prints so.
+/// Asserts that the type of the metadata prints this text.
 fn prints(rt: &impl Abort, alloc: Global, meta: MetaType, want: &str) {
     let made = meta.as_type(alloc).expect(rt, "memory");
     says(rt, made.to_string(alloc), want);
@@ -197,7 +197,7 @@ fn types_are_printed(rt: HostRuntime) {
     prints(&rt, alloc, nullable, "Int");
 }
 
-/// The name, the description, how many arguments there are, and why the field is deprecated.
+/// The name, the description, the number of arguments, and the reason of the deprecation.
 fn field_text(alloc: Global, field: &FieldMeta) -> Result<String, AllocError> {
     let arguments = match &field.arguments {
         Some(list) => list.len(),
@@ -252,7 +252,7 @@ fn copies_are_the_same(rt: HostRuntime) {
     assert_eq!(rt; copy, old);
 }
 
-/// What the check says of null.
+/// The answer of the check to null.
 fn said_by(alloc: Global, check: &DefaultCheck) -> Result<String, AllocError> {
     match <DefaultScalarValue as CheckedScalar>::run_check(check, alloc, &InputValue::Null) {
         Ok(()) => words(alloc, "accepted"),
@@ -260,7 +260,7 @@ fn said_by(alloc: Global, check: &DefaultCheck) -> Result<String, AllocError> {
     }
 }
 
-/// What the check of the scalar says of null.
+/// The answer of the check of the scalar to null.
 fn said_of_null(alloc: Global, meta: &MetaType) -> Result<String, AllocError> {
     match meta.input_value_parse_fn() {
         Some(check) => said_by(alloc, check),

@@ -1,11 +1,11 @@
-//! What places of directives and refusals print.
+//! The printed forms of directive locations and errors.
 use crate::said::{says, words};
 use schema::error::SchemaError;
 use schema::model::DirectiveLocation;
 use std::alloc::Global;
 use std::process::Abort;
 
-/// Each place, and its words.
+/// Each location, and its printed form.
 const PLACES: [(DirectiveLocation, &str); 11] = [
     (DirectiveLocation::Query, "query"),
     (DirectiveLocation::Mutation, "mutation"),
@@ -30,7 +30,7 @@ fn places_are_printed_in_words(rt: HostRuntime) {
     }
 }
 
-/// What the refusal prints is the text.
+/// Asserts that the error prints this text.
 fn tells(rt: &impl Abort, alloc: Global, refused: SchemaError, text: &str) {
     says(rt, refused.to_string(alloc), text);
 }

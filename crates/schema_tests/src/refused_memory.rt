@@ -1,4 +1,4 @@
-//! Each request for memory refused in turn, from metadata to answers of a schema.
+//! Each allocation failing in turn, from metadata to calls of a schema.
 use crate::schemas::{Schema, demo_types, schema_of_queries};
 use language::error::OutOfMemory;
 use language::types::Type;
@@ -10,11 +10,11 @@ use schema::model::{DirectiveType, TypeType};
 use std::alloc::{AllocError, Global};
 use std::process::Abort;
 
-/// How many types and how many directives there are, how many types may stand for the union, and how long the printed form of a copy
-/// of `[Dog!]` is.
+/// The number of types, of directives, and of possible types of the union, and the length of a printed copy
+/// of `[Dog!]`.
 type Counts = (usize, usize, usize, usize);
 
-/// How many types may stand for the union.
+/// The number of possible types of the union.
 fn count_of_members(alloc: Global, schema: &Schema) -> Result<usize, OutOfMemory> {
     match schema.concrete_type_by_name("Pets") {
         Some(meta) if meta.is_abstract() => Ok(schema.possible_types(alloc, meta)?.len()),
@@ -33,7 +33,7 @@ fn length_of_copy(
     length(alloc, &made.clone()?)
 }
 
-/// How long the printed form of a copy of the type is.
+/// The length of a printed copy of the type.
 fn length_of_made(alloc: Global, schema: &Schema, named: &Type) -> Result<usize, OutOfMemory> {
     if !schema.is_known(named.innermost_name()) {
         return Ok(0);
@@ -55,7 +55,7 @@ fn count_of_directives(alloc: Global, schema: &Schema) -> Result<usize, OutOfMem
     Ok(schema.directive_list(alloc)?.len())
 }
 
-/// What the calls that take memory say of a schema.
+/// The results of the calls of a schema that allocate.
 fn counts(alloc: Global, schema: &Schema) -> Result<Counts, OutOfMemory> {
     let types = count_of_types(alloc, schema)?;
     let directives = count_of_directives(alloc, schema)?;
@@ -70,7 +70,8 @@ fn add_flag(alloc: Global, schema: &mut Schema) -> Result<(), SchemaError> {
     schema.add_directive(flag?)
 }
 
-/// The same with the directive `flag` and a description added; where they are refused, the schema still has its four directives.
+/// The same with the directive `flag` and a description added. If that fails, the schema still has its
+/// four directives.
 fn counts_of_changed(
     rt: &impl Abort,
     alloc: Global,
@@ -103,7 +104,7 @@ fn counts_with_dogs(rt: &impl Abort, alloc: Global) -> Result<Counts, SchemaErro
     counts_of_changed(rt, alloc, &mut schema)
 }
 
-/// Run with each request for memory refused in turn, the answer is the same or tells of the refusal.
+/// Run with each allocation failing in turn: the result is the same, or out of memory.
 #[test]
 fn a_refused_request_changes_no_answer(rt: HostRuntime) {
     match counts_with_dogs(&rt, rt.alloc()) {

@@ -1,4 +1,4 @@
-//! Questions to the schema `pets`, each with its answer as a text.
+//! Queries of the schema `pets`, each with its result as a text.
 use crate::said::{says, words};
 use crate::schemas::{Schema, pets_schema};
 use language::types::Type;
@@ -11,7 +11,7 @@ use std::process::Abort;
 
 type Shown<'a> = TypeType<'a, DefaultScalarValue>;
 
-/// What a schema is asked, of the types of the row. They are named, or written as in a document.
+/// What to call with the types of the row, which are names or references to types.
 enum Question {
     TypeList,
     ConcreteTypeList,
@@ -23,20 +23,20 @@ enum Question {
     IsNamedSubtype,
     /// Whether `[Int]` of size 2 is a subtype of `[Int]` of size 3.
     IsSizedSubtype,
-    /// What the type prints that is made.
+    /// The printed form of the type that `make_type` makes.
     MakeType,
-    /// What a copy of it prints.
+    /// The printed form of a copy of it.
     CopyOf,
-    /// What the type of its items prints.
+    /// The printed form of the type of its items.
     ListContents,
-    /// The innermost type, and whether the type that is made is never null and has nothing round it.
+    /// The innermost type, whether the type is non-null, and whether it has no modifiers.
     MadeOf,
 }
 
-/// A question, the types that it is asked of, and its answer. The rows are flat, since one that is built of parts is dear to prove.
+/// A question, its types, and the result. The rows are flat, since nested ones are expensive to prove.
 type Row = (Question, &'static str, &'static str, &'static str);
 
-/// Lists of types and of directives, what may be what, and types that are made.
+/// Lists of types and directives, possible types, subtypes, and types that are made.
 const QUESTIONS: [Row; 25] = [
     (
         Question::TypeList,
@@ -80,7 +80,7 @@ const QUESTIONS: [Row; 25] = [
     (Question::MadeOf, "Int", "", "Int false true"),
 ];
 
-/// The names, each followed by a blank.
+/// The names, each followed by a space.
 fn joined(rt: &impl Abort, alloc: Global, metas: Vec<&MetaType>) -> String {
     let mut text = String::new(alloc);
     for meta in &metas {
@@ -98,7 +98,7 @@ fn concrete_names(rt: &impl Abort, alloc: Global, schema: &Schema) -> String {
     )
 }
 
-/// What the types print, each followed by a blank.
+/// The printed types, each followed by a space.
 fn types_printed(rt: &impl Abort, alloc: Global, schema: &Schema) -> String {
     let mut text = String::new(alloc);
     let types: Vec<Shown<'_>> = schema.type_list(alloc).expect(rt, "memory");
@@ -108,7 +108,7 @@ fn types_printed(rt: &impl Abort, alloc: Global, schema: &Schema) -> String {
     text
 }
 
-/// The names of the directives, each followed by a blank.
+/// The names of the directives, each followed by a space.
 pub fn directive_names(rt: &impl Abort, alloc: Global, schema: &Schema) -> String {
     let mut text = String::new(alloc);
     let list = schema.directive_list(alloc).expect(rt, "memory");
@@ -119,7 +119,7 @@ pub fn directive_names(rt: &impl Abort, alloc: Global, schema: &Schema) -> Strin
     text
 }
 
-/// The names of what the interface or the union of the name may be.
+/// The names of the possible types of the interface or union of this name.
 fn possible_names(rt: &impl Abort, alloc: Global, schema: &Schema, name: &str) -> String {
     match schema.concrete_type_by_name(name) {
         Some(meta) if meta.is_abstract() => {
@@ -133,7 +133,7 @@ fn possible_names(rt: &impl Abort, alloc: Global, schema: &Schema, name: &str) -
     }
 }
 
-/// Whether the interface or the union of the one name may be the type of the other.
+/// Whether the second name is that of a possible type of the first.
 fn may_be(schema: &Schema, abstract_name: &str, name: &str) -> Option<bool> {
     let abstract_type = schema.concrete_type_by_name(abstract_name)?;
     let possible_type = schema.concrete_type_by_name(name)?;
@@ -149,14 +149,14 @@ fn do_overlap(schema: &Schema, first: &str, second: &str) -> Option<bool> {
     Some(schema.type_overlap(first, second))
 }
 
-/// Whether the one type, as it is written, is a subtype of the other.
+/// Whether one type is a subtype of the other, by references to types.
 fn is_below(rt: &impl Abort, alloc: Global, schema: &Schema, sub: &str, super_type: &str) -> bool {
     let sub = written(alloc, sub).expect(rt, "memory");
     let super_type = written(alloc, super_type).expect(rt, "memory");
     schema.is_subtype(sub.as_borrowed(), super_type.as_borrowed())
 }
 
-/// `[Int]` of this size.
+/// `[Int]` with this expected size.
 fn sized(rt: &impl Abort, alloc: Global, size: usize) -> Type {
     let item = Type::nullable(alloc, "Int").expect(rt, "memory");
     item.wrap_list(Some(size)).expect(rt, "memory")
@@ -185,7 +185,7 @@ fn parts_printed(alloc: Global, made: &Shown<'_>) -> Result<String, AllocError> 
     format!(in alloc; "{name} {is_non_null} {is_bare}")
 }
 
-/// The answer to a question on a type that is made.
+/// The result for a question about a type that is made.
 fn answer_on_made(
     rt: &impl Abort,
     alloc: Global,
@@ -200,7 +200,7 @@ fn answer_on_made(
     }
 }
 
-/// The same of a type that is made of a written one.
+/// The same for a type that is made from a reference to a type.
 fn answer_on_written(
     rt: &impl Abort,
     alloc: Global,
@@ -223,7 +223,7 @@ fn shown(answer: Option<bool>) -> &'static str {
     }
 }
 
-/// Whether the one may be the other, is it in part, or is below it.
+/// Whether two types are related as the question asks.
 fn relation(rt: &impl Abort, alloc: Global, schema: &Schema, row: &Row) -> Option<bool> {
     match row.0 {
         Question::IsPossibleType => may_be(schema, row.1, row.2),

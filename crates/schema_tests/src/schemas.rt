@@ -1,4 +1,4 @@
-//! The schemas of the sample lists, with one check for every type.
+//! The schemas of the sample lists, with the same check for every type.
 use language::error::OutOfMemory;
 use language::value::DefaultScalarValue;
 use meta::MetaType;
@@ -41,7 +41,8 @@ pub fn pets_types(alloc: Global) -> Result<Vec<MetaType>, OutOfMemory> {
     pets::types(alloc, checks())
 }
 
-/// The schema of a list with these roots, or why it is refused. All tests make theirs here, since a call of the builder is dear to prove.
+/// The schema of a list with these roots, or why it is refused. All tests call this function, since a
+/// call of the builder is expensive to prove.
 pub fn schema_of(
     alloc: Global,
     types: Vec<MetaType>,
@@ -52,7 +53,7 @@ pub fn schema_of(
     Schema::new(alloc, types, query, mutation, subscription)
 }
 
-/// The same with queries alone.
+/// The same with the query root alone.
 pub fn schema_of_queries(alloc: Global, types: Vec<MetaType>) -> Result<Schema, SchemaError> {
     schema_of(
         alloc,

@@ -1,4 +1,4 @@
-//! Input objects of few and of many fields: each key finds the first field of its name.
+//! Input objects with few and with many fields: a look-up finds the first field of a name.
 use crate::said::{says, words};
 use crate::schemas::{Schema, input_check, pets_types, schema_of_queries};
 use language::value::DefaultScalarValue;
@@ -7,7 +7,7 @@ use samples::build::argument;
 use std::alloc::{AllocError, Global};
 use std::process::Abort;
 
-/// Fields whose names stand in no order; some names stand again, each with another text.
+/// Fields in no order; some names repeat, each time with another description.
 const MIXED: [(&str, &str); 9] = [
     ("m", "first"),
     ("b", "second"),
@@ -20,7 +20,7 @@ const MIXED: [(&str, &str); 9] = [
     ("m", "ninth"),
 ];
 
-/// How many names the fields have that are numbered.
+/// The number of distinct names of the numbered fields.
 const NAMES: usize = 40;
 
 type InputField = Argument<DefaultScalarValue>;
@@ -33,14 +33,14 @@ fn described(rt: &impl Abort, alloc: Global, name: &str, text: &str) -> InputFie
         .expect(rt, "memory")
 }
 
-/// A field of this number, whose description tells its place.
+/// A field of this number, whose description contains its index.
 fn numbered(rt: &impl Abort, alloc: Global, number: usize, place: usize) -> InputField {
     let name = format!(in alloc; "f{number}").expect(rt, "memory");
     let text = format!(in alloc; "at {place}").expect(rt, "memory");
     described(rt, alloc, name.as_str(), text.as_str())
 }
 
-/// The first of the mixed fields, so many.
+/// The first `count` of the mixed fields.
 fn mixed(rt: &impl Abort, alloc: Global, count: usize) -> Vec<InputField> {
     let mut fields = Vec::new(alloc);
     for (name, text) in &MIXED[..count.min(MIXED.len())] {
@@ -72,7 +72,7 @@ fn schema_with(rt: &impl Abort, alloc: Global, fields: Vec<InputField>) -> Schem
     schema_of_queries(alloc, types).expect(rt, "a schema")
 }
 
-/// The key and the description of the field that it finds in a type.
+/// The key and the description of the field that the look-up finds.
 fn found(alloc: Global, schema: &Schema, name: &str, key: &str) -> Result<String, AllocError> {
     let Some(meta) = schema.concrete_type_by_name(name) else {
         return words(alloc, "no type");

@@ -62,7 +62,7 @@ module _ {T : Type 0} (name_of : T → Option (List ℕ)) (m : T) (n : List ℕ)
       let q = and_parts (option_map_or (λ k. not (is_any_called name_of (ys ++ m ∷ zs) k)) (name_of y) true) (are_distinct name_of (ys ++ m ∷ zs)) h in
       ap (λ b. cond b (Some y) (find (is_called name_of n) ys)) (other (name_of y) ys zs q.0) ∙ find-distinct ys zs q.1
 
--- in a list of distinct names, what stands before an entry has another name
+-- in a list of distinct names, an earlier entry has another name
 pub lookup-distinct : {T : Type 0} (name_of : T → Option (List ℕ)) (m : T) (es : List (String Global × T)) (ys zs : List T) (o : Option (List ℕ)) → name_of m ≡ o → are_keyed name_of es ≡ true → map (λ e. e.1) es ≡ ys → are_distinct name_of (ys ++ m ∷ zs) ≡ true → IfSome o (λ n. lookup (λ k. bytes_eq n (string_bytes k)) es ≡ None)
 lookup-distinct name_of m es ys zs None named keyed same h = tt
 lookup-distinct name_of m es ys zs (Some n) named keyed same h =

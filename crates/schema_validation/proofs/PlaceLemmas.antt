@@ -129,7 +129,7 @@ module _ (names : List (List ℕ)) (name : List ℕ) where
       never_false (is_less (get_or places i d))
       (λ f. let g = by_words.chain (name_at names (get_or places j d)) (name_at names (get_or places i d)) name (sorted_far (is_below names) (below_orders names) places up i j d le lt) f in cc)
 
-  -- where a search ends whose closure tells the lesser names
+  -- where a search ends whose closure picks the lesser names
   pub point_of : {F : Type 0} {g : Mut F (Bor ℕ × Unit {0}) Bool} {f : F} (places : List ℕ) (i : ℕ)
       → ((q : ℕ → Bool) → ComputesKey g q f → IsPartitionedBy q places → IsPartitionPoint (λ y. q y ≡ true) (λ y. q y ≡ false) places i)
       → AreAscending names places → ((a : Bor ℕ × Unit {0}) (r : Bool) (f' : F) → Called g f a r f' → (r ≡ is_less a.0.now) × (f' ≡ f))
@@ -158,7 +158,7 @@ module _ (names : List (List ℕ)) (name : List ℕ) where
     pub none_left : length places ≤ at → first_place name names ≡ None
     none_left over = from_point ∙ none_found (is_at names name) (drop at places) (λ k d l. let rest = length-drop at places in absurd (omega (arith, rest, l, over)))
 
-    -- the name stands at the place
+    -- the name is at the index
     pub found_there : (y : ℕ) → at < length places → get_or places at y ≡ y → is_at names name y ≡ true → first_place name names ≡ Some y
     found_there y here is same =
         from_point ∙ ap (find (is_at names name)) (drop-cons places at y here ∙ ap (λ z. z ∷ drop (suc at) places) is)
@@ -172,7 +172,7 @@ module _ (names : List (List ℕ)) (name : List ℕ) where
         let both : (not (is_lt (slice_cmp nat_cmp (name_at names y) name)) && not (is_lt (slice_cmp nat_cmp name (name_at names y)))) ≡ true = (λ i. not (high i) && not (low i)) in
         cc
 
-    -- another name stands there
+    -- another name is there
     pub other_there : (y : ℕ) → at < length places → get_or places at y ≡ y → is_at names name y ≡ false → first_place name names ≡ None
     other_there y here is other =
         from_point
@@ -192,7 +192,7 @@ module _ {X : Type 0} (name_of : X → List ℕ) (name : List ℕ) where
   item_step false x xs o None h = h
   item_step false x xs o (Some i) h = h
 
-  -- the first item of a name stands at the name's first place
+  -- the first item of a name is at the first index of the name
   pub item_at_first : (xs : List X) → find (λ x. bytes_eq (name_of x) name) xs ≡ option_and_then (slice_get xs) (first_place name (map name_of xs))
   item_at_first [] = refl
   item_at_first (x ∷ xs) =
@@ -214,7 +214,7 @@ module _ {X : Type 0} (name_of : X → List ℕ) (name : List ℕ) where
     no_item y here is over true h = sym (slice_get_past xs y over) ∙ from_first (Some y) (found_there (map name_of xs) name places at up first point y here is h)
     no_item y here is over false h = from_first None (other_there (map name_of xs) name places at up first point y here is h)
 
-    -- no item stands at the place
+    -- no item is at the index
     pub ends_nowhere : (y : ℕ) → at < length places → get_or places at y ≡ y → length xs ≤ y → Found None
     ends_nowhere y here is over = no_item y here is over (is_at (map name_of xs) name y) refl
 

@@ -96,7 +96,7 @@ module _ {S C : Type 0} (ts : List (MetaTypeOf S C)) where
   again-None None h = refl
   again-None (Some k) h = alone_step (is_listed ts k) k h
 
-  -- a name that stands again further on stands twice
+  -- a name that occurs again further on occurs twice
   pub twice : (t : MetaTypeOf S C) (n : List ℕ) → Some n ≡ repeated_name t ts → 2 ≤ count_by (is_named n) (t ∷ ts)
   twice t n h =
       let both = again-Some (name_of_meta t) n h in

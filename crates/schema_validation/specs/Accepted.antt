@@ -1,6 +1,7 @@
--- Which lists of types make a schema, and which refusals are true of a list.
+-- Which lists of types make a schema, and when a refusal applies to a list.
 use Rattle.std.specs.Prelude.{◌≡◌, ⊤, ℕ, ◌≤◌, List, [], ◌∷◌, ◌++◌, Bool, true, false, ◌&&◌, Option, Some, None, codes, Contains, count_by, string_bytes, if◌then◌else◌}
 use Rattle.std.specs.List.{list_any, list_all}
+use Rattle.std.specs.Option.{option_to_list}
 use Rattle.std.specs.Str.{bytes_eq}
 use Rattle.schema_validation.specs.declared.error.SchemaError.{SchemaError}
 use Rattle.schema_validation.specs.declared.error.SchemaError.TheVariants as e
@@ -9,7 +10,7 @@ use Rattle.meta.specs.Kinds.{name_of_meta, is_object_meta, is_input_meta}
 use Rattle.schema_validation.specs.Named.{is_called, is_any_called, are_named, are_distinct}
 use Rattle.schema_validation.specs.Names.{all_names, all_inputs, all_members}
 
--- the name of a root, unless it is the name that means none
+-- the name of a root, unless it is the name that means no root
 abbrev pub root_of : List ℕ → List ℕ → Option (List ℕ)
 root_of none name = if bytes_eq name none then None else Some name
 
@@ -18,10 +19,6 @@ mutation_of = root_of (codes "_EmptyMutation")
 
 abbrev pub subscription_of : List ℕ → Option (List ℕ)
 subscription_of = root_of (codes "_EmptySubscription")
-
-abbrev pub listed : Option (List ℕ) → List (List ℕ)
-listed None = []
-listed (Some n) = n ∷ []
 
 -- The names of the three roots of a schema.
 pub record Roots : Type 0 where
@@ -33,10 +30,12 @@ pub record Roots : Type 0 where
 abbrev pub roots_of : List ℕ → List ℕ → List ℕ → Roots
 roots_of query mutation subscription = record { query = query; mutation = mutation_of mutation; subscription = subscription_of subscription }
 
+-- those of the roots that there are
 abbrev pub root_names : Roots → List (List ℕ)
-root_names r = r.query ∷ (listed r.mutation ++ listed r.subscription)
+root_names r = r.query ∷ (option_to_list r.mutation ++ option_to_list r.subscription)
 
 module _ {S C : Type 0} where
+  -- the type has this name
   abbrev pub is_named : List ℕ → MetaTypeOf S C → Bool
   is_named = is_called name_of_meta
 
@@ -62,7 +61,7 @@ module _ {S C : Type 0} where
     pub members_objects : list_all (is_object_listed ts) (all_members ts) ≡ true
     pub inputs_input : list_all (is_input_listed ts) (all_inputs ts) ≡ true
 
-  -- The refusal is true of the list, with its very name.
+  -- The refusal applies to the list, with the name that it carries.
   abbrev pub IsTrueRefusal : Roots → List (MetaTypeOf S C) → SchemaError → Type 0
   IsTrueRefusal roots ts e.OutOfMemory = ⊤
   IsTrueRefusal roots ts (e.MissingRoot n) = Contains (root_names roots) (string_bytes n) × (is_listed ts (string_bytes n) ≡ false)

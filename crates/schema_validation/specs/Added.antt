@@ -1,4 +1,4 @@
--- What a schema adds to a list of types: two fields of the root of queries, and four directives.
+-- What a schema adds to a list of types: two fields of the query root, and four directives.
 use Rattle.std.specs.Prelude.{◌≡◌, ℕ, List, [], ◌∷◌, ◌++◌, Bool, false, Option, Some, None, is_some, codes, map, option_map, string_bytes}
 use Rattle.language.specs.Types.{TypeShape, shape, non_null_named}
 use Rattle.meta.specs.declared.arguments.Argument.{Argument}
@@ -42,11 +42,11 @@ module _ {S : Type 0} where
   abbrev pub directive_shape : DirectiveType S → DirectiveShape
   directive_shape d = record { name = string_bytes d.name; description = option_map string_bytes d.description; locations = d.locations.items; arguments = map argument_shape d.arguments.items; is_repeatable = d.is_repeatable }
 
--- an argument of this name that has to be given a value of this type
+-- an argument of this name and this type, non-null
 abbrev pub required : List ℕ → List ℕ → ArgumentShape
 required name type_name = record { name = name; description = None; arg_type = non_null_named type_name; has_default = false }
 
--- a field of this name that always has a value of this type
+-- a field of this name and this type, non-null
 abbrev pub always : List ℕ → Option (List ArgumentShape) → List ℕ → FieldShape
 always name arguments type_name = record { name = name; description = None; arguments = arguments; field_type = non_null_named type_name; is_deprecated = false }
 
@@ -58,7 +58,7 @@ schema_field = always (codes "__schema") None (codes "__Schema")
 abbrev pub type_field : FieldShape
 type_field = always (codes "__type") (Some (required (codes "name") (codes "String") ∷ [])) (codes "__Type")
 
--- a directive with one argument, which may stand once at a place
+-- a directive with one argument, which may be used once at a location
 abbrev pub with_argument : List ℕ → List DirectiveLocation → List ℕ → List ℕ → DirectiveShape
 with_argument name locations argument type_name = record { name = name; description = None; locations = locations; arguments = required argument type_name ∷ []; is_repeatable = false }
 
@@ -77,14 +77,14 @@ specified_by_shape = with_argument (codes "specifiedBy") (l.Scalar ∷ []) (code
 abbrev pub standard_directives : List DirectiveShape
 standard_directives = conditional (codes "skip") ∷ conditional (codes "include") ∷ deprecated_shape ∷ specified_by_shape ∷ []
 
--- The object has two fields more at its end, and is else the same.
+-- The object has two more fields at its end, and is otherwise the same.
 pub record HasAddedFields {S : Type 0} (old new : ObjectMeta S) : Type 0 where
   pub name : new.name ≡ old.name
   pub description : new.description ≡ old.description
   pub interfaces : new.interface_names ≡ old.interface_names
   pub fields : (f g : Field S) × (new.fields.items ≡ old.fields.items ++ f ∷ g ∷ []) × (field_shape f ≡ schema_field) × (field_shape g ≡ type_field)
 
--- The list has the object of this name with the two fields more, and is else the same.
+-- The object of this name has two more fields, and the list is otherwise the same.
 pub record IsExtended {S C : Type 0} (query : List ℕ) (old new : List (MetaTypeOf S C)) : Type 0 where
   pub before : List (MetaTypeOf S C)
   pub after : List (MetaTypeOf S C)

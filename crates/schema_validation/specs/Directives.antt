@@ -5,6 +5,7 @@ use Rattle.schema_validation.specs.declared.directives.DirectiveType.{DirectiveT
 use Rattle.schema_validation.specs.Names.{argument_type}
 
 module _ {S : Type 0} where
+  -- each directive has a name
   abbrev pub directive_name : DirectiveType S → Option (List ℕ)
   directive_name d = Some (string_bytes d.name)
 

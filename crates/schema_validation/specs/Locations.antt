@@ -3,6 +3,7 @@ use Rattle.std.specs.Prelude.{ℕ, List, codes}
 use Rattle.schema_validation.specs.declared.directives.DirectiveLocation.{DirectiveLocation}
 use Rattle.schema_validation.specs.declared.directives.DirectiveLocation.TheVariants as l
 
+-- the name of a place where directives may stand
 abbrev pub location_words : DirectiveLocation → List ℕ
 location_words l.Query = codes "query"
 location_words l.Mutation = codes "mutation"

@@ -23,6 +23,6 @@ module _ {T : Type 0} (name_of : T → Option (List ℕ)) where
   are_distinct [] = true
   are_distinct (t ∷ ts) = option_map_or (λ n. not (is_any_called ts n)) (name_of t) true && are_distinct ts
 
-  -- each stands under its own name
+  -- each is under its own name
   abbrev pub are_keyed : List (String Global × T) → Bool
   are_keyed es = list_all (λ e. is_called (string_bytes e.0) e.1) es

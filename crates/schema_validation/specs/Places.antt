@@ -1,4 +1,4 @@
--- Places in a list of names, in the order of the names.
+-- Indices into a list of names, in the order of the names.
 use Rattle.std.specs.Prelude.{◌≡◌, ℕ, suc, List, [], ◌∷◌, Bool, cond, Option, Some, None, find, option_map, slice_index_or}
 use Rattle.std.specs.Cmp.Lexicographic.{slice_cmp}
 use Rattle.std.specs.List.Sorted.{IsSortedBy}
@@ -26,6 +26,6 @@ module _ (names : List (List ℕ)) where
   abbrev pub AreAscending : List ℕ → Type 0
   AreAscending places = IsSortedBy is_below places
 
-  -- of the places of a name the first one stands first
+  -- among the indices of one name the least comes first
   abbrev pub StandFirst : List ℕ → Type 0
   StandFirst places = (name : List ℕ) → find (is_at name) places ≡ first_place name names

@@ -1,4 +1,4 @@
--- A name that stands again further on.
+-- A name that occurs again further on.
 use Rattle.std.specs.Prelude.{ℕ, List, Option, Some, None, if◌then◌else◌}
 use Rattle.meta.specs.declared.kinds.MetaTypeOf.{MetaTypeOf}
 use Rattle.schema_validation.specs.Accepted.{is_listed}

@@ -1,5 +1,5 @@
-//! Whether a list of types makes a schema, and if not, why not.
-ghost use Rattle.std.specs.Prelude.{◌≡◌, IfErr, OnOk, true, find, option_map};
+//! Whether a list of types makes a schema, and if not, why not (section 3.3).
+ghost use Rattle.std.specs.Prelude.{◌≡◌, IfErr, OnOk, true, find, option_copied};
 ghost use Rattle.std.specs.List.{list_all};
 ghost use Rattle.schema_validation.specs.Accepted.{Roots, IsAccepted, IsTrueRefusal, is_listed, is_object_listed, is_input_listed, root_names};
 ghost use Rattle.meta.specs.Kinds.{name_of_meta};
@@ -49,9 +49,9 @@ fn check_roots<S, C>(
     Ok(())
 }
 
-/// The first name at fault among all that the types and what a schema adds name.
+/// The first faulty name among all names of types in the list and in what a schema adds.
 fn first_of_names<'t, T: NameTest, S, C>(test: &T, types: &'t [MetaTypeOf<S, C>]) -> Option<&'t str>
-    ensures { option_map (λ s. s.now) result ≡ find (T.fails_at test.now) (all_names types.now) }
+    ensures { option_copied result ≡ find (T.fails_at test.now) (all_names types.now) }
 {
     if let Some(name) = first_name_of_all(test, types) {
         return Some(name);
@@ -59,12 +59,12 @@ fn first_of_names<'t, T: NameTest, S, C>(test: &T, types: &'t [MetaTypeOf<S, C>]
     first_added_name(test)
 }
 
-/// The first name at fault among the types of all arguments and input fields.
+/// The first faulty name among the types of all arguments and input fields.
 fn first_of_inputs<'t, T: NameTest, S, C>(
     test: &T,
     types: &'t [MetaTypeOf<S, C>],
 ) -> Option<&'t str>
-    ensures { option_map (λ s. s.now) result ≡ find (T.fails_at test.now) (all_inputs types.now) }
+    ensures { option_copied result ≡ find (T.fails_at test.now) (all_inputs types.now) }
 {
     if let Some(name) = first_input_of_all(test, types) {
         return Some(name);
@@ -104,7 +104,11 @@ fn check_inputs<S, C>(alloc: Global, types: &[MetaTypeOf<S, C>]) -> Result<(), S
     }
 }
 
-/// Refuses a list of types that makes no schema with these roots.
+/// Checks that a list of types makes a schema with these roots (section 3.3).
+///
+/// # Errors
+///
+/// The reason why the list makes no schema with these roots, or `OutOfMemory`.
 pub fn check_types<S, C>(
     alloc: Global,
     types: &[MetaTypeOf<S, C>],

@@ -1,4 +1,4 @@
-//! What a schema adds: two fields of the root of queries, and four directives.
+//! What a schema adds: two fields of the query root (section 4.1), and four directives (section 3.13).
 ghost use Rattle.std.specs.Prelude.{◌≡◌, IfOk, [], ◌∷◌, codes, map};
 ghost use Rattle.schema_validation.specs.Added.{argument_shape, field_shape, directive_shape, required, schema_field, type_field, with_argument, conditional, deprecated_shape, specified_by_shape, standard_directives};
 
@@ -9,7 +9,7 @@ use meta::arguments::Argument;
 use meta::fields::Field;
 use std::alloc::Global;
 
-/// `name: type_name!`
+/// The argument `name: type_name!`.
 fn required_argument<S: Drop>(
     alloc: Global,
     name: &str,
@@ -20,14 +20,22 @@ fn required_argument<S: Drop>(
     Argument::new(alloc, name, Type::non_null(alloc, type_name)?)
 }
 
-/// `__schema: __Schema!`
+/// The field `__schema: __Schema!`.
+///
+/// # Errors
+///
+/// Out of memory.
 pub fn make_schema_field<S: Drop>(alloc: Global) -> Result<Field<S>, OutOfMemory>
     ensures { IfOk result (λ f. field_shape f ≡ schema_field) }
 {
     Field::new(alloc, "__schema", Type::non_null(alloc, "__Schema")?)
 }
 
-/// `__type(name: String!): __Type!`
+/// The field `__type(name: String!): __Type!`.
+///
+/// # Errors
+///
+/// Out of memory.
 pub fn make_type_field<S: Drop>(alloc: Global) -> Result<Field<S>, OutOfMemory>
     ensures { IfOk result (λ f. field_shape f ≡ type_field) }
 {
@@ -50,7 +58,7 @@ fn make_directive<S: Drop>(
     DirectiveType::new(alloc, name, locations, arguments, false)
 }
 
-/// `skip` or `include`.
+/// The directive `skip` or `include`.
 fn make_conditional<S: Drop>(alloc: Global, name: &str) -> Result<DirectiveType<S>, OutOfMemory>
     ensures { IfOk result (λ d. directive_shape d ≡ conditional name.now) }
 {
@@ -79,7 +87,11 @@ fn make_specified_by<S: Drop>(alloc: Global) -> Result<DirectiveType<S>, OutOfMe
     make_directive(alloc, "specifiedBy", locations, "url", "String")
 }
 
-/// The four directives that every schema has.
+/// The four directives of every schema: `skip`, `include`, `deprecated` and `specifiedBy`.
+///
+/// # Errors
+///
+/// Out of memory.
 pub fn make_directives<S: Drop>(alloc: Global) -> Result<Vec<DirectiveType<S>>, OutOfMemory>
     ensures { IfOk result (λ v. map directive_shape v.items ≡ standard_directives) }
 {

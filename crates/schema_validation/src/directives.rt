@@ -1,4 +1,4 @@
-//! Directives and where they may stand.
+//! Directives and their locations.
 ghost use Rattle.std.specs.Prelude.{◌≡◌, IfOk, None, Some, option_map, string_bytes};
 ghost use Rattle.schema_validation.specs.Locations.{location_words};
 
@@ -8,7 +8,7 @@ use meta::arguments::Argument;
 use std::alloc::Global;
 use std::fmt;
 
-/// Where a directive may stand (section 3.13).
+/// A location at which a directive may be used (section 3.13).
 #[derive(Clone, Debug, PartialEq, Eq, Drop)]
 pub enum DirectiveLocation {
     Query,
@@ -24,7 +24,7 @@ pub enum DirectiveLocation {
     EnumValue,
 }
 
-/// The words of the place, in lower case with blanks between.
+/// The name of the location, in lower case with spaces between the words.
 impl fmt::Display for DirectiveLocation {
     ghost output = { λ l. Some (location_words l) };
 
@@ -50,15 +50,19 @@ impl fmt::Display for DirectiveLocation {
 pub struct DirectiveType<S = DefaultScalarValue> {
     pub name: String,
     pub description: Option<String>,
-    /// Where it may stand.
+    /// The locations at which the directive may be used.
     pub locations: Vec<DirectiveLocation>,
     pub arguments: Vec<Argument<S>>,
-    /// Whether it may stand twice at one place.
+    /// Whether the directive may be used twice at one location.
     pub is_repeatable: bool,
 }
 
 impl<S: Drop> DirectiveType<S> {
-    /// A directive of this name, with no description. The one refusal is for want of memory.
+    /// A directive of this name, with no description.
+    ///
+    /// # Errors
+    ///
+    /// Out of memory.
     pub fn new(
         alloc: Global,
         name: &str,
@@ -81,7 +85,11 @@ impl<S: Drop> DirectiveType<S> {
         })
     }
 
-    /// Replaces the description. The one refusal is for want of memory.
+    /// Replaces the description.
+    ///
+    /// # Errors
+    ///
+    /// Out of memory.
     pub fn description(mut self, text: &str) -> Result<Self, OutOfMemory>
         ensures text { IfOk result (λ d. option_map string_bytes d.description ≡ Some text.now) }
         ensures others { IfOk result (λ d. d ≡ record self { description = d.description }) }

@@ -7,27 +7,26 @@ use std::alloc::{AllocError, AllocFailed};
 use std::error::Error;
 use std::fmt;
 
-/// Why a list of types, or a directive, was refused (section 3.3). A name is that of the type at
-/// fault.
+/// Why a list of types, or a directive, was refused (section 3.3). The texts are names of types.
 #[derive(Debug, PartialEq, Eq, Drop)]
 pub enum SchemaError {
-    /// A request for memory was refused.
+    /// Out of memory.
     OutOfMemory,
-    /// A root of this name is asked for and not listed (section 3.3.1).
+    /// The root of this name is not in the list (section 3.3.1).
     MissingRoot(String),
-    /// The root of queries is listed and no object (section 3.3.1).
+    /// The query root is not an object type (section 3.3.1).
     QueryNotObject,
-    /// An entry is a list, a nullable type or a placeholder, which have no name (section 3.4).
+    /// The list contains a list, a nullable type or a placeholder, which have no name (section 3.4).
     UnnamedType,
-    /// Two entries have this name (section 3.3).
+    /// Two types of the list have this name (section 3.3).
     RepeatedType(String),
-    /// A type of this name is named and not listed (section 3.3): by a field, an argument or an input
-    /// field, among the interfaces of a type, by a union, or by what a schema adds.
+    /// The type of this name is used but is not in the list (section 3.3): by a field, an argument, an
+    /// input field, a union, the interfaces of a type, or something that a schema adds.
     UnknownType(String),
-    /// A member of a union has this name, and is listed and no object (section 3.8).
+    /// A union has a member of this name, which is not an object type (section 3.8).
     UnionMemberNotObject(String),
-    /// An argument or an input field has this innermost type, which is listed and no input type
-    /// (section 3.4.2).
+    /// An argument or an input field has the type of this name, which is not an input type (section
+    /// 3.4.2).
     NotInputType(String),
 }
 

@@ -1,4 +1,4 @@
-//! The list of types with two fields added to the root of queries.
+//! The addition of `__schema` and `__type` to the query root (section 4.1).
 ghost use Rattle.std.specs.Prelude.{◌≡◌, ◌<◌, ◌&&◌, IfErr, IfOk, true, length};
 ghost use Rattle.std.specs.List.{HoldsAt};
 ghost use Rattle.schema_validation.specs.Accepted.{is_named, is_object_listed};
@@ -36,7 +36,7 @@ fn extend_object<S: Drop>(
     })
 }
 
-/// Where the first object of the name stands.
+/// The index of the first object type of this name.
 fn object_index<S, C>(types: &[MetaTypeOf<S, C>], name: &str) -> usize
     requires { is_object_listed types.now name.now ≡ true }
     ensures within { result < length types.now }
@@ -50,7 +50,11 @@ fn object_index<S, C>(types: &[MetaTypeOf<S, C>], name: &str) -> usize
     unreachable!()
 }
 
-/// The list with the two fields added to the object of the name.
+/// The list of types, with `__schema` and `__type` added to the object type of this name.
+///
+/// # Errors
+///
+/// Out of memory.
 pub fn with_added_fields<S: Drop, C: Drop>(
     alloc: Global,
     types: Vec<MetaTypeOf<S, C>>,

@@ -1,5 +1,5 @@
-//! The first name at fault among those that metadata names.
-ghost use Rattle.std.specs.Prelude.{◌≡◌, ◌++◌, find, map, option_map, string_bytes};
+//! The first faulty name among those in metadata.
+ghost use Rattle.std.specs.Prelude.{◌≡◌, ◌++◌, find, map, string_bytes, option_copied};
 ghost use Rattle.std.specs.List.{flat_map};
 ghost use Rattle.schema_validation.specs.Names.{argument_type, field_inputs, field_names, inputs_in, names_in, members_of, interfaces_of, added_inputs, added_names};
 ghost use Rattle.meta.specs.Kinds.{fields_of, input_fields_of};
@@ -10,7 +10,7 @@ use meta::fields::Field;
 use meta::kinds::MetaTypeOf;
 
 fn first_text<'t, T: NameTest>(test: &T, texts: &'t [String]) -> Option<&'t str>
-    ensures { option_map (λ s. s.now) result ≡ find (T.fails_at test.now) (map string_bytes texts.now) }
+    ensures { option_copied result ≡ find (T.fails_at test.now) (map string_bytes texts.now) }
 {
     for text in texts {
         if test.fails(text.as_str()) {
@@ -20,9 +20,9 @@ fn first_text<'t, T: NameTest>(test: &T, texts: &'t [String]) -> Option<&'t str>
     None
 }
 
-/// The first name at fault among the types of arguments or input fields.
+/// The first faulty name among the types of arguments or input fields.
 pub fn first_argument<'t, T: NameTest, S>(test: &T, arguments: &'t [Argument<S>]) -> Option<&'t str>
-    ensures { option_map (λ s. s.now) result ≡ find (T.fails_at test.now) (map argument_type arguments.now) }
+    ensures { option_copied result ≡ find (T.fails_at test.now) (map argument_type arguments.now) }
 {
     for argument in arguments {
         let name = argument.arg_type.innermost_name();
@@ -34,7 +34,7 @@ pub fn first_argument<'t, T: NameTest, S>(test: &T, arguments: &'t [Argument<S>]
 }
 
 fn first_input_of_field<'t, T: NameTest, S>(test: &T, field: &'t Field<S>) -> Option<&'t str>
-    ensures { option_map (λ s. s.now) result ≡ find (T.fails_at test.now) (field_inputs field.now) }
+    ensures { option_copied result ≡ find (T.fails_at test.now) (field_inputs field.now) }
 {
     match &field.arguments {
         Some(arguments) => first_argument(test, arguments.as_slice()),
@@ -43,7 +43,7 @@ fn first_input_of_field<'t, T: NameTest, S>(test: &T, field: &'t Field<S>) -> Op
 }
 
 fn first_name_of_field<'t, T: NameTest, S>(test: &T, field: &'t Field<S>) -> Option<&'t str>
-    ensures { option_map (λ s. s.now) result ≡ find (T.fails_at test.now) (field_names field.now) }
+    ensures { option_copied result ≡ find (T.fails_at test.now) (field_names field.now) }
 {
     let name = field.field_type.innermost_name();
     if test.fails(name) {
@@ -53,7 +53,7 @@ fn first_name_of_field<'t, T: NameTest, S>(test: &T, field: &'t Field<S>) -> Opt
 }
 
 fn first_input_of_fields<'t, T: NameTest, S>(test: &T, fields: &'t [Field<S>]) -> Option<&'t str>
-    ensures { option_map (λ s. s.now) result ≡ find (T.fails_at test.now) (flat_map field_inputs fields.now) }
+    ensures { option_copied result ≡ find (T.fails_at test.now) (flat_map field_inputs fields.now) }
 {
     for field in fields {
         if let Some(name) = first_input_of_field(test, field) {
@@ -64,7 +64,7 @@ fn first_input_of_fields<'t, T: NameTest, S>(test: &T, fields: &'t [Field<S>]) -
 }
 
 fn first_name_of_fields<'t, T: NameTest, S>(test: &T, fields: &'t [Field<S>]) -> Option<&'t str>
-    ensures { option_map (λ s. s.now) result ≡ find (T.fails_at test.now) (flat_map field_names fields.now) }
+    ensures { option_copied result ≡ find (T.fails_at test.now) (flat_map field_names fields.now) }
 {
     for field in fields {
         if let Some(name) = first_name_of_field(test, field) {
@@ -74,9 +74,9 @@ fn first_name_of_fields<'t, T: NameTest, S>(test: &T, fields: &'t [Field<S>]) ->
     None
 }
 
-/// The first name at fault among the types of a type's arguments and input fields.
+/// The first faulty name among the types of the arguments and input fields of a type.
 fn first_input<'t, T: NameTest, S, C>(test: &T, meta: &'t MetaTypeOf<S, C>) -> Option<&'t str>
-    ensures { option_map (λ s. s.now) result ≡ find (T.fails_at test.now) (inputs_in meta.now) }
+    ensures { option_copied result ≡ find (T.fails_at test.now) (inputs_in meta.now) }
 {
     match meta {
         MetaTypeOf::Object(object) => first_input_of_fields(test, object.fields.as_slice()),
@@ -88,9 +88,9 @@ fn first_input<'t, T: NameTest, S, C>(test: &T, meta: &'t MetaTypeOf<S, C>) -> O
     }
 }
 
-/// The first name at fault among the members of a union.
+/// The first faulty name among the members of a union.
 fn first_member<'t, T: NameTest, S, C>(test: &T, meta: &'t MetaTypeOf<S, C>) -> Option<&'t str>
-    ensures { option_map (λ s. s.now) result ≡ find (T.fails_at test.now) (members_of meta.now) }
+    ensures { option_copied result ≡ find (T.fails_at test.now) (members_of meta.now) }
 {
     match meta {
         MetaTypeOf::Union(union) => first_text(test, union.of_type_names.as_slice()),
@@ -103,7 +103,7 @@ fn first_name_of_composite<'t, T: NameTest, S>(
     fields: &'t [Field<S>],
     interfaces: &'t [String],
 ) -> Option<&'t str>
-    ensures { option_map (λ s. s.now) result
+    ensures { option_copied result
         ≡ find (T.fails_at test.now) (flat_map field_names fields.now ++ map string_bytes interfaces.now) }
 {
     if let Some(name) = first_name_of_fields(test, fields) {
@@ -112,9 +112,9 @@ fn first_name_of_composite<'t, T: NameTest, S>(
     first_text(test, interfaces)
 }
 
-/// The first name at fault among all that a type names.
+/// The first faulty name among all names of types in the metadata of a type.
 fn first_name<'t, T: NameTest, S, C>(test: &T, meta: &'t MetaTypeOf<S, C>) -> Option<&'t str>
-    ensures { option_map (λ s. s.now) result ≡ find (T.fails_at test.now) (names_in meta.now) }
+    ensures { option_copied result ≡ find (T.fails_at test.now) (names_in meta.now) }
 {
     match meta {
         MetaTypeOf::Object(object) => first_name_of_composite(
@@ -137,7 +137,7 @@ pub(crate) fn first_input_of_all<'t, T: NameTest, S, C>(
     test: &T,
     types: &'t [MetaTypeOf<S, C>],
 ) -> Option<&'t str>
-    ensures { option_map (λ s. s.now) result ≡ find (T.fails_at test.now) (flat_map inputs_in types.now) }
+    ensures { option_copied result ≡ find (T.fails_at test.now) (flat_map inputs_in types.now) }
 {
     for meta in types {
         if let Some(name) = first_input(test, meta) {
@@ -151,7 +151,7 @@ pub(crate) fn first_member_of_all<'t, T: NameTest, S, C>(
     test: &T,
     types: &'t [MetaTypeOf<S, C>],
 ) -> Option<&'t str>
-    ensures { option_map (λ s. s.now) result ≡ find (T.fails_at test.now) (flat_map members_of types.now) }
+    ensures { option_copied result ≡ find (T.fails_at test.now) (flat_map members_of types.now) }
 {
     for meta in types {
         if let Some(name) = first_member(test, meta) {
@@ -165,7 +165,7 @@ pub(crate) fn first_name_of_all<'t, T: NameTest, S, C>(
     test: &T,
     types: &'t [MetaTypeOf<S, C>],
 ) -> Option<&'t str>
-    ensures { option_map (λ s. s.now) result ≡ find (T.fails_at test.now) (flat_map names_in types.now) }
+    ensures { option_copied result ≡ find (T.fails_at test.now) (flat_map names_in types.now) }
 {
     for meta in types {
         if let Some(name) = first_name(test, meta) {
@@ -175,9 +175,9 @@ pub(crate) fn first_name_of_all<'t, T: NameTest, S, C>(
     None
 }
 
-/// The first name at fault among the types of the arguments that a schema adds.
+/// The first faulty name among the types of the arguments that a schema adds.
 pub(crate) fn first_added_input<T: NameTest>(test: &T) -> Option<&'static str>
-    ensures { option_map (λ s. s.now) result ≡ find (T.fails_at test.now) added_inputs }
+    ensures { option_copied result ≡ find (T.fails_at test.now) added_inputs }
 {
     if test.fails("String") {
         return Some("String");
@@ -188,9 +188,9 @@ pub(crate) fn first_added_input<T: NameTest>(test: &T) -> Option<&'static str>
     None
 }
 
-/// The first name at fault among all that what a schema adds names.
+/// The first faulty name among all names of types in what a schema adds.
 pub(crate) fn first_added_name<T: NameTest>(test: &T) -> Option<&'static str>
-    ensures { option_map (λ s. s.now) result ≡ find (T.fails_at test.now) added_names }
+    ensures { option_copied result ≡ find (T.fails_at test.now) added_names }
 {
     if test.fails("__Schema") {
         return Some("__Schema");

@@ -1,5 +1,5 @@
-//! Maps by name, in the order of a list.
-ghost use Rattle.std.specs.Prelude.{◌≡◌, ℕ, List, Option, IfErr, IfOk, IfSome, IsSome, OnOk, None, true, [], ◌∷◌, ◌++◌, option_map, string_bytes};
+//! Maps by name that keep the order of a list.
+ghost use Rattle.std.specs.Prelude.{◌≡◌, ℕ, List, Option, IfErr, IfOk, IfSome, IsSome, OnOk, None, true, [], ◌∷◌, ◌++◌, string_bytes, option_copied};
 ghost use Rattle.indexmap.specs.IndexMap.{values, get_by_text};
 ghost use Rattle.schema_validation.specs.Directives.{directive_name};
 ghost use Rattle.meta.specs.Kinds.{name_of_meta};
@@ -11,15 +11,15 @@ use indexmap::IndexMap;
 use meta::kinds::MetaTypeOf;
 use std::alloc::Global;
 
-/// What may have a name.
+/// Anything that may have a name.
 pub trait Keyed {
     ghost key_of: { Self → Option (List ℕ) };
 
     fn key(&self) -> Option<&str>
-        ensures { option_map (λ s. s.now) result ≡ key_of self.now };
+        ensures { option_copied result ≡ key_of self.now };
 }
 
-/// Puts an entry under its name, at the end.
+/// Adds an entry under its name, at the end.
 fn add_entry<T: Keyed + Drop>(
     map: &mut IndexMap<String, T>,
     key: String,
@@ -38,7 +38,7 @@ fn add_entry<T: Keyed + Drop>(
     }
 }
 
-/// The key of an entry whose name is not in the map.
+/// The key for an entry whose name is not in the map.
 fn new_key<T: Keyed + Drop>(
     alloc: Global,
     map: &IndexMap<String, T>,
@@ -56,7 +56,11 @@ fn new_key<T: Keyed + Drop>(
     Ok(String::from_str(alloc, name)?)
 }
 
-/// The entries by name, in the order of the list.
+/// A map from the names of the entries to the entries, in the order of the list.
+///
+/// # Errors
+///
+/// Out of memory.
 pub fn map_by_name<T: Keyed + Drop>(
     alloc: Global,
     entries: Vec<T>,

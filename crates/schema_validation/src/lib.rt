@@ -1,4 +1,5 @@
-//! Lists of types: which make a schema, which are refused and why, and the parts of which a schema is made (GraphQL, October 2021, section 3).
+//! The validation of a list of types as a schema: why a list is refused, and the parts of which a
+//! schema is made (GraphQL, October 2021, section 3).
 #![tactic(auto)]
 
 pub mod accept;

@@ -1,10 +1,10 @@
-//! Whether a list has a type of a name, and tests of names.
+//! Whether a list contains a type of a name, and tests of names.
 ghost use Rattle.std.specs.Prelude.{◌≡◌, ℕ, List, Bool, not};
 ghost use Rattle.schema_validation.specs.Accepted.{is_listed, is_object_listed, is_input_listed};
 
 use meta::kinds::MetaTypeOf;
 
-/// Whether a type of the list has the name.
+/// Whether some type of the list has this name.
 pub(crate) fn is_type_listed<S, C>(types: &[MetaTypeOf<S, C>], name: &str) -> bool
     ensures { result ≡ is_listed types.now name.now }
 {
@@ -16,7 +16,7 @@ pub(crate) fn is_type_listed<S, C>(types: &[MetaTypeOf<S, C>], name: &str) -> bo
     false
 }
 
-/// Whether an object of the list has the name.
+/// Whether some object type of the list has this name.
 pub(crate) fn is_object_type_listed<S, C>(types: &[MetaTypeOf<S, C>], name: &str) -> bool
     ensures { result ≡ is_object_listed types.now name.now }
 {
@@ -28,7 +28,7 @@ pub(crate) fn is_object_type_listed<S, C>(types: &[MetaTypeOf<S, C>], name: &str
     false
 }
 
-/// Whether an input type of the list has the name.
+/// Whether some input type of the list has this name.
 pub(crate) fn is_input_type_listed<S, C>(types: &[MetaTypeOf<S, C>], name: &str) -> bool
     ensures { result ≡ is_input_listed types.now name.now }
 {
@@ -40,7 +40,7 @@ pub(crate) fn is_input_type_listed<S, C>(types: &[MetaTypeOf<S, C>], name: &str)
     false
 }
 
-/// A test of names.
+/// A test that names pass or fail.
 pub trait NameTest {
     ghost fails_at: { Self → List ℕ → Bool };
 
@@ -48,7 +48,7 @@ pub trait NameTest {
         ensures { result ≡ fails_at self.now name.now };
 }
 
-/// No type of the list has the name.
+/// Fails for names that no type of the list has.
 #[derive_where(Clone, Copy)]
 pub(crate) struct Unlisted<'t, S, C>(pub(crate) &'t [MetaTypeOf<S, C>]);
 
@@ -60,7 +60,7 @@ impl<S, C> NameTest for Unlisted<'_, S, C> {
     }
 }
 
-/// No object of the list has the name.
+/// Fails for names that no object type of the list has.
 #[derive_where(Clone, Copy)]
 pub(crate) struct NotObject<'t, S, C>(pub(crate) &'t [MetaTypeOf<S, C>]);
 
@@ -72,7 +72,7 @@ impl<S, C> NameTest for NotObject<'_, S, C> {
     }
 }
 
-/// No input type of the list has the name.
+/// Fails for names that no input type of the list has.
 #[derive_where(Clone, Copy)]
 pub(crate) struct NotInput<'t, S, C>(pub(crate) &'t [MetaTypeOf<S, C>]);
 

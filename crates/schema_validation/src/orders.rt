@@ -1,4 +1,4 @@
-//! The orders of the input fields of a list of types.
+//! The input fields of a list of types, sorted by name.
 ghost use Rattle.std.specs.Prelude.{◌≡◌, List, IfErr, IfOk, IfSome, OnOk, Some, true, find, string_bytes};
 ghost use Rattle.meta.specs.Kinds.{name_of_meta};
 ghost use Rattle.schema_validation.specs.Accepted.{is_named};
@@ -12,11 +12,15 @@ use meta::inputs::InputObjectMetaOf;
 use meta::kinds::MetaTypeOf;
 use std::alloc::Global;
 
-/// The places of the input fields in the order of their names, under the name of each input object
-/// that has more than a few.
+/// The indices of the input fields in the order of their names, by the name of their input object, for
+/// each input object with more than [`FEW`] fields.
 pub type InputOrders = IndexMap<String, Vec<usize>>;
 
-/// The orders of the input objects of a list.
+/// The sorted input fields of the input objects of a list.
+///
+/// # Errors
+///
+/// Out of memory.
 pub fn input_orders<S, C>(
     alloc: Global,
     types: &[MetaTypeOf<S, C>],
@@ -32,7 +36,7 @@ pub fn input_orders<S, C>(
     Ok(orders)
 }
 
-// Keeps the order of a type, if it is an input object of more than a few fields.
+// Adds the sorted fields of a type, if it is an input object with more than a few fields.
 fn add_order_of<S, C>(
     alloc: Global,
     orders: &mut InputOrders,
@@ -55,7 +59,7 @@ fn add_order_of<S, C>(
     }
 }
 
-// Keeps the order of an input object.
+// Adds the sorted fields of an input object.
 fn add_order<S, C>(
     alloc: Global,
     orders: &mut InputOrders,

@@ -1,4 +1,4 @@
-//! Look-ups by name in long lists, by the places of the items in the order of their names.
+//! Look-ups by name in long lists, by binary search over indices that are sorted by name.
 ghost use Rattle.std.specs.Prelude.{◌≡◌, IfOk, find, map, option_copied};
 ghost use Rattle.std.specs.Str.{bytes_eq};
 ghost use Rattle.schema_validation.specs.Places.{AreAscending, StandFirst, name_at};
@@ -7,10 +7,10 @@ use language::error::OutOfMemory;
 use meta::named::Named;
 use std::alloc::Global;
 
-/// So many items are looked through in turn: an order of theirs would save nothing.
+/// The greatest number of items that are searched one by one: sorting fewer would save nothing.
 pub const FEW: usize = 8;
 
-/// The places of the items in the order of their names, those of one name in their own order.
+/// The indices of the items in the order of their names; those of one name stay in order.
 pub(crate) fn places_by_name<T: Named>(
     alloc: Global,
     items: &[T],
@@ -23,7 +23,7 @@ pub(crate) fn places_by_name<T: Named>(
     Ok(places)
 }
 
-/// The first item of the name, by the places in the order of their names.
+/// The first item of this name, by the indices of the items in the order of their names.
 pub fn first_at<'t, T: Named>(items: &'t [T], places: &[usize], name: &str) -> Option<&'t T>
     requires ascending { AreAscending (map T.name_of items.now) places.now }
     requires first { StandFirst (map T.name_of items.now) places.now }
@@ -38,7 +38,7 @@ pub fn first_at<'t, T: Named>(items: &'t [T], places: &[usize], name: &str) -> O
     }
 }
 
-// The places of the items in their own order.
+// The indices of the items in their own order.
 fn all_places<T: Named>(alloc: Global, items: &[T]) -> Result<Vec<usize>, OutOfMemory>
     ensures { IfOk result (λ v. StandFirst (map T.name_of items.now) v.items) }
 {
@@ -49,7 +49,7 @@ fn all_places<T: Named>(alloc: Global, items: &[T]) -> Result<Vec<usize>, OutOfM
     Ok(places)
 }
 
-// The name of the item at a place.
+// The name of the item at an index, counted from 0.
 fn name_of_place<T: Named>(items: &[T], place: usize) -> &str
     ensures { result.now ≡ name_at (map T.name_of items.now) place }
 {

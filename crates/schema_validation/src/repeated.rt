@@ -1,5 +1,5 @@
-//! Entries without a name, and names of two entries.
-ghost use Rattle.std.specs.Prelude.{◌≡◌, ◌≤◌, IfSome, None, true, count_by, option_map};
+//! Types without a name, and names of two types.
+ghost use Rattle.std.specs.Prelude.{◌≡◌, ◌≤◌, IfSome, None, true, count_by, option_copied};
 ghost use Rattle.schema_validation.specs.Accepted.{is_named};
 ghost use Rattle.schema_validation.specs.Repeated.{repeated_name};
 ghost use Rattle.meta.specs.Kinds.{name_of_meta};
@@ -8,7 +8,7 @@ ghost use Rattle.schema_validation.specs.Named.{are_named, are_distinct};
 use crate::listed::is_type_listed;
 use meta::kinds::MetaTypeOf;
 
-/// Whether every entry has a name.
+/// Whether every type has a name.
 pub fn are_all_named<S, C>(types: &[MetaTypeOf<S, C>]) -> bool
     ensures { result ≡ are_named name_of_meta types.now }
 {
@@ -20,9 +20,9 @@ pub fn are_all_named<S, C>(types: &[MetaTypeOf<S, C>]) -> bool
     true
 }
 
-/// The name of a type that another, later in the list, has too.
+/// The name of a type, if one of the others has it too.
 fn name_again<'t, S, C>(meta: &'t MetaTypeOf<S, C>, others: &[MetaTypeOf<S, C>]) -> Option<&'t str>
-    ensures { option_map (λ s. s.now) result ≡ repeated_name meta.now others.now }
+    ensures { option_copied result ≡ repeated_name meta.now others.now }
 {
     match meta.name() {
         Some(name) => {
@@ -36,7 +36,7 @@ fn name_again<'t, S, C>(meta: &'t MetaTypeOf<S, C>, others: &[MetaTypeOf<S, C>])
     }
 }
 
-/// A name that two types of the list have.
+/// A name that two types of the list have, if there is one.
 pub fn first_repeated<S, C>(types: &[MetaTypeOf<S, C>]) -> Option<&str>
     ensures none { result ≡ None → are_distinct name_of_meta types.now ≡ true }
     ensures some { IfSome result (λ n. 2 ≤ count_by (is_named n.now) types.now) }

@@ -1,11 +1,11 @@
-//! The names of the roots that are asked for.
-ghost use Rattle.std.specs.Prelude.{◌≡◌, ◌++◌, find, option_map};
-ghost use Rattle.schema_validation.specs.Accepted.{root_of, roots_of, listed, root_names};
+//! The names of the root types (section 3.3.1).
+ghost use Rattle.std.specs.Prelude.{◌≡◌, ◌++◌, find, option_copied, option_to_list};
+ghost use Rattle.schema_validation.specs.Accepted.{root_of, roots_of, root_names};
 ghost use Rattle.schema_validation.specs.RootNames.{roots_asked};
 
 use crate::listed::NameTest;
 
-/// The names of the roots; without a name there is no such root.
+/// The names of the root types. `None` means that the schema has no such root.
 #[derive(Clone, Copy)]
 pub struct RootNames<'n> {
     pub query: &'n str,
@@ -13,15 +13,16 @@ pub struct RootNames<'n> {
     pub subscription: Option<&'n str>,
 }
 
-/// The name, unless it is the one that means none.
+/// The name, unless it is the one that means no root.
 fn asked<'n>(name: &'n str, none: &str) -> Option<&'n str>
-    ensures { option_map (λ s. s.now) result ≡ root_of none.now name.now }
+    ensures { option_copied result ≡ root_of none.now name.now }
 {
     if name == none { None } else { Some(name) }
 }
 
 impl<'n> RootNames<'n> {
-    /// The roots of these names. `_EmptyMutation` and `_EmptySubscription` mean that there is no such root.
+    /// The roots of these names. `_EmptyMutation` and `_EmptySubscription` mean that there is no such
+    /// root.
     pub fn new(query: &'n str, mutation: &'n str, subscription: &'n str) -> RootNames<'n>
         ensures { roots_asked result ≡ roots_of query.now mutation.now subscription.now }
     {
@@ -34,8 +35,7 @@ impl<'n> RootNames<'n> {
 }
 
 fn first_of_option<'n, T: NameTest>(test: &T, name: Option<&'n str>) -> Option<&'n str>
-    ensures { option_map (λ s. s.now) result
-        ≡ find (T.fails_at test.now) (listed (option_map (λ s. s.now) name.entry)) }
+    ensures { option_copied result ≡ find (T.fails_at test.now) (option_to_list (option_copied name.entry)) }
 {
     match name {
         Some(n) => { if test.fails(n) { Some(n) } else { None } }
@@ -44,9 +44,9 @@ fn first_of_option<'n, T: NameTest>(test: &T, name: Option<&'n str>) -> Option<&
 }
 
 fn first_of_others<'n, T: NameTest>(test: &T, roots: RootNames<'n>) -> Option<&'n str>
-    ensures { option_map (λ s. s.now) result
-        ≡ find (T.fails_at test.now) (listed (roots_asked roots.entry).mutation
-        ++ listed (roots_asked roots.entry).subscription) }
+    ensures { option_copied result
+        ≡ find (T.fails_at test.now) (option_to_list (roots_asked roots.entry).mutation
+        ++ option_to_list (roots_asked roots.entry).subscription) }
 {
     if let Some(name) = first_of_option(test, roots.mutation) {
         return Some(name);
@@ -54,9 +54,9 @@ fn first_of_others<'n, T: NameTest>(test: &T, roots: RootNames<'n>) -> Option<&'
     first_of_option(test, roots.subscription)
 }
 
-/// The first root at fault.
+/// The first faulty name among the roots.
 pub(crate) fn first_root<'n, T: NameTest>(test: &T, roots: RootNames<'n>) -> Option<&'n str>
-    ensures { option_map (λ s. s.now) result ≡ find (T.fails_at test.now) (root_names (roots_asked roots.entry)) }
+    ensures { option_copied result ≡ find (T.fails_at test.now) (root_names (roots_asked roots.entry)) }
 {
     if test.fails(roots.query) {
         return Some(roots.query);

@@ -1,4 +1,4 @@
-//! The slots of the types of a schema: where a look-up by name looks before it asks the map.
+//! The slots of the types of a schema: a look-up by name looks there before it asks the map.
 ghost use Rattle.std.specs.Prelude.{◌≡◌, ◌<◌, ℕ, IfErr, IfOk, Some, length, set};
 
 use crate::error::SchemaError;
@@ -7,8 +7,12 @@ use meta::kinds::MetaTypeOf;
 use name_tables::slots::{slot_count, slot_of};
 use std::alloc::Global;
 
-/// The place of a type at the slot of its name. Of two types of one slot the later one stands there,
-/// and the other is found by the map.
+/// For each slot the index of the last type whose name has this slot. Types that share a slot with a
+/// later one are found by the map.
+///
+/// # Errors
+///
+/// Out of memory.
 pub fn type_slots<S, C>(
     alloc: Global,
     types: &IndexMap<String, MetaTypeOf<S, C>>,
@@ -16,7 +20,7 @@ pub fn type_slots<S, C>(
     ensures some { IfOk result (λ v. 0 < length v.items) }
     ensures err { IfErr result (λ e. e ≡ SchemaError.OutOfMemory) }
 {
-    // a schema is made once, so there is room for more than two slots a type
+    // a schema is made once, so more than two slots for each type are affordable
     let count = slot_count(types.len().saturating_mul(4));
     let mut slots = vec![in alloc; None; count]?;
     for (place, name) in types.keys().enumerate() {
@@ -25,7 +29,7 @@ pub fn type_slots<S, C>(
     Ok(slots)
 }
 
-// Notes a place at the slot of a name, over the one that stands there.
+// Writes an index into the slot of a name.
 fn note_place(slots: &mut [Option<usize>], name: &str, place: usize)
     requires { 0 < length slots.old }
     ensures { (slot : ℕ) × (slot < length slots.old) × (slots.new ≡ set slots.old slot (Some place)) }

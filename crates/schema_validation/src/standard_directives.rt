@@ -1,4 +1,4 @@
-//! The directives of a schema by name.
+//! The standard directives by name.
 ghost use Rattle.std.specs.Prelude.{◌≡◌, IfErr, IfOk, map, true};
 ghost use Rattle.indexmap.specs.IndexMap.{values};
 ghost use Rattle.schema_validation.specs.Added.{directive_shape, standard_directives};
@@ -12,7 +12,11 @@ use crate::keyed::map_by_name;
 use indexmap::IndexMap;
 use std::alloc::Global;
 
-/// The four directives that every schema has, by name.
+/// The four directives of every schema, by name.
+///
+/// # Errors
+///
+/// Out of memory.
 pub fn directives_by_name<S: Drop>(
     alloc: Global,
 ) -> Result<IndexMap<String, DirectiveType<S>>, SchemaError>

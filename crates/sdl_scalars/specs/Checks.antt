@@ -20,7 +20,7 @@ use Rattle.sdl_scalars.specs.declared.check.SourceCheck.TheVariants as c
 abbrev pub IsInteger : List ℕ → Type 0
 IsInteger bs = IsNumeral 10 (without_leading_sign bs) × FitsSigned w32 (signed_digits_value 10 bs)
 
--- the text of a number that a double has, rounded, and not only infinity
+-- the text of a number that rounds to a finite double
 abbrev pub IsFinite : List ℕ → Type 0
 IsFinite bs = (x : Float) × (parse_float binary64 bs ≡ Some x) × (float_is_finite x ≡ true)
 
@@ -47,12 +47,12 @@ AcceptsLayer (c.Enum names) (o.Enum name) = HasName names.items (string_bytes na
 AcceptsLayer check (o.Scalar x) = AcceptsScalar check x
 AcceptsLayer _ _ = ⊥
 
--- By section 3.5: an integer of 32 bits; a number that a double has; a string; a truth value; a string or an integer of any size.
--- An enum has its values. A scalar of the schema's own and an input object take every value.
+-- By section 3.5: an integer of 32 bits; a finite double; a string; a Boolean; a string or an integer of any size.
+-- An enum has its values. A custom scalar and an input object accept every value.
 abbrev pub Accepts : SourceCheck → InputValue SourceScalar → Type 0
 Accepts check v = AcceptsLayer check (out-InputValue SourceScalar v)
 
--- why it refuses one
+-- why the check refuses a value
 abbrev pub refusal : SourceCheck → List ℕ
 refusal c.Int = codes "not an integer of 32 bits"
 refusal c.Float = codes "not a finite number"
@@ -62,7 +62,7 @@ refusal c.Id = codes "not a string or an integer"
 refusal (c.Enum names) = codes "not a value of the enum"
 refusal c.Any = []
 
--- It accepts these values, and refuses all others with that text; memory may be wanting for it.
+-- It accepts these values and refuses all others with that text, or runs out of memory for the text.
 abbrev pub MayAnswer : SourceCheck → InputValue SourceScalar → Result (Unit {0}) CheckError → Type 0
 MayAnswer check v (Ok x) = Accepts check v
 MayAnswer check v (Err (e.Refused m)) = (Accepts check v → ⊥) × (string_bytes m ≡ refusal check)

@@ -1,4 +1,4 @@
--- A check gives one answer to each value.
+-- A check returns the same for the same value.
 use Rattle.std.specs.Prelude.{◌≡◌, Result, Ok, Err}
 use Rattle.std.proofs.Common.{sym, ◌∙◌}
 use Rattle.language.specs.declared.error.CheckError.{CheckError}

@@ -17,7 +17,7 @@ source_str (Float s) = None
 source_str (String s) = Some (string_bytes s)
 source_str (Boolean b) = None
 
--- both are the same number as it is written, text or truth value
+-- both are the same number as written, the same text or the same Boolean
 abbrev pub IsSameSource : SourceScalar → SourceScalar → Type 0
 IsSameSource (Int s) (Int t) = string_bytes s ≡ string_bytes t
 IsSameSource (Float s) (Float t) = string_bytes s ≡ string_bytes t

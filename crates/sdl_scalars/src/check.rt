@@ -1,4 +1,5 @@
-//! The checks of the types that a schema's text defines (GraphQL, October 2021, sections 3.5 and 3.9).
+//! The checks of the scalars, enums and input objects that a schema's text defines (GraphQL, October 2021, sections
+//! 3.5 and 3.9).
 ghost use Rattle.std.specs.Prelude.{◌≡◌, ◌↔◌, IsTrue, string_bytes};
 ghost use Rattle.std.specs.List.{list_any};
 ghost use Rattle.std.specs.Str.{bytes_eq};
@@ -11,22 +12,22 @@ use language::value::InputValue;
 use meta::check::CheckedScalar;
 use std::alloc::Global;
 
-/// What tells the values of a scalar, an enum or an input object.
+/// Which values a scalar, an enum or an input object accepts.
 #[derive(Drop)]
 pub enum SourceCheck {
     /// An integer of 32 bits (section 3.5.1).
     Int,
-    /// A number that a double has (section 3.5.2).
+    /// A finite double-precision number (section 3.5.2).
     Float,
     /// A string (section 3.5.3).
     String,
-    /// A truth value (section 3.5.4).
+    /// A Boolean (section 3.5.4).
     Boolean,
     /// A string, or an integer of any size (section 3.5.5).
     Id,
     /// One of these names (section 3.9).
     Enum(Vec<String>),
-    /// Every value: of a scalar of the schema's own, and of an input object.
+    /// Every value: a custom scalar, or an input object, whose fields are checked elsewhere.
     Any,
 }
 
@@ -86,7 +87,7 @@ pub fn accepts(check: &SourceCheck, value: &InputValue<SourceScalar>) -> bool
     }
 }
 
-// Why it refuses a value.
+// Why the check refuses a value.
 fn refusal(check: &SourceCheck) -> &'static str
     ensures { result.now ≡ refusal check.now }
 {

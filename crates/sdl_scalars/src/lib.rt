@@ -1,4 +1,4 @@
-//! The scalars of a GraphQL text as they are written, and the checks of the types that a schema's text defines.
+//! The scalars of a GraphQL text as written, and the checks of the leaf and input types that a schema's text defines.
 #![tactic(auto)]
 
 pub mod check;

@@ -1,4 +1,4 @@
-//! The scalars of a text, numbers as they are written.
+//! The scalars of a text, numbers as written.
 ghost use Rattle.std.specs.Prelude.{Some};
 ghost use Rattle.sdl_scalars.specs.SourceScalar.{source_text, source_str};
 
@@ -6,16 +6,16 @@ use language::scalar::ScalarValue;
 use std::alloc::AllocError;
 use std::fmt;
 
-/// A scalar of a document. Two numbers are equal if they are written alike.
+/// A scalar of a document. Two numbers are equal if and only if they are written alike.
 #[derive(Debug, PartialEq, Eq, Drop)]
 pub enum SourceScalar {
     /// The digits of an integer, and its sign (section 2.9.1).
     Int(String),
-    /// A number with a fraction or an exponent, as it is written (section 2.9.2).
+    /// A number with a fraction or an exponent, as written (section 2.9.2).
     Float(String),
     /// The value of a string or a block string (section 2.9.4).
     String(String),
-    /// A truth value (section 2.9.3).
+    /// A Boolean (section 2.9.3).
     Boolean(bool),
 }
 

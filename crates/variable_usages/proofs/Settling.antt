@@ -1,4 +1,4 @@
--- Where no variable may be told of, none is.
+-- If no variable may be reported, none is.
 use Rattle.std.proofs.Common.{◌≡◌, ℕ, List, [], ◌∷◌, ◌++◌, map, refl, sym, subst, ap, ◌∙◌, arith, zero, suc, Bool, true, false, ◌||◌, Option, Some, slice_get}
 use Rattle.std.specs.List.{Contains, flat_map}
 use Rattle.std.proofs.lemmas.Slice.Eq.{bytes_eq-Decides}

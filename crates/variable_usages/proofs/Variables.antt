@@ -82,7 +82,7 @@ module _ (used : List ℕ → Bool) where
     unused_next more new e (inl (why, same)) = subst (λ vs. UnusedAmong used vs new) (sym e) (subst (UnusedAmong used (variables ++ v ∷ [])) (sym same) (same_on why))
     unused_next more new e (inr (unused, free, is)) = subst (λ vs. UnusedAmong used vs new) (sym e) (subst (UnusedAmong used (variables ++ v ∷ [])) (sym is) (more_on unused free))
 
--- none starts behind a later place, and with one more none behind the greater
+-- none starts after a later index, and with one more variable none after the greater one
 pub start_later : (a b : ℕ) (found : List NameAndSpan) → a ≤ b → StartBy a found → StartBy b found
 start_later a b found l h v c = let early = h v c in omega (arith, early, l)
 

@@ -1,4 +1,4 @@
--- What the rules that look across a document ask of it.
+-- The index of a document, for the rules that look across it.
 use Rattle.std.specs.Prelude.{List}
 use Rattle.language.specs.declared.tree.Definition.{Definition}
 use Rattle.operation_scopes.specs.Index.{IsIndexOf}

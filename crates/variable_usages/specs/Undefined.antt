@@ -14,8 +14,8 @@ use Rattle.variable_usages.specs.Names.{defined_names, is_among}
 use Rattle.variable_usages.specs.Uses.{Use, Uses, use_of}
 use Rattle.variable_usages.specs.declared.uses.VariableUse.{VariableUse}
 
--- A variable, the name of the operation that doesn't define it, where the argument's value starts that uses it, and where the
--- operation starts.
+-- A variable, the name of the operation that does not define it, the start of the argument value that uses it, and the
+-- start of the operation.
 pub record Undefined : Type 0 where
   pub name : List ℕ
   pub operation : Option (List ℕ)
@@ -25,12 +25,12 @@ pub record Undefined : Type 0 where
 abbrev pub undefined_of : UndefinedVariable → Undefined
 undefined_of u = record { name = u.name.now; operation = option_map (λ n. n.now) u.operation; place = u.place; operation_place = u.operation_place }
 
--- What is told of a use, if its variable isn't defined.
+-- The report of a use, if its variable is not defined.
 abbrev pub told_undefined : (List ℕ → Bool) → Option (List ℕ) → SourcePosition → Use → List Undefined
 told_undefined defined operation start u =
     if defined u.name then [] else record { name = u.name; operation = operation; place = u.place; operation_place = start } ∷ []
 
--- A use was told of, if its variable isn't defined.
+-- A use was reported, if its variable is not defined.
 pub record TellsUndefined (defined : List ℕ → Bool) (operation : Option (List ℕ)) (start : SourcePosition) (u : VariableUse) (old new : List Undefined) : Type 0 where
   pub told : new ≡ old ++ told_undefined defined operation start (use_of u)
 
@@ -39,7 +39,7 @@ abbrev pub UsesNothing : List (Vec VariableUse Global) → Type 0
 UsesNothing all = (k : ℕ) → kept_uses all k ≡ []
 
 module _ {S : Type 0} where
-  -- Of the operations of a name: each use in their reach whose variable the last of them doesn't define.
+  -- For the operations of a name: each use in their reach whose variable the last of them does not define.
   pub record UndefinedIn (document : List (Definition S)) (name : Option (List ℕ)) (found : List Undefined) : Type 0 where
     pub last : Spanning (Operation S) Span
     pub is_last : IsLastOf document name last

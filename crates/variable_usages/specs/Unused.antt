@@ -14,7 +14,7 @@ use Rattle.variable_usages.specs.InReachUses.{InTurn, UsedIn}
 use Rattle.variable_usages.specs.Names.{NameAndSpan, defined_variables, is_among, variable_list}
 use Rattle.variable_usages.specs.Uses.{Uses}
 
--- A variable, where it stands in its definition, and the name of the operation that defines it.
+-- A variable, its span in its definition, and the name of the operation that defines it.
 pub record Unused : Type 0 where
   pub name : List ℕ
   pub span : Span
@@ -23,6 +23,7 @@ pub record Unused : Type 0 where
 abbrev pub unused_of : UnusedVariable → Unused
 unused_of u = record { name = u.name.now; span = u.span; operation = option_map (λ n. n.now) u.operation }
 
+-- A variable that operations of a name define and do not use.
 abbrev pub unused_by : Option (List ℕ) → NameAndSpan → Unused
 unused_by operation v = record { name = v.0; span = v.1; operation = operation }
 
@@ -32,23 +33,23 @@ name_and_span v = (v.name.now, v.span)
 abbrev pub variable_at : Spanning (Bor (List ℕ)) Span → NameAndSpan
 variable_at v = (v.item.now, v.span)
 
--- None of these starts behind a place.
+-- None of these starts after this index.
 abbrev pub StartBy : ℕ → List NameAndSpan → Type 0
 StartBy latest found = (v : NameAndSpan) → Contains found v → index_of v.1.start ≤ latest
 
--- Of these variables each whose name isn't used, once.
+-- Each of these variables whose name is not used, once.
 pub record UnusedAmong (used : List ℕ → Bool) (variables found : List NameAndSpan) : Type 0 where
   pub once : IsOnce found
   pub are : (v : NameAndSpan) → Contains found v ↔ (Contains variables v × (used v.0 ≡ false))
 
--- A variable is added if its name isn't used and it isn't there.
+-- A variable is added if its name is not used and it is not in the list.
 abbrev pub AddsVariable : (List ℕ → Bool) → NameAndSpan → List NameAndSpan → List NameAndSpan → Type 0
 AddsVariable used v old new =
     (((used v.0 ≡ true) ⊎ Contains old v) × (new ≡ old)) ⊎ ((used v.0 ≡ false) × (Contains old v → ⊥) × (new ≡ old ++ v ∷ []))
 
 module _ {S : Type 0} where
-  -- Of the operations of a name: each name and place of a variable that the last of them defines and whose name isn't used in
-  -- their reach, once.
+  -- For the operations of a name: each name and span of a variable that the last of them defines and whose name is not
+  -- used in their reach, once.
   pub record UnusedIn (document : List (Definition S)) (name : Option (List ℕ)) (found : List Unused) : Type 0 where
     pub last : Spanning (Operation S) Span
     pub is_last : IsLastOf document name last

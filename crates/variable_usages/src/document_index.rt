@@ -1,4 +1,4 @@
-//! What the rules that look across a document ask of it, made once for all of them.
+//! The index of a document, which the rules that look across it share.
 ghost use Rattle.std.specs.Prelude.{IfOk};
 ghost use Rattle.fragment_graph.specs.Numbers.{NumberedDefinitions};
 ghost use Rattle.variable_usages.specs.DocumentIndex.{IsDocumentIndex};
@@ -10,14 +10,18 @@ use language::tree::Document;
 use operation_scopes::index::{ScopeIndex, index_scopes};
 use std::alloc::Global;
 
-/// A document's scopes, and the uses of variables in each of its definitions.
+/// The scopes of a document, and the uses of variables in each of its definitions, in order.
 #[derive(Drop)]
 pub struct DocumentIndex<'a> {
     pub scopes: ScopeIndex<'a>,
     pub uses: Vec<Vec<VariableUse<'a>>>,
 }
 
-/// The index of a document, whose names are numbered.
+/// The index of a document, by the numbers of the names of its fragments.
+///
+/// # Errors
+///
+/// Out of memory.
 pub fn index_document<'a, S>(
     alloc: Global,
     document: Document<'a, S>,

@@ -1,4 +1,4 @@
-//! Sets of variables' names.
+//! Sets of names of variables.
 ghost use Rattle.std.specs.Prelude.{◌≡◌, ℕ, List, IfOk, OnOk, map, true, if◌then◌else◌};
 ghost use Rattle.std.specs.Str.{bytes_eq};
 ghost use Rattle.variable_usages.specs.Names.{AddsUse, HasNames, has_name, variable_list};
@@ -11,14 +11,14 @@ use language::tree::{Operation, VariableDefinition};
 use std::alloc::Global;
 use std::collections::BTreeSet;
 
-/// Whether the set has the name.
+/// Whether the set contains this name.
 pub fn is_named(set: &BTreeSet<&str>, name: &str) -> bool
     ensures { result ≡ has_name set.now name.now }
 {
     set.contains(name)
 }
 
-// A name more.
+// Adds a name.
 fn add_name<'a>(set: &mut BTreeSet<&'a str>, name: &'a str) -> Result<(), OutOfMemory>
     ensures { OnOk result ((other : List ℕ) → has_name set.new other
         ≡ (if bytes_eq name.now other then true else has_name set.old other)) }
@@ -27,7 +27,7 @@ fn add_name<'a>(set: &mut BTreeSet<&'a str>, name: &'a str) -> Result<(), OutOfM
     Ok(())
 }
 
-/// The definitions of an operation's variables, in order.
+/// The variables of an operation with their definitions, in order.
 pub fn variables<'d, 't, S>(
     operation: &'d Spanning<Operation<'t, S>>,
 ) -> &'d [(Spanning<&'t str>, VariableDefinition<'t, S>)]
@@ -39,7 +39,11 @@ pub fn variables<'d, 't, S>(
     }
 }
 
-/// The names of the variables that are defined.
+/// The set of the names of these variables.
+///
+/// # Errors
+///
+/// Out of memory.
 pub fn name_set<'a, S>(
     alloc: Global,
     variables: &[(Spanning<&'a str>, VariableDefinition<'_, S>)],
@@ -53,14 +57,18 @@ pub fn name_set<'a, S>(
     Ok(set)
 }
 
-// The name of a use more.
+// Adds the name of a use.
 fn add_use<'a>(set: &mut BTreeSet<&'a str>, used: &VariableUse<'a>) -> Result<(), OutOfMemory>
     ensures { OnOk result (AddsUse used.now set.old set.new) }
 {
     add_name(set, used.name)
 }
 
-/// The names of the variables that are used.
+/// The set of the names in these uses.
+///
+/// # Errors
+///
+/// Out of memory.
 pub fn used_names<'a>(
     alloc: Global,
     uses: &[VariableUse<'a>],

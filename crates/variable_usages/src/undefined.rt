@@ -1,5 +1,5 @@
-//! Variables that are used where they are not defined.
-ghost use Rattle.std.specs.Prelude.{◌≡◌, ◌⊎◌, ◌++◌, ℕ, List, IfOk, IsTrue, OnOk, map, option_map};
+//! Variables that are used but not defined (section 5.8.3).
+ghost use Rattle.std.specs.Prelude.{◌≡◌, ◌⊎◌, ◌++◌, ℕ, List, IfOk, IsTrue, OnOk, map, option_copied};
 ghost use Rattle.std.specs.List.{flat_map};
 ghost use Rattle.fragment_reach.specs.Reach.{operation};
 ghost use Rattle.operation_scopes.specs.Places.{places_of};
@@ -21,17 +21,20 @@ use operation_scopes::index::{last_operation, operation_places};
 use std::alloc::Global;
 use std::collections::BTreeSet;
 
-/// A variable that is used, the name of the operation that doesn't define it, where the argument's value starts that holds the
-/// use, and where the last operation of that name starts.
+/// A variable that an operation uses and does not define.
 #[derive(Clone, Copy, Debug)]
 pub struct UndefinedVariable<'a> {
+    /// The name of the variable, without the dollar sign.
     pub name: &'a str,
+    /// The name of the operation.
     pub operation: Option<&'a str>,
+    /// The start of the argument value that uses the variable.
     pub place: SourcePosition,
+    /// The start of the last operation of that name.
     pub operation_place: SourcePosition,
 }
 
-// Tells of a use whose variable is not among those that are defined.
+// Reports a use whose variable is not defined.
 fn tell<'a>(
     defined: &BTreeSet<&str>,
     operation: Option<&'a str>,
@@ -39,7 +42,7 @@ fn tell<'a>(
     used: VariableUse<'a>,
     found: &mut Vec<UndefinedVariable<'a>>,
 ) -> Result<(), OutOfMemory>
-    ensures { OnOk result (TellsUndefined (has_name defined.now) (option_map (λ n. n.now) operation.entry) start
+    ensures { OnOk result (TellsUndefined (has_name defined.now) (option_copied operation.entry) start
         used.entry (map undefined_of found.old.items) (map undefined_of found.new.items)) }
 {
     if !is_named(defined, used.name) {
@@ -53,7 +56,7 @@ fn tell<'a>(
     Ok(())
 }
 
-// Tells of all of these uses.
+// Reports those of these uses whose variables are not defined.
 fn tell_all<'a>(
     defined: &BTreeSet<&str>,
     operation: Option<&'a str>,
@@ -62,7 +65,7 @@ fn tell_all<'a>(
     found: &mut Vec<UndefinedVariable<'a>>,
 ) -> Result<(), OutOfMemory>
     ensures { OnOk result (map undefined_of found.new.items ≡ map undefined_of found.old.items
-        ++ flat_map (told_undefined (has_name defined.now) (option_map (λ n. n.now) operation.entry) start)
+        ++ flat_map (told_undefined (has_name defined.now) (option_copied operation.entry) start)
         (map use_of uses.now)) }
 {
     for used in uses {
@@ -71,7 +74,7 @@ fn tell_all<'a>(
     Ok(())
 }
 
-// Tells of the uses that the operations of a name reach.
+// Reports the uses in the reach of the operations of a name whose variables are not defined.
 fn add_undefined<'a, S>(
     alloc: Global,
     document: Document<'a, S>,
@@ -83,10 +86,10 @@ fn add_undefined<'a, S>(
 ) -> Result<(), OutOfMemory>
     requires index { IsDocumentIndex document.now index.now }
     requires ready { IsReady index.now.scopes search.old.search }
-    requires own { own.now ≡ places_of document.now (operation (option_map (λ n. n.now) name)) }
-    requires named { IsOperationName document.now (option_map (λ n. n.now) name) }
+    requires own { own.now ≡ places_of document.now (operation (option_copied name)) }
+    requires named { IsOperationName document.now (option_copied name) }
     ensures told { OnOk result
-        (AddsUndefined document.now (option_map (λ n. n.now) name.entry) (map undefined_of found.old.items)
+        (AddsUndefined document.now (option_copied name.entry) (map undefined_of found.old.items)
         (map undefined_of found.new.items)) }
     ensures ready { OnOk result (IsReady index.now.scopes search.new.search) }
 {
@@ -107,7 +110,12 @@ fn add_undefined<'a, S>(
     }
 }
 
-/// The uses of variables that the last operation of a name doesn't define, for each name (GraphQL October 2021, section 5.8.3).
+/// For each name of operations, the uses in their reach of variables that the last of them does not
+/// define (section 5.8.3).
+///
+/// # Errors
+///
+/// Out of memory.
 pub fn undefined_variables<'a, S>(
     alloc: Global,
     document: Document<'a, S>,
@@ -131,7 +139,12 @@ fn is_any_used(all: &[Vec<VariableUse<'_>>]) -> bool
     false
 }
 
-/// The same, by a document's index. Where the document uses no variable it looks for nothing.
+/// The same as [`undefined_variables`], by the index of the document. Returns at once if the document
+/// uses no variables.
+///
+/// # Errors
+///
+/// Out of memory.
 pub fn undefined_in<'a, S>(
     alloc: Global,
     document: Document<'a, S>,

@@ -1,5 +1,5 @@
 //! Variables that are defined and not used.
-ghost use Rattle.std.specs.Prelude.{◌≡◌, ◌≤◌, ◌++◌, ◌↔◌, ℕ, List, Option, IfOk, IsTrue, OnOk, map, option_map};
+ghost use Rattle.std.specs.Prelude.{◌≡◌, ◌≤◌, ◌++◌, ◌↔◌, ℕ, List, Option, IfOk, IsTrue, OnOk, map, option_copied};
 ghost use Rattle.std.specs.List.{Contains};
 ghost use Rattle.fragment_reach.specs.Reach.{operation};
 ghost use Rattle.operation_scopes.specs.Places.{places_of};
@@ -119,7 +119,7 @@ fn tell_all<'a>(
     found: &mut Vec<UnusedVariable<'a>>,
 ) -> Result<(), OutOfMemory>
     ensures { OnOk result (map unused_of found.new.items ≡ map unused_of found.old.items
-        ++ map (unused_by (option_map (λ n. n.now) operation.entry)) (map name_and_span variables.now)) }
+        ++ map (unused_by (option_copied operation.entry)) (map name_and_span variables.now)) }
 {
     for variable in variables {
         found.push(UnusedVariable {
@@ -143,9 +143,9 @@ fn add_unused<'a, S>(
 ) -> Result<(), OutOfMemory>
     requires index { IsDocumentIndex document.now index.now }
     requires ready { IsReady index.now.scopes search.old.search }
-    requires own { own.now ≡ places_of document.now (operation (option_map (λ n. n.now) name)) }
-    requires named { IsOperationName document.now (option_map (λ n. n.now) name) }
-    ensures told { OnOk result (AddsUnused document.now (option_map (λ n. n.now) name.entry) (map unused_of found.old.items)
+    requires own { own.now ≡ places_of document.now (operation (option_copied name)) }
+    requires named { IsOperationName document.now (option_copied name) }
+    ensures told { OnOk result (AddsUnused document.now (option_copied name.entry) (map unused_of found.old.items)
         (map unused_of found.new.items)) }
     ensures ready { OnOk result (IsReady index.now.scopes search.new.search) }
 {
@@ -184,9 +184,9 @@ fn add_if_defined<'a, S>(
 ) -> Result<(), OutOfMemory>
     requires index { IsDocumentIndex document.now index.now }
     requires ready { IsReady index.now.scopes search.old.search }
-    requires own { own.now ≡ places_of document.now (operation (option_map (λ n. n.now) name)) }
-    requires named { IsOperationName document.now (option_map (λ n. n.now) name) }
-    ensures told { OnOk result (AddsUnused document.now (option_map (λ n. n.now) name.entry) (map unused_of found.old.items)
+    requires own { own.now ≡ places_of document.now (operation (option_copied name)) }
+    requires named { IsOperationName document.now (option_copied name) }
+    ensures told { OnOk result (AddsUnused document.now (option_copied name.entry) (map unused_of found.old.items)
         (map unused_of found.new.items)) }
     ensures ready { OnOk result (IsReady index.now.scopes search.new.search) }
 {

@@ -1,5 +1,6 @@
 //! The variables that a definition uses, in arguments of fields and of directives.
 ghost use Rattle.std.specs.Prelude.{◌≡◌, ◌++◌, ℕ, List, Option, IfOk, OnOk, map};
+ghost use Rattle.language.specs.References.{list_copied};
 ghost use Rattle.std.specs.List.{flat_map};
 ghost use Rattle.fragment_reach.specs.Reach.{operation};
 ghost use Rattle.operation_scopes.specs.Index.{IsIndexOf};
@@ -33,7 +34,7 @@ fn add_names<'d>(
     found: &mut Vec<VariableUse<'d>>,
 ) -> Result<(), OutOfMemory>
     ensures { OnOk result (map use_of found.new.items ≡ map use_of found.old.items
-        ++ map (at_place place) (map (λ n. n.now) names.now)) }
+        ++ map (at_place place) (list_copied names.now)) }
 {
     for name in names {
         found.push(VariableUse { name: *name, place })?;

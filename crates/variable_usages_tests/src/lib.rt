@@ -1,4 +1,4 @@
-//! The rows of the lists of variables, over texts.
+//! Tests of undefined and unused variables, over texts.
 #![tactic(auto)]
 
 #[cfg(test)]

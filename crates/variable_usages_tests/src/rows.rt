@@ -9,7 +9,7 @@ use std::test::Fail;
 use variable_usages::undefined::undefined_variables;
 use variable_usages::unused::unused_variables;
 
-// A text, the uses that are not defined, and the variables that are not used.
+// A text, the uses of undefined variables, and the unused variables.
 const ROWS: [(&str, &str, &str); 8] = [
     (
         "query ($a: Int, $b: Int) { complicatedArgs { ...F } } fragment F on ComplicatedArgs { intArgField(intArg: $a) }",

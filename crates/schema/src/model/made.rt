@@ -1,4 +1,4 @@
-//! The types of a schema as a document names them.
+//! The types of a schema for references to types in a document.
 ghost use Rattle.std.specs.Prelude.{◌≡◌, [], IfOk, IsOk, Some, true};
 ghost use Rattle.language.specs.Types.{borrowed_shape};
 ghost use Rattle.schema_validation.specs.Accepted.{is_listed};
@@ -13,11 +13,13 @@ use language::types::BorrowedType;
 use std::alloc::Global;
 
 impl<S: Drop, C: Drop> SchemaTypeOf<S, C> {
-    /// The type of the schema that the type names, with its modifiers round it, innermost first
-    /// (section 3.4.1).
+    /// The type of the schema for a reference to a type, with the same modifiers (section 3.4.1).
     ///
-    /// The innermost name has to be known, which `is_known` tells. The one refusal is for want of
-    /// memory; a plain name takes none.
+    /// The schema has to have a type of the innermost name: see [`SchemaTypeOf::is_known`].
+    ///
+    /// # Errors
+    ///
+    /// Out of memory; never if the type has no modifiers.
     pub fn make_type(
         &self,
         alloc: Global,
@@ -36,7 +38,7 @@ impl<S: Drop, C: Drop> SchemaTypeOf<S, C> {
         Ok(made)
     }
 
-    /// The type of the name, with nothing round it.
+    /// The type of this name, without modifiers.
     fn plain_type(&self, name: &str) -> TypeTypeOf<'_, S, C>
         requires { is_listed self.now.types name.now ≡ true }
         ensures meta { type_in name.now self.now ≡ Some (wrapped_of result).meta }

@@ -1,4 +1,4 @@
-//! What the types of a schema answer.
+//! Methods of the types of a schema.
 ghost use Rattle.std.specs.Prelude.{◌≡◌, ◌↔◌, IfOk, IsTrue, Some, option_copied, option_map};
 ghost use Rattle.language.specs.Types.{outermost, printed};
 ghost use Rattle.schema.specs.Concrete.{concrete_of};
@@ -12,7 +12,7 @@ use std::alloc::Global;
 use std::fmt;
 
 impl<'a, S, C> TypeTypeOf<'a, S, C> {
-    /// The metadata, where nothing stands round it.
+    /// The metadata; `None` if the type has modifiers.
     pub fn to_concrete(&self) -> Option<&'a MetaTypeOf<S, C>>
         ensures { option_copied result ≡ concrete_of self.now }
     {
@@ -23,7 +23,7 @@ impl<'a, S, C> TypeTypeOf<'a, S, C> {
         }
     }
 
-    /// The metadata, whatever stands round it.
+    /// The metadata, whatever modifiers the type has.
     pub fn innermost_concrete(&self) -> &'a MetaTypeOf<S, C>
         ensures { result.now ≡ (wrapped_of self.now).meta }
     {
@@ -34,7 +34,7 @@ impl<'a, S, C> TypeTypeOf<'a, S, C> {
         }
     }
 
-    /// The type of the items, where the type is a list or a non-null list.
+    /// The type of the items, if the type is a list or a non-null list.
     pub fn list_contents(&self) -> Option<&Self>
         ensures { option_map wrapped_of (option_copied result) ≡ items_of (wrapped_of self.now) }
     {
@@ -45,7 +45,7 @@ impl<'a, S, C> TypeTypeOf<'a, S, C> {
         }
     }
 
-    /// Whether the type is never null.
+    /// Whether the outermost modifier is a non-null.
     pub fn is_non_null(&self) -> bool
         ensures { IsTrue result ↔ (outermost (wrapped_of self.now).modifiers ≡ Some TypeModifier.NonNull) }
     {
@@ -57,7 +57,11 @@ impl<'a, S, C> TypeTypeOf<'a, S, C> {
     }
 }
 
-/// The type with one modifier more round it.
+/// The type with one more modifier, as the outermost.
+///
+/// # Errors
+///
+/// Out of memory.
 pub fn wrap_type<'a, S: Drop, C: Drop>(
     alloc: Global,
     inner: TypeTypeOf<'a, S, C>,
@@ -72,7 +76,7 @@ pub fn wrap_type<'a, S: Drop, C: Drop>(
     }
 }
 
-/// `Name`, `T!` and `[T]`; an expected size isn't printed, nor is a name that the metadata lacks.
+/// `Name`, `T!` or `[T]`. An expected size is not printed, and metadata without a name prints nothing.
 impl<S, C> fmt::Display for TypeTypeOf<'_, S, C> {
     ghost output = { λ t. Some (printed (wrapped_shape (wrapped_of t))) };
 

@@ -1,4 +1,4 @@
-//! Types of a schema, with what stands round them.
+//! Types of a schema with their modifiers.
 ghost use Rattle.std.specs.Prelude.{◌≡◌};
 ghost use Rattle.schema.specs.Wrapped.{wrapped_of};
 
@@ -6,8 +6,8 @@ use meta::check::CheckedScalar;
 use meta::kinds::MetaTypeOf;
 use std::alloc::AllocError;
 
-/// A type of a schema: its metadata, or a non-null type or a list of a type, of so many items if a
-/// number is expected.
+/// A type of a schema: metadata, a non-null type, or a list; with a number, that many items are
+/// expected (section 3.4.1).
 #[derive(Drop)]
 pub enum TypeTypeOf<'a, S, C> {
     Concrete(&'a MetaTypeOf<S, C>),
@@ -15,10 +15,10 @@ pub enum TypeTypeOf<'a, S, C> {
     List(Box<TypeTypeOf<'a, S, C>>, Option<usize>),
 }
 
-/// A type of a schema, with the checks that its kind of scalars has.
+/// A type of a schema, with the checks of the scalar type `S`.
 pub type TypeType<'a, S> = TypeTypeOf<'a, S, <S as CheckedScalar>::Check>;
 
-/// The same metadata with the same round it. The one refusal is for want of memory.
+/// Clones the type; the copy refers to the same metadata.
 impl<S, C> Clone for TypeTypeOf<'_, S, C> {
     ghost is_clone = { λ t copy. wrapped_of copy ≡ wrapped_of t };
 

@@ -7,33 +7,34 @@ use Rattle.merge_search.specs.Names.{named}
 use Rattle.merge_search.specs.World.{world, own_of, spreads_of, set_of}
 use Rattle.merge_search.specs.Opening.{Opens, Reaches}
 use Rattle.merge_search.specs.Work.{pair_in, search_in, Searched, Pair, Done, stood, shallow, deep, SetsDone, OwnPairs}
-use Rattle.merge_search.specs.Reports.{Adds, NestedRoot, AtFields, AtWith, AtNamed, AtOwn, AtSearch, AtFirst, AtSecond}
+use Rattle.merge_search.specs.Reports.{Adds, NestedRoot, AtFields, AtWith, AtNamed, AtOwn, AtSearch, AtFirst, AtSecond, AtFragments}
 use Rattle.merge_search.proofs.Clear.{named_done, named_tells}
 use Rattle.merge_search.proofs.Falls.{spread_falls, own_falls, reach_falls}
 use Rattle.merge_search.proofs.Work.{did_none, did_start, did_then, did_map, did_more, did_all, did_list, did_opened, owes_search, owes_none, owes_start, owes_more, owes_full, did_fragments, did_report, did_kept, no_entry, covers_yes, covers_no}
 use Rattle.merge_search.proofs.Adding.{adds_none, adds_map, adds_then, adds_from, adds_node, adds_same, all_leaf, all_quiet, all_start, all_more, all_done}
 use Rattle.merge_search.proofs.Rows.{in_list, row_with, row_named, row_own, tell_with, tell_named, tell_own, own_pairs, row_opened, row_fragments, row_first, row_second, row_below_own, row_below_forth, row_below_back, row_below_spreads, row_nested}
+use Rattle.merge_search.proofs.SpreadLoops.{spreads_start, spreads_more, spreads_done}
 use Rattle.merge_search.proofs.search.+search.Goals as goal
 
 pub all_against_all-fragment_against_all-requires : goal.all_against_all-fragment_against_all-requires
 all_against_all-fragment_against_all-requires g t c =
     let v = world g.J.Judge.judgement c.args.graph.now in
-    let low = spread_falls v c.args.i c.spreads-g-items.result.now c.loop-g.g-index c.args.graph.now.falling c.loop-g.invariant.0 c.loop-g-test.true in λ κs u. (omega (arith, c.decreases, low.1), (u, low.0))
+    let low = spread_falls v c.args.i c.spreads-g-items.result.now c.loop-g.g-index c.args.graph.now.falling c.loop-g.invariant.listed c.loop-g-test.true in λ κs u. (omega (arith, c.decreases, low.1), (u, low.0))
 
 pub all_against_fragment-compare_fragments-requires : goal.all_against_fragment-compare_fragments-requires
 all_against_fragment-compare_fragments-requires g t c =
     let v = world g.J.Judge.judgement c.args.graph.now in
-    let low = spread_falls v c.args.i c.spreads-h-items.result.now c.loop-h.h-index c.args.graph.now.falling c.loop-h.invariant.0 c.loop-h-test.true in λ κs u. (omega (arith, c.decreases, low.1), (u, (low.0, c.requires)))
+    let low = spread_falls v c.args.i c.spreads-h-items.result.now c.loop-h.h-index c.args.graph.now.falling c.loop-h.invariant.listed c.loop-h-test.true in λ κs u. (omega (arith, c.decreases, low.1), (u, (low.0, c.requires)))
 
 pub fragment_against_all-compare_fragments-requires : goal.fragment_against_all-compare_fragments-requires
 fragment_against_all-compare_fragments-requires g t c =
     let v = world g.J.Judge.judgement c.args.graph.now in
-    let low = spread_falls v c.args.j c.spreads-h-items.result.now c.loop-h.h-index c.args.graph.now.falling c.loop-h.invariant.0 c.loop-h-test.true in λ κs u. (omega (arith, c.decreases, low.1), (u, (c.requires, low.0)))
+    let low = spread_falls v c.args.j c.spreads-h-items.result.now c.loop-h.h-index c.args.graph.now.falling c.loop-h.invariant.listed c.loop-h-test.true in λ κs u. (omega (arith, c.decreases, low.1), (u, (c.requires, low.0)))
 
 pub own_against_all-own_against-requires : goal.own_against_all-own_against-requires
 own_against_all-own_against-requires g t c =
     let v = world g.J.Judge.judgement c.args.graph.now in
-    let low = spread_falls v c.args.j c.spreads-h-items.result.now c.loop-h.h-index c.args.graph.now.falling c.loop-h.invariant.0 c.loop-h-test.true in λ κs u. (omega (arith, c.decreases, low.1), (u, low.0))
+    let low = spread_falls v c.args.j c.spreads-h-items.result.now c.loop-h.h-index c.args.graph.now.falling c.loop-h.invariant.listed c.loop-h-test.true in λ κs u. (omega (arith, c.decreases, low.1), (u, low.0))
 
 pub open_all-open_fragment-requires : goal.open_all-open_fragment-requires
 open_all-open_fragment-requires g t c =
@@ -58,85 +59,73 @@ own_against-open_all-requires g t c =
 pub all_against_all-loop-g-init : goal.all_against_all-loop-g-init
 all_against_all-loop-g-init g t c =
     let v = world g.J.Judge.judgement c.args.graph.now in
-    (c.spreads-g-items.ensures, did_start v (λ k M. All (λ h. Pair M c.args.e k h) (spreads_of v c.args.j)) c.spreads-g-items.result.now c.args.search.now, adds_none v c.args.e _ _)
+    spreads_start v c.args.e c.args.i (λ k M. All (λ h. Pair M c.args.e k h) (spreads_of v c.args.j)) (λ k. AtFirst v k c.args.j) c.spreads-g-items.result.now c.args.search.now c.spreads-g-items.ensures
 
 pub all_against_all-loop-g-preserved : goal.all_against_all-loop-g-preserved
 all_against_all-loop-g-preserved g t c =
-    let v = world g.J.Judge.judgement c.args.graph.now in (
-      c.loop-g.invariant.0,
-      did_more v (λ k M. All (λ h. Pair M c.args.e k h) (spreads_of v c.args.j)) _ c.loop-g.g-index 0 c.loop-g-test.true c.loop-g.invariant.1 c.in_ok-fragment_against_all.ensures.done,
-      adds_then v c.args.e _ c.loop-g.invariant.2 (adds_map v c.args.e _ _ (λ r z. (get_or c.spreads-g-items.result.now c.loop-g.g-index 0, in_list c.spreads-g-items.result.now (spreads_of v c.args.i) c.loop-g.g-index 0 c.loop-g.invariant.0 c.loop-g-test.true, z)) c.in_ok-fragment_against_all.ensures.real),
-    )
+    let v = world g.J.Judge.judgement c.args.graph.now in
+    spreads_more v c.args.e c.args.i (λ k M. All (λ h. Pair M c.args.e k h) (spreads_of v c.args.j)) (λ k. AtFirst v k c.args.j) _ c.loop-g.g-index c.loop-g-test.true c.loop-g.invariant c.in_ok-fragment_against_all.ensures.done c.in_ok-fragment_against_all.ensures.real
 
 pub all_against_all-returns : goal.all_against_all-returns
 all_against_all-returns g t c =
     let v = world g.J.Judge.judgement c.args.graph.now in
     record {
-      done = did_all v (λ k M. All (λ h. Pair M c.args.e k h) (spreads_of v c.args.j)) _ (spreads_of v c.args.i) c.loop-g.g-index c.loop-g-test.false c.loop-g.invariant.0 c.loop-g.invariant.1;
-      real = c.loop-g.invariant.2;
+      done = spreads_done v c.args.e c.args.i (λ k M. All (λ h. Pair M c.args.e k h) (spreads_of v c.args.j)) (λ k. AtFirst v k c.args.j) _ c.loop-g.g-index c.loop-g-test.false c.loop-g.invariant;
+      real = c.loop-g.invariant.real;
     }
 
 pub all_against_fragment-loop-h-init : goal.all_against_fragment-loop-h-init
 all_against_fragment-loop-h-init g t c =
     let v = world g.J.Judge.judgement c.args.graph.now in
-    (c.spreads-h-items.ensures, did_start v (λ h M. Pair M c.args.e h c.args.g) c.spreads-h-items.result.now c.args.search.now, adds_none v c.args.e _ _)
+    spreads_start v c.args.e c.args.i (λ h M. Pair M c.args.e h c.args.g) (λ h. AtFragments v h c.args.g) c.spreads-h-items.result.now c.args.search.now c.spreads-h-items.ensures
 
 pub all_against_fragment-loop-h-preserved : goal.all_against_fragment-loop-h-preserved
 all_against_fragment-loop-h-preserved g t c =
-    let v = world g.J.Judge.judgement c.args.graph.now in (
-      c.loop-h.invariant.0,
-      did_more v (λ h M. Pair M c.args.e h c.args.g) _ c.loop-h.h-index 0 c.loop-h-test.true c.loop-h.invariant.1 c.in_ok-compare_fragments.ensures.done,
-      adds_then v c.args.e _ c.loop-h.invariant.2 (adds_map v c.args.e _ _ (λ r z. (get_or c.spreads-h-items.result.now c.loop-h.h-index 0, in_list c.spreads-h-items.result.now (spreads_of v c.args.i) c.loop-h.h-index 0 c.loop-h.invariant.0 c.loop-h-test.true, z)) c.in_ok-compare_fragments.ensures.real),
-    )
+    let v = world g.J.Judge.judgement c.args.graph.now in
+    spreads_more v c.args.e c.args.i (λ h M. Pair M c.args.e h c.args.g) (λ h. AtFragments v h c.args.g) _ c.loop-h.h-index c.loop-h-test.true c.loop-h.invariant c.in_ok-compare_fragments.ensures.done c.in_ok-compare_fragments.ensures.real
 
 pub all_against_fragment-returns : goal.all_against_fragment-returns
 all_against_fragment-returns g t c =
     let v = world g.J.Judge.judgement c.args.graph.now in
     record {
-      done = did_all v (λ h M. Pair M c.args.e h c.args.g) _ (spreads_of v c.args.i) c.loop-h.h-index c.loop-h-test.false c.loop-h.invariant.0 c.loop-h.invariant.1;
-      real = c.loop-h.invariant.2;
+      done = spreads_done v c.args.e c.args.i (λ h M. Pair M c.args.e h c.args.g) (λ h. AtFragments v h c.args.g) _ c.loop-h.h-index c.loop-h-test.false c.loop-h.invariant;
+      real = c.loop-h.invariant.real;
     }
 
 pub fragment_against_all-loop-h-init : goal.fragment_against_all-loop-h-init
 fragment_against_all-loop-h-init g t c =
     let v = world g.J.Judge.judgement c.args.graph.now in
-    (c.spreads-h-items.ensures, did_start v (λ h M. Pair M c.args.e c.args.f h) c.spreads-h-items.result.now c.args.search.now, adds_none v c.args.e _ _)
+    spreads_start v c.args.e c.args.j (λ h M. Pair M c.args.e c.args.f h) (AtFragments v c.args.f) c.spreads-h-items.result.now c.args.search.now c.spreads-h-items.ensures
 
 pub fragment_against_all-loop-h-preserved : goal.fragment_against_all-loop-h-preserved
 fragment_against_all-loop-h-preserved g t c =
-    let v = world g.J.Judge.judgement c.args.graph.now in (
-      c.loop-h.invariant.0,
-      did_more v (λ h M. Pair M c.args.e c.args.f h) _ c.loop-h.h-index 0 c.loop-h-test.true c.loop-h.invariant.1 c.in_ok-compare_fragments.ensures.done,
-      adds_then v c.args.e _ c.loop-h.invariant.2 (adds_map v c.args.e _ _ (λ r z. (get_or c.spreads-h-items.result.now c.loop-h.h-index 0, in_list c.spreads-h-items.result.now (spreads_of v c.args.j) c.loop-h.h-index 0 c.loop-h.invariant.0 c.loop-h-test.true, z)) c.in_ok-compare_fragments.ensures.real),
-    )
+    let v = world g.J.Judge.judgement c.args.graph.now in
+    spreads_more v c.args.e c.args.j (λ h M. Pair M c.args.e c.args.f h) (AtFragments v c.args.f) _ c.loop-h.h-index c.loop-h-test.true c.loop-h.invariant c.in_ok-compare_fragments.ensures.done c.in_ok-compare_fragments.ensures.real
 
 pub fragment_against_all-returns : goal.fragment_against_all-returns
 fragment_against_all-returns g t c =
     let v = world g.J.Judge.judgement c.args.graph.now in
     record {
-      done = did_all v (λ h M. Pair M c.args.e c.args.f h) _ (spreads_of v c.args.j) c.loop-h.h-index c.loop-h-test.false c.loop-h.invariant.0 c.loop-h.invariant.1;
-      real = c.loop-h.invariant.2;
+      done = spreads_done v c.args.e c.args.j (λ h M. Pair M c.args.e c.args.f h) (AtFragments v c.args.f) _ c.loop-h.h-index c.loop-h-test.false c.loop-h.invariant;
+      real = c.loop-h.invariant.real;
     }
 
 pub own_against_all-loop-h-init : goal.own_against_all-loop-h-init
 own_against_all-loop-h-init g t c =
     let v = world g.J.Judge.judgement c.args.graph.now in
-    (c.spreads-h-items.ensures, did_start v (λ h M. Searched M c.args.e c.args.i h) c.spreads-h-items.result.now c.args.search.now, adds_none v c.args.e _ _)
+    spreads_start v c.args.e c.args.j (λ h M. Searched M c.args.e c.args.i h) (AtSearch v c.args.i) c.spreads-h-items.result.now c.args.search.now c.spreads-h-items.ensures
 
 pub own_against_all-loop-h-preserved : goal.own_against_all-loop-h-preserved
 own_against_all-loop-h-preserved g t c =
-    let v = world g.J.Judge.judgement c.args.graph.now in (
-      c.loop-h.invariant.0,
-      did_more v (λ h M. Searched M c.args.e c.args.i h) _ c.loop-h.h-index 0 c.loop-h-test.true c.loop-h.invariant.1 c.in_ok-own_against.ensures.done,
-      adds_then v c.args.e _ c.loop-h.invariant.2 (adds_map v c.args.e _ _ (λ r z. (get_or c.spreads-h-items.result.now c.loop-h.h-index 0, in_list c.spreads-h-items.result.now (spreads_of v c.args.j) c.loop-h.h-index 0 c.loop-h.invariant.0 c.loop-h-test.true, z)) c.in_ok-own_against.ensures.real),
-    )
+    let v = world g.J.Judge.judgement c.args.graph.now in
+    spreads_more v c.args.e c.args.j (λ h M. Searched M c.args.e c.args.i h) (AtSearch v c.args.i) _ c.loop-h.h-index c.loop-h-test.true c.loop-h.invariant c.in_ok-own_against.ensures.done c.in_ok-own_against.ensures.real
 
 pub own_against_all-returns : goal.own_against_all-returns
 own_against_all-returns g t c =
     let v = world g.J.Judge.judgement c.args.graph.now in
     record {
-      done = did_all v (λ h M. Searched M c.args.e c.args.i h) _ (spreads_of v c.args.j) c.loop-h.h-index c.loop-h-test.false c.loop-h.invariant.0 c.loop-h.invariant.1;
-      real = c.loop-h.invariant.2;
+      done = spreads_done v c.args.e c.args.j (λ h M. Searched M c.args.e c.args.i h) (AtSearch v c.args.i) _ c.loop-h.h-index c.loop-h-test.false c.loop-h.invariant;
+      real = c.loop-h.invariant.real;
     }
 
 pub open_all-loop-h-init : goal.open_all-loop-h-init

@@ -1,7 +1,7 @@
 use Rattle.std.proofs.Common.{◌∙◌, length-set, refl, sym, None, Some}
 use Rattle.std.specs.Vec.{with_item}
 use Rattle.std.proofs.lemmas.Result.{IfOk-weaker, on_ok_weaker}
-use Rattle.rules_document.specs.NoUnusedFragments.{name_and_span}
+use Rattle.rules_document.specs.MetFragments.{name_and_span}
 use Rattle.rules_document.proofs.FirstMeeting.{has_place, kept_first, kept_other, met_again, met_before, met_first, read_there, spans_are, spans_differ, unmet, unmet_before}
 use Rattle.rules_document.proofs.met_fragments.meet.Goals as goal
 

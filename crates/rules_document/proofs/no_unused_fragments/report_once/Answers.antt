@@ -1,14 +1,14 @@
 use Rattle.std.proofs.Common.{[], ◌∷◌, sym}
 use Rattle.std.proofs.lemmas.Result.{IfOk-weaker}
-use Rattle.rules_document.specs.NoUnusedFragments.{name_and_span}
+use Rattle.rules_document.specs.MetFragments.{name_and_span}
 use Rattle.rules_document.proofs.Meeting.{adds_marked, adds_none, adds_one}
-use Rattle.rules_document.proofs.Unused.{both, told_nothing}
+use Rattle.rules_document.proofs.Unused.{both, reports_nothing}
 use Rattle.rules_document.proofs.no_unused_fragments.report_once.Goals as goal
 
 pub returns-then-is_reached-clause-ok : goal.returns-then-is_reached-clause-ok
 returns-then-is_reached-clause-ok g c =
     let met = c.args.met.now in
-    ([], adds_marked c.args.reached.now met met (name_and_span c.args.fragment.now) ((c.is_reached.ensures _ (sym c.requires.number)).0 c.if-is_reached.true), told_nothing c.args.ctx.now)
+    ([], adds_marked c.args.reached.now met met (name_and_span c.args.fragment.now) ((c.is_reached.ensures _ (sym c.requires.number)).0 c.if-is_reached.true), reports_nothing c.args.ctx.now)
 
 pub returns-then-branch-clause-ok : goal.returns-then-branch-clause-ok
 returns-then-branch-clause-ok g c =
@@ -30,5 +30,5 @@ returns-clause-ok g c =
       [],
       adds_none c.args.reached.now met c.meet.new.met p c.in_ok-meet.ensures.met
           (c.in_ok-meet.ensures.known c.if-branch.false),
-      told_nothing c.args.ctx.now,
+      reports_nothing c.args.ctx.now,
     )

@@ -1,7 +1,8 @@
 use Rattle.std.proofs.Common.{◌≡◌, ◌↔◌, List, map, take}
 use Rattle.std.specs.List.{Contains}
 use Rattle.walk.specs.ContextState.{with_errors}
-use Rattle.rules_document.specs.NoUnusedFragments.{IsKeptFor, IsMet, NameAndSpan, UnusedAmong, unused_error}
+use Rattle.rules_document.specs.MetFragments.{IsKeptFor, IsMet, NameAndSpan}
+use Rattle.rules_document.specs.NoUnusedFragments.{UnusedAmong, unused_error}
 use Rattle.rules_document.proofs.no_unused_fragments.report_unused.Given as goal
 
 -- those of the definitions that were seen are reported, and met

@@ -2,7 +2,7 @@ use Rattle.std.proofs.Common.{◌≡◌, ◌<◌, Some, ap, arith, length, sym, 
 use Rattle.schema.specs.Catalog.{type_in}
 use Rattle.fragment_graph.specs.Numbers.{number_of, defined_number}
 use Rattle.fragment_graph.proofs.Numbering.{below}
-use Rattle.rules_fragments.specs.ConditionsKept.{conditions_at, kept_at}
+use Rattle.rules_fragments.specs.Conditions.{conditions_at, kept_at}
 use Rattle.rules_fragments.specs.PossibleFragmentSpreads.{with_definition, with_type}
 use Rattle.rules_fragments.proofs.ConditionsSeen.{inserted, kept_now}
 use Rattle.rules_fragments.proofs.conditions.note_type.Goals as goal

@@ -1,6 +1,6 @@
 use Rattle.std.proofs.Common.{◌≡◌, length, take}
 use Rattle.fragment_graph.specs.Numbers.{names_of}
-use Rattle.rules_fragments.specs.ConditionsKept.{conditions_at}
+use Rattle.rules_fragments.specs.Conditions.{conditions_at}
 use Rattle.rules_fragments.specs.PossibleFragmentSpreads.{conditions_in, no_conditions}
 use Rattle.rules_fragments.proofs.conditions.types_of.Given as goal
 

@@ -4,7 +4,7 @@ use Rattle.language.specs.Types.{borrowed_shape, printed}
 use Rattle.schema.specs.Subtype.{IsSubtype}
 use Rattle.walk.specs.ContextState.{with_errors}
 use Rattle.rules_positions.specs.TypedUses.{use_value}
-use Rattle.rules_positions.specs.VariableInAllowedPosition.{position_error, position_message, type_in_use}
+use Rattle.rules_positions.specs.VariablesInAllowedPosition.{position_error, position_message, type_in_use}
 use Rattle.rules_positions.proofs.Giving.{false_true}
 use Rattle.rules_positions.proofs.judging.judge.Goals as goal
 

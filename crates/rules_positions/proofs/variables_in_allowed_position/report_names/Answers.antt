@@ -5,7 +5,7 @@ use Rattle.walk.specs.Entering.{EachGives}
 use Rattle.walk.specs.Rule.{Appended}
 use Rattle.operation_scopes.specs.Index.{operation_names}
 use Rattle.rules_positions.specs.TypedUses.{use_values}
-use Rattle.rules_positions.specs.VariableInAllowedPosition.{OperationsGive}
+use Rattle.rules_positions.specs.VariablesInAllowedPosition.{OperationsGive}
 use Rattle.rules_positions.proofs.Giving.{appended_at}
 use Rattle.rules_positions.proofs.variables_in_allowed_position.report_names.Goals as goal
 

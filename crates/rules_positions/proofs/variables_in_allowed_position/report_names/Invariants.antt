@@ -4,7 +4,7 @@ use Rattle.walk.specs.Rule.{Appended}
 use Rattle.operation_scopes.specs.Index.{operation_names}
 use Rattle.operation_scopes.specs.Searches.{IsReady}
 use Rattle.rules_positions.specs.TypedUses.{use_values}
-use Rattle.rules_positions.specs.VariableInAllowedPosition.{OperationsGive}
+use Rattle.rules_positions.specs.VariablesInAllowedPosition.{OperationsGive}
 use Rattle.rules_positions.proofs.variables_in_allowed_position.report_names.Given as goal
 
 -- those of the names that were seen are judged

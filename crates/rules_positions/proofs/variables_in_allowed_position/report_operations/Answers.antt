@@ -7,7 +7,7 @@ use Rattle.operation_scopes.specs.Places.{places_of}
 use Rattle.rules_positions.specs.DefinedVariables.{first_of, variables_of}
 use Rattle.rules_positions.specs.FirstVariables.{kept_first}
 use Rattle.rules_positions.specs.TypedUses.{use_values}
-use Rattle.rules_positions.specs.VariableInAllowedPosition.{UsesGive, uses_in}
+use Rattle.rules_positions.specs.VariablesInAllowedPosition.{UsesGive, uses_in}
 use Rattle.rules_positions.proofs.Skipping.{none_misplaced, own_variables}
 use Rattle.rules_positions.proofs.variables_in_allowed_position.report_operations.Goals as goal
 

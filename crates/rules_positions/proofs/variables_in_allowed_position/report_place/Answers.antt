@@ -4,7 +4,7 @@ use Rattle.std.specs.Option.{unwrap_or}
 use Rattle.walk.specs.Rule.{Appended}
 use Rattle.rules_positions.specs.FirstVariables.{kept_first}
 use Rattle.rules_positions.specs.TypedUses.{use_value, use_values}
-use Rattle.rules_positions.specs.VariableInAllowedPosition.{JudgedIfDefined, UsesGive}
+use Rattle.rules_positions.specs.VariablesInAllowedPosition.{JudgedIfDefined, UsesGive}
 use Rattle.rules_positions.proofs.Giving.{appended_none}
 use Rattle.rules_positions.proofs.variables_in_allowed_position.report_place.Goals as goal
 

@@ -1,7 +1,7 @@
 use Rattle.std.proofs.Common.{refl}
 use Rattle.rules_positions.specs.FirstVariables.{kept_first}
 use Rattle.rules_positions.specs.TypedUses.{use_values}
-use Rattle.rules_positions.specs.VariableInAllowedPosition.{UsesGive, uses_in}
+use Rattle.rules_positions.specs.VariablesInAllowedPosition.{UsesGive, uses_in}
 use Rattle.rules_positions.proofs.Giving.{appended_at}
 use Rattle.rules_positions.proofs.variables_in_allowed_position.report_places.Goals as goal
 

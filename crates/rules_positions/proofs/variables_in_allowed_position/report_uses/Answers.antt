@@ -1,7 +1,7 @@
 use Rattle.std.proofs.Common.{refl}
 use Rattle.rules_positions.specs.FirstVariables.{kept_first}
 use Rattle.rules_positions.specs.TypedUses.{use_value}
-use Rattle.rules_positions.specs.VariableInAllowedPosition.{JudgedIfDefined}
+use Rattle.rules_positions.specs.VariablesInAllowedPosition.{JudgedIfDefined}
 use Rattle.rules_positions.proofs.Giving.{appended_mapped}
 use Rattle.rules_positions.proofs.variables_in_allowed_position.report_uses.Goals as goal
 

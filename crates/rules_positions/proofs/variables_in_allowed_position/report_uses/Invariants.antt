@@ -2,7 +2,7 @@ use Rattle.std.proofs.Common.{map, take}
 use Rattle.walk.specs.Rule.{Appended}
 use Rattle.rules_positions.specs.FirstVariables.{kept_first}
 use Rattle.rules_positions.specs.TypedUses.{use_value}
-use Rattle.rules_positions.specs.VariableInAllowedPosition.{UsesGive}
+use Rattle.rules_positions.specs.VariablesInAllowedPosition.{UsesGive}
 use Rattle.rules_positions.proofs.variables_in_allowed_position.report_uses.Given as goal
 
 -- those that were seen are judged

@@ -1,5 +1,5 @@
 //! Changes of a schema.
-ghost use Rattle.std.specs.Prelude.{◌≡◌, if◌then◌else◌, is_ok, IfErr, IsOkUnless, OnErr, OnOk, Some, not, true, map, option_map, string_bytes};
+ghost use Rattle.std.specs.Prelude.{◌≡◌, if◌then◌else◌, is_ok, IfErr, IsOkUnless, OnErr, OnOk, Some, not, true, map, string_bytes, option_copied};
 ghost use Rattle.std.specs.List.{list_all};
 ghost use Rattle.indexmap.specs.IndexMap.{values};
 ghost use Rattle.schema_validation.specs.Accepted.{is_listed, is_input_listed};
@@ -102,12 +102,12 @@ impl<S, C> SchemaTypeOf<S, C> {
 
     /// The description, if one was set (section 3.2).
     pub fn description(&self) -> Option<&str>
-        ensures { option_map (λ s. s.now) result ≡ self.now.description }
+        ensures { option_copied result ≡ self.now.description }
     {
         as_text(&self.description)
     }
 
-    /// Replaces the description (section 3.2). The one refusal, for want of memory, changes nothing.
+    /// Replaces the description (section 3.2).
     pub fn set_description(&mut self, text: &str) -> Result<(), OutOfMemory>
         ensures ok { OnOk result (self.new ≡ record self.old { description = Some text.now }) }
         ensures err { OnErr result (self.new ≡ self.old) }

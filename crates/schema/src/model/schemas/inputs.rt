@@ -1,4 +1,4 @@
-//! Input fields of the types of a schema.
+//! Input fields of the types of a schema (section 3.10).
 ghost use Rattle.std.specs.Prelude.{◌≡◌, ℕ, List, IfSome, Some, option_copied};
 ghost use Rattle.meta.specs.Kinds.{input_field_named};
 ghost use Rattle.schema.specs.Catalog.{type_in};
@@ -11,10 +11,10 @@ use meta::kinds::MetaTypeOf;
 use schema_validation::places::{FEW, first_at};
 
 impl<S, C> SchemaTypeOf<S, C> {
-    /// The first input field of the name, where the metadata is an input object (section 3.10).
+    /// The first input field of this name; `None` unless the type is an input object (section 3.10).
     ///
-    /// The metadata has to stand in the schema. Where an input object has many fields, the number of names that are compared
-    /// grows as the logarithm of theirs.
+    /// The metadata has to be that of a type of the schema. The look-up takes logarithmic time in the
+    /// number of fields.
     pub fn input_field_by_name<'t>(
         &self,
         meta: &'t MetaTypeOf<S, C>,
@@ -32,7 +32,7 @@ impl<S, C> SchemaTypeOf<S, C> {
         }
     }
 
-    // The places of the input fields in the order of their names, if they are kept.
+    // The indices of the input fields in the order of their names, if the schema keeps them.
     fn order_of(&self, input: &InputObjectMetaOf<S, C>) -> Option<&Vec<usize>>
         requires known { (n : List ℕ) × (type_in n self.now ≡ Some (MetaTypeOf.InputObject input.now)) }
         ensures { IfSome result (λ order. IsOrderOf (MetaTypeOf.InputObject input.now) order.now.items) }

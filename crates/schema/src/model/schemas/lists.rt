@@ -1,5 +1,6 @@
-//! The types of a schema in lists.
+//! Lists of the types of a schema.
 ghost use Rattle.std.specs.Prelude.{◌≡◌, ℕ, List, ◌++◌, IfOk, OnOk, Some, option_to_list, true, map, string_bytes};
+ghost use Rattle.language.specs.References.{list_copied};
 ghost use Rattle.std.specs.List.{filter};
 ghost use Rattle.std.specs.Option.{option_copied};
 ghost use Rattle.schema.specs.Catalog.{type_in};
@@ -16,7 +17,7 @@ fn push_if_found<'a, S, C>(
     list: &mut Vec<&'a MetaTypeOf<S, C>>,
     found: Option<&'a MetaTypeOf<S, C>>,
 ) -> Result<(), OutOfMemory>
-    ensures { OnOk result (map (λ r. r.now) list.new.items ≡ map (λ r. r.now) list.old.items
+    ensures { OnOk result (list_copied list.new.items ≡ list_copied list.old.items
         ++ option_to_list (option_copied found.entry)) }
 {
     if let Some(meta) = found {
@@ -26,9 +27,13 @@ fn push_if_found<'a, S, C>(
 }
 
 impl<S, C> SchemaTypeOf<S, C> {
-    /// The types, in the order in which they were listed.
+    /// The metadata of all types, in the order of the list that made the schema.
+    ///
+    /// # Errors
+    ///
+    /// Out of memory.
     pub fn concrete_type_list(&self, alloc: Global) -> Result<Vec<&MetaTypeOf<S, C>>, OutOfMemory>
-        ensures { IfOk result (λ v. map (λ r. r.now) v.items ≡ self.now.types) }
+        ensures { IfOk result (λ v. list_copied v.items ≡ self.now.types) }
     {
         let mut list = Vec::new(alloc);
         for listed in self.types.values() {
@@ -37,13 +42,13 @@ impl<S, C> SchemaTypeOf<S, C> {
         Ok(list)
     }
 
-    /// The types of the names that are known.
+    /// The types of these names, in order, where the schema has one.
     fn types_of_names(
         &self,
         alloc: Global,
         names: &[String],
     ) -> Result<Vec<&MetaTypeOf<S, C>>, OutOfMemory>
-        ensures { IfOk result (λ v. map (λ r. r.now) v.items
+        ensures { IfOk result (λ v. list_copied v.items
             ≡ types_named self.now.types (map string_bytes names.now)) }
     {
         let mut list = Vec::new(alloc);
@@ -53,13 +58,13 @@ impl<S, C> SchemaTypeOf<S, C> {
         Ok(list)
     }
 
-    /// The objects that list the interface of the name.
+    /// The object types that implement the interface of this name.
     fn implementers(
         &self,
         alloc: Global,
         interface: &str,
     ) -> Result<Vec<&MetaTypeOf<S, C>>, OutOfMemory>
-        ensures { IfOk result (λ v. map (λ r. r.now) v.items ≡ filter (is_implementer interface.now) self.now.types) }
+        ensures { IfOk result (λ v. list_copied v.items ≡ filter (is_implementer interface.now) self.now.types) }
     {
         let mut list = Vec::new(alloc);
         for meta in self.types.values() {
@@ -70,17 +75,21 @@ impl<S, C> SchemaTypeOf<S, C> {
         Ok(list)
     }
 
-    /// What an interface or a union may be (section 5.5.2.3): the members of a union in their order,
-    /// or the objects that list the interface, in the order in which they were listed.
+    /// The possible types of an interface or a union (section 5.5.2.3): the members of the union, in
+    /// order, or the object types that implement the interface, in the order of the schema.
     ///
-    /// Members that the schema doesn't know are passed over; a union of the schema has none.
+    /// Members that the schema does not have are left out; a union of the schema has none.
+    ///
+    /// # Errors
+    ///
+    /// Out of memory.
     pub fn possible_types(
         &self,
         alloc: Global,
         meta: &MetaTypeOf<S, C>,
     ) -> Result<Vec<&MetaTypeOf<S, C>>, OutOfMemory>
         requires { is_abstract_meta meta.now ≡ true }
-        ensures types { IfOk result (λ v. map (λ r. r.now) v.items
+        ensures types { IfOk result (λ v. list_copied v.items
             ≡ types_named self.now.types (possible_names self.now.types meta.now)) }
         ensures names { (n : List ℕ) → type_in n self.now ≡ Some meta.now
             → IfOk result (λ v. map (λ r. name_of_meta r.now) v.items
@@ -95,7 +104,7 @@ impl<S, C> SchemaTypeOf<S, C> {
         meta: &MetaTypeOf<S, C>,
     ) -> Result<Vec<&MetaTypeOf<S, C>>, OutOfMemory>
         requires { is_abstract_meta meta.now ≡ true }
-        ensures { IfOk result (λ v. map (λ r. r.now) v.items
+        ensures { IfOk result (λ v. list_copied v.items
             ≡ types_named self.now.types (possible_names self.now.types meta.now)) }
     {
         match meta {

@@ -1,5 +1,6 @@
-//! The types and the directives of a schema in order.
+//! The types and the directives of a schema, sorted.
 ghost use Rattle.std.specs.Prelude.{◌≡◌, IfOk, OnOk, true, map, IsPermutation, IsSorted};
+ghost use Rattle.language.specs.References.{list_copied};
 ghost use Rattle.meta.specs.Kinds.{name_of_meta};
 ghost use Rattle.schema_validation.specs.Directives.{directive_name};
 ghost use Rattle.schema_validation.specs.Named.{are_distinct};
@@ -14,7 +15,7 @@ use schema_validation::directives::DirectiveType;
 use std::alloc::Global;
 use std::cmp::Ordering;
 
-/// The place of the kind in a list of types.
+/// The rank of the kind in the sorted list of types.
 fn rank_of<S, C>(meta: &MetaTypeOf<S, C>) -> u8
     ensures { result ≡ kind_rank meta.now }
 {
@@ -50,24 +51,24 @@ fn compare_directives<S>(left: &DirectiveType<S>, right: &DirectiveType<S>) -> O
     left.name.as_str().cmp(right.name.as_str())
 }
 
-/// Puts metadata in the order of its kinds, then its names.
+/// Sorts metadata by kind, then by name.
 fn sort_types<S, C>(metas: &mut Vec<&MetaTypeOf<S, C>>) -> Result<(), OutOfMemory>
-    ensures permutation { IsPermutation (map (λ r. r.now) metas.old.items) (map (λ r. r.now) metas.new.items) }
-    ensures sorted { OnOk result (IsSorted type_cmp (map (λ r. r.now) metas.new.items)) }
+    ensures permutation { IsPermutation (list_copied metas.old.items) (list_copied metas.new.items) }
+    ensures sorted { OnOk result (IsSorted type_cmp (list_copied metas.new.items)) }
 {
     metas.sort_by(|left, right| compare_types(*left, *right))?;
     Ok(())
 }
 
 fn sort_directives<S>(directives: &mut Vec<&DirectiveType<S>>) -> Result<(), OutOfMemory>
-    ensures permutation { IsPermutation (map (λ r. r.now) directives.old.items) (map (λ r. r.now) directives.new.items) }
-    ensures sorted { OnOk result (IsSorted directive_cmp (map (λ r. r.now) directives.new.items)) }
+    ensures permutation { IsPermutation (list_copied directives.old.items) (list_copied directives.new.items) }
+    ensures sorted { OnOk result (IsSorted directive_cmp (list_copied directives.new.items)) }
 {
     directives.sort_by(|left, right| compare_directives(*left, *right))?;
     Ok(())
 }
 
-/// The types with this metadata and nothing round it.
+/// The types with this metadata, without modifiers.
 fn plain_types<'a, S, C>(
     alloc: Global,
     metas: &[&'a MetaTypeOf<S, C>],
@@ -82,8 +83,12 @@ fn plain_types<'a, S, C>(
 }
 
 impl<S: Drop, C: Drop> SchemaTypeOf<S, C> {
-    /// Each type once, with nothing round it: the enums, then the input objects, the interfaces, the
-    /// scalars, the objects and the unions, those of a kind by the bytes of their names.
+    /// Each type once, without modifiers: first the enums, then the input objects, the interfaces, the
+    /// scalars, the objects and the unions. Types of a kind are sorted by the bytes of their names.
+    ///
+    /// # Errors
+    ///
+    /// Out of memory.
     pub fn type_list(&self, alloc: Global) -> Result<Vec<TypeTypeOf<'_, S, C>>, OutOfMemory>
         ensures plain { IfOk result (λ v. map wrapped_of v.items ≡ map plain_meta (metas_of v.items)) }
         ensures permutation { IfOk result (λ v. IsPermutation self.now.types (metas_of v.items)) }
@@ -95,11 +100,15 @@ impl<S: Drop, C: Drop> SchemaTypeOf<S, C> {
         plain_types(alloc, metas.as_slice())
     }
 
-    /// Each directive once, by the bytes of their names.
+    /// Each directive once, sorted by the bytes of their names.
+    ///
+    /// # Errors
+    ///
+    /// Out of memory.
     pub fn directive_list(&self, alloc: Global) -> Result<Vec<&DirectiveType<S>>, OutOfMemory>
-        ensures permutation { IfOk result (λ v. IsPermutation self.now.directives (map (λ r. r.now) v.items)) }
-        ensures distinct { IfOk result (λ v. are_distinct directive_name (map (λ r. r.now) v.items) ≡ true) }
-        ensures sorted { IfOk result (λ v. IsSorted directive_cmp (map (λ r. r.now) v.items)) }
+        ensures permutation { IfOk result (λ v. IsPermutation self.now.directives (list_copied v.items)) }
+        ensures distinct { IfOk result (λ v. are_distinct directive_name (list_copied v.items) ≡ true) }
+        ensures sorted { IfOk result (λ v. IsSorted directive_cmp (list_copied v.items)) }
     {
         let mut directives = self.listed_directives(alloc)?;
         sort_directives(&mut directives)?;
@@ -108,7 +117,7 @@ impl<S: Drop, C: Drop> SchemaTypeOf<S, C> {
 
     /// The directives, in the order in which they were added.
     fn listed_directives(&self, alloc: Global) -> Result<Vec<&DirectiveType<S>>, OutOfMemory>
-        ensures { IfOk result (λ v. map (λ r. r.now) v.items ≡ self.now.directives) }
+        ensures { IfOk result (λ v. list_copied v.items ≡ self.now.directives) }
     {
         let mut list = Vec::new(alloc);
         for directive in self.directives.values() {

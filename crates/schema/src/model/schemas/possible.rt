@@ -1,4 +1,4 @@
-//! What a type may be where a document runs, and which types overlap.
+//! The possible types of a type at run time, and which types overlap (section 5.5.2.3).
 ghost use Rattle.std.specs.Prelude.{◌≡◌, true, map, string_bytes};
 ghost use Rattle.std.specs.List.{list_any};
 ghost use Rattle.meta.specs.Kinds.{is_abstract_meta};
@@ -18,7 +18,7 @@ fn is_text_among(texts: &[String], name: &str) -> bool
     false
 }
 
-/// Whether it is an object that lists the interface of this name.
+/// Whether the type is an object type that implements the interface of this name.
 pub(super) fn implements<S, C>(meta: &MetaTypeOf<S, C>, interface: &str) -> bool
     ensures { result ≡ is_implementer interface.now meta.now }
 {
@@ -38,7 +38,7 @@ fn have_same_name<S, C>(t1: &MetaTypeOf<S, C>, t2: &MetaTypeOf<S, C>) -> bool
 }
 
 impl<S, C> SchemaTypeOf<S, C> {
-    /// Whether an object of the name lists the interface.
+    /// Whether some object type of this name implements the interface.
     fn is_implementer_named(&self, interface: &str, name: &str) -> bool
         ensures { result ≡ is_among (implementer_names interface.now self.now.types) name.now }
     {
@@ -48,7 +48,7 @@ impl<S, C> SchemaTypeOf<S, C> {
         }
     }
 
-    /// Whether a type may be the type of the name.
+    /// Whether the type of this name is a possible type of the type.
     pub(crate) fn is_possible_name(&self, meta: &MetaTypeOf<S, C>, name: &str) -> bool
         ensures { result ≡ is_among (possible_names self.now.types meta.now) name.now }
     {
@@ -61,7 +61,7 @@ impl<S, C> SchemaTypeOf<S, C> {
         }
     }
 
-    /// Whether a type may be the other type, by its name.
+    /// Whether the other type is a possible type of the type, by its name.
     fn is_possible(&self, meta: &MetaTypeOf<S, C>, other: &MetaTypeOf<S, C>) -> bool
         ensures { result ≡ is_possible_for self.now.types meta.now other.now }
     {
@@ -71,7 +71,7 @@ impl<S, C> SchemaTypeOf<S, C> {
         }
     }
 
-    /// Whether an interface or a union may be the other type, by its name (section 5.5.2.3).
+    /// Whether the second type is a possible type of the first, by its name (section 5.5.2.3).
     pub fn is_possible_type(
         &self,
         abstract_type: &MetaTypeOf<S, C>,
@@ -118,7 +118,7 @@ impl<S, C> SchemaTypeOf<S, C> {
         }
     }
 
-    /// Whether two types overlap: they have one name, or some type is possible for both
+    /// Whether two types overlap: they have the same name, or some type is a possible type of both
     /// (section 5.5.2.3).
     pub fn type_overlap(&self, t1: &MetaTypeOf<S, C>, t2: &MetaTypeOf<S, C>) -> bool
         ensures overlap { result ≡ do_overlap self.now.types t1.now t2.now }

@@ -1,4 +1,4 @@
-//! Which types stand below which.
+//! Which types are subtypes of which (section 3.6).
 ghost use Rattle.std.specs.Prelude.{◌≡◌, ◌↔◌, IsTrue, ◌&&◌, reverse};
 ghost use Rattle.language.specs.Types.{TypeShape, borrowed_shape};
 ghost use Rattle.schema_validation.specs.Accepted.{is_listed};
@@ -11,7 +11,7 @@ use crate::model::schemas::SchemaTypeOf;
 use language::types::{BorrowedType, TypeModifier};
 use meta::kinds::MetaTypeOf;
 
-/// Whether modifiers stand below others round names that do so or not.
+/// Whether the one type is a subtype of the other, by their modifiers and whether their names are.
 fn are_modifiers_below(
     sub_type: &[TypeModifier],
     super_type: &[TypeModifier],
@@ -36,10 +36,9 @@ fn are_modifiers_below(
 
 impl<S, C> SchemaTypeOf<S, C> {
     /// Whether the first type is a subtype of the second (sections 3.6 and 5.8.5), so that its values
-    /// may stand where the second is asked for. Expected sizes of lists don't matter.
+    /// may be used where the second is expected. Expected sizes of lists do not matter.
     ///
-    /// Each type is a subtype of itself, and a subtype of a subtype is one, whether the names are
-    /// known or not.
+    /// The relation is reflexive and transitive, even for names that the schema does not have.
     pub fn is_subtype(&self, sub_type: BorrowedType<'_>, super_type: BorrowedType<'_>) -> bool
         ensures subtype { IsTrue result
             ↔ IsSubtype self.now.types (borrowed_shape sub_type.entry) (borrowed_shape super_type.entry) }
@@ -58,8 +57,8 @@ impl<S, C> SchemaTypeOf<S, C> {
         )
     }
 
-    /// Whether the names are equal, or both are known and the second is that of an interface or a
-    /// union which may be the first.
+    /// Whether the names are equal, or the schema has both types and the first is a possible type of
+    /// the second, which is an interface or a union.
     pub fn is_named_subtype(&self, sub_type_name: &str, super_type_name: &str) -> bool
         ensures { result ≡ is_name_below self.now.types sub_type_name.now super_type_name.now }
     {
@@ -67,14 +66,14 @@ impl<S, C> SchemaTypeOf<S, C> {
             || self.is_known(sub_type_name) && self.may_be_named(super_type_name, sub_type_name)
     }
 
-    /// Whether there is a type of the name: what `make_type` asks of an innermost name.
+    /// Whether the schema has a type of this name, as [`SchemaTypeOf::make_type`] requires.
     pub fn is_known(&self, name: &str) -> bool
         ensures { result ≡ is_listed self.now.types name.now }
     {
         self.concrete_type_by_name(name).is_some()
     }
 
-    /// Whether the type of the first name is an interface or a union which may be the second.
+    /// Whether the first name is that of an interface or a union, and the second a possible type of it.
     fn may_be_named(&self, super_type_name: &str, sub_type_name: &str) -> bool
         ensures { result ≡ may_be self.now.types super_type_name.now sub_type_name.now }
     {

@@ -5,6 +5,6 @@ use Rattle.variable_usages.specs.InReachUses.{InTurn}
 use Rattle.variable_usages.specs.Undefined.{UndefinedIn, undefined_of}
 use Rattle.variable_usages.proofs.undefined.undefined_in.Given as goal
 
--- the names that were seen are told of
+-- the variables of the names that were seen are reported
 abbrev pub invariant-loop-number : goal.invariant-loop-number
 invariant-loop-number g l = InTurn (UndefinedIn l.document) (take l.number (operation_names l.index.scopes)) (map undefined_of l.found.items) × IsReady l.index.scopes l.search.search

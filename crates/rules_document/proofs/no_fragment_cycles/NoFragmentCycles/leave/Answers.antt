@@ -11,6 +11,6 @@ returns-clause-ok g c = λ document is.
     let found : DocumentCycles = record { graph = c.args.graph; outcome = c.in_ok-outcome.field-0.outcome; reports = c.in_ok-outcome.field-0.reports } in
     let all = searched_document document found is c.in_ok-outcome.ensures.outcome c.in_ok-outcome.ensures.reports in (
       map cycle_error (map name_and_place found.reports.items),
-      record { reports = map name_and_place found.reports.items; found = all.found; told = refl; looked = all.looked; kept = (found, refl, all) },
+      record { reports = map name_and_place found.reports.items; found = all.found; errors = refl; looked = all.looked; kept = (found, refl, all) },
       c.in_ok-report_all.ensures.ok ∙ ap (λ rs. with_errors c.args.ctx.now (map cycle_error (map name_and_place rs))) c.as_slice.ensures.value,
     )

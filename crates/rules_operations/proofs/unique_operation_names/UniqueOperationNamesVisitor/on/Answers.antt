@@ -7,8 +7,8 @@ use Rattle.events.specs.Node.{Placed}
 use Rattle.events.specs.Typing.{Typing}
 use Rattle.walk.specs.ContextState.{DocumentScope, scope_of_context, typing}
 use Rattle.rules_support.specs.Noting.{noting_step}
-use Rattle.rules_support.specs.Places.{places_of}
-use Rattle.rules_support.proofs.Told.{told_none}
+use Rattle.rules_support.specs.FirstPlaces.{places_of}
+use Rattle.rules_support.proofs.Reported.{reports_none}
 use Rattle.rules_operations.specs.UniqueOperationNames.{operation_name, repeated_operation_message}
 use Rattle.rules_operations.specs.declared.unique_operation_names.UniqueOperationNames.{UniqueOperationNames}
 use Rattle.rules_operations.proofs.unique_operation_names.UniqueOperationNamesVisitor.on.Goals as goal
@@ -22,4 +22,4 @@ passed_over _ t scope a other = (refl, refl)
 pub returns-in_default : goal.returns-in_default
 returns-in_default g c =
     let w = c.args.ctx.now in
-    record { stepped = ([], passed_over c.args.event.now (typing w) (scope_of_context w) c.args.self.now c.in_default.not-EnterOperationDefinition, told_none w); err = tt }
+    record { stepped = ([], passed_over c.args.event.now (typing w) (scope_of_context w) c.args.self.now c.in_default.not-EnterOperationDefinition, reports_none w); err = tt }

@@ -1,7 +1,7 @@
 use Rattle.std.proofs.Common.{subst}
 use Rattle.std.proofs.lemmas.Result.{IfOk-weaker}
 use Rattle.rules_positions.specs.TypedUses.{use_values}
-use Rattle.rules_positions.specs.VariableInAllowedPosition.{DocumentGives}
+use Rattle.rules_positions.specs.VariablesInAllowedPosition.{DocumentGives}
 use Rattle.rules_positions.proofs.variables_in_allowed_position.VariableInAllowedPosition.leave.Goals as goal
 
 pub returns-clause-ok : goal.returns-clause-ok

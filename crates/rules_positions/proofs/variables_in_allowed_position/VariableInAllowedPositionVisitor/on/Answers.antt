@@ -4,7 +4,7 @@ use Rattle.events.specs.EventValue.{typed_event}
 use Rattle.walk.specs.ContextState.{scope_of_context, typing}
 use Rattle.rules_positions.specs.Recording.{recording_step}
 use Rattle.rules_positions.specs.TypedUses.{next_uses}
-use Rattle.rules_positions.specs.VariableInAllowedPosition.{given_by_uses, recorded_uses}
+use Rattle.rules_positions.specs.VariablesInAllowedPosition.{given_by_uses, recorded_uses}
 use Rattle.rules_positions.proofs.variables_in_allowed_position.VariableInAllowedPositionVisitor.on.Goals as goal
 
 pub returns-in_ok-index-in-ExitDocument-clause-stepped : goal.returns-in_ok-index-in-ExitDocument-clause-stepped

@@ -1,4 +1,5 @@
--- Where nothing may be reported, nothing else may.
+-- What the rule reports, and that it reports nothing else where it may report nothing. In specs/, since ghost members of an impl cite
+-- nothing else.
 use Rattle.std.proofs.Common.{◌≡◌, ℕ, suc, zero, List, [], ◌∷◌, ◌++◌, Option, None, Some, inl, inr, map, Contains, refl, ap, sym, ◌∙◌, subst, arith}
 use Rattle.language.specs.declared.tree.Definition.{Definition}
 use Rattle.fragment_graph.proofs.Lists.{get_some}
@@ -6,11 +7,15 @@ use Rattle.meta.specs.declared.kinds.MetaTypeOf.{MetaTypeOf}
 use Rattle.events.specs.Node.{VariableEntry}
 use Rattle.walk.specs.Entering.{EachGives}
 use Rattle.walk.specs.ErrorValue.{ErrorValue}
-use Rattle.walk.specs.Rule.{Settled}
+use Rattle.walk.specs.ContextState.{scope_of}
+use Rattle.walk.specs.Rule.{AllowsFrom, Settled, always}
 use Rattle.operation_scopes.specs.Scopes.{InReach}
 use Rattle.rules_positions.specs.DefinedVariables.{first_of, variables_of}
-use Rattle.rules_positions.specs.TypedUses.{UseValue, typed_uses}
-use Rattle.rules_positions.specs.VariableInAllowedPosition.{DocumentGives, Judged, JudgedIfDefined, OperationsGive, UsesGive, misplaced_variables, uses_in}
+use Rattle.rules_positions.specs.Recording.{recording_step}
+use Rattle.rules_positions.specs.RecordingLaws.{recording_keeps}
+use Rattle.rules_positions.specs.TypedUses.{UseValue, next_uses, typed_uses}
+use Rattle.rules_positions.specs.UsesRecorded.{uses_recorded}
+use Rattle.rules_positions.specs.VariablesInAllowedPosition.{DocumentGives, Judged, JudgedIfDefined, OperationsGive, UsesGive, given_by_uses, misplaced_variables, recorded_uses, uses_in}
 
 left_none : {X : Type 0} (xs ys : List X) → xs ++ ys ≡ [] → xs ≡ []
 left_none [] ys e = refl
@@ -25,7 +30,7 @@ each_none {O} {R} gives (x ∷ os) (first, rest, p, ps, e) o (suc k, l, at) =
     let no_rest : rest ≡ [] = ap (λ z. z ++ rest) (sym (left_none first rest (sym e))) ∙ sym e in
     each_none gives os (subst (EachGives gives os) no_rest ps) o (k, omega (arith, l), at)
 
--- and the other way round
+-- and where each gives nothing all together give nothing
 each_silent : {O R : Type 0} (gives : O → List R → Type 0) (os : List O) (es : List R) → ((o : O) → Contains os o → (fs : List R) → gives o fs → fs ≡ []) → EachGives gives os es → es ≡ []
 each_silent gives [] es h p = p
 each_silent gives (x ∷ os) es h (first, rest, p, ps, e) =
@@ -65,5 +70,12 @@ module _ {S C : Type 0} (types : List (MetaTypeOf S C)) where
         each_silent (OperationsGive types document recorded) others es
         (λ name c fs q. operations name fs (each_none (OperationsGive types document recorded) names none name ((on.are name).1 ((of.are name).0 c))) q) p
 
+-- where nothing may be reported, nothing else may
 pub positions_settled : {S C : Type 0} → Settled (misplaced_variables {S = S} {C = C})
 positions_settled scope t document es none p = settled scope.schema.types document (map (typed_uses scope.schema t) document) es none p
+
+-- each run from a fresh value reports what is given of the document
+pub positions_keep : {S C : Type 0} → AllowsFrom (recording_step recorded_uses (next_uses {S = S} {C = C}) given_by_uses) (λ a. recorded_uses a ≡ []) (always misplaced_variables)
+positions_keep start fresh schema t doc end es r =
+    subst (λ uses. DocumentGives schema.types doc uses es) (uses_recorded (scope_of schema doc) schema t doc)
+    (recording_keeps recorded_uses next_uses given_by_uses [] start fresh schema t doc end es r)

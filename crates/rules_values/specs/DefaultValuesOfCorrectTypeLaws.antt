@@ -1,7 +1,7 @@
--- Where nothing may be reported, nothing else may.
-use Rattle.std.proofs.Common.{◌≡◌, ℕ, List, [], Bool, true, false, Option, Some, None, ap, sym, ◌∙◌}
+-- Where nothing may be reported, nothing else may. In specs/, since ghost members of an impl cite nothing else.
+use Rattle.std.proofs.Common.{◌≡◌, ℕ, List, [], Bool, true, false, Option, Some, None}
 use Rattle.language.specs.declared.value.InputValue.{InputValue}
-use Rattle.language.specs.Types.{TypeShape, shape}
+use Rattle.language.specs.Types.{TypeShape, is_never_null, shape}
 use Rattle.meta.specs.Answers.{Answers}
 use Rattle.schema.specs.Catalog.{Catalog}
 use Rattle.events.specs.Node.{Node, Placed}
@@ -10,27 +10,13 @@ use Rattle.walk.specs.ErrorValue.{ErrorValue}
 use Rattle.walk.specs.Rule.{Settled}
 use Rattle.walk.proofs.Sums.{given_settled}
 use Rattle.literals.specs.Laws.{OneAnswer}
-use Rattle.literals.specs.Missing.{is_never_null}
-use Rattle.literals.proofs.WrittenLaws.{one_written}
-use Rattle.rules_values.specs.ArgumentsOfCorrectType.{wrong_argument, wrong_arguments}
 use Rattle.rules_values.specs.DefaultValuesOfCorrectType.{default_of, default_if_there, wrong_default, wrong_defaults}
-use Rattle.rules_values.specs.Faulty.{faulty, reported}
+use Rattle.rules_values.specs.FaultsLaws.{reported_settled}
 
 module _ {S C : Type 0} (may : Answers (InputValue S) C) (shown : InputValue S → List ℕ) (one : OneAnswer may) where
-  reported_settled : (schema : Catalog S C) (message : List ℕ → List ℕ) (t : Option TypeShape) (value : Placed (InputValue S)) (es : List ErrorValue) → reported may shown schema message t value [] → reported may shown schema message t value es → es ≡ []
-  reported_settled schema message None value es none p = p
-  reported_settled schema message (Some t) value es (f, i, e) (g, j, k) = k ∙ ap (faulty message value) (one_written schema may shown one value.item t g f j i) ∙ sym e
-
-  argument_settled : (schema : Catalog S C) (t : Option TypeShape) (n : Node S) (es : List ErrorValue) → wrong_argument may shown schema t n [] → wrong_argument may shown schema t n es → es ≡ []
-  argument_settled schema t (Node.argument a) es none p = reported_settled schema _ t a.1 es none p
-  argument_settled schema t _ es none p = p
-
-  pub arguments_settled : Settled (given (wrong_arguments may shown))
-  arguments_settled = given_settled (wrong_arguments may shown) (λ scope o es. argument_settled scope.schema o.types.input o.node es)
-
   of_settled : (b : Bool) (schema : Catalog S C) (name : List ℕ) (t : TypeShape) (value : Placed (InputValue S)) (es : List ErrorValue) → default_of may shown b schema name t value [] → default_of may shown b schema name t value es → es ≡ []
   of_settled true schema name t value es none p = cc
-  of_settled false schema name t value es none p = reported_settled schema _ (Some t) value es none p
+  of_settled false schema name t value es none p = reported_settled may shown one schema _ (Some t) value es none p
 
   if_there_settled : (schema : Catalog S C) (name : List ℕ) (t : TypeShape) (o : Option (Placed (InputValue S))) (es : List ErrorValue) → default_if_there may shown schema name t o [] → default_if_there may shown schema name t o es → es ≡ []
   if_there_settled schema name t None es none p = p

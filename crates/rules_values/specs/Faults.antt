@@ -13,13 +13,13 @@ module _ {S : Type 0} where
   abbrev pub error_at : Placed (InputValue S) → List ℕ → List ErrorValue
   error_at value message = record { locations = value.span.start ∷ []; message = message } ∷ []
 
-  -- an error at the value, where it has a fault, by a message that hands the fault on
+  -- an error at the value, if it has a fault, by a message that says the fault
   abbrev pub faulty : (List ℕ → List ℕ) → Placed (InputValue S) → Option (List ℕ) → List ErrorValue
   faulty message value None = []
   faulty message value (Some fault) = error_at value (message fault)
 
 module _ {S C : Type 0} (may : Answers (InputValue S) C) (shown : InputValue S → List ℕ) where
-  -- what is reported of a value that stands where a type is expected, or none
+  -- what is reported of a value where a type is expected, or where no type is
   abbrev pub reported : Catalog S C → (List ℕ → List ℕ) → Option TypeShape → Placed (InputValue S) → List ErrorValue → Type 0
   reported schema message None value es = es ≡ []
   reported schema message (Some t) value es =

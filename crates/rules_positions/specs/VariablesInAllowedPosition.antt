@@ -1,4 +1,4 @@
--- Variables that are used where their type may not stand.
+-- Variables that are used where their type is not allowed.
 use Rattle.std.specs.Prelude.{◌≡◌, ◌⊎◌, ℕ, List, [], ◌∷◌, ◌++◌, Option, None, Some, is_some, map, slice_get, codes, if◌then◌else◌}
 use Rattle.std.specs.Option.{unwrap_or}
 use Rattle.language.specs.Types.{TypeShape, shape, non_null_of, printed}
@@ -24,6 +24,7 @@ position_message variable t expected =
 abbrev pub type_in_use : {S : Type 0} → VariableDefinition S → TypeShape
 type_in_use d = if is_some d.default_value then non_null_of (shape d.var_type.item) else shape d.var_type.item
 
+-- the error at a use of a variable whose type may not stand there
 abbrev pub position_error : {S : Type 0} → VariableEntry S → UseValue → ErrorValue
 position_error d u =
     record { locations = d.0.span.start ∷ u.place ∷ []; message = position_message u.variable (printed (type_in_use d.1)) (printed u.expected) }
@@ -33,7 +34,7 @@ abbrev pub uses_in : List (List UseValue) → ℕ → List UseValue
 uses_in uses place = unwrap_or (slice_get uses place) []
 
 module _ {S C : Type 0} (types : List (MetaTypeOf S C)) where
-  -- an error where the variable's type is not below the one that is expected, and else none
+  -- an error if the variable's type is not a subtype of the expected one, and no error otherwise
   abbrev pub Judged : VariableEntry S → UseValue → List ErrorValue → Type 0
   Judged d u es =
       (IsSubtype types (type_in_use d.1) u.expected × (es ≡ [])) ⊎ (¬ (IsSubtype types (type_in_use d.1) u.expected) × (es ≡ position_error d u ∷ []))
@@ -47,12 +48,15 @@ module _ {S C : Type 0} (types : List (MetaTypeOf S C)) where
   abbrev pub UsesGive : (List ℕ → Option (VariableEntry S)) → List UseValue → List ErrorValue → Type 0
   UsesGive known us es = EachGives (λ u fs. JudgedIfDefined (known u.variable) u fs) us es
 
+  -- each use in the definitions at these places
+  abbrev pub PlacesGive : (List ℕ → Option (VariableEntry S)) → List (List UseValue) → List ℕ → List ErrorValue → Type 0
+  PlacesGive known uses places es = EachGives (λ place fs. UsesGive known (uses_in uses place) fs) places es
+
   module _ (document : List (Definition S)) (uses : List (List UseValue)) where
     -- the operations of a name: each use in each definition that they reach, by the first definition of its variable in all of them
     abbrev pub OperationsGive : Option (List ℕ) → List ErrorValue → Type 0
     OperationsGive name es =
-        (places : List ℕ) × InReach document name places
-        × EachGives (λ place fs. UsesGive (first_of (variables_of document name)) (uses_in uses place) fs) places es
+        (places : List ℕ) × InReach document name places × PlacesGive (first_of (variables_of document name)) uses places es
 
     -- the operations of each name, in some order
     abbrev pub DocumentGives : List ErrorValue → Type 0

@@ -1,4 +1,4 @@
--- The types of fragments that are kept.
+-- The type conditions of fragments, as they are kept.
 use Rattle.std.specs.Prelude.{ℕ, List, Option, None, Some, option_and_then, slice_get}
 use Rattle.std.specs.Option.{option_copied}
 use denote.Ref.{Bor}

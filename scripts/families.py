@@ -1,0 +1,236 @@
+"""The families of texts that ./bench measures: each is a text of any size, and what its growth shows."""
+
+
+def fill(size, piece, before="", after=""):
+    """As many of a piece, which is given its number, as make so many bytes; one at least."""
+    pieces, length, number = [before], len(before) + len(after), 0
+    while number == 0 or length < size:
+        pieces.append(piece(number))
+        length += len(pieces[-1])
+        number += 1
+    return "".join(pieces) + after
+
+
+# The first of the numbers in names. All have as many digits, so that twice as many pieces are twice as long a text.
+FIRST = 100_000
+
+
+def listed(before, piece, after, first=FIRST):
+    """A document with so many of a piece, which is given its number, between two texts."""
+    return lambda count: before + " ".join(piece.format(number) for number in range(first, first + count)) + after
+
+
+def operation(number, ending=""):
+    """An operation as an application sends it, with two fragments of its own, and the ending of their names."""
+    return (
+        f"query Screen{number}{ending}($id: String, $short: Boolean!) {{\n"
+        "  human(id: $id) {\n    name(surname: true)\n    pets {\n      name\n      ... on Dog { barkVolume }\n"
+        f"      ... on Cat {{ meowVolume }}\n    }}\n    ...HumanParts{number}{ending}\n  }}\n"
+        "  dog @skip(if: $short) {\n    nickname\n    knows: doesKnowCommand(dogCommand: SIT)\n"
+        f"    ...DogParts{number}{ending}\n  }}\n}}\n"
+        + fragments(number, ending)
+    )
+
+
+def fragments(number, ending=""):
+    return (
+        f"fragment HumanParts{number}{ending} on Human {{\n  iq\n  relatives {{\n    name\n    iq\n  }}\n}}\n"
+        f"fragment DogParts{number}{ending} on Dog {{\n  barkVolume\n  barks\n}}\n"
+    )
+
+
+def screen(number):
+    """A part of the one operation of a document."""
+    return (
+        f"  part{number}: human(id: \"{number}\") {{\n    name(surname: true)\n"
+        "    pets {\n      name\n      ... on Dog { barkVolume }\n"
+        "      ... on Cat { meowVolume }\n    }\n  }\n"
+        f"  knows{number}: dog @include(if: $long) {{\n    nickname\n    doesKnowCommand(dogCommand: SIT)\n  }}\n"
+    )
+
+
+def realistic(size):
+    return fill(size, operation)
+
+
+def ending_alike(size):
+    """Realistic operations whose names, and those of their fragments, all end alike."""
+    return fill(size, lambda number: operation(number, "OfTheShop"))
+
+
+def one_operation(size):
+    return fill(size, screen, "query All($long: Boolean!) {\n", "}\n")
+
+
+def no_operation(size):
+    return fill(size, fragments)
+
+
+def definitions(number):
+    """Definitions of a schema's text as a team writes them."""
+    return (
+        f'"""\nA screen of the application, and what it shows.\n"""\n'
+        f"type Screen{number} implements Node & Titled {{\n"
+        f'  "The key of the screen."\n  id: ID!\n  title(language: String = "en", limit: Int = {number}): String!\n'
+        f"  parts(first: Int = 20, after: String, by: Order{number}): [Part{number}!]! "
+        f"@cost(weight: {number}, of: [\"first\"])\n"
+        f'  old: Boolean @deprecated(reason: "Ask for the parts.")\n}}\n'
+        f"input Filter{number} {{\n  name: String = \"\", sizes: [Float!] = [0.5, 1.5e3]\n"
+        f"  within: Filter{number} = {{name: null}}\n}}\n"
+        f'enum Order{number} {{\n  "The name, from A."\n  NAME\n  SIZE @deprecated\n}}\n'
+        f"union Part{number} = Text | Image | Screen{number}\n"
+        f"extend type Query {{\n  screen{number}(id: ID!, where: Filter{number}): Screen{number}\n}}\n"
+    )
+
+
+def type_system(size):
+    return fill(size, definitions)
+
+
+def many(size):
+    return fill(
+        size,
+        lambda number: (
+            f"query Q{number} {{ dog {{ ...F{number} name nickname }} }}\n"
+            f"fragment F{number} on Dog {{ barkVolume barks }}\n"
+        ),
+    )
+
+
+def wide(size):
+    return fill(size, lambda number: f" a{number}: name(surname: true)", "{ dog {", " } }")
+
+
+def deep(size):
+    return fill(
+        size,
+        lambda number: f"query Q{number} {{ human {{ " + "relatives { " * 998 + "name " + "} " * 998 + "} }\n",
+    )
+
+
+def chain(count):
+    """Fragments that spread the next, and the field of the last one."""
+    last = FIRST + count
+    spreads = (f"fragment F{number} on Dog {{ ...F{number + 1} }} " for number in range(FIRST, last))
+    return "".join(spreads) + f"fragment F{last} on Dog {{ name }}"
+
+
+def operations_over_chain(count):
+    operations = (f"query Q{number} {{ dog {{ ...F{number} }} }} " for number in range(FIRST, FIRST + count))
+    return "".join(operations) + chain(count)
+
+
+def towers(levels):
+    """Two towers of fragments that spread the next below two fields: written out each has 2 ** levels of its last one."""
+    return "{ human { ...A1 ...B1 } }" + "".join(
+        "".join(
+            f" fragment {x}{n} on Human {{ l: relatives {{ ...{x}{n + 1} }} r: relatives {{ ...{x}{n + 1} }} }}"
+            for n in range(1, levels + 1)
+        )
+        + f" fragment {x}{levels + 1} on Human {{ name }}"
+        for x in "AB"
+    )
+
+
+def crossing(levels):
+    """A tower of two fragments a level, of which each spreads both of the next level."""
+    return (
+        "{ human { name ...A1 } } fragment A1 on Human { ...A2 ...C2 }"
+        + "".join(f" fragment {x}{n} on Human {{ ...A{n + 1} ...C{n + 1} }}" for n in range(2, levels) for x in "AC")
+        + "".join(f" fragment {x}{levels} on Human {{ name }}" for x in "AC")
+    )
+
+
+def beside(levels):
+    """Own fields that nest beside a tower of two fragments a level, each with both of the next level below a field."""
+    return (
+        "{ human { " + "relatives { " * levels + "name" + " }" * levels + " ...A1 ...C1 } }"
+        + "".join(
+            f" fragment {x}{n} on Human {{ relatives {{ ...A{n + 1} ...C{n + 1} }} }}"
+            for n in range(1, levels + 1)
+            for x in "AC"
+        )
+        + "".join(f" fragment {x}{levels + 1} on Human {{ name }}" for x in "AC")
+    )
+
+
+def all_in_one(count):
+    numbers = range(FIRST, FIRST + count)
+    spreads = "".join(f" ...F{n}" for n in numbers)
+    return f"{{ dog {{{spreads} }} }}" + "".join(f" fragment F{n} on Dog {{ name }}" for n in numbers)
+
+
+def each_later(count):
+    return "{ dog { ...F0 } }" + "".join(
+        f" fragment F{n} on Dog {{ name" + "".join(f" ...F{later}" for later in range(n + 1, count)) + " }"
+        for n in range(count)
+    )
+
+
+def all_later(size):
+    """Fragments that each spread all later ones, as many as so many bytes hold: twice as many are four times as long."""
+    count = 1
+    while len(each_later(count + 1)) <= size:
+        count += 1
+    return each_later(count)
+
+
+# What stands behind the items of an argument, and behind the keys of a default.
+ITEMS, WIDE = "]) } }", "}) { wide(input: $input) }"
+
+# What stands behind the default of a variable that is a list.
+LISTED = "]) { complicatedArgs { stringListArgField(stringListArg: $list) } }"
+
+# A family: its name, how a text of a size is made, the first size (bytes, or entries of a list), and the schema (none: one whose
+# input object has so many fields) or the reader that alone reads the text.
+FAMILIES = [
+    ("realistic, 3 KB", realistic, 3_000, "pets"),
+    ("realistic", realistic, 100_000, "pets"),
+    ("names that end alike", ending_alike, 100_000, "pets"),
+    ("one operation, 3 KB", one_operation, 3_000, "pets"),
+    ("one operation", one_operation, 100_000, "pets"),
+    ("no operation, 3 KB", no_operation, 3_000, "pets"),
+    ("no operation", no_operation, 100_000, "pets"),
+    ("many operations", many, 500_000, "pets"),
+    ("wide set", wide, 500_000, "pets"),
+    ("1,000 levels", deep, 500_000, "pets"),
+    ("arguments that fit", listed("{ complicatedArgs { ", "a{0}: intArgField(intArg: {0})", " } }"), 10_000, "pets"),
+    ("unknown arguments", listed("{ dog { name(", "a{0}: 1", ") } }"), 1_000, "pets"),
+    ("one argument again", listed("{ dog { name(", "surname: true", ") } }"), 1_000, "pets"),
+    ("directives of a field", listed("{ dog { name ", "@skip(if: true)", " } }"), 1_000, "pets"),
+    ("unknown directives", listed("{ dog { name ", "@d{0}", " } }"), 1_000, "pets"),
+    ("unknown keys", listed("{ complicatedArgs { complexArgField(complexArg: {", "k{0}: 1", "}) } }"), 1_000, "pets"),
+    ("variables", listed("query (", "$v{0}: Int", ") { dog { name } }"), 1_000, "pets"),
+    ("unknown fields", listed("{ dog { ", "f{0}", " } }"), 1_000, "pets"),
+    ("fragments in a chain", lambda count: f"{{ dog {{ ...F{FIRST} }} }} " + chain(count), 5_000, "pets"),
+    ("operations over it", operations_over_chain, 300, "pets"),
+    ("two towers", towers, 20, "pets"),
+    ("a crossing tower", crossing, 20, "pets"),
+    ("fields beside a tower", beside, 20, "pets"),
+    ("one field again", listed("{ dog { ", "name", " } }"), 2_500, "pets"),
+    ("spreads in one set", all_in_one, 500, "pets"),
+    ("spreads of all later", all_later, 10_000, "pets"),
+    ("keys of a wide type", listed("{ wide(input: {", "k{0}: 1", "}) }", 0), 2_000, None),
+    ("items of a list", listed("{ complicatedArgs { stringListArgField(stringListArg: [", '"{0}"', ITEMS), 10_000, "pets"),
+    ("list of values", listed("query ($list: [String] = [", '"{0}"', LISTED), 10_000, "pets"),
+    ("keys of a wide input", listed("query ($input: Wide = {", "k{0}: 1", WIDE, 0), 1_000, None),
+    ("values that don't fit", listed("query ($list: [String] = [", "{0}", LISTED), 10_000, "pets"),
+    ("SDL, 1 MB", type_system, 1_000_000, "sdl"),
+    ("queries, 1 MB", realistic, 1_000_000, "queries"),
+]
+
+# The values of their variables, which stand in the document as defaults, are judged, too.
+VALUED = ("list of values", "keys of a wide input", "values that don't fit")
+
+# The readers of a team's texts.
+READERS = ("sdl", "queries")
+
+# What is measured of a text.
+PHASES = ("read", "walk", "values")
+
+
+def phases_of(name, schema):
+    """Which phases a family has."""
+    if schema in READERS:
+        return PHASES[:1]
+    return PHASES if name in VALUED else PHASES[:2]
