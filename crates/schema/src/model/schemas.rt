@@ -1,10 +1,11 @@
-//! A schema: its types and its directives, each by name.
+//! A schema: its types and its directives by name (section 3.3).
 ghost use Rattle.std.specs.Prelude.{◌≡◌, ◌<◌, true, length, option_map, string_bytes};
 ghost use Rattle.std.specs.List.{list_all};
 ghost use Rattle.indexmap.specs.IndexMap.{values};
 ghost use Rattle.schema_validation.specs.Accepted.{IsAccepted, is_input_listed};
 ghost use Rattle.schema_validation.specs.Directives.{directive_name, directive_inputs};
 ghost use Rattle.meta.specs.Kinds.{name_of_meta};
+ghost use Rattle.schema.specs.Catalog.{kept_roots};
 ghost use Rattle.schema_validation.specs.InputOrders.{AreOrders};
 ghost use Rattle.schema_validation.specs.Named.{are_distinct, are_keyed};
 
@@ -34,7 +35,7 @@ use schema_validation::standard_directives::directives_by_name;
 use std::alloc::Global;
 use std::marker::Model;
 
-/// A schema (section 3.3). Its types all have different names, and so have its directives.
+/// A schema (section 3.3). No two of its types have the same name, and no two of its directives.
 #[derive(Drop)]
 pub struct SchemaTypeOf<S, C> {
     description: Option<String>,
@@ -45,13 +46,7 @@ pub struct SchemaTypeOf<S, C> {
     mutation: Option<String>,
     subscription: Option<String>,
     directives: IndexMap<String, DirectiveType<S>>,
-    ghost accepted: { IsAccepted
-        (record {
-          query = string_bytes query;
-          mutation = option_map string_bytes mutation;
-          subscription = option_map
-              string_bytes subscription;
-        }) (values types) },
+    ghost accepted: { IsAccepted (kept_roots query mutation subscription) (values types) },
     ghost directive_inputs_input: { list_all (is_input_listed (values types)) (directive_inputs (values directives))
         ≡ true },
     ghost keyed: { are_keyed name_of_meta types.entries ≡ true },
@@ -61,14 +56,14 @@ pub struct SchemaTypeOf<S, C> {
     ghost slotted: { 0 < length slots.items },
 }
 
-/// A schema, with the checks that its kind of scalars has.
+/// A schema, with the checks of the scalar type `S`.
 pub type SchemaType<S = DefaultScalarValue> = SchemaTypeOf<S, <S as CheckedScalar>::Check>;
 
 impl<S, C> Model for SchemaTypeOf<S, C> {
     ghost use Rattle.std.specs.Prelude.{option_map, string_bytes};
     ghost use Rattle.std.specs.Coded.{codes};
     ghost use Rattle.indexmap.specs.IndexMap.{values};
-    ghost use Rattle.schema.specs.Catalog.{Catalog};
+    ghost use Rattle.schema.specs.Catalog.{Catalog, kept_roots};
     ghost use Rattle.schema.specs.Codes.{coded_value};
 
     ghost Value = { Catalog S C };
@@ -78,7 +73,7 @@ impl<S, C> Model for SchemaTypeOf<S, C> {
     ghost view = { λ s. record {
       description = option_map string_bytes s.description;
       types = values s.types;
-      roots = record { query = string_bytes s.query; mutation = option_map string_bytes s.mutation; subscription = option_map string_bytes s.subscription };
+      roots = kept_roots s.query s.mutation s.subscription;
       directives = values s.directives;
       accepted = s.accepted;
       directive_inputs_input = s.directive_inputs_input;
@@ -93,15 +88,18 @@ impl<S: Drop, C: Drop> SchemaTypeOf<S, C> {
     ghost use Rattle.schema.specs.Built.{IsSchemaOf};
     ghost use Rattle.schema_validation.specs.RootNames.{roots_asked};
 
-    /// The schema of a list of types with these roots (section 3.3), to which the fields `__schema`
-    /// and `__type` of the root of queries and the directives `skip`, `include`, `deprecated` and
-    /// `specifiedBy` are added. The names `_EmptyMutation` and `_EmptySubscription` mean that there
-    /// is no such root.
+    /// The schema of a list of types with these root types (section 3.3).
     ///
-    /// Refuses with `MissingRoot`, `QueryNotObject`, `UnnamedType`, `RepeatedType`, `UnknownType`,
-    /// `UnionMemberNotObject` or `NotInputType` where that is true of the list; which one is named
-    /// where several are true is left open. A list of which none is true is refused with
-    /// `OutOfMemory` alone, where a request for memory was refused.
+    /// It adds the fields `__schema` and `__type` to the query root, and the directives `skip`,
+    /// `include`, `deprecated` and `specifiedBy`. The names `_EmptyMutation` and `_EmptySubscription`
+    /// mean that there is no such root.
+    ///
+    /// # Errors
+    ///
+    /// `MissingRoot`, `QueryNotObject`, `UnnamedType`, `RepeatedType`, `UnknownType`,
+    /// `UnionMemberNotObject` or `NotInputType` if it applies to the list; if several apply, it is not
+    /// specified which one is returned. `OutOfMemory` is the only error for a list to which none
+    /// applies.
     pub fn new(
         alloc: Global,
         types: Vec<MetaTypeOf<S, C>>,
@@ -110,8 +108,8 @@ impl<S: Drop, C: Drop> SchemaTypeOf<S, C> {
         subscription: &str,
     ) -> Result<Self, SchemaError>
         ensures accepted { OnOk result (IsAccepted (roots_of query.now mutation.now subscription.now) types.items) }
-        ensures built { IfOk result (λ s. IsSchemaOf (roots_of query.now mutation.now subscription.now) types.items s) }
-        ensures refused { IfErr result (λ e. IsTrueRefusal (roots_of query.now mutation.now subscription.now) types.items e) }
+        ensures built { IfOk result (IsSchemaOf (roots_of query.now mutation.now subscription.now) types.items) }
+        ensures refused { IfErr result (IsTrueRefusal (roots_of query.now mutation.now subscription.now) types.items) }
         ensures memory_alone { IsAccepted (roots_of query.now mutation.now subscription.now) types.items
             → IsOkUnless result SchemaError.OutOfMemory }
         ensures no_refusal { OnOk result ((e : SchemaError)
@@ -127,8 +125,8 @@ impl<S: Drop, C: Drop> SchemaTypeOf<S, C> {
         roots: RootNames<'_>,
     ) -> Result<Self, SchemaError>
         ensures accepted { OnOk result (IsAccepted (roots_asked roots.entry) types.items) }
-        ensures built { IfOk result (λ s. IsSchemaOf (roots_asked roots.entry) types.items s) }
-        ensures refused { IfErr result (λ e. IsTrueRefusal (roots_asked roots.entry) types.items e) }
+        ensures built { IfOk result (IsSchemaOf (roots_asked roots.entry) types.items) }
+        ensures refused { IfErr result (IsTrueRefusal (roots_asked roots.entry) types.items) }
     {
         check_types(alloc, types.as_slice(), roots)?;
         let types = with_added_fields(alloc, types, roots.query)?;
@@ -173,7 +171,7 @@ impl<S, C> SchemaTypeOf<S, C> {
     ghost use Rattle.schema.specs.Concrete.{concrete_of};
     ghost use Rattle.meta.specs.Kinds.{is_object_meta};
 
-    /// The type of the name, with nothing round it.
+    /// The type of this name, without modifiers.
     pub fn type_by_name(&self, name: &str) -> Option<TypeTypeOf<'_, S, C>>
         ensures { option_map concrete_of result ≡ option_map (λ t. Some t) (type_in name.now self.now) }
     {
@@ -183,7 +181,7 @@ impl<S, C> SchemaTypeOf<S, C> {
         }
     }
 
-    /// The type of the name.
+    /// The metadata of the type of this name.
     pub fn concrete_type_by_name(&self, name: &str) -> Option<&MetaTypeOf<S, C>>
         ensures { option_copied result ≡ type_in name.now self.now }
     {
@@ -193,8 +191,8 @@ impl<S, C> SchemaTypeOf<S, C> {
         }
     }
 
-    // The type whose place is noted at the slot of the name, if it is the one of the name. `None` says
-    // nothing: a type of another name may have the slot, and then the map has to be asked.
+    // The type in the slot of the name, if it has this name. `None` says nothing: a type of another
+    // name may have the slot, so the map has to be asked.
     fn type_in_slot(&self, name: &str) -> Option<&MetaTypeOf<S, C>>
         ensures { IfSome result (λ meta. type_in name.now self.now ≡ Some meta.now) }
     {
@@ -207,14 +205,14 @@ impl<S, C> SchemaTypeOf<S, C> {
         }
     }
 
-    /// The root of queries, with nothing round it.
+    /// The query root, without modifiers.
     pub fn query_type(&self) -> TypeTypeOf<'_, S, C>
         ensures { concrete_of result ≡ type_in self.now.roots.query self.now }
     {
         TypeTypeOf::Concrete(self.concrete_query_type())
     }
 
-    /// The root of queries, an object.
+    /// The metadata of the query root, an object type.
     pub fn concrete_query_type(&self) -> &MetaTypeOf<S, C>
         ensures root { Some result.now ≡ type_in self.now.roots.query self.now }
         ensures object { is_object_meta result.now ≡ true }
@@ -225,7 +223,7 @@ impl<S, C> SchemaTypeOf<S, C> {
         }
     }
 
-    /// The root of mutations, if there is one, with nothing round it.
+    /// The mutation root, if there is one, without modifiers.
     pub fn mutation_type(&self) -> Option<TypeTypeOf<'_, S, C>>
         ensures root { option_map concrete_of result
             ≡ option_map (λ t. Some t) (root_in self.now.roots.mutation self.now) }
@@ -237,7 +235,7 @@ impl<S, C> SchemaTypeOf<S, C> {
         }
     }
 
-    /// The root of mutations, if there is one.
+    /// The metadata of the mutation root, if there is one.
     pub fn concrete_mutation_type(&self) -> Option<&MetaTypeOf<S, C>>
         ensures root { option_copied result ≡ root_in self.now.roots.mutation self.now }
         ensures asked { IsSome result ↔ IsSome self.now.roots.mutation }
@@ -248,7 +246,7 @@ impl<S, C> SchemaTypeOf<S, C> {
         }
     }
 
-    /// The root of subscriptions, if there is one, with nothing round it.
+    /// The subscription root, if there is one, without modifiers.
     pub fn subscription_type(&self) -> Option<TypeTypeOf<'_, S, C>>
         ensures root { option_map concrete_of result
             ≡ option_map (λ t. Some t) (root_in self.now.roots.subscription self.now) }
@@ -260,7 +258,7 @@ impl<S, C> SchemaTypeOf<S, C> {
         }
     }
 
-    /// The root of subscriptions, if there is one.
+    /// The metadata of the subscription root, if there is one.
     pub fn concrete_subscription_type(&self) -> Option<&MetaTypeOf<S, C>>
         ensures root { option_copied result ≡ root_in self.now.roots.subscription self.now }
         ensures asked { IsSome result ↔ IsSome self.now.roots.subscription }
@@ -271,7 +269,7 @@ impl<S, C> SchemaTypeOf<S, C> {
         }
     }
 
-    /// The directive of the name.
+    /// The directive of this name.
     pub fn directive_by_name(&self, name: &str) -> Option<&DirectiveType<S>>
         ensures { option_copied result ≡ directive_in name.now self.now }
     {

@@ -1,12 +1,11 @@
-//! Changes of a schema.
+//! Changes to a schema.
 ghost use Rattle.std.specs.Prelude.{◌≡◌, if◌then◌else◌, is_ok, IfErr, IsOkUnless, OnErr, OnOk, Some, not, true, map, string_bytes, option_copied};
 ghost use Rattle.std.specs.List.{list_all};
 ghost use Rattle.indexmap.specs.IndexMap.{values};
 ghost use Rattle.schema_validation.specs.Accepted.{is_listed, is_input_listed};
-ghost use Rattle.schema.specs.Changes.{directive_types, with_directive, IsTrueOfArguments};
+ghost use Rattle.schema.specs.Changes.{argument_types, directive_types, with_directive, AreInputTypes, IsTrueOfArguments};
 ghost use Rattle.schema_validation.specs.Directives.{directive_name};
 ghost use Rattle.schema_validation.specs.Named.{are_keyed};
-ghost use Rattle.schema_validation.specs.Names.{argument_type};
 
 use crate::model::schemas::SchemaTypeOf;
 use indexmap::IndexMap;
@@ -19,7 +18,7 @@ use schema_validation::first::first_argument;
 use schema_validation::listed::NameTest;
 use std::alloc::Global;
 
-/// The schema has no type of the name.
+/// Fails for names that no type of the schema has.
 #[derive_where(Clone, Copy)]
 struct UnknownIn<'s, S, C>(&'s SchemaTypeOf<S, C>);
 
@@ -31,7 +30,7 @@ impl<S, C> NameTest for UnknownIn<'_, S, C> {
     }
 }
 
-/// The schema has no input type of the name.
+/// Fails for names that no input type of the schema has.
 #[derive_where(Clone, Copy)]
 struct NoInputIn<'s, S, C>(&'s SchemaTypeOf<S, C>);
 
@@ -43,7 +42,7 @@ impl<S, C> NameTest for NoInputIn<'_, S, C> {
     }
 }
 
-/// Puts a directive under its name, in the place of the one that stands there or at the end.
+/// Puts a directive under its name: in place of the one of this name, or at the end.
 fn put_entry<S: Drop>(
     directives: &mut IndexMap<String, DirectiveType<S>>,
     directive: DirectiveType<S>,
@@ -72,8 +71,8 @@ impl<S, C> SchemaTypeOf<S, C> {
     }
 
     fn check_known(&self, alloc: Global, arguments: &[Argument<S>]) -> Result<(), SchemaError>
-        ensures ok { OnOk result (list_all (is_listed self.now.types) (map argument_type arguments.now) ≡ true) }
-        ensures err { IfErr result (IsTrueOfArguments self.now.types (map argument_type arguments.now)) }
+        ensures ok { OnOk result (list_all (is_listed self.now.types) (argument_types arguments.now) ≡ true) }
+        ensures err { IfErr result (IsTrueOfArguments self.now.types (argument_types arguments.now)) }
     {
         match first_argument(&UnknownIn(self), arguments) {
             Some(name) => Err(SchemaError::UnknownType(String::from_str(alloc, name)?)),
@@ -82,9 +81,9 @@ impl<S, C> SchemaTypeOf<S, C> {
     }
 
     fn check_input(&self, alloc: Global, arguments: &[Argument<S>]) -> Result<(), SchemaError>
-        requires { list_all (is_listed self.now.types) (map argument_type arguments.now) ≡ true }
-        ensures ok { OnOk result (list_all (is_input_listed self.now.types) (map argument_type arguments.now) ≡ true) }
-        ensures err { IfErr result (IsTrueOfArguments self.now.types (map argument_type arguments.now)) }
+        requires { list_all (is_listed self.now.types) (argument_types arguments.now) ≡ true }
+        ensures ok { OnOk result (AreInputTypes self.now.types (argument_types arguments.now)) }
+        ensures err { IfErr result (IsTrueOfArguments self.now.types (argument_types arguments.now)) }
     {
         match first_argument(&NoInputIn(self), arguments) {
             Some(name) => Err(SchemaError::NotInputType(String::from_str(alloc, name)?)),
@@ -93,8 +92,8 @@ impl<S, C> SchemaTypeOf<S, C> {
     }
 
     fn check_arguments(&self, alloc: Global, arguments: &[Argument<S>]) -> Result<(), SchemaError>
-        ensures ok { OnOk result (list_all (is_input_listed self.now.types) (map argument_type arguments.now) ≡ true) }
-        ensures err { IfErr result (IsTrueOfArguments self.now.types (map argument_type arguments.now)) }
+        ensures ok { OnOk result (AreInputTypes self.now.types (argument_types arguments.now)) }
+        ensures err { IfErr result (IsTrueOfArguments self.now.types (argument_types arguments.now)) }
     {
         self.check_known(alloc, arguments)?;
         self.check_input(alloc, arguments)
@@ -108,6 +107,10 @@ impl<S, C> SchemaTypeOf<S, C> {
     }
 
     /// Replaces the description (section 3.2).
+    ///
+    /// # Errors
+    ///
+    /// Out of memory; the schema is unchanged then.
     pub fn set_description(&mut self, text: &str) -> Result<(), OutOfMemory>
         ensures ok { OnOk result (self.new ≡ record self.old { description = Some text.now }) }
         ensures err { OnErr result (self.new ≡ self.old) }
@@ -119,22 +122,22 @@ impl<S, C> SchemaTypeOf<S, C> {
 }
 
 impl<S: Drop, C: Drop> SchemaTypeOf<S, C> {
-    /// Adds a directive (section 3.13), in the place of the one of its name if there is one. A
-    /// refusal changes nothing.
+    /// Adds a directive (section 3.13), in place of the one of its name, if there is one.
     ///
-    /// Refuses with `UnknownType` where an argument has a type that the schema doesn't know, and with
-    /// `NotInputType` where an argument has a type that is known and no input type; which one is named
-    /// where several are true is left open. Else it refuses with `OutOfMemory` alone, where a request
-    /// for memory was refused.
+    /// # Errors
+    ///
+    /// `UnknownType` if the schema lacks the type of an argument, and `NotInputType` if that type is
+    /// not an input type; if both apply, it is not specified which one is returned. `OutOfMemory` is
+    /// the only other error. The schema is unchanged then.
     pub fn add_directive(&mut self, directive: DirectiveType<S>) -> Result<(), SchemaError>
-        ensures input { OnOk result (list_all (is_input_listed self.old.types) (directive_types directive) ≡ true) }
+        ensures input { OnOk result (AreInputTypes self.old.types (directive_types directive)) }
         ensures added { OnOk result (self.new.directives ≡ with_directive directive self.old.directives) }
         ensures types { self.new.types ≡ self.old.types }
         ensures roots { self.new.roots ≡ self.old.roots }
         ensures description { self.new.description ≡ self.old.description }
         ensures refused { IfErr result (IsTrueOfArguments self.old.types (directive_types directive)) }
         ensures unchanged { OnErr result (self.new ≡ self.old) }
-        ensures memory_alone { list_all (is_input_listed self.old.types) (directive_types directive) ≡ true
+        ensures memory_alone { AreInputTypes self.old.types (directive_types directive)
             → IsOkUnless result SchemaError.OutOfMemory }
     {
         self.check_arguments(*directive.name.allocator(), directive.arguments.as_slice())?;
@@ -142,7 +145,7 @@ impl<S: Drop, C: Drop> SchemaTypeOf<S, C> {
     }
 
     fn put_directive(&mut self, directive: DirectiveType<S>) -> Result<(), SchemaError>
-        requires { list_all (is_input_listed self.old.types) (directive_types directive) ≡ true }
+        requires { AreInputTypes self.old.types (directive_types directive) }
         ensures added { OnOk result (self.new.directives ≡ with_directive directive self.old.directives) }
         ensures types { self.new.types ≡ self.old.types }
         ensures roots { self.new.roots ≡ self.old.roots }
