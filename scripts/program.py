@@ -19,7 +19,7 @@ CRATES = TOP / "crates"
 NOT_RUN = 125
 
 # A first proof of a crate takes about so many minutes of a processor, and so many more for 1,000 lines of code.
-MINUTES, MINUTES_OF_LINES = 0.8, 1.4
+MINUTES, MINUTES_OF_LINES = 1.0, 2.0
 
 # The memory that one proof may take, in bytes.
 MEMORY = 3 << 30
@@ -214,8 +214,8 @@ class Program:
         at_once = processors()
         progress = Progress(self.script, crates, named, at_once)
         self.say(
-            f"proving {len(crates)} crates, {at_once} at a time, about {shown(progress.expected + 1)}, once; "
-            f"`./{self.script} --try ..` runs at once, with nothing proved"
+            f"proving {len(crates)} crate{'s'[len(crates) == 1 :]}, {at_once} at a time, in about "
+            f"{shown(progress.expected + 1)}; `./{self.script} --try ..` runs at once, with nothing proved"
         )
         folder = CRATES / self.crate
         if len(crates) > 2:
@@ -276,6 +276,9 @@ class Program:
         if {"-h", "--help"} & {*own}:
             print(usage + FIRST_CALL.format(self.script), end="")
             return 0
-        if words[:1] == ["--try"]:
-            return self.try_unproved(words[1:], reads_input(words[1:]))
-        return self.run(words)
+        try:
+            if words[:1] == ["--try"]:
+                return self.try_unproved(words[1:], reads_input(words[1:]))
+            return self.run(words)
+        except KeyboardInterrupt:
+            return 130
