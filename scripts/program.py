@@ -213,12 +213,14 @@ class Program:
         """Proves these crates, and builds the program."""
         at_once = processors()
         progress = Progress(self.script, crates, named, at_once)
+        is_long = len(crates) > 2
+        count = f"{len(crates)} crates, {at_once} at a time" if is_long else "what changed"
         self.say(
-            f"proving {len(crates)} crate{'s'[len(crates) == 1 :]}, {at_once} at a time, in about "
-            f"{shown(progress.expected + 1)}; `./{self.script} --try ..` runs at once, with nothing proved"
+            f"proving {count}, in about {shown(progress.expected + 1)}; "
+            f"`./{self.script} --try ..` runs at once, with nothing proved"
         )
         folder = CRATES / self.crate
-        if len(crates) > 2:
+        if is_long:
             status = followed(["rt", "all", "check", "--jobs", str(at_once)], folder, log, progress.tell)
             if status:
                 return
