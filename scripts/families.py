@@ -121,7 +121,7 @@ def operations_over_chain(count):
 
 
 def towers(levels):
-    """Two towers of fragments that spread the next below two fields: written out each has 2 ** levels of its last one."""
+    """Two towers of fragments that spread the next below two fields: written out each has 2 ** levels of the last."""
     return "{ human { ...A1 ...B1 } }" + "".join(
         "".join(
             f" fragment {x}{n} on Human {{ l: relatives {{ ...{x}{n + 1} }} r: relatives {{ ...{x}{n + 1} }} }}"
@@ -168,21 +168,22 @@ def each_later(count):
 
 
 def all_later(size):
-    """Fragments that each spread all later ones, as many as so many bytes hold: twice as many are four times as long."""
+    """Fragments that each spread all later ones, as many as the bytes hold: twice as many are four times as long."""
     count = 1
     while len(each_later(count + 1)) <= size:
         count += 1
     return each_later(count)
 
 
-# What stands behind the items of an argument, and behind the keys of a default.
-ITEMS, WIDE = "]) } }", "}) { wide(input: $input) }"
+# What stands round the items of an argument, and behind the keys of a default.
+LIST_ARGUMENT, ITEMS = "{ complicatedArgs { stringListArgField(stringListArg: [", "]) } }"
+WIDE = "}) { wide(input: $input) }"
 
 # What stands behind the default of a variable that is a list.
 LISTED = "]) { complicatedArgs { stringListArgField(stringListArg: $list) } }"
 
-# A family: its name, how a text of a size is made, the first size (bytes, or entries of a list), and the schema (none: one whose
-# input object has so many fields) or the reader that alone reads the text.
+# A family: its name, how a text of a size is made, the first size (bytes, or entries of a list), and the schema or the
+# reader that alone reads the text. No schema: one whose input object has so many fields.
 FAMILIES = [
     ("realistic, 3 KB", realistic, 3_000, "pets"),
     ("realistic", realistic, 100_000, "pets"),
@@ -211,7 +212,7 @@ FAMILIES = [
     ("spreads in one set", all_in_one, 500, "pets"),
     ("spreads of all later", all_later, 10_000, "pets"),
     ("keys of a wide type", listed("{ wide(input: {", "k{0}: 1", "}) }", 0), 2_000, None),
-    ("items of a list", listed("{ complicatedArgs { stringListArgField(stringListArg: [", '"{0}"', ITEMS), 10_000, "pets"),
+    ("items of a list", listed(LIST_ARGUMENT, '"{0}"', ITEMS), 10_000, "pets"),
     ("list of values", listed("query ($list: [String] = [", '"{0}"', LISTED), 10_000, "pets"),
     ("keys of a wide input", listed("query ($input: Wide = {", "k{0}: 1", WIDE, 0), 1_000, None),
     ("values that don't fit", listed("query ($list: [String] = [", "{0}", LISTED), 10_000, "pets"),

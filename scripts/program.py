@@ -19,7 +19,7 @@ CRATES = TOP / "crates"
 NOT_RUN = 125
 
 # A first proof of a crate takes about so many minutes of a processor, and so many more for 1,000 lines of code.
-MINUTES, MINUTES_OF_LINES = 0.8, 1.4
+MINUTES, MINUTES_OF_LINES = 1.0, 2.0
 
 # The memory that one proof may take, in bytes.
 MEMORY = 3 << 30
@@ -213,12 +213,14 @@ class Program:
         """Proves these crates, and builds the program."""
         at_once = processors()
         progress = Progress(self.script, crates, named, at_once)
+        is_long = len(crates) > 2
+        count = f"{len(crates)} crates, {at_once} at a time" if is_long else "what changed"
         self.say(
-            f"proving {len(crates)} crates, {at_once} at a time, about {shown(progress.expected + 1)}, once; "
+            f"proving {count}, in about {shown(progress.expected + 1)}; "
             f"`./{self.script} --try ..` runs at once, with nothing proved"
         )
         folder = CRATES / self.crate
-        if len(crates) > 2:
+        if is_long:
             status = followed(["rt", "all", "check", "--jobs", str(at_once)], folder, log, progress.tell)
             if status:
                 return
@@ -276,6 +278,9 @@ class Program:
         if {"-h", "--help"} & {*own}:
             print(usage + FIRST_CALL.format(self.script), end="")
             return 0
-        if words[:1] == ["--try"]:
-            return self.try_unproved(words[1:], reads_input(words[1:]))
-        return self.run(words)
+        try:
+            if words[:1] == ["--try"]:
+                return self.try_unproved(words[1:], reads_input(words[1:]))
+            return self.run(words)
+        except KeyboardInterrupt:
+            return 130

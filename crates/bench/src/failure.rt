@@ -7,15 +7,15 @@ use validation::{OutOfMemory, SchemaError};
 /// Why nothing is measured.
 #[derive(Clone, Copy, Debug)]
 pub enum Failure {
-    /// The input is no document.
+    /// The input is not a document.
     Syntax,
-    /// The document begins with no operation whose variables have input types.
+    /// The first definition is not an operation, or one of its variables has no input type.
     NoVariables,
-    /// The words are other ones.
+    /// Invalid arguments.
     Usage,
-    /// A request for memory was refused.
+    /// Out of memory.
     OutOfMemory,
-    /// A read or a write failed, or there is no clock.
+    /// A read or a write failed, or the clock did.
     InputOutput,
 }
 

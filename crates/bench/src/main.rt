@@ -1,18 +1,19 @@
-//! The program `bench`: how long it takes to read a text and to judge it.
+//! The program `bench`: measures how long it takes to read a text and to judge it.
 //!
-//! Its words are one of two lines:
+//! It has two forms:
 //!
-//! - a schema (`pets`, or a number: a schema whose field `wide` takes an input object of so many fields `k0: Int`, `k1: Int` and so
-//!   on), and how often the document on the standard input is to be read, how often to be judged, and how often the values of its
-//!   first operation's variables, which are those that stand there as defaults;
-//! - `sdl` or `queries`, and how often the standard input is to be read by `graphql_reader`, as a type system document or as an
-//!   executable one.
+//! - `bench SCHEMA READS WALKS VALUES` reads the document on the standard input READS times, judges it by all rules
+//!   WALKS times, and judges the values of its first operation's variables, which are their defaults, VALUES times.
+//!   SCHEMA is `pets`, or a number N: a schema whose field `wide` takes an input object of N fields `k0: Int`, `k1: Int`
+//!   and so on.
+//! - `bench sdl READS` and `bench queries READS` read the standard input READS times by `graphql_reader`, as a type
+//!   system document or as an executable document.
 //!
-//! Before them may stand `--through` and a number: so many megabytes of memory are gone through before each pass that is timed, so that it
+//! With `--through MEGABYTES` before these, the program goes through so much memory before each pass, so that the pass
 //! finds a cold cache.
 //!
-//! It prints the bytes of the text, the errors of the rules, the faults of the values where they are judged, and for each phase that
-//! is asked for the median of its times, in nanoseconds of the processor.
+//! It prints the bytes of the text, the number of errors of the rules, the number of faults of the values, and for each
+//! phase the median of its times in nanoseconds of processor time. A phase that is done 0 times has no line.
 #![tactic(auto)]
 
 mod failure;

@@ -1,5 +1,4 @@
-//! The phases of a document: it is read, and it is judged. Each answers the median of its times, or none where it is asked for no
-//! time.
+//! The phases of a document: it is read, and it is judged.
 use crate::failure::Failure;
 use crate::times::{Stopwatch, median_of};
 use sample_reader::read_document;
@@ -8,7 +7,11 @@ use std::rt::CpuClock;
 use std::time::Duration;
 use validation::{DefaultScalarValue, Definition, SchemaType, ValidatorContext, visit_all_rules};
 
-/// Reads the text so often.
+/// Reads the text so often, and returns the median of the times in nanoseconds, or `None` for no times.
+///
+/// # Errors
+///
+/// The text is not a document, the clock failed, or out of memory.
 pub fn time_reading<R: CpuClock>(
     watch: &mut Stopwatch<'_, R>,
     alloc: Global,
@@ -22,7 +25,12 @@ pub fn time_reading<R: CpuClock>(
     )
 }
 
-/// Judges the document by all rules so often.
+/// Judges the document by all rules so often, and returns the median of the times in nanoseconds, or `None` for no
+/// times.
+///
+/// # Errors
+///
+/// The clock failed, or out of memory.
 pub fn time_walking<R: CpuClock>(
     watch: &mut Stopwatch<'_, R>,
     alloc: Global,

@@ -27,7 +27,7 @@ struct Times {
     values: usize,
 }
 
-/// Measures what the words ask for, and answers 0, or 1 where nothing is measured.
+/// Measures what the arguments ask for, and returns the exit status: 0, or 1 if it failed.
 pub fn run<R: CpuClock + Env + AllocGlobal + Print + Eprint, I: Read>(rt: &R, input: &mut I) -> u8 {
     let Err(failure) = measure(rt, input) else {
         return 0;

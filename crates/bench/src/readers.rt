@@ -14,7 +14,11 @@ pub enum Kind {
     Queries,
 }
 
-/// What a word says that a text is read as.
+/// What a text is read as, by an argument.
+///
+/// # Errors
+///
+/// The argument is neither `sdl` nor `queries`.
 pub fn kind_named(word: &str) -> Result<Kind, Failure> {
     match word {
         "sdl" => Ok(Kind::TypeSystem),
@@ -23,7 +27,11 @@ pub fn kind_named(word: &str) -> Result<Kind, Failure> {
     }
 }
 
-/// Reads the text so often, and answers the median of the times, or none where it is asked for no time.
+/// Reads the text so often, and returns the median of the times in nanoseconds, or `None` for no times.
+///
+/// # Errors
+///
+/// A syntax error in the text, the clock failed, or out of memory.
 pub fn time_reader<R: CpuClock>(
     watch: &mut Stopwatch<'_, R>,
     alloc: Global,

@@ -6,13 +6,21 @@ use validation::meta::default_check::DefaultCheck;
 use validation::meta::{InputObjectMetaOf, MetaType};
 
 /// The fields of a root whose field `wide` takes the input object `Wide`.
+///
+/// # Errors
+///
+/// Out of memory.
 pub fn root_fields(alloc: Global) -> Result<Vec<FieldMeta>, OutOfMemory> {
     let mut fields = own_fields(alloc)?;
     fields.push(field(alloc, "wide", "Int")?.argument(argument(alloc, "input", "Wide")?)?)?;
     Ok(fields)
 }
 
-/// The input object `Wide`, of so many fields, with its check.
+/// The input object `Wide` of so many fields, with its check.
+///
+/// # Errors
+///
+/// Out of memory.
 pub fn wide_input(
     alloc: Global,
     count: usize,

@@ -4,11 +4,11 @@ use std::alloc::{AllocError, Global};
 use std::rt::CpuClock;
 use std::time::Duration;
 
-/// How many words of the memory to go through are a megabyte.
+/// How many words of 64 bits make a megabyte.
 const MEGABYTE: usize = 1 << 17;
 
-/// A clock, and memory that is gone through before any work is timed, so that the work finds a cold cache. Where there is none, it finds in
-/// the cache what the work before left there.
+/// A clock, and memory to go through before each work that is timed, so that the work finds a cold cache. With no such
+/// memory it finds in the cache what the work before left there.
 #[derive(Debug, Drop)]
 pub struct Stopwatch<'r, R> {
     clock: &'r R,
@@ -17,6 +17,10 @@ pub struct Stopwatch<'r, R> {
 
 impl<'r, R: CpuClock> Stopwatch<'r, R> {
     /// A stopwatch that goes through so many megabytes.
+    ///
+    /// # Errors
+    ///
+    /// Out of memory.
     pub fn new(
         alloc: Global,
         clock: &'r R,
@@ -32,7 +36,11 @@ impl<'r, R: CpuClock> Stopwatch<'r, R> {
         }
     }
 
-    /// How long some work takes. The release of what it makes isn't timed.
+    /// How long some work takes. Dropping its result isn't timed.
+    ///
+    /// # Errors
+    ///
+    /// The work failed, or the clock did.
     pub fn time_of<T: Drop, F: FnOnce() -> Result<T, Failure>>(
         &mut self,
         work: F,
@@ -48,7 +56,11 @@ impl<'r, R: CpuClock> Stopwatch<'r, R> {
     }
 }
 
-/// The median of so many times, in nanoseconds, or none where they are none.
+/// The median of so many times in nanoseconds, or `None` for no times.
+///
+/// # Errors
+///
+/// Taking a time failed, or out of memory.
 pub fn median_of<F: FnMut() -> Result<Duration, Failure>>(
     alloc: Global,
     times: usize,

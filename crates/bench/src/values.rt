@@ -1,4 +1,4 @@
-//! The phase of an operation's variables: their values are judged.
+//! The phase that judges the values of an operation's variables.
 use crate::failure::Failure;
 use crate::times::{Stopwatch, median_of};
 use std::alloc::Global;
@@ -13,7 +13,11 @@ use validation::{
 
 type PlacedOperation<'a> = Spanning<Operation<'a, DefaultScalarValue>>;
 
-/// The first definition, where it is an operation.
+/// The first definition, if it is an operation.
+///
+/// # Errors
+///
+/// The first definition is not an operation, or there is none.
 pub fn first_operation<'d, 't>(
     document: &'d [Definition<'t, DefaultScalarValue>],
 ) -> Result<&'d PlacedOperation<'t>, Failure> {
@@ -23,7 +27,11 @@ pub fn first_operation<'d, 't>(
     }
 }
 
-/// The values of an operation's variables: those that stand there as defaults.
+/// The defaults of an operation's variables, as their values.
+///
+/// # Errors
+///
+/// Out of memory.
 pub fn values_of(alloc: Global, operation: &PlacedOperation<'_>) -> Result<Variables, Failure> {
     let mut values = BTreeMap::new(alloc);
     if let Some(definitions) = &operation.item.variable_definitions {
@@ -37,6 +45,10 @@ pub fn values_of(alloc: Global, operation: &PlacedOperation<'_>) -> Result<Varia
 }
 
 /// The faults of the values of an operation's variables.
+///
+/// # Errors
+///
+/// A variable's type is not an input type, or out of memory.
 pub fn judge(
     alloc: Global,
     schema: &SchemaType<DefaultScalarValue>,
@@ -50,7 +62,11 @@ pub fn judge(
     }
 }
 
-/// Judges the values so often, and answers the median of the times, or none where it is asked for no time.
+/// Judges the values so often, and returns the median of the times in nanoseconds, or `None` for no times.
+///
+/// # Errors
+///
+/// A variable's type is not an input type, the clock failed, or out of memory.
 pub fn time_values<R: CpuClock>(
     watch: &mut Stopwatch<'_, R>,
     alloc: Global,
