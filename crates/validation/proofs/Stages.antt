@@ -1,5 +1,5 @@
 -- Two stages as one.
-use Rattle.std.proofs.Common.{◌≡◌, ◌∙◌, ◌↔◌, ◌++◌, ◌≤◌, ◌*◌, ◌-◌, ℕ, List, [], ◌∷◌, Bool, true, false, ap, map, refl, sym, subst, IsPermutation, arith}
+use Rattle.std.proofs.Common.{◌≡◌, ◌∙◌, ◌↔◌, ◌++◌, ◌≤◌, ◌*◌, ◌-◌, ℕ, List, [], ◌∷◌, Bool, true, false, ap, map, refl, sym, subst, IsPermutation, length, length-append, arith}
 use Rattle.std.proofs.lemmas.Bool.{true≢false}
 use Rattle.std.proofs.lemmas.List.{append-nil, nil_from_length}
 use Rattle.std.proofs.lemmas.List.Sorted.{IsPermutation-sym, IsPermutation-trans, length_permutation}
@@ -22,7 +22,7 @@ use Rattle.rules_first_stage.specs.CleanStage.{CleanDocument, IsCleanWhere}
 use Rattle.events.specs.Node.{field}
 use Rattle.merge_walk_laws.proofs.Agreeing.{fields_are_tidy, tidy_arguments}
 use Rattle.rules_first_stage.proofs.Distinct.{left_none}
-use Rattle.validation.specs.Stages.{AppendsReported, IsSettled, IsValid, IsValidIn, Reported, Rules, of_stage_one, of_stage_two}
+use Rattle.validation.specs.Stages.{AppendsReported, IsValid, IsValidIn, Reported, Rules, of_stage_one, of_stage_two}
 
 pub permuted_none : {X : Type 0} (xs : List X) → IsPermutation [] xs → xs ≡ []
 permuted_none xs p = nil_from_length xs (length_permutation [] xs p)
@@ -34,6 +34,10 @@ not_none xs some empty = true≢false (sym some ∙ ap has_some empty)
 pub is_none : {X : Type 0} (xs : List X) → has_some xs ≡ false → xs ≡ []
 is_none [] e = refl
 is_none (x ∷ xs) e = absurd (true≢false e)
+
+-- what is appended and changes nothing is nothing
+no_more : {X : Type 0} (xs ys : List X) → xs ++ ys ≡ xs → ys ≡ []
+no_more xs ys e = nil_from_length ys (omega (arith, length-append xs ys, ap length e))
 
 -- a clean document repeats no argument, nor a key in one
 pub tidy_where_clean : {S C : Type 0} (schema : Catalog S C) (t : Typing S C) (document : List (Definition S)) → CleanDocument schema t document → IsTidyDocument schema document
@@ -59,9 +63,15 @@ module _ {S C : Type 0} (E : S → S → Bool) (schema : Catalog S C) where
 
 module _ {S C : Type 0} (rules : Rules S C) where
   -- the first stage reported, or there were errors before
-  pub after_one : (old new : ContextState S C) (document : List (Definition S)) → AppendsAllowed rules.may_report document old new → has_some new.errors ≡ true
-      → AppendsReported rules old new document 0
-  after_one old new document (es, allowed, e) some = (es, of_stage_one allowed (λ nothing. not_none new.errors some (ap (λ w. w.errors) e ∙ nothing)), e)
+  pub after_one : (old new : ContextState S C) (document : List (Definition S)) → AppendsAllowed rules.may_report document old new → (new.errors ≡ old.errors) ↔ Meets rules.find_nothing old document
+      → has_some new.errors ≡ true → AppendsReported rules old new document 0
+  after_one old new document (es, allowed, e) silent some =
+      let told : new.errors ≡ old.errors ++ es = ap (λ w. w.errors) e in
+      let settled : (es ≡ []) ↔ Meets rules.find_nothing old document = (
+        λ nothing. silent.0 (told ∙ ap (λ z. old.errors ++ z) nothing ∙ append-nil old.errors),
+        λ met. no_more old.errors es (sym told ∙ silent.1 met),
+      ) in
+      (es, of_stage_one allowed settled (λ nothing. not_none new.errors some (ap (λ w. w.errors) e ∙ nothing)), e)
 
   module _ (old mid new : ContextState S C) (document : List (Definition S)) where
     abbrev Two : ℕ → Type 0
@@ -81,11 +91,11 @@ module _ {S C : Type 0} (rules : Rules S C) where
         )
 
   -- nothing is reported if and only if the document is valid
-  module _ (clean : IsCleanWhere rules.find_nothing) (settled : IsSettled rules) (schema : Catalog S C) (t : Typing S C) (document : List (Definition S)) where
+  module _ (clean : IsCleanWhere rules.find_nothing) (schema : Catalog S C) (t : Typing S C) (document : List (Definition S)) where
     pub none_iff : (before es : List ErrorValue) (pairs : ℕ) → before ≡ [] → Reported rules before (scope_of schema document) t document es pairs → (es ≡ []) ↔ IsValid rules (scope_of schema document) t document
-    none_iff before es pairs empty (of_stage_one allowed some) =
+    none_iff before es pairs empty (of_stage_one allowed silent some) =
         let nothing : es ≡ [] → ⊥ = λ e. some (ap (λ zs. before ++ zs) e ∙ append-nil before ∙ empty) in
-        (λ e. absurd (nothing e), λ v. absurd (nothing ((settled (scope_of schema document) t document es allowed).1 v.stage_one)))
+        (λ e. absurd (nothing e), λ v. absurd (nothing (silent.1 v.stage_one)))
     none_iff before es pairs empty (of_stage_two {end = end} none_before found told) =
         let c = clean schema t document found in
         let judged = merges_iff rules.same schema document end es c.no_cycle (tidy_where_clean schema t document c) told in
@@ -110,13 +120,13 @@ merge_permuted E schema document end fs gs es m none_else p =
 -- no more pairs than two for each two definitions of fragments
 pub few_pairs : {S C : Type 0} (rules : Rules S C) (before : List ErrorValue) (scope : DocumentScope S C) (t : Typing S C) (document : List (Definition S)) (es : List ErrorValue) (pairs : ℕ)
     → Reported rules before scope t document es pairs → pairs ≤ fragment_count document * (fragment_count document - 1)
-few_pairs rules before scope t document es pairs (of_stage_one allowed some) = omega arith
+few_pairs rules before scope t document es pairs (of_stage_one allowed silent some) = omega arith
 few_pairs rules before scope t document es pairs (of_stage_two none_before clean told) = told.few
 
-module _ {S C : Type 0} (rules : Rules S C) (clean : IsCleanWhere rules.find_nothing) (settled : IsSettled rules) (old new : ContextState S C) (document : List (Definition S)) where
+module _ {S C : Type 0} (rules : Rules S C) (clean : IsCleanWhere rules.find_nothing) (old new : ContextState S C) (document : List (Definition S)) where
   -- a context that held no error holds none if and only if the document is valid
   pub valid_iff : (pairs : ℕ) → AppendsReported rules old new document pairs → old.errors ≡ [] → (new.errors ≡ []) ↔ IsValidIn rules old document
   valid_iff pairs (es, reported, e) empty =
-      let judged = none_iff rules clean settled old.schema (typing old) document old.errors es pairs empty reported in
+      let judged = none_iff rules clean old.schema (typing old) document old.errors es pairs empty reported in
       let now : new.errors ≡ es = ap (λ w. w.errors) e ∙ ap (λ zs. zs ++ es) empty in
       (λ nothing. judged.0 (sym now ∙ nothing), λ v. now ∙ judged.1 v)

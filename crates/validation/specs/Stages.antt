@@ -19,16 +19,12 @@ pub record Rules (S C : Type 0) : Type 1 where
   pub same : S → S → Bool
 
 module _ {S C : Type 0} (rules : Rules S C) where
-  -- what the first stage may report of a document is nothing if and only if its rules find nothing
-  abbrev pub IsSettled : Type 0
-  IsSettled =
-      (scope : DocumentScope S C) (t : Typing S C) (doc : List (Definition S)) (es : List ErrorValue) → rules.may_report scope t doc es → (es ≡ []) ↔ rules.find_nothing scope t doc
-
   -- In a context with these errors before, and with this number of pairs that were compared. If the context has an error after the
-  -- first stage, the errors are those of the first stage's rules, and no pair was compared. Otherwise they are those of fields that
-  -- can't be merged.
+  -- first stage, the errors are those of the first stage's rules, none if and only if these find nothing, and no pair was compared.
+  -- Otherwise they are those of fields that can't be merged.
   pub data Reported (before : List ErrorValue) (scope : DocumentScope S C) (t : Typing S C) (doc : List (Definition S)) : List ErrorValue → ℕ → Type 0 where
-    of_stage_one : {es : List ErrorValue} → rules.may_report scope t doc es → (before ++ es ≡ [] → ⊥) → Reported before scope t doc es 0
+    of_stage_one : {es : List ErrorValue}
+        → rules.may_report scope t doc es → (es ≡ []) ↔ rules.find_nothing scope t doc → (before ++ es ≡ [] → ⊥) → Reported before scope t doc es 0
     of_stage_two : {es : List ErrorValue} {end : OverlappingFieldsCanBeMerged}
         → before ≡ [] → rules.find_nothing scope t doc → MergeErrors rules.same scope.schema doc end es → Reported before scope t doc es end.compared
 

@@ -7,7 +7,7 @@ ghost use Rattle.walk.specs.Rule.{Appended, AppendsAllowed, any_value};
 ghost use Rattle.walk.specs.Step.{KeepsPlace};
 ghost use Rattle.validation.specs.RootRules.{AppendsRootReported, IsRootReport, IsRootValid, introspection};
 
-use crate::rules::{AllRules, disable_introspection, first_stage_is_settled, visit_all_rules};
+use crate::rules::{AllRules, disable_introspection, visit_all_rules};
 use language::error::OutOfMemory;
 use language::tree::Definition;
 use language::value::DefaultScalarValue;
@@ -79,7 +79,6 @@ impl<S: CheckedScalar> RootNodeOf<S, S::Check> {
         ensures sorted { IfOk result (λ errors. IsSorted error_cmp errors.items) }
     {
         clean_documents::<S>();
-        first_stage_is_settled::<S>();
         let mut ctx = ValidatorContext::new(alloc, &self.schema, document)?;
         visit_root_rules(&mut ctx, document, self.introspection_disabled)?;
         ctx.into_errors()

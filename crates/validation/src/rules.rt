@@ -9,7 +9,7 @@ ghost use Rattle.fragment_graph.specs.DocumentCycles.{SearchedDocument};
 ghost use Rattle.merge_graph.specs.Definitions.{fragment_count};
 ghost use Rattle.rules_merge.specs.declared.overlapping_fields_can_be_merged.OverlappingFieldsCanBeMerged.{OverlappingFieldsCanBeMerged as MergeRule};
 ghost use Rattle.rules_merge.specs.OverlappingFieldsCanBeMerged.{MergeErrors};
-ghost use Rattle.validation.specs.Stages.{AppendsReported, IsSettled, IsValidIn, Rules};
+ghost use Rattle.validation.specs.Stages.{AppendsReported, IsValidIn, Rules};
 
 use fragment_graph::cycles::DocumentCycles;
 use language::error::OutOfMemory;
@@ -37,7 +37,6 @@ pub use rules_operations::{
 };
 pub use rules_positions::variables_in_allowed_position;
 pub use rules_values::{arguments_of_correct_type, default_values_of_correct_type};
-use walk::laws::rules_are_settled;
 use walk::{Criterion, Rule, ValidatorContext};
 
 /// All rules, for a kind of scalars. Every kind of scalars has them.
@@ -53,13 +52,6 @@ impl<S: CheckedScalar> AllRules for S {
       find_nothing = ⟦<StageRules<'static, S> as Criterion<S, S::Check>>⟧.finds_nothing;
       same = S.eq;
     } };
-}
-
-/// A law: what the first stage may report of a document is nothing if and only if its rules find nothing in it.
-pub fn first_stage_is_settled<S: CheckedScalar>()
-    ensures { IsSettled ⟦<S as AllRules>⟧.rules }
-{
-    rules_are_settled::<S, S::Check, StageRules<'static, S>>();
 }
 
 /// Tries every rule on a document, in two stages, and appends the errors.
@@ -91,7 +83,6 @@ pub fn visit_all_rules<'a, 't, S: CheckedScalar>(
 {
     let cycles = visit_stage_one(ctx, document)?;
     clean_documents::<S>();
-    first_stage_is_settled::<S>();
     if ctx.has_errors() {
         return Ok(0);
     }

@@ -9,7 +9,7 @@ pub returns-then-has_errors-clause-appended : goal.returns-then-has_errors-claus
 returns-then-has_errors-clause-appended g c =
     λ known.
     after_one _ c.args.ctx.now c.visit_stage_one.new.ctx c.args.document.now
-    (c.in_ok-cycles.ensures.appended known) (sym c.has_errors.ensures ∙ c.if-has_errors.true)
+    (c.in_ok-cycles.ensures.appended known) (c.in_ok-cycles.ensures.silent known) (sym c.has_errors.ensures ∙ c.if-has_errors.true)
 
 pub returns-clause-appended : goal.returns-clause-appended
 returns-clause-appended g c =
@@ -24,7 +24,7 @@ pub returns-clause-valid : goal.returns-clause-valid
 returns-clause-valid g c =
     IfOk-weaker c.visit_stage_two.result _ _
     (λ pairs told known.
-    valid_iff _ c.clean_documents.ensures c.first_stage_is_settled.ensures c.args.ctx.now c.visit_stage_two.new.ctx c.args.document.now
+    valid_iff _ c.clean_documents.ensures c.args.ctx.now c.visit_stage_two.new.ctx c.args.document.now
     pairs (told known))
     (returns-clause-appended g c)
 
