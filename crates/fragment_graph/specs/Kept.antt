@@ -1,17 +1,13 @@
 -- The names of a document's fragments, as they are kept.
 use Rattle.std.specs.Prelude.{ℕ, Bool, List, [], ◌∷◌, length, ◌≡◌, Option, None, Some, slice_get}
-use Rattle.std.specs.List.{list_any, flat_map}
+use Rattle.std.specs.List.{flat_map}
 use Rattle.std.specs.Option.{unwrap_or}
-use Rattle.std.specs.Str.{bytes_eq}
+pub use Rattle.language.specs.Names.{is_among}
 use Rattle.language.specs.declared.tree.Definition.{Definition}
 use Rattle.language.specs.declared.tree.Definition.TheVariants as definition
 use Rattle.fragment_graph.specs.declared.numbers.NumberedNames.{NumberedNames}
 use Rattle.fragment_graph.specs.declared.numbers.Numbers.{Numbers}
 use Rattle.fragment_graph.specs.Numbers.{names_of, number_of}
-
--- Is this one of the names?
-abbrev pub is_among : List (List ℕ) → List ℕ → Bool
-is_among names name = list_any (λ n. bytes_eq n name) names
 
 -- The name of a fragment; an operation has none of that kind.
 abbrev pub fragment_name : {S : Type 0} → Definition S → List (List ℕ)

@@ -10,7 +10,7 @@ use Rattle.fragment_graph.specs.declared.search.Step.{Step}
 use Rattle.fragment_graph.specs.declared.search.Search.{Search}
 use Rattle.fragment_graph.specs.Graph.{spreads_of, spread_count, Reported, IsTrueReport}
 
--- The spreads of a node that is new, counted.
+-- The number of spreads of a new node; 0 for any other.
 abbrev pub fresh_of : Colour → ℕ → ℕ
 fresh_of New k = k
 fresh_of (InWork i) k = 0
@@ -30,12 +30,12 @@ abbrev pub unfinished : List Colour → ℕ
 unfinished [] = 0
 unfinished (c ∷ cs) = unfinished_of c + unfinished cs
 
--- The spreads of the path that were not looked at.
+-- The number of spreads on the path that were not looked at.
 abbrev pub path_left : List Node → List Step → ℕ
 path_left graph [] = 0
 path_left graph (p ∷ ps) = (length (spreads_of graph p.node) - p.looked) + path_left graph ps
 
--- The node's number is no node's, or it is reported, or finished with a smaller rank.
+-- The number is past the last node, or the node is reported, or finished with a smaller rank.
 abbrev pub Below : List Node → List Colour → List Report → ℕ → ℕ → Type 0
 Below graph cs reports rank v =
     (length graph ≤ v) ⊎ (Reported reports v ⊎ ((r : ℕ) × (slice_get cs v ≡ Some (Finished r)) × (r < rank)))
@@ -77,10 +77,18 @@ pub record Sound (graph : List Node) (path : List Step) (next : List ℕ) (cs : 
 abbrev pub SoundAlong : List Node → List Step → List ℕ → Search → Type 0
 SoundAlong graph path next s = Sound graph path next s.colours.items s.order.items s.reports.items s.looked
 
+-- Sound between two steps: the path does not go on yet.
+abbrev pub IsSound : List Node → Search → Type 0
+IsSound graph s = SoundAlong graph s.path.items [] s
+
+-- Sound where the path goes on to a node.
+abbrev pub IsSoundTo : List Node → ℕ → Search → Type 0
+IsSoundTo graph node s = SoundAlong graph s.path.items (node ∷ []) s
+
 -- No node turns new.
 abbrev pub Keeps : Search → Search → Type 0
 Keeps old new = (v : ℕ) → slice_get new.colours.items v ≡ Some New → slice_get old.colours.items v ≡ Some New
 
--- What is left to do: spreads to look at, nodes to finish.
+-- The number of steps left: spreads to look at, and nodes to finish.
 abbrev pub steps_left : List Node → Search → ℕ
 steps_left graph s = (spread_count graph - s.looked) + unfinished s.colours.items

@@ -1,22 +1,22 @@
-//! The search: each node is new, in work or finished.
+//! A depth-first search for cycles: each node is new, in work or finished.
 ghost use Rattle.std.specs.Prelude.{◌≡◌, ◌≢◌, ◌<◌, ◌++◌, ◌∷◌, [], length, Some, OnOk, IfOk, slice_get, map};
 ghost use Rattle.std.specs.List.{All};
 ghost use Rattle.fragment_graph.specs.Graph.{spreads_of};
-ghost use Rattle.fragment_graph.specs.Sound.{SoundAlong, Keeps, steps_left};
+ghost use Rattle.fragment_graph.specs.Sound.{SoundAlong, IsSound, IsSoundTo, Keeps, steps_left};
 ghost use Rattle.fragment_graph.specs.Searched.{Searched, rank_of};
 ghost use Rattle.fragment_graph.specs.declared.search.Colour.TheVariants.{New};
 
 use crate::graph::{Node, Spread, spread_at, spreads};
 use std::alloc::{AllocError, Global};
 
-/// A node that lies on a cycle, and the spread in it at which the cycle goes on.
+/// A node on a cycle, and the spread in it that continues the cycle.
 #[derive(Clone, Copy, Debug)]
 pub struct Report {
     pub node: usize,
     pub spread: Spread,
 }
 
-// How far a node is: in work it has a place on the path, finished it has a rank.
+// The state of a node: in work, with its index on the path, or finished, with its rank.
 #[derive(Clone, Copy, Debug)]
 enum Colour {
     New,
@@ -24,14 +24,14 @@ enum Colour {
     Finished(usize),
 }
 
-// A node on the path, and how many of its spreads were looked at.
+// A node on the path, and the number of its spreads that were looked at.
 #[derive(Clone, Copy, Debug)]
 struct Step {
     node: usize,
     looked: usize,
 }
 
-// The search as far as it has come.
+// The state of the search.
 #[derive(Debug, Drop)]
 struct Search {
     colours: Vec<Colour>,
@@ -41,31 +41,31 @@ struct Search {
     looked: u128,
 }
 
-/// What a search found.
+/// The result of a search.
 #[derive(Debug, Drop)]
 pub struct Outcome {
-    /// The cycles that were met.
+    /// The cycles that the search met.
     pub reports: Vec<Report>,
-    /// The nodes in the order in which they were finished.
+    /// The nodes, in the order in which they were finished.
     pub order: Vec<usize>,
-    /// The place of each node in that order.
+    /// The index of each node in that order.
     pub ranks: Vec<usize>,
-    /// How many spreads were looked at.
+    /// The number of spreads that were looked at.
     pub looked: u128,
 }
 
-// The colour of a node, if the number is one's.
+// The state of a node, if there is a node of this number.
 fn colour_at(colours: &[Colour], node: usize) -> Option<Colour>
     ensures { result ≡ slice_get colours.now node }
 {
     colours.get(node).copied()
 }
 
-// Puts a new node at the end of the path.
+// Appends a new node to the path.
 fn enter(graph: &[Node], node: usize, search: &mut Search) -> Result<(), AllocError>
-    requires sound { SoundAlong graph.now search.old.path.items (node ∷ []) search.old }
+    requires sound { IsSoundTo graph.now node search.old }
     requires new { slice_get search.old.colours.items node ≡ Some New }
-    ensures sound { OnOk result (SoundAlong graph.now search.new.path.items [] search.new) }
+    ensures sound { OnOk result (IsSound graph.now search.new) }
     ensures begun { OnOk result (slice_get search.new.colours.items node ≢ Some New) }
     ensures keeps { OnOk result (Keeps search.old search.new) }
     ensures left { OnOk result (steps_left graph.now search.new ≡ steps_left graph.now search.old) }
@@ -75,16 +75,16 @@ fn enter(graph: &[Node], node: usize, search: &mut Search) -> Result<(), AllocEr
     Ok(())
 }
 
-// Reports a node in work, at the spread in it from which the path goes on.
+// Reports a node in work, with the spread in it from which the path continues.
 fn report_cycle(
     graph: &[Node],
     node: usize,
     depth: usize,
     search: &mut Search,
 ) -> Result<(), AllocError>
-    requires sound { SoundAlong graph.now search.old.path.items (node ∷ []) search.old }
+    requires sound { IsSoundTo graph.now node search.old }
     requires in_work { slice_get search.old.colours.items node ≡ Some (Colour.InWork depth) }
-    ensures sound { OnOk result (SoundAlong graph.now search.new.path.items [] search.new) }
+    ensures sound { OnOk result (IsSound graph.now search.new) }
     ensures same { search.new.colours.items ≡ search.old.colours.items }
     ensures looked { search.new.looked ≡ search.old.looked }
 {
@@ -94,10 +94,10 @@ fn report_cycle(
     Ok(())
 }
 
-// Goes on from the end of the path to a node.
+// Continues the path to a node.
 fn meet(graph: &[Node], node: usize, search: &mut Search) -> Result<(), AllocError>
-    requires { SoundAlong graph.now search.old.path.items (node ∷ []) search.old }
-    ensures sound { OnOk result (SoundAlong graph.now search.new.path.items [] search.new) }
+    requires { IsSoundTo graph.now node search.old }
+    ensures sound { OnOk result (IsSound graph.now search.new) }
     ensures begun { OnOk result (slice_get search.new.colours.items node ≢ Some New) }
     ensures keeps { OnOk result (Keeps search.old search.new) }
     ensures left { OnOk result (steps_left graph.now search.new ≡ steps_left graph.now search.old) }
@@ -114,7 +114,7 @@ fn meet(graph: &[Node], node: usize, search: &mut Search) -> Result<(), AllocErr
 fn finish(graph: &[Node], step: Step, search: &mut Search) -> Result<(), AllocError>
     requires sound { SoundAlong graph.now (search.old.path.items ++ step ∷ []) [] search.old }
     requires none { slice_get (spreads_of graph.now step.node) step.looked ≡ None }
-    ensures sound { OnOk result (SoundAlong graph.now search.new.path.items [] search.new) }
+    ensures sound { OnOk result (IsSound graph.now search.new) }
     ensures keeps { OnOk result (Keeps search.old search.new) }
     ensures left { OnOk result (steps_left graph.now search.new < steps_left graph.now search.old) }
 {
@@ -126,7 +126,7 @@ fn finish(graph: &[Node], step: Step, search: &mut Search) -> Result<(), AllocEr
 // Looks at the next spread of the node that was taken off the path.
 fn follow(graph: &[Node], step: Step, search: &mut Search) -> Result<(), AllocError>
     requires { SoundAlong graph.now (search.old.path.items ++ step ∷ []) [] search.old }
-    ensures sound { OnOk result (SoundAlong graph.now search.new.path.items [] search.new) }
+    ensures sound { OnOk result (IsSound graph.now search.new) }
     ensures keeps { OnOk result (Keeps search.old search.new) }
     ensures left { OnOk result (steps_left graph.now search.new < steps_left graph.now search.old) }
 {
@@ -145,7 +145,7 @@ fn follow(graph: &[Node], step: Step, search: &mut Search) -> Result<(), AllocEr
 
 // Follows the path until it is empty.
 fn run(graph: &[Node], search: &mut Search) -> Result<(), AllocError>
-    requires { SoundAlong graph.now search.old.path.items [] search.old }
+    requires { IsSound graph.now search.old }
     ensures sound { OnOk result (SoundAlong graph.now [] [] search.new) }
     ensures empty { OnOk result (search.new.path.items ≡ []) }
     ensures keeps { OnOk result (Keeps search.old search.new) }
@@ -156,7 +156,7 @@ fn run(graph: &[Node], search: &mut Search) -> Result<(), AllocError>
     Ok(())
 }
 
-// A colour for each node.
+// The state of each node at the start.
 fn new_colours(alloc: Global, graph: &[Node]) -> Result<Vec<Colour>, AllocError>
     ensures len { IfOk result (λ v. length v.items ≡ length graph.now) }
     ensures new { IfOk result (λ v. All (λ c. c ≡ New) v.items) }
@@ -185,7 +185,11 @@ fn all_ranks(alloc: Global, colours: &[Colour]) -> Result<Vec<usize>, AllocError
     colours.iter().map(|colour| rank(colour)).collect(alloc)
 }
 
-/// Searches a graph, looking at each spread once.
+/// Searches a graph for cycles. Looks at each spread once.
+///
+/// # Errors
+///
+/// Out of memory.
 pub fn search_graph(alloc: Global, graph: &[Node]) -> Result<Outcome, AllocError>
     ensures { IfOk result (Searched graph.now) }
 {

@@ -1,10 +1,10 @@
-//! The fragments that operations reach.
-ghost use Rattle.std.specs.Prelude.{◌≡◌, [], ◌++◌, ◌↔◌, OnOk, IfOk, IsTrue, map, Some, List, ℕ};
+//! The fragments that operations reach (section 5.5.1.4).
+ghost use Rattle.std.specs.Prelude.{◌≡◌, [], ◌++◌, ◌↔◌, OnOk, IfOk, IsTrue, Some, List, ℕ};
 ghost use Rattle.fragment_graph.specs.Numbers.{number_of};
-ghost use Rattle.fragment_graph.specs.DocumentGraph.{resolved, IsGraphOf};
+ghost use Rattle.fragment_graph.specs.DocumentGraph.{IsGraphOf};
 ghost use Rattle.jagged_lists.specs.Lists.{Holds};
-ghost use Rattle.fragment_reach.specs.OperationSpreads.{resolved_lists};
-ghost use Rattle.fragment_reach.specs.Reach.{definition_spreads, operation_spreads, IsReached};
+ghost use Rattle.fragment_reach.specs.OperationSpreads.{resolved_lists, resolved_spreads, resolved_starts};
+ghost use Rattle.fragment_reach.specs.Reach.{IsReached};
 ghost use Rattle.fragment_reach.specs.ReachedFragments.{IsNameMarked, ReachedOf};
 ghost use Rattle.fragment_reach.specs.Search.{IsMarked};
 
@@ -16,14 +16,14 @@ use jagged_lists::lists::FlatLists;
 use language::tree::{Definition, Document};
 use std::alloc::{AllocError, Global};
 
-/// A document's graph, and a mark on each fragment that some operation reaches.
+/// The graph of a document, and a mark for each of its nodes that some operation reaches.
 #[derive(Drop)]
 pub struct ReachedFragments<'g, 'a> {
     pub graph: &'g DocumentGraph<'a>,
     pub marks: Vec<bool>,
 }
 
-/// Whether the fragment of a number is marked, if there is one.
+/// Whether some operation reaches the fragment of this number; `false` for `None`.
 pub fn is_reached(reached: &ReachedFragments<'_, '_>, number: Option<usize>) -> bool
     ensures { (name : List ℕ) → number ≡ number_of reached.now.graph.now.numbers name → IsTrue result
         ↔ IsNameMarked reached.now name }
@@ -34,14 +34,18 @@ pub fn is_reached(reached: &ReachedFragments<'_, '_>, number: Option<usize>) -> 
     }
 }
 
-/// Adds the spreads of a definition, if it is an operation.
+/// Appends the spreads of a definition, if it is an operation.
+///
+/// # Errors
+///
+/// Out of memory.
 pub fn add_operation<S>(
     numbers: &Numbers<'_>,
     definition: &Definition<'_, S>,
     found: &mut Vec<Spread>,
 ) -> Result<(), AllocError>
     ensures { OnOk result (found.new.items ≡ found.old.items
-        ++ map (resolved numbers.now) (definition_spreads definition.now)) }
+        ++ resolved_spreads numbers.now definition.now) }
 {
     match definition {
         Definition::Operation(operation) => add_spreads(
@@ -53,14 +57,19 @@ pub fn add_operation<S>(
     }
 }
 
-/// The spreads inside the operations of a document: a list for each definition, which is empty for a fragment.
+/// The spreads inside the operations of a document: one list for each definition, which is empty for
+/// a fragment.
+///
+/// # Errors
+///
+/// Out of memory.
 pub fn operation_spreads<S>(
     alloc: Global,
     numbers: &Numbers<'_>,
     document: Document<'_, S>,
 ) -> Result<FlatLists<Spread>, AllocError>
     ensures lists { IfOk result (Holds (resolved_lists numbers.now document.now) []) }
-    ensures all { IfOk result (λ s. s.items.items ≡ map (resolved numbers.now) (operation_spreads document.now)) }
+    ensures all { IfOk result (λ s. s.items.items ≡ resolved_starts numbers.now document.now) }
 {
     let mut found = FlatLists::new(alloc);
     for definition in document {
@@ -70,7 +79,7 @@ pub fn operation_spreads<S>(
     Ok(found)
 }
 
-// Marks the fragments, by their numbers in the document's graph, that some operation reaches by these spreads inside all of them.
+// Marks the nodes that some operation reaches, by the spreads inside all operations.
 fn mark_reached_fragments<S>(
     alloc: Global,
     document: Document<'_, S>,
@@ -78,14 +87,19 @@ fn mark_reached_fragments<S>(
     starts: &[Spread],
 ) -> Result<Vec<bool>, AllocError>
     requires graph { IsGraphOf document.now graph.now }
-    requires starts { starts.now ≡ map (resolved graph.now.numbers) (operation_spreads document.now) }
+    requires starts { starts.now ≡ resolved_starts graph.now.numbers document.now }
     ensures { IfOk result (λ marks. (name : List ℕ) (k : ℕ) → number_of graph.now.numbers name ≡ Some k
         → IsMarked marks.items k ↔ IsReached document.now name) }
 {
     mark_reached(alloc, graph.nodes.as_slice(), starts)
 }
 
-/// The fragments of a document that some operation reaches by spreads, by the document's graph and the spreads inside all operations.
+/// The fragments of a document that some operation reaches, by the graph of the document and the
+/// spreads inside all operations.
+///
+/// # Errors
+///
+/// Out of memory.
 pub fn reached_fragments<'g, 'a, S>(
     alloc: Global,
     document: Document<'_, S>,
@@ -93,7 +107,7 @@ pub fn reached_fragments<'g, 'a, S>(
     starts: &[Spread],
 ) -> Result<ReachedFragments<'g, 'a>, AllocError>
     requires graph { IsGraphOf document.now graph.now }
-    requires starts { starts.now ≡ map (resolved graph.now.numbers) (operation_spreads document.now) }
+    requires starts { starts.now ≡ resolved_starts graph.now.numbers document.now }
     ensures reached { IfOk result (ReachedOf document.now) }
     ensures graph { IfOk result (λ r. r.graph.now ≡ graph.now) }
 {

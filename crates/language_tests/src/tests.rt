@@ -1,4 +1,4 @@
-//! What no clause says: that the clauses mean the texts of the field, and that calls succeed.
+//! What no contract says: that the printed forms are those of GraphQL, and that calls succeed.
 
 use language::error::{CheckError, OutOfMemory, ParseError};
 use language::position::{SourcePosition, Span, Spanning};
@@ -15,16 +15,18 @@ use std::process::Abort;
 
 type Value = InputValue<DefaultScalarValue>;
 
+type Entry = (Spanning<String>, Spanning<Value>);
+
 type Set<'a> = Vec<Selection<'a, DefaultScalarValue>>;
 
-/// The list of one.
+/// A list of one item.
 fn alone<T: Drop>(alloc: Global, only: T) -> Result<Vec<T>, OutOfMemory> {
     let mut list = Vec::new(alloc);
     list.push(only)?;
     Ok(list)
 }
 
-/// What is printed is the text.
+/// Asserts that the text is this one.
 fn says(rt: &impl Abort, said: Result<String, AllocError>, want: &str) {
     let said = said.expect(rt, "memory");
     assert_eq!(rt; said.as_str(), want);
@@ -49,7 +51,7 @@ fn list(items: Vec<Spanning<Value>>) -> Value {
     InputValue::List(items)
 }
 
-fn object(entries: Vec<(Spanning<String>, Spanning<Value>)>) -> Value {
+fn object(entries: Vec<Entry>) -> Value {
     InputValue::Object(entries)
 }
 
@@ -65,17 +67,52 @@ fn variable(alloc: Global, s: &str) -> Result<Value, AllocError> {
     Ok(InputValue::Variable(text(alloc, s)?))
 }
 
+fn enum_value(alloc: Global, s: &str) -> Result<Value, AllocError> {
+    Ok(InputValue::Enum(text(alloc, s)?))
+}
+
+/// Appends an item.
+fn add_item(items: &mut Vec<Spanning<Value>>, item: Value) -> Result<(), AllocError> {
+    items.push(here(item))?;
+    Ok(())
+}
+
+/// Appends `1, "a", SIT`.
+fn add_sample_items(alloc: Global, items: &mut Vec<Spanning<Value>>) -> Result<(), AllocError> {
+    add_item(items, int(1))?;
+    add_item(items, string(alloc, "a")?)?;
+    add_item(items, enum_value(alloc, "SIT")?)
+}
+
+/// `[1, "a", SIT]`
+fn sample_list(alloc: Global) -> Result<Value, AllocError> {
+    let mut items = Vec::new(alloc);
+    add_sample_items(alloc, &mut items)?;
+    Ok(list(items))
+}
+
+/// Appends an entry.
+fn add_entry(
+    alloc: Global,
+    entries: &mut Vec<Entry>,
+    key: &str,
+    value: Value,
+) -> Result<(), AllocError> {
+    entries.push((here(text(alloc, key)?), here(value)))?;
+    Ok(())
+}
+
+/// Appends `k: [1, "a", SIT], l: $v`.
+fn add_sample_entries(alloc: Global, entries: &mut Vec<Entry>) -> Result<(), AllocError> {
+    add_entry(alloc, entries, "k", sample_list(alloc)?)?;
+    add_entry(alloc, entries, "l", variable(alloc, "v")?)
+}
+
 /// `{k: [1, "a", SIT], l: $v}`
 fn sample(alloc: Global) -> Result<Value, AllocError> {
-    let list = InputValue::List(vec![in alloc;
-        here(int(1)),
-        here(string(alloc, "a")?),
-        here(InputValue::Enum(text(alloc, "SIT")?)),
-    ]?);
-    Ok(InputValue::Object(vec![in alloc;
-        (here(text(alloc, "k")?), here(list)),
-        (here(text(alloc, "l")?), here(variable(alloc, "v")?)),
-    ]?))
+    let mut entries = Vec::new(alloc);
+    add_sample_entries(alloc, &mut entries)?;
+    Ok(object(entries))
 }
 
 #[test]
@@ -98,7 +135,7 @@ fn positions_print_line_and_column_and_are_ordered(rt: HostRuntime) {
     }
 }
 
-/// `[[Int!]]!`, its outer list of two.
+/// `[[Int!]]!`; the outer list has the expected size 2.
 fn wrapped(alloc: Global) -> Result<Type, OutOfMemory> {
     Type::nullable(alloc, "Int")?
         .wrap_non_null()?
@@ -136,7 +173,7 @@ fn borrowed_types_answer_for_themselves(rt: HostRuntime) {
     assert!(rt; owned.as_borrowed() == dog);
 }
 
-/// `[Int]` of this size.
+/// `[Int]` with this expected size.
 fn sized(alloc: Global, size: usize) -> Result<Type, OutOfMemory> {
     Type::nullable(alloc, "Int")?.wrap_list(Some(size))
 }
@@ -195,22 +232,18 @@ fn copies_are_the_same(rt: HostRuntime) {
     assert_eq!(rt; values.len(), 1);
 }
 
-/// The object of an integer and an integer.
-fn two_entries(
-    alloc: Global,
-    first: (&str, i32),
-    second: (&str, i32),
-) -> Result<Value, OutOfMemory> {
-    Ok(object(vec![in alloc;
-        (here(text(alloc, first.0)?), here(int(first.1))),
-        (here(text(alloc, second.0)?), here(int(second.1))),
-    ]?))
+/// An object with two integers.
+fn two_entries(rt: &impl Abort, alloc: Global, first: (&str, i32), second: (&str, i32)) -> Value {
+    let mut entries = Vec::new(alloc);
+    add_entry(alloc, &mut entries, first.0, int(first.1)).expect(rt, "memory");
+    add_entry(alloc, &mut entries, second.0, int(second.1)).expect(rt, "memory");
+    object(entries)
 }
 
 #[test]
 fn the_last_entry_of_a_key_wins(rt: HostRuntime) {
     let alloc = rt.alloc();
-    let value = two_entries(alloc, ("k", 1), ("k", 2)).expect(&rt, "memory");
+    let value = two_entries(&rt, alloc, ("k", 1), ("k", 2));
     let entries = value
         .to_object_value(alloc)
         .expect(&rt, "memory")
@@ -222,11 +255,11 @@ fn the_last_entry_of_a_key_wins(rt: HostRuntime) {
 #[test]
 fn places_and_order_of_keys_do_not_count(rt: HostRuntime) {
     let alloc = rt.alloc();
-    let left = two_entries(alloc, ("a", 1), ("b", 2)).expect(&rt, "memory");
-    let right = two_entries(alloc, ("b", 2), ("a", 1)).expect(&rt, "memory");
+    let left = two_entries(&rt, alloc, ("a", 1), ("b", 2));
+    let right = two_entries(&rt, alloc, ("b", 2), ("a", 1));
     assert!(rt; left.unlocated_eq(&right));
     assert!(rt; left != right);
-    let repeated = two_entries(alloc, ("a", 1), ("a", 1)).expect(&rt, "memory");
+    let repeated = two_entries(&rt, alloc, ("a", 1), ("a", 1));
     assert!(rt; repeated.unlocated_eq(&left));
     assert!(rt; !left.unlocated_eq(&repeated));
 }
@@ -244,17 +277,32 @@ fn places_do_not_count(rt: HostRuntime) {
     assert!(rt; left != right);
 }
 
+/// Appends a variable.
+fn add_variable(rt: &impl Abort, alloc: Global, items: &mut Vec<Spanning<Value>>, name: &str) {
+    let value = variable(alloc, name).expect(rt, "memory");
+    add_item(items, value).expect(rt, "memory");
+}
+
+/// `{k: $a}`
+fn object_with_variable(rt: &impl Abort, alloc: Global) -> Value {
+    let mut entries = Vec::new(alloc);
+    let value = variable(alloc, "a").expect(rt, "memory");
+    add_entry(alloc, &mut entries, "k", value).expect(rt, "memory");
+    object(entries)
+}
+
 /// `[$b, {k: $a}, $b]`
-fn with_variables(alloc: Global) -> Result<Value, OutOfMemory> {
-    let entry = (here(text(alloc, "k")?), here(variable(alloc, "a")?));
-    let entries = object(vec![in alloc; entry]?);
-    let first = here(variable(alloc, "b")?);
-    Ok(list(vec![in alloc; first, here(entries), here(variable(alloc, "b")?)]?))
+fn with_variables(rt: &impl Abort, alloc: Global) -> Value {
+    let mut items = Vec::new(alloc);
+    add_variable(rt, alloc, &mut items, "b");
+    add_item(&mut items, object_with_variable(rt, alloc)).expect(rt, "memory");
+    add_variable(rt, alloc, &mut items, "b");
+    list(items)
 }
 
 #[test]
 fn variables_come_in_order_with_repeats(rt: HostRuntime) {
-    let value = with_variables(rt.alloc()).expect(&rt, "memory");
+    let value = with_variables(&rt, rt.alloc());
     let names = value.referenced_variables(rt.alloc()).expect(&rt, "memory");
     assert_eq!(rt; names.as_slice(), ["b", "a", "b"].as_slice());
 }
@@ -350,20 +398,33 @@ fn refusals_print_their_text(rt: HostRuntime) {
     says(&rt, OutOfMemory.to_string(alloc), "out of memory");
 }
 
-/// What a value of the sample says, or that memory was wanting.
+/// Two counts from the sample, or out of memory.
 fn said_of_sample(alloc: Global) -> Result<(usize, usize), OutOfMemory> {
-    let value = sample(alloc)?;
-    let entries = value.to_object_value(alloc)?;
-    let variables = value.referenced_variables(alloc)?;
-    let wrapped = Type::non_null(alloc, "Int")?.wrap_list(None)?;
-    let shown = wrapped.to_string(alloc)?;
-    Ok((
-        entries.map_or(0, |found| found.len()) + variables.len(),
-        shown.len(),
-    ))
+    let counted = count_of_sample(alloc)?;
+    Ok((counted, length_of_type(alloc)?))
 }
 
-/// Run with each request for memory refused in turn, the answer is the same or tells of the refusal.
+/// The number of entries and of variables of the sample.
+fn count_of_sample(alloc: Global) -> Result<usize, OutOfMemory> {
+    let value = sample(alloc)?;
+    Ok(count_of_entries(alloc, &value)? + count_of_variables(alloc, &value)?)
+}
+
+fn count_of_entries(alloc: Global, value: &Value) -> Result<usize, OutOfMemory> {
+    Ok(value.to_object_value(alloc)?.map_or(0, |found| found.len()))
+}
+
+fn count_of_variables(alloc: Global, value: &Value) -> Result<usize, OutOfMemory> {
+    Ok(value.referenced_variables(alloc)?.len())
+}
+
+/// The length of the printed type `[Int!]`.
+fn length_of_type(alloc: Global) -> Result<usize, OutOfMemory> {
+    let wrapped = Type::non_null(alloc, "Int")?.wrap_list(None)?;
+    Ok(wrapped.to_string(alloc)?.len())
+}
+
+/// Run with each allocation failing in turn: the result is the same, or out of memory.
 #[test]
 fn a_refused_request_changes_no_answer(rt: HostRuntime) {
     match said_of_sample(rt.alloc()) {

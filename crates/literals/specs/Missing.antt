@@ -1,13 +1,10 @@
 -- The input fields that an object lacks.
-use Rattle.std.specs.Prelude.{ℕ, List, [], ◌∷◌, ◌++◌, Option, Some, None, is_some, Bool, true, false, not, ◌&&◌, fold, string_bytes, if◌then◌else◌}
-use Rattle.language.specs.Types.{TypeShape, shape, outermost, by_outermost}
+use Rattle.std.specs.Prelude.{ℕ, List, [], ◌∷◌, ◌++◌, Option, Some, None, is_some, Bool, not, ◌&&◌, fold, string_bytes, if◌then◌else◌}
+pub use Rattle.language.specs.Types.{is_never_null}
+use Rattle.language.specs.Types.{shape}
 use Rattle.meta.specs.declared.arguments.Argument.{Argument}
 use Rattle.schema.specs.Possible.{is_among}
 use Rattle.literals.specs.Texts.{missing_text}
-
--- the type is never null
-abbrev pub is_never_null : TypeShape → Bool
-is_never_null t = by_outermost true false false (outermost t.modifiers)
 
 module _ {S : Type 0} where
   -- of a type that is never null, without a default value

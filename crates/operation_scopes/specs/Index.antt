@@ -1,4 +1,4 @@
--- A document's scopes, as they are kept.
+-- The index of the scopes of a document.
 use Rattle.std.specs.Prelude.{ℕ, ◌≡◌, List, [], ◌∷◌, ◌++◌, Option, None, Some, Vec, length, map, option_map, slice_get, if◌then◌else◌}
 use Rattle.std.specs.declared.alloc.Global.{Global}
 use Rattle.language.specs.declared.position.Span.{Span}
@@ -8,12 +8,12 @@ use Rattle.language.specs.declared.tree.Definition.TheVariants as definition
 use Rattle.language.specs.declared.tree.Operation.{Operation}
 use Rattle.fragment_graph.specs.declared.numbers.Numbers.{Numbers}
 use Rattle.fragment_graph.specs.declared.graph.Spread.{Spread}
-use Rattle.fragment_graph.specs.DocumentGraph.{IsGraphOf, resolved}
+use Rattle.fragment_graph.specs.DocumentGraph.{IsGraphOf}
 use Rattle.fragment_graph.specs.Numbers.{names_of, number_of, or_else}
 use Rattle.jagged_lists.specs.declared.lists.FlatLists.{FlatLists}
 use Rattle.jagged_lists.specs.Lists.{Holds}
-use Rattle.fragment_reach.specs.OperationSpreads.{resolved_lists}
-use Rattle.fragment_reach.specs.Reach.{operation, fragment, same_name, operation_spreads}
+use Rattle.fragment_reach.specs.OperationSpreads.{resolved_lists, resolved_starts}
+use Rattle.fragment_reach.specs.Reach.{operation, fragment, same_name}
 use Rattle.operation_scopes.specs.declared.index.ScopeIndex.{ScopeIndex}
 use Rattle.operation_scopes.specs.declared.operation_numbers.OperationNumbers.{OperationNumbers}
 use Rattle.operation_scopes.specs.OperationNumbers.{number_at}
@@ -26,13 +26,13 @@ operation_names index = map (option_map (λ n. n.now)) index.names.items
 -- the spreads inside the operations are kept, with the numbers that their names have in the graph
 pub record HasSpreads {S : Type 0} (document : List (Definition S)) (n : Numbers) (spreads : FlatLists Spread) : Type 0 where
   pub lists : Holds (resolved_lists n document) [] spreads
-  pub all : spreads.items.items ≡ map (resolved n) (operation_spreads document)
+  pub all : spreads.items.items ≡ resolved_starts n document
 
--- At each name's place are kept the places of its operations.
+-- The operations of each name have the places in its list.
 abbrev pub HasOperations : {S : Type 0} → List (Definition S) → List (Option (List ℕ)) → List (Vec ℕ Global) → Type 0
 HasOperations document names lists = (name : Option (List ℕ)) (k : ℕ) → slice_get names k ≡ Some name → numbered_places lists k ≡ places_of document (operation name)
 
--- At each number are kept the places of its fragment.
+-- The definitions of each fragment have the places in the list of its number.
 abbrev pub HasFragments : {S : Type 0} → List (Definition S) → Numbers → List (Vec ℕ Global) → Type 0
 HasFragments document n lists = (name : List ℕ) (k : ℕ) → number_of n name ≡ Some k → numbered_places lists k ≡ places_of document (fragment name)
 
@@ -48,7 +48,7 @@ pub record IsIndexOf {S : Type 0} (document : List (Definition S)) (index : Scop
   pub graph : IsGraphOf document index.graph
   pub spreads : HasSpreads document index.graph.numbers index.spreads
 
--- A place more at the number that a name has; a name without one is listed, with the place.
+-- The place was added to the list of a name with a number; a new name was added, with a list of this place.
 abbrev pub AddsPlace : Option (List ℕ) → ℕ → Option ℕ → ScopeIndex → ScopeIndex → Type 0
 AddsPlace name place (Some k) old new = (new.names ≡ old.names) × AddsAt k place old.operations.items new.operations.items
 AddsPlace name place None old new =

@@ -10,7 +10,7 @@ use Rattle.language.specs.declared.position.Span.{Span}
 use Rattle.language.specs.declared.position.Spanning.{Spanning}
 use Rattle.language.specs.declared.tree.Operation.{Operation}
 use Rattle.language.specs.declared.tree.VariableDefinition.{VariableDefinition}
-pub use Rattle.fragment_graph.specs.Kept.{is_among}
+pub use Rattle.language.specs.Names.{is_among}
 use Rattle.variable_usages.specs.declared.uses.VariableUse.{VariableUse}
 
 abbrev pub has_name : BTreeSet (Bor (List ℕ)) → List ℕ → Bool
@@ -24,7 +24,7 @@ HasNames set names = (name : List ℕ) → has_name set name ≡ is_among names 
 pub record AddsUse (u : VariableUse) (old new : BTreeSet (Bor (List ℕ))) : Type 0 where
   pub adds : (other : List ℕ) → has_name new other ≡ (if bytes_eq u.name.now other then true else has_name old other)
 
--- The name of a variable or a fragment, and where it stands.
+-- The name of a variable or a fragment, and its span.
 abbrev pub NameAndSpan : Type 0
 NameAndSpan = List ℕ × Span
 

@@ -1,5 +1,5 @@
 -- The variables that definitions use.
-use Rattle.std.specs.Prelude.{ℕ, List, [], ◌++◌, Option, Vec, map}
+use Rattle.std.specs.Prelude.{◌≡◌, ℕ, List, [], ◌++◌, Option, Vec, map}
 use Rattle.std.specs.List.{flat_map}
 use Rattle.std.specs.Option.{option_map_or}
 use Rattle.std.specs.declared.alloc.Global.{Global}
@@ -19,7 +19,7 @@ use Rattle.language.specs.declared.tree.VariableDefinitions.{VariableDefinitions
 use Rattle.language.specs.declared.value.InputValue.{InputValue}
 use Rattle.variable_usages.specs.declared.uses.VariableUse.{VariableUse}
 
--- The name of a variable, and where the argument's value starts that it stands in.
+-- The name of a variable, and the start of the argument value that contains it.
 pub record Use : Type 0 where
   pub name : List ℕ
   pub place : SourcePosition
@@ -35,8 +35,12 @@ use_of u = record { name = u.name.now; place = u.place }
 abbrev pub at_place : SourcePosition → List ℕ → Use
 at_place place name = record { name = name; place = place }
 
+-- These uses were added at the end.
+abbrev pub AddsUses : List VariableUse → List VariableUse → Uses → Type 0
+AddsUses old new uses = map use_of new ≡ map use_of old ++ uses
+
 module _ {S : Type 0} where
-  -- The variables inside an argument's value.
+  -- The variables inside the value of an argument.
   abbrev pub argument_uses : Spanning (Bor (List ℕ)) Span × Spanning (InputValue S) Span → Uses
   argument_uses a = map (at_place a.1.span.start) (variables_of a.1.item)
 

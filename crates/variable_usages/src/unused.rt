@@ -1,4 +1,4 @@
-//! Variables that are defined and not used.
+//! Variables that are defined but not used (section 5.8.4).
 ghost use Rattle.std.specs.Prelude.{◌≡◌, ◌≤◌, ◌++◌, ◌↔◌, ℕ, List, Option, IfOk, IsTrue, OnOk, map, option_copied};
 ghost use Rattle.std.specs.List.{Contains};
 ghost use Rattle.fragment_reach.specs.Reach.{operation};
@@ -20,29 +20,32 @@ use operation_scopes::index::{last_operation, operation_places};
 use std::alloc::Global;
 use std::collections::BTreeSet;
 
-/// A variable that is not used, where it stands in its definition, and the name of the operation that defines it.
+/// A variable that an operation defines and does not use.
 #[derive(Clone, Copy, Debug)]
 pub struct UnusedVariable<'a> {
+    /// The name of the variable, without the dollar sign.
     pub name: &'a str,
+    /// The range of the variable in its definition.
     pub span: Span,
+    /// The name of the operation.
     pub operation: Option<&'a str>,
 }
 
-// A variable's name, and where it stands.
+// The name of a variable, and its range.
 #[derive(Clone, Copy, Debug)]
 struct Variable<'a> {
     name: &'a str,
     span: Span,
 }
 
-// Whether two have one name and one span.
+// Whether both have the same name and span.
 fn is_same(a: &Variable<'_>, b: &Spanning<&str>) -> bool
     ensures { IsTrue result ↔ (name_and_span a.now ≡ variable_at b.now) }
 {
     a.name == b.item && a.span == b.span
 }
 
-// Whether one of these has the name and the span of this one.
+// Whether one of these has the name and the span of this variable.
 fn stands_among(found: &[Variable<'_>], variable: &Spanning<&str>) -> bool
     ensures { IsTrue result ↔ Contains (map name_and_span found.now) (variable_at variable.now) }
 {
@@ -54,7 +57,7 @@ fn stands_among(found: &[Variable<'_>], variable: &Spanning<&str>) -> bool
     false
 }
 
-// The same, where each of them starts at this place at the latest: what starts behind it needs no look.
+// The same, if none of these starts after the index `latest`; no need to look for a variable that does.
 fn is_found(found: &[Variable<'_>], latest: usize, variable: &Spanning<&str>) -> bool
     requires { StartBy latest (map name_and_span found.now) }
     ensures { IsTrue result ↔ Contains (map name_and_span found.now) (variable_at variable.now) }
@@ -72,7 +75,7 @@ fn later(a: usize, b: usize) -> usize
     if a < b { b } else { a }
 }
 
-// Adds a variable, unless its name is used or it is there.
+// Adds a variable, unless its name is used or the list has it.
 fn add_variable<'a>(
     used: &BTreeSet<&str>,
     variable: &Spanning<&'a str>,
@@ -80,8 +83,8 @@ fn add_variable<'a>(
     found: &mut Vec<Variable<'a>>,
 ) -> Result<(), OutOfMemory>
     requires { StartBy latest.old (map name_and_span found.old.items) }
-    ensures added { OnOk result (AddsVariable (has_name used.now) (variable_at variable.now) (map name_and_span found.old.items)
-        (map name_and_span found.new.items)) }
+    ensures added { OnOk result (AddsVariable (has_name used.now) (variable_at variable.now)
+        (map name_and_span found.old.items) (map name_and_span found.new.items)) }
     ensures start { OnOk result (StartBy latest.new (map name_and_span found.new.items)) }
 {
     if is_named(used, variable.item) || is_found(found.as_slice(), *latest, variable) {
@@ -101,7 +104,7 @@ fn unused_among<'a, S>(
     used: &BTreeSet<&str>,
     definitions: &[(Spanning<&'a str>, VariableDefinition<'_, S>)],
 ) -> Result<Vec<Variable<'a>>, OutOfMemory>
-    ensures { IfOk result (λ found. UnusedAmong (has_name used.now) (map (λ v. (v.0.item.now, v.0.span)) definitions.now)
+    ensures { IfOk result (λ found. UnusedAmong (has_name used.now) (map (λ v. variable_at v.0) definitions.now)
         (map name_and_span found.items)) }
 {
     let mut latest = 0;
@@ -112,7 +115,7 @@ fn unused_among<'a, S>(
     Ok(found)
 }
 
-// Tells of these variables.
+// Reports these variables.
 fn tell_all<'a>(
     variables: &[Variable<'a>],
     operation: Option<&'a str>,
@@ -131,7 +134,7 @@ fn tell_all<'a>(
     Ok(())
 }
 
-// Tells of the variables of the last operation of a name.
+// Reports the variables of the last operation of a name that are not used in its reach.
 fn add_unused<'a, S>(
     alloc: Global,
     document: Document<'a, S>,
@@ -161,7 +164,7 @@ fn add_unused<'a, S>(
     }
 }
 
-// Whether the last operation of a name defines no variable, by the places of all of them.
+// Whether the last operation of a name defines no variables, by the places of all operations of this name.
 fn defines_none<S>(document: Document<'_, S>, own: &[usize]) -> bool
     ensures { IsTrue result → (name : Option (List ℕ)) → own.now ≡ places_of document.now (operation name)
         → DefinesNone document.now name }
@@ -172,7 +175,7 @@ fn defines_none<S>(document: Document<'_, S>, own: &[usize]) -> bool
     }
 }
 
-// Tells of those variables. Where there are none it asks nothing of what is in reach.
+// The same, without a search if the operation defines no variables.
 fn add_if_defined<'a, S>(
     alloc: Global,
     document: Document<'a, S>,
@@ -196,8 +199,12 @@ fn add_if_defined<'a, S>(
     add_unused(alloc, document, index, name, own, search, found)
 }
 
-/// The variables that the last operation of a name defines and that no use in the reach of the operations of that name has, for
-/// each name (GraphQL October 2021, section 5.8.4).
+/// For each name of operations, the variables that the last of them defines and that are not used in
+/// their reach (section 5.8.4).
+///
+/// # Errors
+///
+/// Out of memory.
 pub fn unused_variables<'a, S>(
     alloc: Global,
     document: Document<'a, S>,
@@ -209,7 +216,11 @@ pub fn unused_variables<'a, S>(
     unused_in(alloc, document, &index)
 }
 
-/// The same, by a document's index.
+/// The same as [`unused_variables`], by the index of the document.
+///
+/// # Errors
+///
+/// Out of memory.
 pub fn unused_in<'a, S>(
     alloc: Global,
     document: Document<'a, S>,

@@ -1,4 +1,4 @@
-//! The variables that a definition uses, in arguments of fields and of directives.
+//! The variables that a definition uses in arguments of fields and of directives.
 ghost use Rattle.std.specs.Prelude.{◌≡◌, ◌++◌, ℕ, List, Option, IfOk, OnOk, map};
 ghost use Rattle.language.specs.References.{list_copied};
 ghost use Rattle.std.specs.List.{flat_map};
@@ -8,7 +8,7 @@ ghost use Rattle.operation_scopes.specs.Places.{places_of};
 ghost use Rattle.language.specs.Values.{variables_of};
 ghost use Rattle.operation_scopes.specs.Searches.{IsReady};
 ghost use Rattle.variable_usages.specs.InReachUses.{AllUses, UsedIn, kept_uses};
-ghost use Rattle.variable_usages.specs.Uses.{argument_uses, arguments_uses, at_place, definition_uses, directive_uses, directives_uses, selection_uses, use_of, used_in_all, variable_definition_uses, variable_definitions_uses};
+ghost use Rattle.variable_usages.specs.Uses.{AddsUses, argument_uses, arguments_uses, at_place, definition_uses, directive_uses, directives_uses, selection_uses, use_of, used_in_all, variable_definition_uses, variable_definitions_uses};
 
 use language::error::OutOfMemory;
 use language::position::{SourcePosition, Spanning};
@@ -20,21 +20,20 @@ use operation_scopes::index::ScopeIndex;
 use operation_scopes::reach::{Search, found_places, new_search, reached_definitions};
 use std::alloc::Global;
 
-/// A variable inside an argument's value, and where that value starts.
+/// A variable in the value of an argument, and the start of that value.
 #[derive(Clone, Copy, Debug)]
 pub struct VariableUse<'d> {
     pub name: &'d str,
     pub place: SourcePosition,
 }
 
-// Adds uses of these names, at one place.
+// Appends uses of these names, at one position.
 fn add_names<'d>(
     place: SourcePosition,
     names: &[&'d str],
     found: &mut Vec<VariableUse<'d>>,
 ) -> Result<(), OutOfMemory>
-    ensures { OnOk result (map use_of found.new.items ≡ map use_of found.old.items
-        ++ map (at_place place) (list_copied names.now)) }
+    ensures { OnOk result (AddsUses found.old.items found.new.items (map (at_place place) (list_copied names.now))) }
 {
     for name in names {
         found.push(VariableUse { name: *name, place })?;
@@ -42,18 +41,17 @@ fn add_names<'d>(
     Ok(())
 }
 
-// Adds those inside a value, at the place of the argument that it is.
+// Appends the uses in the value of an argument, which starts at this position.
 fn add_value<'d, S>(
     alloc: Global,
     place: SourcePosition,
     value: &'d InputValue<S>,
     found: &mut Vec<VariableUse<'d>>,
 ) -> Result<(), OutOfMemory>
-    ensures { OnOk result (map use_of found.new.items ≡ map use_of found.old.items
-        ++ map (at_place place) (variables_of value.now)) }
+    ensures { OnOk result (AddsUses found.old.items found.new.items (map (at_place place) (variables_of value.now))) }
 {
     match value {
-        // for these, as most values are, a list of names would be asked for in vain
+        // most values are of these kinds, and no list of names is allocated for them
         InputValue::Null | InputValue::Scalar(_) | InputValue::Enum(_) => Ok(()),
         InputValue::Variable(name) => {
             found.push(VariableUse {
@@ -69,25 +67,24 @@ fn add_value<'d, S>(
     }
 }
 
-// Adds those of an argument.
+// Appends the uses in an argument.
 fn add_argument<'d, S>(
     alloc: Global,
     argument: &'d (Spanning<&str>, Spanning<InputValue<S>>),
     found: &mut Vec<VariableUse<'d>>,
 ) -> Result<(), OutOfMemory>
-    ensures { OnOk result (map use_of found.new.items ≡ map use_of found.old.items ++ argument_uses argument.now) }
+    ensures { OnOk result (AddsUses found.old.items found.new.items (argument_uses argument.now)) }
 {
     add_value(alloc, argument.1.span.start, &argument.1.item, found)
 }
 
-// Adds those of each of these arguments.
+// Appends the uses in these arguments.
 fn add_each_argument<'d, S>(
     alloc: Global,
     arguments: &'d [(Spanning<&str>, Spanning<InputValue<S>>)],
     found: &mut Vec<VariableUse<'d>>,
 ) -> Result<(), OutOfMemory>
-    ensures { OnOk result (map use_of found.new.items ≡ map use_of found.old.items
-        ++ flat_map argument_uses arguments.now) }
+    ensures { OnOk result (AddsUses found.old.items found.new.items (flat_map argument_uses arguments.now)) }
 {
     for argument in arguments {
         add_argument(alloc, argument, found)?;
@@ -95,13 +92,13 @@ fn add_each_argument<'d, S>(
     Ok(())
 }
 
-// Adds those of all arguments.
+// Appends the uses in the arguments, if there are any.
 fn add_arguments<'d, S>(
     alloc: Global,
     arguments: &'d Option<Spanning<Arguments<'_, S>>>,
     found: &mut Vec<VariableUse<'d>>,
 ) -> Result<(), OutOfMemory>
-    ensures { OnOk result (map use_of found.new.items ≡ map use_of found.old.items ++ arguments_uses arguments.now) }
+    ensures { OnOk result (AddsUses found.old.items found.new.items (arguments_uses arguments.now)) }
 {
     match arguments {
         Some(given) => add_each_argument(alloc, given.item.items.as_slice(), found),
@@ -109,14 +106,13 @@ fn add_arguments<'d, S>(
     }
 }
 
-// Adds those of each of these directives.
+// Appends the uses in these directives.
 fn add_each_directive<'d, S>(
     alloc: Global,
     directives: &'d [Spanning<Directive<'_, S>>],
     found: &mut Vec<VariableUse<'d>>,
 ) -> Result<(), OutOfMemory>
-    ensures { OnOk result (map use_of found.new.items ≡ map use_of found.old.items
-        ++ flat_map directive_uses directives.now) }
+    ensures { OnOk result (AddsUses found.old.items found.new.items (flat_map directive_uses directives.now)) }
 {
     for directive in directives {
         add_arguments(alloc, &directive.item.arguments, found)?;
@@ -124,13 +120,13 @@ fn add_each_directive<'d, S>(
     Ok(())
 }
 
-// Adds those of all directives.
+// Appends the uses in the directives, if there are any.
 fn add_directives<'d, S>(
     alloc: Global,
     directives: &'d Option<Vec<Spanning<Directive<'_, S>>>>,
     found: &mut Vec<VariableUse<'d>>,
 ) -> Result<(), OutOfMemory>
-    ensures { OnOk result (map use_of found.new.items ≡ map use_of found.old.items ++ directives_uses directives.now) }
+    ensures { OnOk result (AddsUses found.old.items found.new.items (directives_uses directives.now)) }
 {
     match directives {
         Some(given) => add_each_directive(alloc, given.as_slice(), found),
@@ -144,7 +140,7 @@ fn add_set<'d, S>(
     set: &'d [Selection<'_, S>],
     found: &mut Vec<VariableUse<'d>>,
 ) -> Result<(), OutOfMemory>
-    ensures { OnOk result (map use_of found.new.items ≡ map use_of found.old.items ++ used_in_all set.now) }
+    ensures { OnOk result (AddsUses found.old.items found.new.items (used_in_all set.now)) }
 {
     for selection in set {
         add_selection(alloc, selection, found)?;
@@ -158,7 +154,7 @@ fn add_selection<'d, S>(
     selection: &'d Selection<'_, S>,
     found: &mut Vec<VariableUse<'d>>,
 ) -> Result<(), OutOfMemory>
-    ensures { OnOk result (map use_of found.new.items ≡ map use_of found.old.items ++ selection_uses selection.now) }
+    ensures { OnOk result (AddsUses found.old.items found.new.items (selection_uses selection.now)) }
 {
     match selection {
         Selection::Field(field) => {
@@ -177,14 +173,14 @@ fn add_selection<'d, S>(
     }
 }
 
-// Adds those of the directives at each of these definitions of variables.
+// Appends the uses in the directives of these definitions of variables.
 fn add_each_definition<'d, S>(
     alloc: Global,
     definitions: &'d [(Spanning<&str>, VariableDefinition<'_, S>)],
     found: &mut Vec<VariableUse<'d>>,
 ) -> Result<(), OutOfMemory>
-    ensures { OnOk result (map use_of found.new.items ≡ map use_of found.old.items
-        ++ flat_map variable_definition_uses definitions.now) }
+    ensures { OnOk result (AddsUses found.old.items found.new.items
+        (flat_map variable_definition_uses definitions.now)) }
 {
     for definition in definitions {
         add_directives(alloc, &definition.1.directives, found)?;
@@ -192,14 +188,14 @@ fn add_each_definition<'d, S>(
     Ok(())
 }
 
-// Adds those of the directives at definitions of variables; defaults hold no uses.
+// Appends the uses in the directives of the definitions of variables, if there are any; default values
+// contain no variables.
 fn add_variable_definitions<'d, S>(
     alloc: Global,
     definitions: &'d Option<Spanning<VariableDefinitions<'_, S>>>,
     found: &mut Vec<VariableUse<'d>>,
 ) -> Result<(), OutOfMemory>
-    ensures { OnOk result (map use_of found.new.items ≡ map use_of found.old.items
-        ++ variable_definitions_uses definitions.now) }
+    ensures { OnOk result (AddsUses found.old.items found.new.items (variable_definitions_uses definitions.now)) }
 {
     match definitions {
         Some(given) => add_each_definition(alloc, given.item.items.as_slice(), found),
@@ -207,7 +203,12 @@ fn add_variable_definitions<'d, S>(
     }
 }
 
-/// The variables that a definition uses, in the order of the document, with repeats. Where there is none it asks for no memory.
+/// The uses of variables in a definition, in the order of the document, with repeats. Allocates nothing
+/// if there are none.
+///
+/// # Errors
+///
+/// Out of memory.
 pub fn variable_uses<'d, S>(
     alloc: Global,
     definition: &'d Definition<'_, S>,
@@ -229,7 +230,11 @@ pub fn variable_uses<'d, S>(
     Ok(found)
 }
 
-/// The uses of each definition of a document.
+/// The uses of variables in each definition of a document, in order.
+///
+/// # Errors
+///
+/// Out of memory.
 pub fn all_uses<'a, S>(
     alloc: Global,
     document: Document<'a, S>,
@@ -243,13 +248,13 @@ pub fn all_uses<'a, S>(
     Ok(all)
 }
 
-// Adds those that are kept at a place.
+// Appends the uses in the definition at a place.
 fn add_uses_at<'a>(
     all: &[Vec<VariableUse<'a>>],
     place: usize,
     found: &mut Vec<VariableUse<'a>>,
 ) -> Result<(), OutOfMemory>
-    ensures { OnOk result (map use_of found.new.items ≡ map use_of found.old.items ++ kept_uses all.now place) }
+    ensures { OnOk result (AddsUses found.old.items found.new.items (kept_uses all.now place)) }
 {
     match all.get(place) {
         Some(uses) => {
@@ -260,7 +265,7 @@ fn add_uses_at<'a>(
     }
 }
 
-// Lists those at these places, and no others.
+// Makes the list that of the uses in the definitions at these places.
 fn list_uses<'a>(
     all: &[Vec<VariableUse<'a>>],
     places: &[usize],
@@ -275,14 +280,19 @@ fn list_uses<'a>(
     Ok(())
 }
 
-/// A search of a document's scopes, with the uses in what it found last. It keeps its memory for the next.
+/// A search over the scopes of a document, with the uses that it found last. It can be used again, and
+/// keeps its memory.
 #[derive(Drop)]
 pub struct UseSearch<'a> {
     search: Search,
     pub uses: Vec<VariableUse<'a>>,
 }
 
-/// A search that has found nothing.
+/// A search that has found nothing yet.
+///
+/// # Errors
+///
+/// Out of memory.
 pub fn new_use_search<'a>(
     alloc: Global,
     index: &ScopeIndex<'_>,
@@ -295,7 +305,11 @@ pub fn new_use_search<'a>(
     })
 }
 
-/// Finds the uses that the operations of a name reach, by the places of all of these operations.
+/// Finds the uses in the reach of the operations of a name, by the places of these operations.
+///
+/// # Errors
+///
+/// Out of memory.
 pub fn reached_uses<'a, S>(
     document: Document<'a, S>,
     index: &ScopeIndex<'a>,
