@@ -1,4 +1,5 @@
 pub mod Events
+pub mod Everywhere
 pub mod Occurrences
 pub mod SelectionOutlines
 pub mod ValueOutlines

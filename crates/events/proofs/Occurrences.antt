@@ -1,4 +1,4 @@
--- The occurrences of a document, by its definitions; and in a definition stands no document.
+-- The occurrences of a document, by its definitions; no definition contains a document.
 use Rattle.std.proofs.Common.{◌≡◌, List, [], ◌∷◌, ◌++◌, Option, Some, None, false, refl, ap, sym, ◌∙◌, subst, append_assoc}
 use Rattle.std.specs.Prelude.{Vec}
 use Rattle.std.specs.declared.alloc.Global.{Global}
@@ -20,7 +20,8 @@ use Rattle.events.specs.Node.{Node, Placed, ObjectEntry}
 use Rattle.events.specs.SchemaView.{directive_arguments}
 use Rattle.events.specs.Typing.{Typing, at_set, at_items, at_variable, at_field, at_inline, at_operation, at_fragment}
 use Rattle.events.specs.Occurrence.{Occurrence, occurrences_of, occurrences, occurrences_in, is_document}
-use Rattle.events.specs.Outline.{Outline, empty, entry, beside, each, node_with, if_there, each_if_there, outline_of_bare_value, outline_of_value, outline_of_object_field, outline_of_argument, outline_of_arguments, outline_of_directive, outline_of_directives, outline_of_variable_definition, outline_of_variable_definitions, outline_of_set, outline_of_set_if_there, outline_of_selection, outline_of_definition}
+use Rattle.events.specs.Outline.{Outline, empty, entry, beside, each, if_there, each_if_there, outline_of_bare_value, outline_of_value, outline_of_object_field, outline_of_argument, outline_of_arguments, outline_of_directive, outline_of_directives, outline_of_variable_definition, outline_of_variable_definitions, outline_of_set, outline_of_set_if_there, outline_of_selection, outline_of_definition}
+use Rattle.events.proofs.Everywhere.{Everywhere, everywhere_beside, everywhere_each, everywhere_all, everywhere_if_there, everywhere_each_if_there}
 use Rattle.events.proofs.ValueOutlines.{of_null, of_scalar, of_enum, of_variable, of_list, of_object}
 use Rattle.events.proofs.SelectionOutlines.{of_field, of_spread, of_inline}
 
@@ -46,33 +47,12 @@ module _ {S C : Type 0} where
       let first : Occurrence S C = record { node = Node.document doc; types = t } in
       ap (λ z. first ∷ z) (append-nil (occurrences_of (each (outline_of_definition schema t) doc)) ∙ occurrences-each (outline_of_definition schema t) doc)
 
+  abbrev pub IsNoDocument : Node S → Outline S C → Type 0
+  IsNoDocument node inside = is_document node ≡ false
+
   -- no node of the outline is a document
   abbrev pub Inner : Outline S C → Type 0
-  Inner empty = Unit {0}
-  Inner (entry node types inside after) = (is_document node ≡ false) × Inner inside × Inner after
-
-  inner-node : (n : Node S) (t : Typing S C) (a : Outline S C) → is_document n ≡ false → Inner a → Inner (node_with n t a)
-  inner-node n t a e h = (e, h, tt)
-
-  inner-beside : (a b : Outline S C) → Inner a → Inner b → Inner (beside a b)
-  inner-beside empty b h k = k
-  inner-beside (entry node types inside after) b (e, h, h') k = (e, h, inner-beside after b h' k)
-
-  inner-each : {X : Type 0} (P : X → Type 0) (f : X → Outline S C) → ((x : X) → P x → Inner (f x)) → (xs : List X) → Each P xs → Inner (each f xs)
-  inner-each P f h [] k = tt
-  inner-each P f h (x ∷ xs) (p, k) = inner-beside (f x) (each f xs) (h x p) (inner-each P f h xs k)
-
-  inner-all : {X : Type 0} (f : X → Outline S C) → ((x : X) → Inner (f x)) → (xs : List X) → Inner (each f xs)
-  inner-all f h [] = tt
-  inner-all f h (x ∷ xs) = inner-beside (f x) (each f xs) (h x) (inner-all f h xs)
-
-  inner-if_there : {X : Type 0} (f : X → Outline S C) → ((x : X) → Inner (f x)) → (o : Option X) → Inner (if_there f o)
-  inner-if_there f h None = tt
-  inner-if_there f h (Some x) = h x
-
-  inner-each_if_there : {X : Type 0} (f : X → Outline S C) → ((x : X) → Inner (f x)) → (o : Option (Vec X Global)) → Inner (each_if_there f o)
-  inner-each_if_there f h None = tt
-  inner-each_if_there f h (Some xs) = inner-all f h xs.items
+  Inner = Everywhere IsNoDocument
 
   -- nor is one of its occurrences
   abbrev pub IsInner : Occurrence S C → Type 0
@@ -94,26 +74,26 @@ module _ {S C : Type 0} (schema : Catalog S C) where
       (λ s p t. subst Inner (sym (of_scalar schema s p t)) (refl, tt, tt))
       (λ s p t. subst Inner (sym (of_enum schema s p t)) (refl, tt, tt))
       (λ s p t. subst Inner (sym (of_variable schema s p t)) (refl, tt, tt))
-      (λ xs h p t. subst Inner (sym (of_list schema xs p t)) (refl, inner-each (λ (x : Placed (InputValue S)). InnerValue x.item) (outline_of_value schema (at_items t)) (λ x k. k x.span (at_items t)) xs.items h, tt))
-      (λ es h p t. subst Inner (sym (of_object schema es p t)) (refl, inner-each (λ (e : ObjectEntry S). InnerValue e.1.item) (outline_of_object_field schema t) (λ e k. (refl, k e.1.span _, tt)) es.items h, tt))
+      (λ xs h p t. subst Inner (sym (of_list schema xs p t)) (refl, everywhere_each IsNoDocument (λ (x : Placed (InputValue S)). InnerValue x.item) (outline_of_value schema (at_items t)) (λ x k. k x.span (at_items t)) xs.items h, tt))
+      (λ es h p t. subst Inner (sym (of_object schema es p t)) (refl, everywhere_each IsNoDocument (λ (e : ObjectEntry S). InnerValue e.1.item) (outline_of_object_field schema t) (λ e k. (refl, k e.1.span _, tt)) es.items h, tt))
 
   inner-arguments : (arguments : Option (List (Argument S))) (t : Typing S C) (written : Option (Placed (Arguments S))) → Inner (outline_of_arguments schema arguments t written)
   inner-arguments arguments t written =
-      inner-if_there _ (λ list. inner-all (outline_of_argument schema arguments t) (λ a. (refl, inner-value a.1.item a.1.span _, tt)) list.item.items.items) written
+      everywhere_if_there IsNoDocument _ (λ list. everywhere_all IsNoDocument (outline_of_argument schema arguments t) (λ a. (refl, inner-value a.1.item a.1.span _, tt)) list.item.items.items) written
 
   inner-directives : (t : Typing S C) (written : Option (Vec (Placed (Directive S)) Global)) → Inner (outline_of_directives schema t written)
   inner-directives t written =
-      inner-each_if_there (outline_of_directive schema t) (λ d. (refl, inner-arguments (directive_arguments schema d.item.name.item.now) t d.item.arguments, tt)) written
+      everywhere_each_if_there IsNoDocument (outline_of_directive schema t) (λ d. (refl, inner-arguments (directive_arguments schema d.item.name.item.now) t d.item.arguments, tt)) written
 
   inner-variables : (t : Typing S C) (written : Option (Placed (VariableDefinitions S))) → Inner (outline_of_variable_definitions schema t written)
   inner-variables t written =
-      inner-if_there _ (λ list. inner-all (outline_of_variable_definition schema t) (λ d. (refl, inner-beside _ _ (inner-if_there (outline_of_value schema (at_variable t d.1)) (λ v. inner-value v.item v.span _) d.1.default_value) (inner-directives (at_variable t d.1) d.1.directives), tt)) list.item.items.items) written
+      everywhere_if_there IsNoDocument _ (λ list. everywhere_all IsNoDocument (outline_of_variable_definition schema t) (λ d. (refl, everywhere_beside IsNoDocument _ _ (everywhere_if_there IsNoDocument (outline_of_value schema (at_variable t d.1)) (λ v. inner-value v.item v.span _) d.1.default_value) (inner-directives (at_variable t d.1) d.1.directives), tt)) list.item.items.items) written
 
   abbrev InnerSelection : Selection S → Type 0
   InnerSelection s = (t : Typing S C) → Inner (outline_of_selection schema t s)
 
   inner-set_of : (t : Typing S C) (set : List (Selection S)) → Each InnerSelection set → Inner (outline_of_set schema t set)
-  inner-set_of t set h = (refl, inner-each InnerSelection (outline_of_selection schema (at_set t)) (λ s k. k (at_set t)) set h, tt)
+  inner-set_of t set h = (refl, everywhere_each IsNoDocument InnerSelection (outline_of_selection schema (at_set t)) (λ s k. k (at_set t)) set h, tt)
 
   inner-set_if_there : (t : Typing S C) (set : Option (Vec (Selection S) Global)) → EachIfThere InnerSelection set → Inner (outline_of_set_if_there schema t set)
   inner-set_if_there t None h = tt
@@ -122,21 +102,21 @@ module _ {S C : Type 0} (schema : Catalog S C) where
   inner-selection : (s : Selection S) → InnerSelection s
   inner-selection =
       selection_induction InnerSelection
-      (λ f h t. let u = at_field schema t f.item in subst Inner (sym (of_field schema t f)) (refl, inner-beside _ _ (inner-arguments _ u f.item.arguments) (inner-beside _ _ (inner-directives u f.item.directives) (inner-set_if_there u f.item.selection_set h)), tt))
+      (λ f h t. let u = at_field schema t f.item in subst Inner (sym (of_field schema t f)) (refl, everywhere_beside IsNoDocument _ _ (inner-arguments _ u f.item.arguments) (everywhere_beside IsNoDocument _ _ (inner-directives u f.item.directives) (inner-set_if_there u f.item.selection_set h)), tt))
       (λ s t. subst Inner (sym (of_spread schema t s)) (refl, inner-directives t s.item.directives, tt))
-      (λ i h t. let u = at_inline schema t i.item in subst Inner (sym (of_inline schema t i)) (refl, inner-beside _ _ (inner-directives u i.item.directives) (inner-set_of u i.item.selection_set.items h), tt))
+      (λ i h t. let u = at_inline schema t i.item in subst Inner (sym (of_inline schema t i)) (refl, everywhere_beside IsNoDocument _ _ (inner-directives u i.item.directives) (inner-set_of u i.item.selection_set.items h), tt))
 
   inner-set : (t : Typing S C) (set : List (Selection S)) → Inner (outline_of_set schema t set)
-  inner-set t set = (refl, inner-all (outline_of_selection schema (at_set t)) (λ s. inner-selection s (at_set t)) set, tt)
+  inner-set t set = (refl, everywhere_all IsNoDocument (outline_of_selection schema (at_set t)) (λ s. inner-selection s (at_set t)) set, tt)
 
   inner-definition : (t : Typing S C) (d : Definition S) → Inner (outline_of_definition schema t d)
   inner-definition t (definition.Operation o) =
       let u = at_operation schema t o.item in
-      (refl, inner-beside _ _ (inner-variables u o.item.variable_definitions) (inner-beside _ _ (inner-directives u o.item.directives) (inner-set u o.item.selection_set.items)), tt)
+      (refl, everywhere_beside IsNoDocument _ _ (inner-variables u o.item.variable_definitions) (everywhere_beside IsNoDocument _ _ (inner-directives u o.item.directives) (inner-set u o.item.selection_set.items)), tt)
   inner-definition t (definition.Fragment f) =
       let u = at_fragment schema t f.item in
-      (refl, inner-beside _ _ (inner-directives u f.item.directives) (inner-set u f.item.selection_set.items), tt)
+      (refl, everywhere_beside IsNoDocument _ _ (inner-directives u f.item.directives) (inner-set u f.item.selection_set.items), tt)
 
-  -- in a document stands none
+  -- no definition of a document contains a document
   pub inner-document : (t : Typing S C) (doc : List (Definition S)) → Inner (each (outline_of_definition schema t) doc)
-  inner-document t doc = inner-all (outline_of_definition schema t) (inner-definition t) doc
+  inner-document t doc = everywhere_all IsNoDocument (outline_of_definition schema t) (inner-definition t) doc

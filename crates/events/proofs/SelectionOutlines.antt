@@ -47,27 +47,32 @@ module _ {S C : Type 0} (schema : Catalog S C) where
       beside (outline_of_arguments schema (field_arguments t.parent f.name.item.now) t f.arguments) (beside (outline_of_directives schema t f.directives) set)
 
   field_is : (t : Typing S C) (f : Field S) → field_below f t ≡ inside_field t f (outline_of_set_if_there schema t f.selection_set)
+  unfolding outline_of_selection
   field_is t f =
       ap (λ (b : Below S C). b t) (para-roll-Field S (Below S C) (Below S C) (Below S C) (selection_step schema) (field_step schema) (inline_step schema) (record { alias = f.alias; name = f.name; arguments = f.arguments; directives = f.directives; selection_set = f.selection_set }))
       ∙ (elim f.selection_set as (λ o. inside_field t f (set_step_if_there (with_outlines (record { alias = f.alias; name = f.name; arguments = f.arguments; directives = f.directives; selection_set = o })).selection_set t) ≡ inside_field t f (outline_of_set_if_there schema t o)) [ None ↦ refl | Some v ↦ ap (inside_field t f) (set_is t v.items) ])
 
   inline_is : (t : Typing S C) (i : InlineFragment S) → inline_below i t ≡ beside (outline_of_directives schema t i.directives) (outline_of_set schema t i.selection_set.items)
+  unfolding outline_of_selection
   inline_is t i =
       ap (λ (b : Below S C). b t) (para-roll-InlineFragment S (Below S C) (Below S C) (Below S C) (selection_step schema) (field_step schema) (inline_step schema) (record { type_condition = i.type_condition; directives = i.directives; selection_set = i.selection_set }))
       ∙ ap (λ z. beside (outline_of_directives schema t i.directives) z) (set_is t i.selection_set.items)
 
   pub of_field : (t : Typing S C) (f : Placed (Field S)) → outline_of_selection schema t (selection.Field f) ≡ outline_of_field schema t f
+  unfolding outline_of_selection
   of_field t f =
       ap (λ s. outline_of_selection schema t s) (sym (selection.rolls-Field f))
       ∙ ap (λ (b : Below S C). b t) (para-roll-Selection S (Below S C) (Below S C) (Below S C) (selection_step schema) (field_step schema) (inline_step schema) (opened.Field f))
       ∙ ap (λ z. node_with (Node.field f) (at_field schema t f.item) z) (field_is (at_field schema t f.item) f.item)
 
   pub of_spread : (t : Typing S C) (s : Placed (FragmentSpread S)) → outline_of_selection schema t (selection.FragmentSpread s) ≡ outline_of_spread schema t s
+  unfolding outline_of_selection
   of_spread t f =
       ap (λ s. outline_of_selection schema t s) (sym (selection.rolls-FragmentSpread f))
       ∙ ap (λ (b : Below S C). b t) (para-roll-Selection S (Below S C) (Below S C) (Below S C) (selection_step schema) (field_step schema) (inline_step schema) (opened.FragmentSpread f))
 
   pub of_inline : (t : Typing S C) (i : Placed (InlineFragment S)) → outline_of_selection schema t (selection.InlineFragment i) ≡ outline_of_inline schema t i
+  unfolding outline_of_selection
   of_inline t i =
       ap (λ s. outline_of_selection schema t s) (sym (selection.rolls-InlineFragment i))
       ∙ ap (λ (b : Below S C). b t) (para-roll-Selection S (Below S C) (Below S C) (Below S C) (selection_step schema) (field_step schema) (inline_step schema) (opened.InlineFragment i))

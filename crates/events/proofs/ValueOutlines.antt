@@ -41,26 +41,31 @@ module _ {S C : Type 0} (schema : Catalog S C) where
   entry_outlines t (x ∷ xs) = ap (λ ys. beside (outline_of_object_field schema t x) ys) (entry_outlines t xs)
 
   pub of_null : (p : Span) (t : Typing S C) → outline_of_bare_value schema v.Null p t ≡ node_with (Node.null_value p) t empty
+  unfolding outline_of_bare_value
   of_null p t =
       ap (λ (w : InputValue S). outline_of_bare_value schema w p t) (sym v.rolls-Null)
       ∙ ap (λ (b : BelowValue S C). b p t) (para-roll-InputValue S (BelowValue S C) (value_step schema) opened.Null)
 
   pub of_scalar : (s : S) (p : Span) (t : Typing S C) → outline_of_bare_value schema (v.Scalar s) p t ≡ node_with (Node.scalar_value (record { item = s; span = p })) t empty
+  unfolding outline_of_bare_value
   of_scalar s p t =
       ap (λ (w : InputValue S). outline_of_bare_value schema w p t) (sym (v.rolls-Scalar s))
       ∙ ap (λ (b : BelowValue S C). b p t) (para-roll-InputValue S (BelowValue S C) (value_step schema) (opened.Scalar s))
 
   pub of_enum : (s : String Global) (p : Span) (t : Typing S C) → outline_of_bare_value schema (v.Enum s) p t ≡ node_with (Node.enum_value (record { item = string_bytes s; span = p })) t empty
+  unfolding outline_of_bare_value
   of_enum s p t =
       ap (λ (w : InputValue S). outline_of_bare_value schema w p t) (sym (v.rolls-Enum s))
       ∙ ap (λ (b : BelowValue S C). b p t) (para-roll-InputValue S (BelowValue S C) (value_step schema) (opened.Enum s))
 
   pub of_variable : (s : String Global) (p : Span) (t : Typing S C) → outline_of_bare_value schema (v.Variable s) p t ≡ node_with (Node.variable_value (record { item = string_bytes s; span = p })) t empty
+  unfolding outline_of_bare_value
   of_variable s p t =
       ap (λ (w : InputValue S). outline_of_bare_value schema w p t) (sym (v.rolls-Variable s))
       ∙ ap (λ (b : BelowValue S C). b p t) (para-roll-InputValue S (BelowValue S C) (value_step schema) (opened.Variable s))
 
   pub of_list : (xs : Vec (Placed (InputValue S)) Global) (p : Span) (t : Typing S C) → outline_of_bare_value schema (v.List xs) p t ≡ node_with (Node.list_value (record { item = xs.items; span = p })) t (each (outline_of_value schema (at_items t)) xs.items)
+  unfolding outline_of_bare_value
   of_list xs p t =
       ap (λ (w : InputValue S). outline_of_bare_value schema w p t) (sym (v.rolls-List xs))
       ∙ ap (λ (b : BelowValue S C). b p t) (para-roll-InputValue S (BelowValue S C) (value_step schema) (opened.List xs))
@@ -68,6 +73,7 @@ module _ {S C : Type 0} (schema : Catalog S C) where
       ∙ ap (λ z. node_with (Node.list_value (record { item = xs.items; span = p })) t z) (outlines (at_items t) xs.items)
 
   pub of_object : (xs : Vec (ObjectEntry S) Global) (p : Span) (t : Typing S C) → outline_of_bare_value schema (v.Object xs) p t ≡ node_with (Node.object_value (record { item = xs.items; span = p })) t (each (outline_of_object_field schema t) xs.items)
+  unfolding outline_of_bare_value
   of_object xs p t =
       ap (λ (w : InputValue S). outline_of_bare_value schema w p t) (sym (v.rolls-Object xs))
       ∙ ap (λ (b : BelowValue S C). b p t) (para-roll-InputValue S (BelowValue S C) (value_step schema) (opened.Object xs))

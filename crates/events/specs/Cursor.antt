@@ -1,21 +1,24 @@
--- What a cursor still has to tell.
+-- The events that a cursor still has to give.
 use Rattle.std.specs.Prelude.{◌≡◌, List, [], ◌∷◌, ◌++◌, Option, Some, None}
 use Rattle.std.specs.Option.{option_copied}
+use Rattle.std.specs.declared.vec.Vec.{Vec}
+use Rattle.std.specs.declared.alloc.Global.{Global}
 use Rattle.schema.specs.Catalog.{Catalog}
 use Rattle.events.specs.declared.cursor.Part.{Part}
 use Rattle.events.specs.declared.cursor.Part.TheVariants as part
 use Rattle.events.specs.declared.cursor.Frame.{Frame}
 use Rattle.events.specs.declared.cursor.EventCursorOf.{EventCursorOf}
 use Rattle.events.specs.declared.event.Event.{Event}
+use Rattle.events.specs.declared.typed_events.TypesOf.{TypesOf}
 use Rattle.events.specs.Typing.{Typing}
 use Rattle.events.specs.Outline.{each, outline_of_value, outline_of_object_field, outline_of_argument, outline_of_directive, outline_of_variable_definition, outline_of_set, outline_of_selection, outline_of_definition}
 use Rattle.events.specs.TypedEvent.{TypedEvent, events_of}
 use Rattle.events.specs.EventValue.{typed_event, typing_of}
 
 module _ {S C : Type 0} (schema : Catalog S C) where
-  -- the events of a part, at the types round it
+  -- the events of a part, at the types around it
   abbrev pub part_events : Part S → Typing S C → List (TypedEvent S C)
-  part_events (part.Told e) t = typed_event e t ∷ []
+  part_events (part.Exit e) t = typed_event e t ∷ []
   part_events (part.Definitions d ds) t = events_of (each (outline_of_definition schema t) (d.now ∷ ds.now))
   part_events (part.Variables d ds) t = events_of (each (outline_of_variable_definition schema t) (d.now ∷ ds.now))
   part_events (part.Directives d ds) t = events_of (each (outline_of_directive schema t) (d.now ∷ ds.now))
@@ -35,6 +38,19 @@ module _ {S C : Type 0} (schema : Catalog S C) where
   stack_events (f ∷ fs) = stack_events fs ++ frame_events f
 
 module _ {S C : Type 0} where
+  -- these events have come in front of those of a stack
+  abbrev pub Pushes : Vec (Frame S C) Global → Vec (Frame S C) Global → (Catalog S C → List (TypedEvent S C)) → Type 0
+  Pushes old new events = (schema : Catalog S C) → stack_events schema new.items ≡ events schema ++ stack_events schema old.items
+
+  -- the first of these events is at hand, at these types, and the others have come in front of those of a stack
+  abbrev pub EntersIn : Catalog S C → Event S → TypesOf S C → Vec (Frame S C) Global → Vec (Frame S C) Global → List (TypedEvent S C) → Type 0
+  EntersIn schema e types old new events =
+      typed_event e (typing_of types) ∷ stack_events schema new.items ≡ events ++ stack_events schema old.items
+
+  -- the same in each schema
+  abbrev pub Enters : Event S → TypesOf S C → Vec (Frame S C) Global → Vec (Frame S C) Global → (Catalog S C → List (TypedEvent S C)) → Type 0
+  Enters e types old new events = (schema : Catalog S C) → EntersIn schema e types old new (events schema)
+
   -- what is left of a walk
   abbrev pub events_left : EventCursorOf S C → List (TypedEvent S C)
   events_left c = stack_events c.schema.now c.frames.items

@@ -1,4 +1,4 @@
--- The occurrences of a document: its nodes with their types, where nothing is said of a walk.
+-- The occurrences of a document: its nodes with their types, without the order of a walk.
 use Rattle.std.specs.Prelude.{List, [], ◌∷◌, ◌++◌, Bool, true, false}
 use Rattle.language.specs.declared.tree.Definition.{Definition}
 use Rattle.schema.specs.Catalog.{Catalog}

@@ -84,7 +84,7 @@ module _ {S C : Type 0} where
       (each (λ e. let u = at_object_field schema t (string_bytes e.0.item) in node_with (Node.object_field (entry_of e)) u (e.1.item.1 e.1.span u)) es.items)
 
   -- a value, at the stretch where it stands
-  abbrev pub outline_of_bare_value : Catalog S C → InputValue S → BelowValue S C
+  unfoldable pub outline_of_bare_value : Catalog S C → InputValue S → BelowValue S C
   outline_of_bare_value schema = para-InputValue S (BelowValue S C) (value_step schema)
 
   -- a value that stands in the text
@@ -159,7 +159,7 @@ module _ {S C : Type 0} where
       let u = at_inline schema t i.item.0 in node_with (Node.inline_fragment (record { item = i.item.0; span = i.span })) u (i.item.1 u)
 
   -- a selection: a field, a spread or an inline fragment
-  abbrev pub outline_of_selection : Catalog S C → Typing S C → Selection S → Outline S C
+  unfoldable pub outline_of_selection : Catalog S C → Typing S C → Selection S → Outline S C
   outline_of_selection schema t s = para-Selection S (Below S C) (Below S C) (Below S C) (selection_step schema) (field_step schema) (inline_step schema) s t
 
   -- a selection set, at the types of what bears it

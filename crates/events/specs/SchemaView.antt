@@ -1,4 +1,4 @@
--- What a walk asks of a schema.
+-- What a walk looks up in a schema.
 use Rattle.std.specs.Prelude.{ℕ, List, Option, Some, option_and_then, find, string_bytes}
 use Rattle.std.specs.Option.{option_map}
 use Rattle.std.specs.Str.{bytes_eq}
@@ -43,7 +43,7 @@ module _ {S C : Type 0} where
   abbrev pub directive_arguments : Catalog S C → List ℕ → Option (List (Argument S))
   directive_arguments schema name = option_map (λ d. d.arguments.items) (directive_in name schema)
 
-  -- the type of the input field of the key, where the type has a name, no list round it, and such a field
+  -- the type of the input field of the key, where the type has a name, no list around it, and such a field
   abbrev pub input_field_literal : Catalog S C → Option TypeShape → List ℕ → Option TypeShape
   input_field_literal schema literal key =
       option_map (λ f. shape f.arg_type)

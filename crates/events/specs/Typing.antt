@@ -12,7 +12,7 @@ use Rattle.meta.specs.declared.arguments.Argument.{Argument}
 use Rattle.schema.specs.Catalog.{Catalog}
 use Rattle.events.specs.SchemaView.{named_type, root_literal, field_literal, input_field_literal, argument_literal}
 
--- the type and how it was written, the type of the selection set round it, and the type of the input that is expected
+-- the type and how it was written, the type of the selection set around it, and the type of the input that is expected
 pub record Typing (S C : Type 0) : Type 0 where
   pub current : Option (MetaTypeOf S C)
   pub literal : Option TypeShape
@@ -48,7 +48,7 @@ module _ {S C : Type 0} where
   abbrev pub at_field : Catalog S C → Typing S C → Field S → Typing S C
   at_field schema t f = at_type schema t (field_literal t.parent f.name.item.now)
 
-  -- an inline fragment: its condition, and where it has none nothing changes
+  -- an inline fragment: by its condition; without one nothing changes
   abbrev pub at_condition : Catalog S C → Typing S C → Option (List ℕ) → Typing S C
   at_condition schema t None = t
   at_condition schema t (Some name) = at_type schema t (Some (non_null_named name))

@@ -1,14 +1,13 @@
-//! The events of definitions, told one at a time.
+//! The events of definitions, one at a time.
 
-ghost use Rattle.std.specs.Prelude.{◌≡◌, [], ◌++◌, ◌∷◌, OnOk, IfOk};
+ghost use Rattle.std.specs.Prelude.{◌≡◌, [], ◌∷◌, OnOk, IfOk};
 ghost use Rattle.std.specs.Option.{option_copied};
-ghost use Rattle.schema.specs.Catalog.{Catalog};
 ghost use Rattle.events.specs.Node;
 ghost use Rattle.events.specs.Typing.{at_items};
 ghost use Rattle.events.specs.Outline.{each, node_with, if_there, outline_of_value, outline_of_object_field, outline_of_argument, outline_of_arguments, outline_of_directive, outline_of_directives, outline_of_variable_definition, outline_of_variable_definitions, outline_of_set, outline_of_set_if_there, outline_of_selection, outline_of_spread, outline_of_field, outline_of_inline, outline_of_operation, outline_of_fragment, outline_of_definition};
 ghost use Rattle.events.specs.TypedEvent.{events_of};
 ghost use Rattle.events.specs.EventValue.{typed_event, typing_of};
-ghost use Rattle.events.specs.Cursor.{frame_events, stack_events, events_left, IsNextLeft};
+ghost use Rattle.events.specs.Cursor.{frame_events, events_left, Pushes, Enters, EntersIn, IsNextLeft};
 
 use crate::event::Event;
 use crate::typed_events::{TypesOf, arguments_of_directive, arguments_of_field};
@@ -24,10 +23,10 @@ use meta::check::CheckedScalar;
 use schema::model::SchemaTypeOf;
 use std::alloc::Global;
 
-// A part of a document whose events are left. What is left of a list has a first item, so that each part has an event.
+// A part of a document whose events are still to come. The rest of a list has a first item, so each part has an event.
 #[derive(Drop)]
 enum Part<'a, S> {
-    Told(Event<'a, S>),
+    Exit(Event<'a, S>),
     Definitions(&'a Definition<'a, S>, &'a [Definition<'a, S>]),
     Variables(
         &'a (Spanning<&'a str>, VariableDefinition<'a, S>),
@@ -49,16 +48,16 @@ enum Part<'a, S> {
     ),
 }
 
-// A part with the types round it, and an event with those at its node.
+// A part with the types around it, or an event with those at its node.
 #[derive(Drop)]
 struct Frame<'a, S, C> {
     part: Part<'a, S>,
     types: TypesOf<'a, S, C>,
 }
 
-/// The events of definitions that are left, in the order of a walk, each with the types at its node.
+/// The remaining events of a list of definitions, in the order of a walk, each with the types at its node.
 ///
-/// It takes memory for the nodes round the one at hand, and none for those that were left or are still to come.
+/// It takes memory for the nodes around the current one, and none for the rest of the document.
 #[derive(Drop)]
 pub struct EventCursorOf<'a, S, C> {
     schema: &'a SchemaTypeOf<S, C>,
@@ -67,46 +66,43 @@ pub struct EventCursorOf<'a, S, C> {
 
 pub type EventCursor<'a, S> = EventCursorOf<'a, S, <S as CheckedScalar>::Check>;
 
-// One more part, whose events come first.
+// Puts a part on the stack, whose events come before those that are there.
 fn push_part<'a, S, C>(
     part: Part<'a, S>,
     types: TypesOf<'a, S, C>,
     frames: &mut Vec<Frame<'a, S, C>>,
 ) -> Result<(), OutOfMemory>
-    ensures { OnOk result ((schema : Catalog S C) → stack_events schema frames.new.items
-        ≡ frame_events schema (record { part = part.entry; types = types.entry })
-        ++ stack_events schema frames.old.items) }
+    ensures { OnOk result (Pushes frames.old frames.new
+        (λ schema. frame_events schema (record { part = part.entry; types = types.entry }))) }
 {
     frames.push(Frame { part, types })?;
     Ok(())
 }
 
-// A node with nothing in it is entered, and left next.
+// Enters a node with nothing in it, which is left next.
 //
-// Whatever enters a node finds the types round it in `at`, and leaves there those at the node.
+// Each function that enters a node finds the types around it in `at`, and leaves there those at the node.
 fn enter_leaf<'a, S, C>(
     enter: Event<'a, S>,
     exit: Event<'a, S>,
     at: &mut TypesOf<'a, S, C>,
     frames: &mut Vec<Frame<'a, S, C>>,
 ) -> Result<Event<'a, S>, OutOfMemory>
-    ensures { IfOk result (λ e. (schema : Catalog S C) → typed_event e (typing_of at.new)
-        ∷ stack_events schema frames.new.items ≡ typed_event enter.entry (typing_of at.old)
-        ∷ typed_event exit.entry (typing_of at.old) ∷ stack_events schema frames.old.items) }
+    ensures { IfOk result (λ e. Enters e at.new frames.old frames.new
+        (λ schema. typed_event enter.entry (typing_of at.old) ∷ typed_event exit.entry (typing_of at.old) ∷ [])) }
 {
-    push_part(Part::Told(exit), *at, frames)?;
+    push_part(Part::Exit(exit), *at, frames)?;
     Ok(enter)
 }
 
-// The items of a list, at their types.
+// Puts on the stack the items of a list, at their types.
 fn push_items<'a, S, C>(
     items: &'a [Spanning<InputValue<S>>],
     types: TypesOf<'a, S, C>,
     frames: &mut Vec<Frame<'a, S, C>>,
 ) -> Result<(), OutOfMemory>
-    ensures { OnOk result ((schema : Catalog S C) → stack_events schema frames.new.items
-        ≡ events_of (each (outline_of_value schema (typing_of types.entry)) items.now)
-        ++ stack_events schema frames.old.items) }
+    ensures { OnOk result (Pushes frames.old frames.new
+        (λ schema. events_of (each (outline_of_value schema (typing_of types.entry)) items.now))) }
 {
     match items.split_first() {
         Some((first, rest)) => push_part(Part::Items(first, rest), types, frames),
@@ -114,15 +110,14 @@ fn push_items<'a, S, C>(
     }
 }
 
-// The fields of an object.
+// Puts on the stack the fields of an object.
 fn push_entries<'a, S, C>(
     items: &'a [(Spanning<String>, Spanning<InputValue<S>>)],
     types: TypesOf<'a, S, C>,
     frames: &mut Vec<Frame<'a, S, C>>,
 ) -> Result<(), OutOfMemory>
-    ensures { OnOk result ((schema : Catalog S C) → stack_events schema frames.new.items
-        ≡ events_of (each (outline_of_object_field schema (typing_of types.entry)) items.now)
-        ++ stack_events schema frames.old.items) }
+    ensures { OnOk result (Pushes frames.old frames.new
+        (λ schema. events_of (each (outline_of_object_field schema (typing_of types.entry)) items.now))) }
 {
     match items.split_first() {
         Some((first, rest)) => push_part(Part::Entries(first, rest), types, frames),
@@ -130,16 +125,15 @@ fn push_entries<'a, S, C>(
     }
 }
 
-// Arguments, whose types are looked up among the known ones.
+// Puts on the stack arguments, whose types are looked up among the known ones.
 fn push_arguments<'a, S, C>(
     known: Option<&'a [Argument<S>]>,
     items: &'a [(Spanning<&'a str>, Spanning<InputValue<S>>)],
     types: TypesOf<'a, S, C>,
     frames: &mut Vec<Frame<'a, S, C>>,
 ) -> Result<(), OutOfMemory>
-    ensures { OnOk result ((schema : Catalog S C) → stack_events schema frames.new.items
-        ≡ events_of (each (outline_of_argument schema (option_copied known.entry) (typing_of types.entry)) items.now)
-        ++ stack_events schema frames.old.items) }
+    ensures { OnOk result (Pushes frames.old frames.new (λ schema. events_of
+        (each (outline_of_argument schema (option_copied known.entry) (typing_of types.entry)) items.now))) }
 {
     match items.split_first() {
         Some((first, rest)) => push_part(Part::Arguments(known, first, rest), types, frames),
@@ -147,15 +141,14 @@ fn push_arguments<'a, S, C>(
     }
 }
 
-// Directives.
+// Puts on the stack directives.
 fn push_directives<'a, S, C>(
     items: &'a [Spanning<Directive<'a, S>>],
     types: TypesOf<'a, S, C>,
     frames: &mut Vec<Frame<'a, S, C>>,
 ) -> Result<(), OutOfMemory>
-    ensures { OnOk result ((schema : Catalog S C) → stack_events schema frames.new.items
-        ≡ events_of (each (outline_of_directive schema (typing_of types.entry)) items.now)
-        ++ stack_events schema frames.old.items) }
+    ensures { OnOk result (Pushes frames.old frames.new
+        (λ schema. events_of (each (outline_of_directive schema (typing_of types.entry)) items.now))) }
 {
     match items.split_first() {
         Some((first, rest)) => push_part(Part::Directives(first, rest), types, frames),
@@ -163,15 +156,14 @@ fn push_directives<'a, S, C>(
     }
 }
 
-// Definitions of variables.
+// Puts on the stack variable definitions.
 fn push_variables<'a, S, C>(
     items: &'a [(Spanning<&'a str>, VariableDefinition<'a, S>)],
     types: TypesOf<'a, S, C>,
     frames: &mut Vec<Frame<'a, S, C>>,
 ) -> Result<(), OutOfMemory>
-    ensures { OnOk result ((schema : Catalog S C) → stack_events schema frames.new.items
-        ≡ events_of (each (outline_of_variable_definition schema (typing_of types.entry)) items.now)
-        ++ stack_events schema frames.old.items) }
+    ensures { OnOk result (Pushes frames.old frames.new
+        (λ schema. events_of (each (outline_of_variable_definition schema (typing_of types.entry)) items.now))) }
 {
     match items.split_first() {
         Some((first, rest)) => push_part(Part::Variables(first, rest), types, frames),
@@ -179,15 +171,14 @@ fn push_variables<'a, S, C>(
     }
 }
 
-// The selections of a set, at its types.
+// Puts on the stack the selections of a set, at its types.
 fn push_selections<'a, S, C>(
     items: &'a [Selection<'a, S>],
     types: TypesOf<'a, S, C>,
     frames: &mut Vec<Frame<'a, S, C>>,
 ) -> Result<(), OutOfMemory>
-    ensures { OnOk result ((schema : Catalog S C) → stack_events schema frames.new.items
-        ≡ events_of (each (outline_of_selection schema (typing_of types.entry)) items.now)
-        ++ stack_events schema frames.old.items) }
+    ensures { OnOk result (Pushes frames.old frames.new
+        (λ schema. events_of (each (outline_of_selection schema (typing_of types.entry)) items.now))) }
 {
     match items.split_first() {
         Some((first, rest)) => push_part(Part::Selections(first, rest), types, frames),
@@ -195,15 +186,14 @@ fn push_selections<'a, S, C>(
     }
 }
 
-// Definitions.
+// Puts on the stack definitions.
 fn push_definitions<'a, S, C>(
     items: &'a [Definition<'a, S>],
     types: TypesOf<'a, S, C>,
     frames: &mut Vec<Frame<'a, S, C>>,
 ) -> Result<(), OutOfMemory>
-    ensures { OnOk result ((schema : Catalog S C) → stack_events schema frames.new.items
-        ≡ events_of (each (outline_of_definition schema (typing_of types.entry)) items.now)
-        ++ stack_events schema frames.old.items) }
+    ensures { OnOk result (Pushes frames.old frames.new
+        (λ schema. events_of (each (outline_of_definition schema (typing_of types.entry)) items.now))) }
 {
     match items.split_first() {
         Some((first, rest)) => push_part(Part::Definitions(first, rest), types, frames),
@@ -211,16 +201,15 @@ fn push_definitions<'a, S, C>(
     }
 }
 
-// Arguments, where there are some.
+// Puts on the stack arguments, where there are some.
 fn push_written_arguments<'a, S, C>(
     known: Option<&'a [Argument<S>]>,
     written: &'a Option<Spanning<Arguments<'a, S>>>,
     types: TypesOf<'a, S, C>,
     frames: &mut Vec<Frame<'a, S, C>>,
 ) -> Result<(), OutOfMemory>
-    ensures { OnOk result ((schema : Catalog S C) → stack_events schema frames.new.items
-        ≡ events_of (outline_of_arguments schema (option_copied known.entry) (typing_of types.entry) written.now)
-        ++ stack_events schema frames.old.items) }
+    ensures { OnOk result (Pushes frames.old frames.new (λ schema. events_of
+        (outline_of_arguments schema (option_copied known.entry) (typing_of types.entry) written.now))) }
 {
     match written {
         Some(list) => push_arguments(known, list.item.items.as_slice(), types, frames),
@@ -228,15 +217,14 @@ fn push_written_arguments<'a, S, C>(
     }
 }
 
-// Directives, where there are some.
+// Puts on the stack directives, where there are some.
 fn push_written_directives<'a, S, C>(
     written: &'a Option<Vec<Spanning<Directive<'a, S>>>>,
     types: TypesOf<'a, S, C>,
     frames: &mut Vec<Frame<'a, S, C>>,
 ) -> Result<(), OutOfMemory>
-    ensures { OnOk result ((schema : Catalog S C) → stack_events schema frames.new.items
-        ≡ events_of (outline_of_directives schema (typing_of types.entry) written.now)
-        ++ stack_events schema frames.old.items) }
+    ensures { OnOk result (Pushes frames.old frames.new
+        (λ schema. events_of (outline_of_directives schema (typing_of types.entry) written.now))) }
 {
     match written {
         Some(list) => push_directives(list.as_slice(), types, frames),
@@ -244,15 +232,14 @@ fn push_written_directives<'a, S, C>(
     }
 }
 
-// Definitions of variables, where there are some.
+// Puts on the stack variable definitions, where there are some.
 fn push_written_variables<'a, S, C>(
     written: &'a Option<Spanning<VariableDefinitions<'a, S>>>,
     types: TypesOf<'a, S, C>,
     frames: &mut Vec<Frame<'a, S, C>>,
 ) -> Result<(), OutOfMemory>
-    ensures { OnOk result ((schema : Catalog S C) → stack_events schema frames.new.items
-        ≡ events_of (outline_of_variable_definitions schema (typing_of types.entry) written.now)
-        ++ stack_events schema frames.old.items) }
+    ensures { OnOk result (Pushes frames.old frames.new
+        (λ schema. events_of (outline_of_variable_definitions schema (typing_of types.entry) written.now))) }
 {
     match written {
         Some(list) => push_variables(list.item.items.as_slice(), types, frames),
@@ -260,15 +247,14 @@ fn push_written_variables<'a, S, C>(
     }
 }
 
-// A default value, where there is one.
+// Puts on the stack a default value, where there is one.
 fn push_default_value<'a, S, C>(
     written: &'a Option<Spanning<InputValue<S>>>,
     types: TypesOf<'a, S, C>,
     frames: &mut Vec<Frame<'a, S, C>>,
 ) -> Result<(), OutOfMemory>
-    ensures { OnOk result ((schema : Catalog S C) → stack_events schema frames.new.items
-        ≡ events_of (if_there (outline_of_value schema (typing_of types.entry)) written.now)
-        ++ stack_events schema frames.old.items) }
+    ensures { OnOk result (Pushes frames.old frames.new
+        (λ schema. events_of (if_there (outline_of_value schema (typing_of types.entry)) written.now))) }
 {
     match written {
         Some(value) => push_part(Part::Value(value), types, frames),
@@ -276,15 +262,14 @@ fn push_default_value<'a, S, C>(
     }
 }
 
-// A selection set, where there is one.
+// Puts on the stack a selection set, where there is one.
 fn push_written_set<'a, S, C>(
     written: &'a Option<Vec<Selection<'a, S>>>,
     types: TypesOf<'a, S, C>,
     frames: &mut Vec<Frame<'a, S, C>>,
 ) -> Result<(), OutOfMemory>
-    ensures { OnOk result ((schema : Catalog S C) → stack_events schema frames.new.items
-        ≡ events_of (outline_of_set_if_there schema (typing_of types.entry) written.now)
-        ++ stack_events schema frames.old.items) }
+    ensures { OnOk result (Pushes frames.old frames.new
+        (λ schema. events_of (outline_of_set_if_there schema (typing_of types.entry) written.now))) }
 {
     match written {
         Some(set) => push_part(Part::Set(set.as_slice()), types, frames),
@@ -292,21 +277,19 @@ fn push_written_set<'a, S, C>(
     }
 }
 
-// A list is entered.
+// Enters a list.
 fn enter_list<'a, S, C>(
     items: &'a Vec<Spanning<InputValue<S>>>,
     span: &'a Span,
     at: &mut TypesOf<'a, S, C>,
     frames: &mut Vec<Frame<'a, S, C>>,
 ) -> Result<Event<'a, S>, OutOfMemory>
-    ensures { IfOk result (λ e. (schema : Catalog S C) → typed_event e (typing_of at.new)
-        ∷ stack_events schema frames.new.items
-        ≡ events_of (node_with (Node.list_value (record { item = items.now.items; span = span.now }))
-        (typing_of at.old) (each (outline_of_value schema (at_items (typing_of at.old))) items.now.items))
-        ++ stack_events schema frames.old.items) }
+    ensures { IfOk result (λ e. Enters e at.new frames.old frames.new (λ schema. events_of
+        (node_with (Node.list_value (record { item = items.now.items; span = span.now })) (typing_of at.old)
+        (each (outline_of_value schema (at_items (typing_of at.old))) items.now.items)))) }
 {
     push_part(
-        Part::Told(Event::ExitListValue(Spanning { item: items, span })),
+        Part::Exit(Event::ExitListValue(Spanning { item: items, span })),
         *at,
         frames,
     )?;
@@ -314,21 +297,19 @@ fn enter_list<'a, S, C>(
     Ok(Event::EnterListValue(Spanning { item: items, span }))
 }
 
-// An object is entered.
+// Enters an object.
 fn enter_object<'a, S, C>(
     items: &'a Vec<(Spanning<String>, Spanning<InputValue<S>>)>,
     span: &'a Span,
     at: &mut TypesOf<'a, S, C>,
     frames: &mut Vec<Frame<'a, S, C>>,
 ) -> Result<Event<'a, S>, OutOfMemory>
-    ensures { IfOk result (λ e. (schema : Catalog S C) → typed_event e (typing_of at.new)
-        ∷ stack_events schema frames.new.items
-        ≡ events_of (node_with (Node.object_value (record { item = items.now.items; span = span.now }))
-        (typing_of at.old) (each (outline_of_object_field schema (typing_of at.old)) items.now.items))
-        ++ stack_events schema frames.old.items) }
+    ensures { IfOk result (λ e. Enters e at.new frames.old frames.new (λ schema. events_of
+        (node_with (Node.object_value (record { item = items.now.items; span = span.now })) (typing_of at.old)
+        (each (outline_of_object_field schema (typing_of at.old)) items.now.items)))) }
 {
     push_part(
-        Part::Told(Event::ExitObjectValue(Spanning { item: items, span })),
+        Part::Exit(Event::ExitObjectValue(Spanning { item: items, span })),
         *at,
         frames,
     )?;
@@ -336,15 +317,14 @@ fn enter_object<'a, S, C>(
     Ok(Event::EnterObjectValue(Spanning { item: items, span }))
 }
 
-// A value is entered.
+// Enters a value.
 fn enter_value<'a, S, C>(
     value: &'a Spanning<InputValue<S>>,
     at: &mut TypesOf<'a, S, C>,
     frames: &mut Vec<Frame<'a, S, C>>,
 ) -> Result<Event<'a, S>, OutOfMemory>
-    ensures { IfOk result (λ e. (schema : Catalog S C) → typed_event e (typing_of at.new)
-        ∷ stack_events schema frames.new.items ≡ events_of (outline_of_value schema (typing_of at.old) value.now)
-        ++ stack_events schema frames.old.items) }
+    ensures { IfOk result (λ e. Enters e at.new frames.old frames.new
+        (λ schema. events_of (outline_of_value schema (typing_of at.old) value.now))) }
 {
     let span = &value.span;
     match &value.item {
@@ -377,21 +357,20 @@ fn enter_value<'a, S, C>(
     }
 }
 
-// The field of an object is entered.
+// Enters a field of an object.
 fn enter_entry<'a, S, C>(
     schema: &'a SchemaTypeOf<S, C>,
     entry: &'a (Spanning<String>, Spanning<InputValue<S>>),
     at: &mut TypesOf<'a, S, C>,
     frames: &mut Vec<Frame<'a, S, C>>,
 ) -> Result<Event<'a, S>, OutOfMemory>
-    ensures { IfOk result (λ e. typed_event e (typing_of at.new) ∷ stack_events schema.now frames.new.items
-        ≡ events_of (outline_of_object_field schema.now (typing_of at.old) entry.now)
-        ++ stack_events schema.now frames.old.items) }
+    ensures { IfOk result (λ e. EntersIn schema.now e at.new frames.old frames.new
+        (events_of (outline_of_object_field schema.now (typing_of at.old) entry.now))) }
 {
     let (key, value) = entry;
     let inside = at.at_object_field(schema, key.item.as_str());
     push_part(
-        Part::Told(Event::ExitObjectField(
+        Part::Exit(Event::ExitObjectField(
             Spanning {
                 item: &key.item,
                 span: &key.span,
@@ -418,58 +397,53 @@ fn enter_entry<'a, S, C>(
     ))
 }
 
-// An argument is entered, whose type is looked up among the known ones.
+// Enters an argument, whose type is looked up among the known ones.
 fn enter_argument<'a, S, C>(
     known: Option<&'a [Argument<S>]>,
     argument: &'a (Spanning<&'a str>, Spanning<InputValue<S>>),
     at: &mut TypesOf<'a, S, C>,
     frames: &mut Vec<Frame<'a, S, C>>,
 ) -> Result<Event<'a, S>, OutOfMemory>
-    ensures { IfOk result (λ e. (schema : Catalog S C) → typed_event e (typing_of at.new)
-        ∷ stack_events schema frames.new.items
-        ≡ events_of (outline_of_argument schema (option_copied known.entry) (typing_of at.old) argument.now)
-        ++ stack_events schema frames.old.items) }
+    ensures { IfOk result (λ e. Enters e at.new frames.old frames.new (λ schema. events_of
+        (outline_of_argument schema (option_copied known.entry) (typing_of at.old) argument.now))) }
 {
     let (name, value) = argument;
     let inside = at.at_argument(known, name.item);
-    push_part(Part::Told(Event::ExitArgument(argument)), inside, frames)?;
+    push_part(Part::Exit(Event::ExitArgument(argument)), inside, frames)?;
     push_part(Part::Value(value), inside, frames)?;
     *at = inside;
     Ok(Event::EnterArgument(argument))
 }
 
-// A directive is entered.
+// Enters a directive.
 fn enter_directive<'a, S, C>(
     schema: &'a SchemaTypeOf<S, C>,
     directive: &'a Spanning<Directive<'a, S>>,
     at: &mut TypesOf<'a, S, C>,
     frames: &mut Vec<Frame<'a, S, C>>,
 ) -> Result<Event<'a, S>, OutOfMemory>
-    ensures { IfOk result (λ e. typed_event e (typing_of at.new) ∷ stack_events schema.now frames.new.items
-        ≡ events_of (outline_of_directive schema.now (typing_of at.old) directive.now)
-        ++ stack_events schema.now frames.old.items) }
+    ensures { IfOk result (λ e. EntersIn schema.now e at.new frames.old frames.new
+        (events_of (outline_of_directive schema.now (typing_of at.old) directive.now))) }
 {
     let known = arguments_of_directive(schema, directive.item.name.item);
-    push_part(Part::Told(Event::ExitDirective(directive)), *at, frames)?;
+    push_part(Part::Exit(Event::ExitDirective(directive)), *at, frames)?;
     push_written_arguments(known, &directive.item.arguments, *at, frames)?;
     Ok(Event::EnterDirective(directive))
 }
 
-// The definition of a variable is entered.
+// Enters a variable definition.
 fn enter_variable<'a, S, C>(
     definition: &'a (Spanning<&'a str>, VariableDefinition<'a, S>),
     at: &mut TypesOf<'a, S, C>,
     frames: &mut Vec<Frame<'a, S, C>>,
 ) -> Result<Event<'a, S>, OutOfMemory>
-    ensures { IfOk result (λ e. (schema : Catalog S C) → typed_event e (typing_of at.new)
-        ∷ stack_events schema frames.new.items
-        ≡ events_of (outline_of_variable_definition schema (typing_of at.old) definition.now)
-        ++ stack_events schema frames.old.items) }
+    ensures { IfOk result (λ e. Enters e at.new frames.old frames.new
+        (λ schema. events_of (outline_of_variable_definition schema (typing_of at.old) definition.now))) }
 {
     let (_, variable) = definition;
     let inside = at.at_variable(variable);
     push_part(
-        Part::Told(Event::ExitVariableDefinition(definition)),
+        Part::Exit(Event::ExitVariableDefinition(definition)),
         inside,
         frames,
     )?;
@@ -479,37 +453,35 @@ fn enter_variable<'a, S, C>(
     Ok(Event::EnterVariableDefinition(definition))
 }
 
-// A selection set is entered.
+// Enters a selection set.
 fn enter_set<'a, S, C>(
     set: &'a [Selection<'a, S>],
     at: &mut TypesOf<'a, S, C>,
     frames: &mut Vec<Frame<'a, S, C>>,
 ) -> Result<Event<'a, S>, OutOfMemory>
-    ensures { IfOk result (λ e. (schema : Catalog S C) → typed_event e (typing_of at.new)
-        ∷ stack_events schema frames.new.items ≡ events_of (outline_of_set schema (typing_of at.old) set.now)
-        ++ stack_events schema frames.old.items) }
+    ensures { IfOk result (λ e. Enters e at.new frames.old frames.new
+        (λ schema. events_of (outline_of_set schema (typing_of at.old) set.now))) }
 {
     let inside = at.at_set();
-    push_part(Part::Told(Event::ExitSelectionSet(set)), inside, frames)?;
+    push_part(Part::Exit(Event::ExitSelectionSet(set)), inside, frames)?;
     push_selections(set, inside, frames)?;
     *at = inside;
     Ok(Event::EnterSelectionSet(set))
 }
 
-// A field is entered.
+// Enters a field.
 fn enter_field<'a, S, C>(
     schema: &'a SchemaTypeOf<S, C>,
     field: &'a Spanning<Field<'a, S>>,
     at: &mut TypesOf<'a, S, C>,
     frames: &mut Vec<Frame<'a, S, C>>,
 ) -> Result<Event<'a, S>, OutOfMemory>
-    ensures { IfOk result (λ e. typed_event e (typing_of at.new) ∷ stack_events schema.now frames.new.items
-        ≡ events_of (outline_of_field schema.now (typing_of at.old) field.now)
-        ++ stack_events schema.now frames.old.items) }
+    ensures { IfOk result (λ e. EntersIn schema.now e at.new frames.old frames.new
+        (events_of (outline_of_field schema.now (typing_of at.old) field.now))) }
 {
     let inside = at.at_field(schema, field.item.name.item);
     let known = arguments_of_field(inside.parent, field.item.name.item);
-    push_part(Part::Told(Event::ExitField(field)), inside, frames)?;
+    push_part(Part::Exit(Event::ExitField(field)), inside, frames)?;
     push_written_set(&field.item.selection_set, inside, frames)?;
     push_written_directives(&field.item.directives, inside, frames)?;
     push_written_arguments(known, &field.item.arguments, inside, frames)?;
@@ -517,35 +489,33 @@ fn enter_field<'a, S, C>(
     Ok(Event::EnterField(field))
 }
 
-// A fragment spread is entered.
+// Enters a fragment spread.
 fn enter_spread<'a, S, C>(
     spread: &'a Spanning<FragmentSpread<'a, S>>,
     at: &mut TypesOf<'a, S, C>,
     frames: &mut Vec<Frame<'a, S, C>>,
 ) -> Result<Event<'a, S>, OutOfMemory>
-    ensures { IfOk result (λ e. (schema : Catalog S C) → typed_event e (typing_of at.new)
-        ∷ stack_events schema frames.new.items ≡ events_of (outline_of_spread schema (typing_of at.old) spread.now)
-        ++ stack_events schema frames.old.items) }
+    ensures { IfOk result (λ e. Enters e at.new frames.old frames.new
+        (λ schema. events_of (outline_of_spread schema (typing_of at.old) spread.now))) }
 {
-    push_part(Part::Told(Event::ExitFragmentSpread(spread)), *at, frames)?;
+    push_part(Part::Exit(Event::ExitFragmentSpread(spread)), *at, frames)?;
     push_written_directives(&spread.item.directives, *at, frames)?;
     Ok(Event::EnterFragmentSpread(spread))
 }
 
-// An inline fragment is entered.
+// Enters an inline fragment.
 fn enter_inline<'a, S, C>(
     schema: &'a SchemaTypeOf<S, C>,
     fragment: &'a Spanning<InlineFragment<'a, S>>,
     at: &mut TypesOf<'a, S, C>,
     frames: &mut Vec<Frame<'a, S, C>>,
 ) -> Result<Event<'a, S>, OutOfMemory>
-    ensures { IfOk result (λ e. typed_event e (typing_of at.new) ∷ stack_events schema.now frames.new.items
-        ≡ events_of (outline_of_inline schema.now (typing_of at.old) fragment.now)
-        ++ stack_events schema.now frames.old.items) }
+    ensures { IfOk result (λ e. EntersIn schema.now e at.new frames.old frames.new
+        (events_of (outline_of_inline schema.now (typing_of at.old) fragment.now))) }
 {
     let inside = at.at_condition(schema, &fragment.item.type_condition);
     push_part(
-        Part::Told(Event::ExitInlineFragment(fragment)),
+        Part::Exit(Event::ExitInlineFragment(fragment)),
         inside,
         frames,
     )?;
@@ -559,16 +529,15 @@ fn enter_inline<'a, S, C>(
     Ok(Event::EnterInlineFragment(fragment))
 }
 
-// A selection is entered.
+// Enters a selection.
 fn enter_selection<'a, S, C>(
     schema: &'a SchemaTypeOf<S, C>,
     selection: &'a Selection<'a, S>,
     at: &mut TypesOf<'a, S, C>,
     frames: &mut Vec<Frame<'a, S, C>>,
 ) -> Result<Event<'a, S>, OutOfMemory>
-    ensures { IfOk result (λ e. typed_event e (typing_of at.new) ∷ stack_events schema.now frames.new.items
-        ≡ events_of (outline_of_selection schema.now (typing_of at.old) selection.now)
-        ++ stack_events schema.now frames.old.items) }
+    ensures { IfOk result (λ e. EntersIn schema.now e at.new frames.old frames.new
+        (events_of (outline_of_selection schema.now (typing_of at.old) selection.now))) }
 {
     match selection {
         Selection::Field(field) => enter_field(schema, field, at, frames),
@@ -577,20 +546,19 @@ fn enter_selection<'a, S, C>(
     }
 }
 
-// An operation is entered.
+// Enters an operation.
 fn enter_operation<'a, S, C>(
     schema: &'a SchemaTypeOf<S, C>,
     operation: &'a Spanning<Operation<'a, S>>,
     at: &mut TypesOf<'a, S, C>,
     frames: &mut Vec<Frame<'a, S, C>>,
 ) -> Result<Event<'a, S>, OutOfMemory>
-    ensures { IfOk result (λ e. typed_event e (typing_of at.new) ∷ stack_events schema.now frames.new.items
-        ≡ events_of (outline_of_operation schema.now (typing_of at.old) operation.now)
-        ++ stack_events schema.now frames.old.items) }
+    ensures { IfOk result (λ e. EntersIn schema.now e at.new frames.old frames.new
+        (events_of (outline_of_operation schema.now (typing_of at.old) operation.now))) }
 {
     let inside = at.at_operation(schema, operation.item.operation_type);
     push_part(
-        Part::Told(Event::ExitOperationDefinition(operation)),
+        Part::Exit(Event::ExitOperationDefinition(operation)),
         inside,
         frames,
     )?;
@@ -605,20 +573,19 @@ fn enter_operation<'a, S, C>(
     Ok(Event::EnterOperationDefinition(operation))
 }
 
-// The definition of a fragment is entered.
+// Enters a fragment definition.
 fn enter_fragment<'a, S, C>(
     schema: &'a SchemaTypeOf<S, C>,
     fragment: &'a Spanning<Fragment<'a, S>>,
     at: &mut TypesOf<'a, S, C>,
     frames: &mut Vec<Frame<'a, S, C>>,
 ) -> Result<Event<'a, S>, OutOfMemory>
-    ensures { IfOk result (λ e. typed_event e (typing_of at.new) ∷ stack_events schema.now frames.new.items
-        ≡ events_of (outline_of_fragment schema.now (typing_of at.old) fragment.now)
-        ++ stack_events schema.now frames.old.items) }
+    ensures { IfOk result (λ e. EntersIn schema.now e at.new frames.old frames.new
+        (events_of (outline_of_fragment schema.now (typing_of at.old) fragment.now))) }
 {
     let inside = at.at_named(schema, fragment.item.type_condition.item);
     push_part(
-        Part::Told(Event::ExitFragmentDefinition(fragment)),
+        Part::Exit(Event::ExitFragmentDefinition(fragment)),
         inside,
         frames,
     )?;
@@ -632,16 +599,15 @@ fn enter_fragment<'a, S, C>(
     Ok(Event::EnterFragmentDefinition(fragment))
 }
 
-// A definition is entered.
+// Enters a definition.
 fn enter_definition<'a, S, C>(
     schema: &'a SchemaTypeOf<S, C>,
     definition: &'a Definition<'a, S>,
     at: &mut TypesOf<'a, S, C>,
     frames: &mut Vec<Frame<'a, S, C>>,
 ) -> Result<Event<'a, S>, OutOfMemory>
-    ensures { IfOk result (λ e. typed_event e (typing_of at.new) ∷ stack_events schema.now frames.new.items
-        ≡ events_of (outline_of_definition schema.now (typing_of at.old) definition.now)
-        ++ stack_events schema.now frames.old.items) }
+    ensures { IfOk result (λ e. EntersIn schema.now e at.new frames.old frames.new
+        (events_of (outline_of_definition schema.now (typing_of at.old) definition.now))) }
 {
     match definition {
         Definition::Operation(operation) => enter_operation(schema, operation, at, frames),
@@ -649,19 +615,18 @@ fn enter_definition<'a, S, C>(
     }
 }
 
-// The first event of a part; the others wait on the stack.
+// Enters a part: returns its first event, and leaves the others on the stack.
 fn enter_part<'a, S, C>(
     schema: &'a SchemaTypeOf<S, C>,
     part: Part<'a, S>,
     at: &mut TypesOf<'a, S, C>,
     frames: &mut Vec<Frame<'a, S, C>>,
 ) -> Result<Event<'a, S>, OutOfMemory>
-    ensures { IfOk result (λ e. typed_event e (typing_of at.new) ∷ stack_events schema.now frames.new.items
-        ≡ frame_events schema.now (record { part = part.entry; types = at.old })
-        ++ stack_events schema.now frames.old.items) }
+    ensures { IfOk result (λ e. EntersIn schema.now e at.new frames.old frames.new
+        (frame_events schema.now (record { part = part.entry; types = at.old }))) }
 {
     match part {
-        Part::Told(event) => Ok(event),
+        Part::Exit(event) => Ok(event),
         Part::Definitions(first, rest) => {
             push_definitions(rest, *at, frames)?;
             enter_definition(schema, first, at, frames)
@@ -696,7 +661,11 @@ fn enter_part<'a, S, C>(
 }
 
 impl<'a, S, C> EventCursorOf<'a, S, C> {
-    /// All events of these definitions, which stand at these types.
+    /// Starts a cursor before the first event of these definitions; `types` are those at the node around them.
+    ///
+    /// # Errors
+    ///
+    /// Out of memory.
     pub fn over(
         alloc: Global,
         schema: &'a SchemaTypeOf<S, C>,
@@ -711,9 +680,13 @@ impl<'a, S, C> EventCursorOf<'a, S, C> {
         Ok(EventCursorOf { schema, frames })
     }
 
-    /// The event that comes next, which is left no more; none where nothing is left.
+    /// Takes the next event; `None` once all events were taken.
     ///
-    /// The types at its node are written to `at`, so that no event is copied along with its types.
+    /// Writes the types at the event's node to `at`, so that no event is copied along with its types.
+    ///
+    /// # Errors
+    ///
+    /// Out of memory. The events that are left and `at` are then unspecified.
     pub fn next(&mut self, at: &mut TypesOf<'a, S, C>) -> Result<Option<Event<'a, S>>, OutOfMemory>
         ensures { IfOk result (λ found. IsNextLeft found (typing_of at.new) self.old self.new) }
     {

@@ -1,4 +1,4 @@
-//! What a walk tells a visitor.
+//! The events of a walk, as a visitor sees them.
 
 use language::position::{Span, Spanning};
 use language::tree::{
@@ -7,9 +7,9 @@ use language::tree::{
 };
 use language::value::InputValue;
 
-/// A node of a document is entered or left.
+/// Entering or leaving a node of a document.
 ///
-/// Each event holds its node, borrowed from the document; a part of a value holds the stretch of the text where it stands.
+/// Each event holds its node, borrowed from the document. An event of a value holds the value's span beside it.
 #[derive(Drop)]
 pub enum Event<'a, S> {
     EnterDocument(&'a [Definition<'a, S>]),

@@ -1,4 +1,5 @@
-//! The events of a document, each with the types at its node, and the places that definitions speak of.
+//! The events of a walk over a document, each with the types at its node, and the definitions that contracts cite for
+//! them.
 #![tactic(auto)]
 
 pub mod cursor;
@@ -7,4 +8,4 @@ pub mod typed_events;
 
 pub use cursor::{EventCursor, EventCursorOf};
 pub use event::Event;
-pub use typed_events::TypesOf;
+pub use typed_events::{TypesOf, arguments_of_directive, arguments_of_field};

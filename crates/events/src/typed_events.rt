@@ -79,8 +79,8 @@ fn type_of_field<'a, S, C>(
     }
 }
 
-// The arguments of the first field of the name.
-pub(crate) fn arguments_of_field<'a, S, C>(
+/// The arguments of the parent type's first field of the name; `None` where there is no such field, or it has no list.
+pub fn arguments_of_field<'a, S, C>(
     parent: Option<&'a MetaTypeOf<S, C>>,
     name: &str,
 ) -> Option<&'a [Argument<S>]>
@@ -92,8 +92,8 @@ pub(crate) fn arguments_of_field<'a, S, C>(
     }
 }
 
-// The arguments of the directive of the name.
-pub(crate) fn arguments_of_directive<'a, S, C>(
+/// The arguments of the schema's directive of the name; `None` where there is no such directive.
+pub fn arguments_of_directive<'a, S, C>(
     schema: &'a SchemaTypeOf<S, C>,
     name: &str,
 ) -> Option<&'a [Argument<S>]>
@@ -195,7 +195,7 @@ impl<'a, S, C> TypesOf<'a, S, C> {
         self.at_type(schema, type_of_field(self.parent, name))
     }
 
-    // At an inline fragment with this condition, or with none.
+    // At an inline fragment, with or without a condition.
     pub(crate) fn at_condition(
         self,
         schema: &'a SchemaTypeOf<S, C>,
