@@ -23,7 +23,7 @@ pub record Adds (text : List ℕ) (lefts rights : List SourcePosition) (old new 
   pub lefts_added : new.lefts.items ≡ old.lefts.items ++ lefts
   pub rights_added : new.rights.items ≡ old.rights.items ++ rights
 
--- what is told of two fields, as it stands among the reasons of the fields round them
+-- the text for two fields, as it stands among the reasons of the fields around them
 abbrev pub AddsNested : Told → Account → Account → Type 0
 AddsNested t = Adds (as_nested t) t.lefts t.rights
 
@@ -42,7 +42,7 @@ module _ {S C : Type 0} (E : S → S → Bool) (schema : Catalog S C) (fields : 
   IsToldBy (why.Below found) x y t =
       (rs : Reports Entry) × (ts : Reports (PlainEntry S C)) × (found.now ≡ postfix rs) × AreReportsOf fields rs ts × (t ≡ told_over E schema x y (told E schema ts))
 
-  -- what is told of a part
+  -- the text for a part
   pub record IsToldOf (part : Part) (t : Told) : Type 0 where
     pub first : PlainEntry S C
     pub second : PlainEntry S C

@@ -1,4 +1,4 @@
--- What is told of conflicts: the reasons, and the places of both sides.
+-- The texts for conflicts: the reasons, and the places of both sides.
 use Rattle.std.specs.Prelude.{ℕ, List, [], ◌∷◌, ◌++◌, Bool, map}
 use Rattle.std.specs.List.{flat_map}
 use Rattle.std.specs.Option.{option_map_or}
@@ -16,7 +16,7 @@ pub record Told : Type 0 where
   pub lefts : List SourcePosition
   pub rights : List SourcePosition
 
--- the reason among those of the fields round them
+-- the reason among those of the fields around them
 abbrev pub as_nested : Told → List ℕ
 as_nested t = nested_text t.response t.reason
 
@@ -40,7 +40,7 @@ module _ {S C : Type 0} (E : S → S → Bool) (schema : Catalog S C) where
   abbrev pub told_directly : Bool → PlainEntry S C → PlainEntry S C → Told
   told_directly e a b = record { response = response_of a; reason = reason_between e a b; lefts = place_of a ∷ []; rights = place_of b ∷ [] }
 
-  -- of two fields by what is told of the conflicts below them
+  -- of two fields by the texts for the conflicts below them
   abbrev pub told_over : PlainEntry S C → PlainEntry S C → List Told → Told
   told_over a b below = record {
     response = response_of a;

@@ -35,6 +35,10 @@ pub fn no_account(alloc: Global) -> Account
 }
 
 /// Adds a text.
+///
+/// # Errors
+///
+/// Out of memory.
 pub fn add_text(account: &mut Account, text: &str) -> Result<(), OutOfMemory>
     ensures { OnOk result (Adds text.now [] [] account.old account.new) }
 {
@@ -43,6 +47,10 @@ pub fn add_text(account: &mut Account, text: &str) -> Result<(), OutOfMemory>
 }
 
 /// Adds a response name between two texts.
+///
+/// # Errors
+///
+/// Out of memory. Part of it may have been added.
 pub fn add_name(
     account: &mut Account,
     before: &str,
@@ -58,6 +66,10 @@ pub fn add_name(
 }
 
 /// Adds the places of two fields.
+///
+/// # Errors
+///
+/// Out of memory. Part of it may have been added.
 pub fn add_places<S, C>(
     account: &mut Account,
     first: &Entry<'_, S, C>,
@@ -71,7 +83,11 @@ pub fn add_places<S, C>(
     Ok(())
 }
 
-/// Adds why two fields fail by themselves, with their places.
+/// Adds why two fields conflict by themselves, with their places.
+///
+/// # Errors
+///
+/// Out of memory. Part of it may have been added.
 pub fn add_reason<S: ScalarValue, C>(
     alloc: Global,
     schema: &SchemaTypeOf<S, C>,

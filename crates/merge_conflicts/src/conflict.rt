@@ -1,6 +1,6 @@
 //! The errors of conflicts, in the order in which they were found.
 ghost use Rattle.std.specs.Prelude.{◌≡◌, IfOk, map};
-ghost use Rattle.merge_search.specs.declared.node.Entry as merging;
+ghost use Rattle.merge_search.specs.declared.node.Entry as numbered;
 ghost use Rattle.merge_field_pairs.specs.Entries.{PlainEntry, plain};
 ghost use Rattle.merge_conflicts.specs.Reports.{Reports, postfix, AreReportsOf};
 ghost use Rattle.merge_conflicts.specs.Telling.{IsToldOf, plain_conflict};
@@ -17,7 +17,7 @@ use merge_search::state::Finding;
 use schema::model::SchemaTypeOf;
 use std::alloc::Global;
 
-/// A conflict: the message of its error and its places.
+/// A conflict: the message of its error, and the positions of its fields (0-based line, column and index).
 #[derive(Drop)]
 pub struct Conflict {
     pub message: String,
@@ -26,14 +26,18 @@ pub struct Conflict {
 
 /// The errors of the conflicts whose trees the findings write out, in order, each with all that was found below it.
 ///
-/// Findings that write out no trees of these fields give some errors.
+/// For findings that are not the trees of these fields, some errors are returned.
+///
+/// # Errors
+///
+/// Out of memory.
 pub fn conflicts_found<'a, S: ScalarValue, C>(
     alloc: Global,
     schema: &SchemaTypeOf<S, C>,
     fields: &[Entry<'a, S, C>],
     found: &[Finding],
 ) -> Result<Vec<Conflict>, OutOfMemory>
-    ensures { (rs : Reports merging.Entry) (ts : Reports (PlainEntry S C)) → found.now ≡ postfix rs
+    ensures { (rs : Reports numbered.Entry) (ts : Reports (PlainEntry S C)) → found.now ≡ postfix rs
         → AreReportsOf (map plain fields.now) rs ts
         → IfOk result (λ v. map plain_conflict v.items ≡ errors_of S.eq schema.now ts) }
 {

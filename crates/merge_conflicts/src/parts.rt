@@ -1,7 +1,7 @@
 //! Findings by the conflicts whose trees they write out.
 ghost use Rattle.std.specs.Prelude.{◌≡◌, ◌<◌, ◌≤◌, IfOk, IfSome, length};
 ghost use Rattle.std.specs.List.{All};
-ghost use Rattle.merge_search.specs.declared.node.Entry as merging;
+ghost use Rattle.merge_search.specs.declared.node.Entry as numbered;
 ghost use Rattle.merge_conflicts.specs.Reports.{Reports, postfix};
 ghost use Rattle.merge_conflicts.specs.Parts.{part_of, ArePartsOf, IsLastPart, extent};
 
@@ -26,8 +26,12 @@ pub enum Why<'f> {
 }
 
 /// The conflicts whose trees the findings write out, in order, without those below them.
+///
+/// # Errors
+///
+/// Out of memory.
 pub fn parts_of<'f>(alloc: Global, found: &'f [Finding]) -> Result<Vec<Part<'f>>, OutOfMemory>
-    ensures parts { (rs : Reports merging.Entry) → found.now ≡ postfix rs → IfOk result (λ v. ArePartsOf rs v.items) }
+    ensures parts { (rs : Reports numbered.Entry) → found.now ≡ postfix rs → IfOk result (λ v. ArePartsOf rs v.items) }
     ensures within { IfOk result (λ v. All (λ p. extent p ≤ length found.now) v.items) }
 {
     let mut parts = Vec::new(alloc);
@@ -40,9 +44,10 @@ pub fn parts_of<'f>(alloc: Global, found: &'f [Finding]) -> Result<Vec<Part<'f>>
     Ok(parts)
 }
 
-// The last conflict, and the findings before its own. Where a finding counts more below it than there are, these are below it.
+// The last conflict, and the findings before its own. Where a finding counts more below it than there are, these are
+// below it.
 fn last_part<'f>(found: &'f [Finding]) -> Option<(&'f [Finding], Part<'f>)>
-    ensures last { (rs : Reports merging.Entry) → found.now ≡ postfix rs → IsLastPart rs result }
+    ensures last { (rs : Reports numbered.Entry) → found.now ≡ postfix rs → IsLastPart rs result }
     ensures shorter { IfSome result (λ r. length r.0.now < length found.now) }
     ensures within { IfSome result (λ r. extent r.1 ≤ length found.now) }
 {

@@ -1,6 +1,6 @@
 //! Why two fields can't be merged, written out with all that stands below them.
 ghost use Rattle.std.specs.Prelude.{◌≡◌, ◌++◌, ◌∷◌, [], OnOk, Some, codes, map, slice_get};
-ghost use Rattle.merge_search.specs.declared.node.Entry as merging;
+ghost use Rattle.merge_search.specs.declared.node.Entry as numbered;
 ghost use Rattle.merge_field_pairs.specs.Entries.{PlainEntry, plain, response_of};
 ghost use Rattle.merge_conflicts.specs.Reports.{Reports, postfix, AreReportsOf};
 ghost use Rattle.merge_conflicts.specs.Telling.{Adds, AddsNested, AddsJoined, IsToldOf};
@@ -15,7 +15,7 @@ use merge_search::state::Finding;
 use schema::model::SchemaTypeOf;
 use std::alloc::Global;
 
-/// The response name of a field; of a number past the last, none.
+/// The response name of a field; empty for a number that is no field's.
 pub fn response_at<'a, S, C>(fields: &[Entry<'a, S, C>], number: usize) -> &'a str
     ensures { (x : PlainEntry S C) → slice_get (map plain fields.now) number ≡ Some x → result.now ≡ response_of x }
 {
@@ -25,7 +25,11 @@ pub fn response_at<'a, S, C>(fields: &[Entry<'a, S, C>], number: usize) -> &'a s
     }
 }
 
-/// Adds why the two fields of a part can't be merged, with their places. Of numbers past the last nothing is added.
+/// Adds why the two fields of a part can't be merged, with their places; nothing for a number that is no field's.
+///
+/// # Errors
+///
+/// Out of memory. Part of it may have been added.
 #[cycle(reasons)]
 pub fn add_why<'a, S: ScalarValue, C>(
     alloc: Global,
@@ -49,7 +53,7 @@ pub fn add_why<'a, S: ScalarValue, C>(
     }
 }
 
-// Adds the reasons of a part as they stand among those of the fields round them.
+// Adds the reasons of a part as they stand among those of the fields around them.
 #[cycle(reasons)]
 fn add_part<'a, S: ScalarValue, C>(
     alloc: Global,
@@ -75,7 +79,7 @@ fn add_below<'a, S: ScalarValue, C>(
     found: &[Finding],
     account: &mut Account,
 ) -> Result<(), OutOfMemory>
-    ensures { (rs : Reports merging.Entry) (ts : Reports (PlainEntry S C)) → found.now ≡ postfix rs
+    ensures { (rs : Reports numbered.Entry) (ts : Reports (PlainEntry S C)) → found.now ≡ postfix rs
         → AreReportsOf (map plain fields.now) rs ts
         → OnOk result (AddsJoined (told S.eq schema.now ts) account.old account.new) }
 {

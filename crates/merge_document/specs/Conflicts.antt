@@ -46,7 +46,7 @@ module _ {S C : Type 0} (E : S → S → Bool) (schema : Catalog S C) (document 
     pub true_ones : AreTrue false reports
     pub in_one_set : All (λ r. AreInOneSet r.0 r.1) (roots reports)
 
-  -- Some pair of the way is told of.
+  -- Some pair of the way is reported.
   abbrev pub IsPassed : Reports (PlainEntry S C) → {e : Bool} {a b : PlainEntry S C} → Way E schema document e a b → Type 0
   IsPassed reports {a = a} {b = b} (here h) = (f : Bool) × TellsEither reports f a b
   IsPassed reports {a = a} {b = b} (down step way) = ((f : Bool) × TellsEither reports f a b) ⊎ IsPassed reports way
@@ -57,14 +57,14 @@ module _ {S C : Type 0} (E : S → S → Bool) (schema : Catalog S C) (document 
 
   -- No conflict is missed.
   pub record AreAll (reports : Reports (PlainEntry S C)) : Type 0 where
-    -- none is reported exactly where the document merges
+    -- nothing is reported if and only if the document merges
     pub exact : (reports ≡ none) ↔ DocumentMerges E schema document
-    -- two fields of a set that fail by themselves are told of, at the top or below
+    -- two fields of a set that conflict by themselves are reported, at the top or below
     pub failing : (a b : PlainEntry S C) → Meet a b → Fails E schema false a b → TellsEither reports false a b
     -- at the top, where one of them is an own field of the set
     pub at_the_top : (p : Option (MetaTypeOf S C)) (set : List (Selection S)) (a b : PlainEntry S C) → IsSetIn schema document p set
         → Contains (own_fields schema p set) a → Stands schema document p set b → Same a b → Fails E schema false a b → AtTheTop reports a b
-    -- and on each way from two fields of a set down to two that fail some pair is told of
+    -- and on each way from two fields of a set down to two that fail some pair is reported
     pub ways : (a b : PlainEntry S C) → Meet a b → (way : Way E schema document false a b) → IsPassed reports way
 
 module _ {S C : Type 0} (schema : Catalog S C) (document : List (Definition S)) where

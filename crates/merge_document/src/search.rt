@@ -22,7 +22,7 @@ use std::alloc::Global;
 pub struct FoundConflicts<'a, S, C> {
     /// The fields of the document by number.
     pub fields: Vec<Entry<'a, S, C>>,
-    /// What was found of them, in postfix order: a nested conflict stands after those below it, with their number.
+    /// The findings, in postfix order: a nested conflict stands after those below it, with their number.
     pub found: Vec<Finding>,
     /// How many pairs of fragments were compared.
     pub compared: u128,
@@ -52,11 +52,17 @@ fn found_in<'a, S, C>(
     }
 }
 
-/// The fields that can't be merged of a document whose fragments were searched for cycles; none exactly where some fragment leads back to
-/// itself.
+/// The fields of a document that can't be merged (GraphQL, October 2021, section 5.3.2).
 ///
-/// What is found is true. Where no field repeats an argument, nor a key in one, nothing is missed. Of `n` definitions of fragments
-/// at most `n (n - 1)` pairs are compared, and at least those of which some set spreads both; no search opens more than `n`.
+/// The document's fragments were searched for cycles. `None` if and only if some fragment leads back to itself.
+///
+/// What is found is true. Where no field repeats an argument, nor a key in one, nothing is missed. Of `n` definitions
+/// of fragments at most `n (n - 1)` pairs are compared, and at least those of which some set spreads both; no search
+/// opens more than `n`.
+///
+/// # Errors
+///
+/// Out of memory.
 pub fn search_fields<'a, S: ScalarValue, C>(
     alloc: Global,
     schema: &'a SchemaTypeOf<S, C>,
@@ -66,10 +72,9 @@ pub fn search_fields<'a, S: ScalarValue, C>(
     requires { SearchedDocument document.now cycles }
     ensures none { IfOk result (λ r. IsSome r ↔ HasNoCycle document.now) }
     ensures judged { IfOk result (λ r. IfSome r (IsJudged S.eq schema.now document.now)) }
-    ensures few { IfOk result
-        (λ r. IfSome r (λ f. f.compared ≤ fragment_count document.now * (fragment_count document.now - 1))) }
-    ensures enough { IfOk result (λ r. IfSome r (λ f. (ps : List (List ℕ × List ℕ)) → AreTogether schema.now document.now ps
-        → length ps ≤ f.compared)) }
+    ensures few { let n = fragment_count document.now in IfOk result (λ r. IfSome r (λ f. f.compared ≤ n * (n - 1))) }
+    ensures enough { IfOk result (λ r. IfSome r (λ f.
+        (ps : List (List ℕ × List ℕ)) → AreTogether schema.now document.now ps → length ps ≤ f.compared)) }
     ensures opened { IfOk result (λ r. IfSome r (λ f. f.opened ≤ fragment_count document.now * f.lists)) }
 {
     match graph_of_document(alloc, schema, document, cycles)? {

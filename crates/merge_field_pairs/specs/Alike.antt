@@ -8,7 +8,7 @@ use Rattle.merge_field_pairs.specs.Entries.{PlainEntry}
 abbrev pub known_type : {S : Type 0} → Option (metadata.Field S) → Option TypeShape
 known_type metadata = option_map (λ f. shape f.field_type) metadata
 
--- One name, no arguments, and one type or none that is known.
+-- One name, no arguments, and one type, or both an unknown type.
 pub record AreAlike {S C : Type 0} (a b : PlainEntry S C) : Type 0 where
   pub name : a.field.item.name.item.now ≡ b.field.item.name.item.now
   pub left_bare : a.field.item.arguments ≡ None

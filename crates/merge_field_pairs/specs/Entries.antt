@@ -41,7 +41,7 @@ module _ {S C : Type 0} where
   abbrev pub are_two_objects : Option (MetaTypeOf S C) → Option (MetaTypeOf S C) → Bool
   are_two_objects p q = are_different (option_and_then object_name p) (option_and_then object_name q)
 
-  -- the flag, or the types round the fields are two object types
+  -- the flag, or the types around the fields are two object types
   abbrev pub exclusive_of : Bool → PlainEntry S C → PlainEntry S C → Bool
   exclusive_of flag a b = flag || are_two_objects a.parent b.parent
 

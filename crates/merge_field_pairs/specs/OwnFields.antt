@@ -25,7 +25,7 @@ abbrev pub Names : Type 0
 Names = List (List ℕ)
 
 module _ {S C : Type 0} where
-  -- the first field of the name, of the type round it
+  -- the first field of the name, of the type around it
   abbrev pub metadata_under : Option (MetaTypeOf S C) → List ℕ → Option (metadata.Field S)
   metadata_under parent name = option_and_then (field_named name) parent
 
@@ -33,7 +33,7 @@ module _ {S C : Type 0} where
   abbrev pub entry_under : Option (MetaTypeOf S C) → Placed (Field S) → PlainEntry S C
   entry_under parent f = record { parent = parent; field = f; metadata = metadata_under parent f.item.name.item.now }
 
-  -- the type inside an inline fragment: that of its condition where it is known, else that round it
+  -- the type inside an inline fragment: that of its condition where it is known, else that around it
   abbrev pub type_inside : Catalog S C → Option (MetaTypeOf S C) → Option (Placed (Bor (List ℕ))) → Option (MetaTypeOf S C)
   type_inside schema parent condition = option_or (option_and_then (λ n. type_in n.item.now schema) condition) parent
 

@@ -28,7 +28,7 @@ module _ {S C : Type 0} where
   direct_text reason.DifferentArguments a b = arguments_text
   direct_text reason.DifferentTypes a b = known_types_text a.metadata b.metadata
 
--- of two fields by their response name and their own reason, among those of the fields round them
+-- of two fields by their response name and their own reason, among those of the fields around them
 abbrev pub nested_text : List ℕ → List ℕ → List ℕ
 nested_text response reason = codes "subfields \"" ++ (response ++ (codes "\" conflict because " ++ reason))
 

@@ -1,4 +1,4 @@
-//! Fields that are plainly alike, so that none of them is in conflict with another, wherever they stand.
+//! Fields that are plainly alike, so that no two of them conflict, wherever they stand.
 ghost use Rattle.std.specs.Prelude.{◌≡◌, option_map, option_copied};
 ghost use Rattle.std.specs.Bool.{Decides};
 ghost use Rattle.language.specs.Types.{shape};
@@ -9,7 +9,7 @@ use crate::entry::Entry;
 use language::types::Type;
 use meta::Field as FieldMeta;
 
-/// Whether two fields have one name, no arguments, and one type or none that is known.
+/// Whether two fields have one name, no arguments, and one type, or both an unknown type.
 pub fn are_alike<S, C>(left: &Entry<'_, S, C>, right: &Entry<'_, S, C>) -> bool
     ensures { Decides result (AreAlike (plain left.now) (plain right.now)) }
 {

@@ -18,9 +18,9 @@ pub enum DirectReason {
     DifferentTypes,
 }
 
-/// The first reason that holds, where `exclusive` says that no answer holds both fields' surroundings.
+/// The first reason that holds, where `exclusive` says that no response contains the surroundings of both fields.
 ///
-/// Where neither field repeats an argument, nor a key in one, the order of the two is of no account, and a field has no
+/// Where neither field repeats an argument, nor a key in one, the order of the two does not matter, and a field has no
 /// conflict with itself. Two fields without a conflict have none where their surroundings exclude each other.
 pub fn direct_reason<S: ScalarValue, C>(
     schema: &SchemaTypeOf<S, C>,

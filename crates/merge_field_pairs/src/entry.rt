@@ -16,7 +16,7 @@ pub struct Entry<'a, S, C> {
 }
 
 impl<'a, S, C> Entry<'a, S, C> {
-    /// The name in the answer: the alias, or the name.
+    /// The response name: the alias, or the name.
     pub fn response_name(&self) -> &'a str
         ensures { result.now ≡ response_of (plain self.now) }
     {
@@ -28,15 +28,15 @@ impl<'a, S, C> Entry<'a, S, C> {
     }
 }
 
-/// Whether they have one name in the answer.
+/// Whether two fields have one response name.
 pub fn have_one_response_name<S, C>(left: &Entry<'_, S, C>, right: &Entry<'_, S, C>) -> bool
     ensures { IsTrue result ↔ (response_of (plain left.now) ≡ response_of (plain right.now)) }
 {
     left.response_name() == right.response_name()
 }
 
-/// Whether no answer holds both: their surroundings exclude each other, or two object types of different names are round
-/// them.
+/// Whether no response contains both: their surroundings exclude each other, or they stand in two object types of
+/// different names.
 pub fn are_exclusive<S, C>(exclusive: bool, left: &Entry<'_, S, C>, right: &Entry<'_, S, C>) -> bool
     ensures value { result ≡ exclusive_of exclusive (plain left.now) (plain right.now) }
     ensures either_order { result ≡ exclusive_of exclusive (plain right.now) (plain left.now) }

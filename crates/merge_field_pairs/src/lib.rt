@@ -1,5 +1,5 @@
-//! Two fields of one response name beside each other, whatever stands below them: why they can't be merged, and what is
-//! said of it (GraphQL, October 2021, section 5.3.2).
+//! Why two fields of one response name can't be merged, whatever stands below them, and the messages for it (GraphQL,
+//! October 2021, section 5.3.2).
 #![tactic(auto)]
 
 pub mod alike;

@@ -11,7 +11,7 @@ use crate::entry::{Entry, are_exclusive};
 use language::scalar::ScalarValue;
 use schema::model::SchemaTypeOf;
 
-/// Whether no answer holds two fields. A number past the last is no field's, and adds nothing to `exclusive`.
+/// Whether no response contains both fields. For a number that is no field's the result is `exclusive`.
 pub fn are_exclusive_at<S, C>(
     fields: &[Entry<'_, S, C>],
     exclusive: bool,
@@ -23,7 +23,7 @@ pub fn are_exclusive_at<S, C>(
     are_exclusive_if_there(exclusive, field_at(fields, left), field_at(fields, right))
 }
 
-/// Why two fields can't be merged. A number past the last is no field's, and there is no reason.
+/// Why two fields can't be merged. For a number that is no field's there is no reason.
 pub fn direct_reason_at<S: ScalarValue, C>(
     schema: &SchemaTypeOf<S, C>,
     fields: &[Entry<'_, S, C>],
@@ -41,7 +41,7 @@ pub fn direct_reason_at<S: ScalarValue, C>(
     )
 }
 
-/// Whether two fields are plainly alike. A number past the last is no field's, and like no other.
+/// Whether two fields are plainly alike. A number that is no field's is like no other.
 pub fn are_alike_at<S, C>(fields: &[Entry<'_, S, C>], left: usize, right: usize) -> bool
     ensures { Decides result (AreAlikeAt (map plain fields.now) left right) }
 {

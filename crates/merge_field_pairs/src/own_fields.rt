@@ -24,9 +24,11 @@ pub fn type_below_field<'a, S, C>(
     }
 }
 
-/// Adds the own fields of a set under a type behind those that are there, and likewise the names that it spreads itself.
+/// Appends the own fields of a set under a type to `fields`, and the names that it spreads itself to `names`.
 ///
-/// On an error some may have been added.
+/// # Errors
+///
+/// Out of memory. Some fields and names may have been added.
 #[cycle(own_fields)]
 pub fn add_own_fields<'a, S, C>(
     schema: &'a SchemaTypeOf<S, C>,
@@ -105,7 +107,7 @@ fn metadata_of_field<'a, S, C>(
     parent?.field_by_name(name)
 }
 
-/// The type inside an inline fragment: that of its condition where it is known, else that round it.
+/// The type inside an inline fragment: that of its condition if it is known, else the type around it.
 pub fn type_inside_fragment<'a, S, C>(
     schema: &'a SchemaTypeOf<S, C>,
     parent: Option<&'a MetaTypeOf<S, C>>,

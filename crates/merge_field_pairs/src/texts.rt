@@ -1,4 +1,4 @@
-//! The texts of what stands between two fields: of the reasons themselves, of those below a field, and of the error.
+//! The texts for two fields that can't be merged: the reasons themselves, those below a field, and the error's message.
 ghost use Rattle.std.specs.Prelude.{◌≡◌, IfOk, codes, map, string_bytes};
 ghost use Rattle.language.specs.Types.{shape};
 ghost use Rattle.merge_field_pairs.specs.Entries.{plain};
@@ -10,7 +10,11 @@ use language::error::OutOfMemory;
 use language::types::Type;
 use std::alloc::Global;
 
-/// The text of a reason for two fields, in their order. Of types that aren't both known there is none.
+/// The text of a reason for two fields, in their order; empty for types that are not both known.
+///
+/// # Errors
+///
+/// Out of memory.
 pub fn reason_text<S, C>(
     alloc: Global,
     reason: DirectReason,
@@ -32,28 +36,44 @@ pub fn reason_text<S, C>(
     }
 }
 
-/// Of two fields of different names.
+/// The text for two fields of different names.
+///
+/// # Errors
+///
+/// Out of memory.
 pub fn different_names(alloc: Global, first: &str, second: &str) -> Result<String, OutOfMemory>
     ensures { IfOk result (λ s. string_bytes s ≡ names_text first.now second.now) }
 {
     Ok(format!(in alloc; "{first} and {second} are different fields")?)
 }
 
-/// Of two fields that are not given the same arguments.
+/// The text for two fields with different arguments.
+///
+/// # Errors
+///
+/// Out of memory.
 pub fn different_arguments(alloc: Global) -> Result<String, OutOfMemory>
     ensures { IfOk result (λ s. string_bytes s ≡ arguments_text) }
 {
     Ok(String::from_str(alloc, "they have differing arguments")?)
 }
 
-/// Of two fields of types in conflict.
+/// The text for two fields whose types conflict.
+///
+/// # Errors
+///
+/// Out of memory.
 pub fn different_types(alloc: Global, first: &Type, second: &Type) -> Result<String, OutOfMemory>
     ensures { IfOk result (λ s. string_bytes s ≡ types_text (shape first.now) (shape second.now)) }
 {
     Ok(format!(in alloc; "they return conflicting types {first} and {second}")?)
 }
 
-/// Of two fields whose reason stands among those of the fields round them.
+/// The text for two fields that conflict by the fields below them.
+///
+/// # Errors
+///
+/// Out of memory.
 pub fn subfields_text(
     alloc: Global,
     response_name: &str,
@@ -64,14 +84,22 @@ pub fn subfields_text(
     Ok(format!(in alloc; "subfields \"{response_name}\" conflict because {reason}")?)
 }
 
-/// Of several reasons below two fields.
+/// Joins the texts of several conflicts below two fields.
+///
+/// # Errors
+///
+/// Out of memory.
 pub fn joined_texts(alloc: Global, texts: &[String]) -> Result<String, OutOfMemory>
     ensures { IfOk result (λ s. string_bytes s ≡ joined (map string_bytes texts.now)) }
 {
     Ok(texts.join(alloc, " and ")?)
 }
 
-/// Of the error of two fields that can't be merged.
+/// The message of the error for two fields that can't be merged.
+///
+/// # Errors
+///
+/// Out of memory.
 pub fn error_message(
     alloc: Global,
     response_name: &str,

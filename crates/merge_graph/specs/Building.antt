@@ -92,7 +92,7 @@ module _ {S C : Type 0} where
     pub sized : length b.stretches.items ≡ count
     pub free : (p : ℕ) (o : Option (ℕ × ℕ)) → slice_get b.stretches.items p ≡ Some o → o ≡ None
 
-  -- The set of the number is that of one of the document, under the type round it.
+  -- The set of the number is that of one of the document, under the type around it.
   abbrev pub HasOrigin : Catalog S C → List (Definition S) → (List ℕ → Option ℕ) → Numbered S C → ℕ → Type 0
   HasOrigin schema document numbers m k = (p : Option (MetaTypeOf S C)) × (set : List (Selection S)) × IsSetIn schema document p set × IsSetOf schema numbers m k p set
 

@@ -1,4 +1,4 @@
--- The definitions of a document: the set of each, the type round it, and the last of a name.
+-- The definitions of a document: the set of each, the type around it, and the last of a name.
 use Rattle.std.specs.Prelude.{◌≡◌, ◌≤◌, ℕ, List, length, Bool, true, false, Option, Some, None, slice_get, slice_set, option_and_then}
 use Rattle.std.specs.List.{filter}
 use Rattle.language.specs.declared.tree.Selection.{Selection}
@@ -18,7 +18,7 @@ module _ {S C : Type 0} where
   root_type schema kind.Mutation = root_in schema.roots.mutation schema
   root_type schema kind.Subscription = root_in schema.roots.subscription schema
 
-  -- the type round a definition's set: the root of its kind, or the type of its condition, where they are known
+  -- the type around a definition's set: the root of its kind, or the type of its condition, where they are known
   abbrev pub type_round : Catalog S C → Definition S → Option (MetaTypeOf S C)
   type_round schema (definition.Operation o) = root_type schema o.item.operation_type
   type_round schema (definition.Fragment f) = type_in f.item.type_condition.item.now schema

@@ -16,7 +16,7 @@ use Rattle.merge_graph.specs.TableGraph.{IsGraphOfTable}
 
 -- Where sets and fields of the graph come from, and how many fragments it has.
 pub record AreOrigins {S C : Type 0} (schema : Catalog S C) (document : List (Definition S)) (numbers : List ℕ → Option ℕ) (table : Numbered S C) (fragment_sets : List ℕ) : Type 0 where
-  -- each set is that of one of the document, under the type round it
+  -- each set is that of one of the document, under the type around it
   pub sets : (k : ℕ) → k < length table.sets → HasOrigin schema document numbers table k
   -- each field is one of the document
   pub fields : (k : ℕ) (a : PlainEntry S C) → slice_get table.fields k ≡ Some a → IsFieldIn schema document a

@@ -33,7 +33,11 @@ fn no_stretches(alloc: Global, count: usize) -> Result<Vec<Option<(usize, usize)
     vec![in alloc; None; count]
 }
 
-/// Nothing, with so many places, each of which brings a set at least, and with room for so many fragments.
+/// Nothing built, with `count` places, each of which brings at least one set, and room for `fragments` fragments.
+///
+/// # Errors
+///
+/// Out of memory.
 pub fn no_building<'a, S, C>(
     alloc: Global,
     count: usize,
@@ -64,7 +68,11 @@ fn note_order<S, C>(place: usize, building: &mut Building<'_, S, C>) -> Result<(
     Ok(())
 }
 
-/// Adds the set of a definition, of which the known fragments may be spread.
+/// Adds the set of a definition, which may spread the known fragments, and returns its number.
+///
+/// # Errors
+///
+/// Out of memory. Some sets in it may have been added.
 pub fn add_definition<'a, S, C>(
     alloc: Global,
     schema: &'a SchemaTypeOf<S, C>,
@@ -85,6 +93,10 @@ pub fn add_definition<'a, S, C>(
 }
 
 /// Adds the set of the next fragment, by a definition of it.
+///
+/// # Errors
+///
+/// Out of memory. Some sets in it may have been added.
 pub fn add_fragment<'a, S, C>(
     alloc: Global,
     schema: &'a SchemaTypeOf<S, C>,

@@ -22,7 +22,7 @@ fn root_of_kind<S, C>(schema: &SchemaTypeOf<S, C>, kind: OperationType) -> Optio
     }
 }
 
-/// The type round a definition's set.
+/// The type around a definition's set.
 pub fn type_of_definition<'a, S, C>(
     schema: &'a SchemaTypeOf<S, C>,
     definition: &Definition<'_, S>,
@@ -66,7 +66,11 @@ fn note_place(number: Option<usize>, place: usize, places: &mut Vec<Option<usize
     }
 }
 
-/// The place of the last definition of each fragment, by the number of its name.
+/// The index of the last definition of each fragment, by the number of its name.
+///
+/// # Errors
+///
+/// Out of memory.
 pub fn last_places<S>(
     alloc: Global,
     document: Document<'_, S>,

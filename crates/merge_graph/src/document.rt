@@ -215,10 +215,15 @@ fn graph_of_searched<'a, S: ScalarValue, C>(
     Ok(graph)
 }
 
-/// The graph of a document, whose fragments were searched for cycles, and none exactly where some fragment leads back to itself.
+/// The graph of a document whose fragments were searched for cycles; `None` if and only if some fragment leads back
+/// to itself.
 ///
-/// Each definition's set is in the graph. The set of a fragment is that of its last definition. Where no field repeats an
-/// argument, nor a key in one, the judgement of the fields is lawful.
+/// Each definition's set is in the graph. The set of a fragment is that of its last definition. Where no field
+/// repeats an argument, nor a key in one, the judgement of the fields is lawful.
+///
+/// # Errors
+///
+/// Out of memory.
 pub fn graph_of_document<'a, S: ScalarValue, C>(
     alloc: Global,
     schema: &'a SchemaTypeOf<S, C>,

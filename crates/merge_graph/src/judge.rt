@@ -39,7 +39,7 @@ impl<'a, S: ScalarValue, C> Judge for FieldJudge<'a, S, C> {
     }
 }
 
-/// The judge of some fields. Where none of them repeats an argument, nor a key in one, its judgement is lawful.
+/// The judge of these fields. Where no field repeats an argument, nor a key in one, its judgement is lawful.
 pub fn judge_fields<'a, S: ScalarValue, C>(
     schema: &'a SchemaTypeOf<S, C>,
     fields: Vec<Entry<'a, S, C>>,

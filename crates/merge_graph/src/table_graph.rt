@@ -32,6 +32,10 @@ fn searched_sets(alloc: Global, sets: Vec<NumberedSet>) -> Result<Vec<SetNode>, 
 }
 
 /// The graph of a table, with the sets of its fragments and an order of its sets.
+///
+/// # Errors
+///
+/// Out of memory.
 pub fn graph_of_table<'a, S: ScalarValue, C>(
     alloc: Global,
     schema: &'a SchemaTypeOf<S, C>,

@@ -62,7 +62,7 @@ fn lines_of_graph<'a, S: ScalarValue, C>(
     lines(alloc, &graph.judge, &search)
 }
 
-/// What is found in a document's graph: `cycle` where there is none.
+/// What is found in a document's graph: `cycle` where the document has a cycle.
 pub fn found<'a, S: ScalarValue, C>(
     alloc: Global,
     schema: &'a SchemaTypeOf<S, C>,

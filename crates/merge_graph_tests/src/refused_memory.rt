@@ -17,7 +17,7 @@ fn told(alloc: Global) -> Result<String, ReadError> {
     Ok(found(alloc, &schema, shorten(document.as_slice()))?)
 }
 
-/// Run with each request for memory refused in turn, the answer is the same or tells of the refusal.
+/// With each request for memory refused in turn, the result is the same or out of memory.
 #[test]
 fn a_refused_request_changes_no_answer(rt: HostRuntime) {
     match told(rt.alloc()) {

@@ -38,7 +38,7 @@ const PETS: [(&str, &str); 18] = [
         "{ dog { x: name y: name } dog { x: barks y: nickname } }",
         "compared 0\n8 and 32\n16 and 41\n2 and 26 for 2\n",
     ),
-    // Of several definitions of a fragment the last is spread, and all are looked at.
+    // Of several definitions of a fragment the last is spread, and all are searched.
     (
         "{ dog { x: name ...A } } fragment A on Dog { x: barks } fragment A on Dog { x: name }",
         "compared 0\n",
@@ -47,7 +47,7 @@ const PETS: [(&str, &str); 18] = [
         "{ dog { ...A } } fragment A on Dog { x: name x: barks } fragment A on Dog { x: name }",
         "compared 0\n37 and 45\n",
     ),
-    // Fields that are plainly alike are looked at once, and others one by one.
+    // Fields that are plainly alike are compared at once, and others one by one.
     (
         "{ dog { x: name x: name x: name x: name } }",
         "compared 0\n",
@@ -76,7 +76,8 @@ const PETS: [(&str, &str); 18] = [
         "{ dog { x: name x: name ...A } } fragment A on Dog { x: name x: nickname }",
         "compared 0\n8 and 61\n16 and 61\n53 and 61\n",
     ),
-    // Of many fragments those are passed over in which nothing can fail, and counted with each that some set spreads beside them.
+    // Of many fragments those are passed over in which nothing can fail, and counted with each that some set spreads
+    // beside them.
     (
         "{ dog { ...A ...B ...C ...D ...E ...F ...G ...H } } fragment A on Dog { name } fragment B on Dog { name } fragment C on Dog { name } fragment D on Dog { name } fragment E on Dog { name } fragment F on Dog { name } fragment G on Dog { name } fragment H on Dog { name }",
         "compared 28\n",

@@ -1,4 +1,4 @@
--- The selection sets inside a set, each with the type round it.
+-- The selection sets inside a set, each with the type around it.
 use Rattle.std.specs.Prelude.{◌≡◌, List, Option, Some}
 use Rattle.std.specs.List.{Contains}
 use Rattle.std.specs.declared.vec.Vec.{Vec}

@@ -14,8 +14,13 @@ use meta::kinds::MetaTypeOf;
 use schema::model::SchemaTypeOf;
 use std::alloc::Global;
 
-/// Adds a set under a type, behind the sets in it, and answers its number. `fragments` are those that may
-/// be spread; another counts as unknown.
+/// Adds a set under a type, after the sets in it, and returns its number.
+///
+/// `fragments` are those that may be spread; any other counts as unknown.
+///
+/// # Errors
+///
+/// Out of memory. Some sets in it may have been added.
 #[cycle(adding)]
 pub fn add_set<'a, S, C>(
     alloc: Global,

@@ -4,7 +4,7 @@ ghost use Rattle.merge_set_table.specs.Known.{known_rank};
 
 use fragment_graph::numbers::{Numbers, number};
 
-/// The fragments of the first ranks, of those whose names have numbers.
+/// The fragments of the first ranks, among those whose names have numbers.
 #[derive(Clone, Copy)]
 pub struct KnownFragments<'n, 'a> {
     pub numbers: &'n Numbers<'a>,
@@ -14,7 +14,7 @@ pub struct KnownFragments<'n, 'a> {
     pub count: usize,
 }
 
-/// The rank of the fragment of a name, where it is known.
+/// The rank of the fragment of a name, if it is known.
 pub fn rank_of_name(known: &KnownFragments<'_, '_>, name: &str) -> Option<usize>
     ensures { result ≡ known_rank known.now name.now }
 {

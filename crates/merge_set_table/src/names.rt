@@ -27,7 +27,11 @@ pub fn number_of_name(map: &BTreeMap<&str, usize>, name: &str) -> Option<usize>
     map.get(name).copied()
 }
 
-/// The number of a name in a map, the next one where it has none.
+/// The number of a name in a map; a name without one gets the next.
+///
+/// # Errors
+///
+/// Out of memory. The numbers that were there are kept.
 pub fn number_in_map<'a>(
     map: &mut BTreeMap<&'a str, usize>,
     name: &'a str,
@@ -46,8 +50,13 @@ pub fn number_in_map<'a>(
     }
 }
 
-/// The number of a name, the next one where it has none. In real documents few names stand again and again, so the recent
-/// ones are asked first, and the map only where they don't know.
+/// The number of a name; a name without one gets the next.
+///
+/// In real documents few names stand again and again, so the recent ones are tried before the map.
+///
+/// # Errors
+///
+/// Out of memory.
 pub fn number_name<'a>(names: &mut ResponseNames<'a>, name: &'a str) -> Result<usize, OutOfMemory>
     ensures numbered { IfOk result (λ k. number_in names.new name.now ≡ Some k) }
     ensures kept { OnOk result (KeepsNames names.old names.new) }

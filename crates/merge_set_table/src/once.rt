@@ -6,7 +6,7 @@ use bit_matrix::set::BitSet;
 use language::error::OutOfMemory;
 use std::alloc::Global;
 
-/// Of so many numbers each is held against those before it.
+/// Up to so many numbers, each is compared with those before it.
 const FEW: usize = 16;
 
 // Whether each stands there once.
@@ -21,7 +21,8 @@ fn are_each_once(numbers: &[usize]) -> bool
     true
 }
 
-// Each of the numbers once, in a list of its own. Which stand there is kept in bits, so that many take no longer each than few.
+// Each of the numbers once, in a list of its own. Which stand there is kept in bits, so that many take no longer each
+// than few.
 fn copied_once(alloc: Global, numbers: &[usize]) -> Result<Vec<usize>, OutOfMemory>
     ensures { IfOk result (λ v. IsEachOnce numbers.now v.items) }
 {
@@ -35,8 +36,13 @@ fn copied_once(alloc: Global, numbers: &[usize]) -> Result<Vec<usize>, OutOfMemo
     Ok(once)
 }
 
-/// Each of the numbers once, in the order in which they stand first. Mostly there are few, of which none is repeated, and then the list
-/// itself serves.
+/// Lists each of the numbers once, in the order in which they stand first.
+///
+/// Mostly there are few numbers without a repeat, and then the list itself is returned.
+///
+/// # Errors
+///
+/// Out of memory.
 pub fn each_once(alloc: Global, numbers: Vec<usize>) -> Result<Vec<usize>, OutOfMemory>
     ensures { IfOk result (λ v. IsEachOnce numbers.items v.items) }
 {

@@ -27,6 +27,10 @@ pub fn recent_number(recent: &[Option<RecentName<'_>>], slot: usize, name: &str)
 }
 
 /// Puts a name into its slot, in place of the one there. The slots are made for the first name.
+///
+/// # Errors
+///
+/// Out of memory. The slots are unchanged.
 pub fn keep_name<'a>(
     recent: &mut Vec<Option<RecentName<'a>>>,
     slot: usize,

@@ -11,7 +11,11 @@ use merge_field_pairs::entry::Entry;
 use merge_search::node::Entry as OwnField;
 use std::alloc::Global;
 
-// A set without fields and spreads, with room for so many fields, so that its list seldom grows.
+/// An empty set, with room for `room` fields, so that its list seldom grows.
+///
+/// # Errors
+///
+/// Out of memory.
 pub fn no_fields(alloc: Global, room: usize) -> Result<NumberedSet, OutOfMemory>
     ensures { IfOk result IsEmptySet }
 {
@@ -21,7 +25,11 @@ pub fn no_fields(alloc: Global, room: usize) -> Result<NumberedSet, OutOfMemory>
     })
 }
 
-// Gives a field a number, and adds it to its set.
+/// Numbers a field, and adds it to its set.
+///
+/// # Errors
+///
+/// Out of memory.
 pub fn push_field<'a, S, C>(
     table: &mut Table<'a, S, C>,
     part: &mut NumberedSet,
@@ -41,7 +49,11 @@ pub fn push_field<'a, S, C>(
     Ok(())
 }
 
-// Adds what an inner set has of its own.
+/// Adds the own fields and spreads of an inner set.
+///
+/// # Errors
+///
+/// Out of memory.
 pub fn take_over(
     sets: &[NumberedSet],
     number: usize,
@@ -56,7 +68,11 @@ pub fn take_over(
     Ok(())
 }
 
-// Keeps a place in the order for a set that is begun.
+/// Keeps a place in the order for a set that is begun, and returns that place.
+///
+/// # Errors
+///
+/// Out of memory.
 pub fn open_set<S, C>(table: &mut Table<'_, S, C>) -> Result<usize, OutOfMemory>
     ensures { IfOk result (λ place. OpensSet place table.old table.new) }
 {
@@ -65,7 +81,11 @@ pub fn open_set<S, C>(table: &mut Table<'_, S, C>) -> Result<usize, OutOfMemory>
     Ok(place)
 }
 
-// Stores a set, each fragment that it spreads once, and puts its number at its place in the order.
+/// Stores a set, each fragment that it spreads once, puts its number at its place in the order, and returns the number.
+///
+/// # Errors
+///
+/// Out of memory.
 pub fn close_set<S, C>(
     alloc: Global,
     place: usize,

@@ -24,7 +24,11 @@ pub struct Table<'a, S, C> {
     pub order: Vec<usize>,
 }
 
-/// A table of nothing, with room for so many sets.
+/// An empty table, with room for `room` sets.
+///
+/// # Errors
+///
+/// Out of memory.
 pub fn no_table<'a, S, C>(alloc: Global, room: usize) -> Result<Table<'a, S, C>, AllocError>
     ensures { IfOk result IsEmptyTable }
 {

@@ -1,4 +1,4 @@
--- The fields and sets of which merging speaks are those that occur.
+-- The fields and sets that the search compares are those that occur.
 use Rattle.std.specs.Prelude.{◌≡◌, ◌↔◌, List, Option, true, map}
 use Rattle.std.specs.List.{Contains}
 use Rattle.language.specs.ValuesEqual.{are_distinct, has_unique_keys}
@@ -16,7 +16,7 @@ use Rattle.events.specs.Typing.{Typing}
 use Rattle.merge_walk_laws.specs.Occurring.{given_in, Occurs, OccursUnder, AreFieldsTidy, AreConditionsKnown}
 
 module _ (S C : Type 0) where
-  -- Each field of a document occurs in it, whatever the types round the document.
+  -- Each field of a document occurs in it, whatever the types around the document.
   abbrev pub FieldsOccur : Type 0
   FieldsOccur =
       (schema : Catalog S C) (t : Typing S C) (document : List (Definition S)) (a : PlainEntry S C)
@@ -34,19 +34,19 @@ module _ (S C : Type 0) where
       (schema : Catalog S C) (t : Typing S C) (document : List (Definition S)) → AreFieldsTidy schema t document
       → (a : PlainEntry S C) → IsFieldIn schema document a → IsTidy a
 
-  -- Where the conditions are known, a set stands in the document under a type just if it occurs, and its types have that type as the parent.
+  -- Where the conditions are known, a set stands in the document under a type if and only if it occurs, and its types have that type as the parent.
   abbrev pub SetsAgree : Type 0
   SetsAgree =
       (schema : Catalog S C) (t : Typing S C) (document : List (Definition S)) → AreConditionsKnown schema t document
       → (parent : Option (MetaTypeOf S C)) (set : List (Selection S)) → IsSetIn schema document parent set ↔ OccursUnder schema t document parent (selection_set set)
 
-  -- There a field stands in the document, with what the schema says of it, just if it occurs under that parent.
+  -- There a field stands in the document, with what the schema says of it, if and only if it occurs under that parent.
   abbrev pub FieldsAgree : Type 0
   FieldsAgree =
       (schema : Catalog S C) (t : Typing S C) (document : List (Definition S)) → AreConditionsKnown schema t document
       → (a : PlainEntry S C) → IsFieldIn schema document a ↔ (OccursUnder schema t document a.parent (field a.field) × (a ≡ entry_under a.parent a.field))
 
--- Arguments are tidy just if their names differ, and no value repeats a key.
+-- Arguments are tidy if and only if their names differ, and no value repeats a key.
 abbrev pub TidyArguments : Type 0 → Type 0
 TidyArguments S =
     (written : Option (Placed (Arguments S)))

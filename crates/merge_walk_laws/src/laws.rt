@@ -17,18 +17,18 @@ pub fn fields_are_tidy<S, C>()
     ensures { FieldsAreTidy S C }
 {}
 
-/// Arguments are tidy just if they have different names, and the value of none repeats a key.
+/// Arguments are tidy if and only if their names differ and no value repeats a key.
 pub fn tidy_arguments<S>()
     ensures { TidyArguments S }
 {}
 
-/// Where all type conditions of inline fragments are known, the type round each selection set is the parent that a walk has there, and the
-/// walk meets no other sets.
+/// Where all type conditions of inline fragments are known, the type around each selection set is the parent type
+/// that a walk has there, and the walk meets no other sets.
 pub fn sets_agree<S, C>()
     ensures { SetsAgree S C }
 {}
 
-/// There a walk meets each field under the type that merging takes for its set, and meets no other fields.
+/// There a walk meets each field under the type that the search takes for its set, and meets no other fields.
 pub fn fields_agree<S, C>()
     ensures { FieldsAgree S C }
 {}

@@ -1,4 +1,5 @@
-//! Laws of the fields and selection sets of documents: those of which merging speaks are those that a walk meets.
+//! Laws of the fields and selection sets of documents: those that the search for conflicts compares are those that a
+//! walk meets.
 #![tactic(auto)]
 
 pub mod laws;

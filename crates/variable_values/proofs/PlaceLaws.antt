@@ -1,4 +1,4 @@
--- What is told of a place, kind by kind.
+-- The text for a place, kind by kind.
 use Rattle.std.proofs.Common.{◌≡◌, ℕ, List, ◌++◌, ap, sym, ◌∙◌, Bor}
 use Rattle.variable_values.specs.declared.place.Place.{Place, fold-roll-Place}
 use Rattle.variable_values.specs.declared.place.Place.TheVariants as place

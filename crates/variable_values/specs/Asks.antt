@@ -1,4 +1,4 @@
--- Which checks the rows ask of a value and of the values inside, for a name with modifiers round it, outermost first.
+-- Which checks the rows ask of a value and of the values inside, for a name with modifiers around it, outermost first.
 use Rattle.std.specs.Prelude.{◌≡◌, ℕ, List, [], ◌∷◌, reverse, Contains, Option, Some, None, string_bytes}
 use Rattle.language.specs.declared.position.Span.{Span}
 use Rattle.language.specs.declared.position.Spanning.{Spanning}

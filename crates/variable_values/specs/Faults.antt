@@ -40,7 +40,7 @@ under step f = record { path = step ∷ f.path; text = f.text }
 abbrev pub Judge : Type 0 → Type 1
 Judge S = InputValue S → TypeShape → List Fault → Type 0
 
--- a name with modifiers round it, outermost first
+-- a name with modifiers around it, outermost first
 abbrev pub within : List TypeModifier → List ℕ → TypeShape
 within ms name = record { name = name; modifiers = reverse ms }
 
@@ -126,7 +126,7 @@ module _ {S C : Type 0} (schema : Catalog S C) (may : Answers (InputValue S) C) 
     OfNamed x value None fs = ⊥
     OfNamed x value (Some meta) fs = OfMeta x value meta fs
 
-    -- of a value against a name with modifiers round it, outermost first
+    -- of a value against a name with modifiers around it, outermost first
     abbrev pub Of : v.InputValue-F S X → InputValue S → List TypeModifier → List ℕ → List Fault → Type 0
     Of x value [] name fs = OfNamed x value (type_in name schema) fs
     Of v.Null value (m.NonNull ∷ ms) name fs = fs ≡ here (null_text (printed (within (m.NonNull ∷ ms) name))) ∷ []

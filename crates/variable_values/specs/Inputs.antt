@@ -15,7 +15,7 @@ use Rattle.events.specs.Node.{VariableEntry}
 abbrev pub is_input_in : {S C : Type 0} → Catalog S C → List ℕ → Bool
 is_input_in schema name = option_map_or is_input_meta (type_in name schema) false
 
--- the definitions that stand in a list, and none where there is no list
+-- the definitions in a list; empty where there is no list
 abbrev pub definitions_in : {S : Type 0} → Option (Spanning (VariableDefinitions S) Span) → List (VariableEntry S)
 definitions_in None = []
 definitions_in (Some ds) = ds.item.items.items

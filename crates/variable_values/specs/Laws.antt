@@ -8,7 +8,7 @@ use Rattle.schema.specs.Catalog.{Catalog}
 use Rattle.variable_values.specs.Faults.{Fault, Faults}
 
 module _ {S C : Type 0} where
-  -- any two answers of a check to a value are the same, want of memory aside
+  -- a check always says the same of a value, unless it runs out of memory
   abbrev pub OneAnswer : Answers (InputValue S) C → Type 0
   OneAnswer may = (c : C) (value : InputValue S) (r s : Result (Unit {0}) CheckError) → may c value r → may c value s → SameAnswer r s
 

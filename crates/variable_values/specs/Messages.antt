@@ -1,4 +1,4 @@
--- The errors that tell the faults of variables.
+-- The errors for the faults of variables.
 use Rattle.std.specs.Prelude.{◌≡◌, ℕ, List, [], ◌∷◌, ◌++◌, map, Option, Some, None, String, Vec, codes, option_and_then, string_bytes}
 use Rattle.std.specs.BTreeMap.{BTreeMap, get_by_text}
 use Rattle.std.specs.declared.alloc.Global.{Global}
@@ -47,7 +47,7 @@ error_at place message = record { locations = place ∷ []; message = message }
 abbrev pub texts_of : Vec (String Global) Global → List (List ℕ)
 texts_of v = map string_bytes v.items
 
--- the faults of which P holds were told, each after this, beside what was there
+-- the faults of which P holds were reported, each after this text, behind what was there
 abbrev pub Adds : (List Fault → Type 0) → List ℕ → List (List ℕ) → List (List ℕ) → Type 0
 Adds P before old new = (fs : List Fault) × P fs × (new ≡ old ++ map (told_after before) fs)
 

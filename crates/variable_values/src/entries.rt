@@ -8,7 +8,11 @@ use language::value::InputValue;
 use std::alloc::Global;
 use std::collections::BTreeMap;
 
-/// Where the last entry of each key of an object stands, whose value its `to_object_value` has.
+/// Finds the index of the last entry of each key of an object, whose value `to_object_value` takes.
+///
+/// # Errors
+///
+/// Out of memory.
 pub fn last_places<'v, S>(
     alloc: Global,
     entries: &'v [(Spanning<String>, Spanning<InputValue<S>>)],
@@ -22,7 +26,7 @@ pub fn last_places<'v, S>(
     Ok(places)
 }
 
-/// Where the last entry of a key stands, if there is one.
+/// The index of the last entry of a key, if there is one.
 pub fn place_of(places: &BTreeMap<&str, usize>, key: &str) -> Option<usize>
     ensures { result ≡ place_in places.now key.now }
 {

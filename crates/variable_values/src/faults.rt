@@ -10,8 +10,7 @@ ghost use Rattle.meta.specs.Kept.{input_object_check, scalar_check};
 ghost use Rattle.meta.specs.Kinds.{is_input_meta};
 ghost use Rattle.variable_values.specs.Faults.{Checked, Faults, absent, accepted_faults, enum_faults, name_in, wrong_length};
 ghost use Rattle.variable_values.specs.Inputs.{is_input_in};
-ghost use Rattle.variable_values.specs.Messages.{Adds, texts_of};
-ghost use Rattle.variable_values.specs.Places.{before};
+ghost use Rattle.variable_values.specs.Places.{AddsAt};
 ghost use Rattle.variable_values.specs.Rows.{Answered, ByMeta, ByName, IsIn, OfField, OfFields, OfItems, OfWhole};
 ghost use Rattle.variable_values.specs.Texts.{input_text, scalar_text};
 
@@ -40,10 +39,14 @@ use schema::model::SchemaType;
 use std::alloc::Global;
 use std::collections::BTreeMap;
 
-/// Tells of each fault of a value against a type.
+/// Reports each fault of a value against a type, by a message behind those in `messages`.
 ///
-/// A text is made where a fault is found, and nowhere else. An object takes memory for a map of its values and a set of the
+/// A message is made only where a fault is found. An object takes memory for a map of its values and a set of the
 /// names of its fields.
+///
+/// # Errors
+///
+/// Out of memory. Some messages may have been added.
 #[cycle(faults)]
 pub fn add_faults<'p, S: CheckedScalar>(
     alloc: Global,
@@ -54,8 +57,9 @@ pub fn add_faults<'p, S: CheckedScalar>(
     messages: &mut Vec<String>,
 ) -> Result<(), OutOfMemory>
     requires { is_input_in schema.now (borrowed_shape expected).name ≡ true }
-    ensures { OnOk result (Adds (Faults schema.now S.may_answer S.text S.str_of value.now (borrowed_shape expected.entry))
-        (before place.now) (texts_of messages.old) (texts_of messages.new)) }
+    ensures { OnOk result
+        (AddsAt (Faults schema.now S.may_answer S.text S.str_of value.now (borrowed_shape expected.entry))
+        place.now messages.old messages.new) }
 {
     match known_row(schema, expected, value) {
         Row::Nothing => Ok(()),
@@ -74,7 +78,7 @@ pub fn add_faults<'p, S: CheckedScalar>(
     }
 }
 
-// Tells of each fault of the items of a list.
+// Reports each fault of the items of a list.
 #[cycle(faults)]
 fn add_faults_of_items<'p, S: CheckedScalar>(
     alloc: Global,
@@ -85,8 +89,9 @@ fn add_faults_of_items<'p, S: CheckedScalar>(
     messages: &mut Vec<String>,
 ) -> Result<(), OutOfMemory>
     requires { is_input_in schema.now (borrowed_shape inner).name ≡ true }
-    ensures { OnOk result (Adds (OfItems schema.now S.may_answer S.text S.str_of (borrowed_shape inner.entry) items.now)
-        (before place.now) (texts_of messages.old) (texts_of messages.new)) }
+    ensures { OnOk result
+        (AddsAt (OfItems schema.now S.may_answer S.text S.str_of (borrowed_shape inner.entry) items.now)
+        place.now messages.old messages.new) }
 {
     for (index, item) in items.iter().enumerate() {
         let at = Place::Element(index, place);
@@ -95,7 +100,7 @@ fn add_faults_of_items<'p, S: CheckedScalar>(
     Ok(())
 }
 
-// Tells of each fault of a value against metadata.
+// Reports each fault of a value against metadata.
 #[cycle(faults)]
 fn add_faults_of_named<'p, S: CheckedScalar>(
     alloc: Global,
@@ -107,8 +112,9 @@ fn add_faults_of_named<'p, S: CheckedScalar>(
 ) -> Result<(), OutOfMemory>
     requires known { IsIn schema.now meta.now }
     requires input { is_input_meta meta.now ≡ true }
-    ensures { OnOk result (Adds (ByName schema.now S.may_answer S.text S.str_of value.now (Some meta.now))
-        (before place.now) (texts_of messages.old) (texts_of messages.new)) }
+    ensures { OnOk result
+        (AddsAt (ByName schema.now S.may_answer S.text S.str_of value.now (Some meta.now))
+        place.now messages.old messages.new) }
 {
     if value.is_null() {
         Ok(())
@@ -117,7 +123,7 @@ fn add_faults_of_named<'p, S: CheckedScalar>(
     }
 }
 
-// Tells of each fault of a value that isn't null against metadata.
+// Reports each fault of a value that isn't null against metadata.
 #[cycle(faults)]
 fn add_faults_of_meta<'p, S: CheckedScalar>(
     alloc: Global,
@@ -129,8 +135,9 @@ fn add_faults_of_meta<'p, S: CheckedScalar>(
 ) -> Result<(), OutOfMemory>
     requires known { IsIn schema.now meta.now }
     requires input { is_input_meta meta.now ≡ true }
-    ensures { OnOk result (Adds (ByMeta schema.now S.may_answer S.text S.str_of value.now meta.now) (before place.now)
-        (texts_of messages.old) (texts_of messages.new)) }
+    ensures { OnOk result
+        (AddsAt (ByMeta schema.now S.may_answer S.text S.str_of value.now meta.now)
+        place.now messages.old messages.new) }
 {
     match meta {
         MetaTypeOf::Scalar(scalar) => add_faults_of_scalar(alloc, value, scalar, place, messages),
@@ -156,7 +163,7 @@ fn add_faults_of_meta<'p, S: CheckedScalar>(
     }
 }
 
-// Tells of each fault of an object against an input object.
+// Reports each fault of an object against an input object.
 #[cycle(faults)]
 fn add_faults_of_object<'p, S: CheckedScalar>(
     alloc: Global,
@@ -168,8 +175,9 @@ fn add_faults_of_object<'p, S: CheckedScalar>(
     messages: &mut Vec<String>,
 ) -> Result<(), OutOfMemory>
     requires { IsIn schema.now (MetaTypeOf.InputObject object.now) }
-    ensures { OnOk result (Adds (OfWhole schema.now S.may_answer S.text S.str_of object.now entries.now value.now)
-        (before place.now) (texts_of messages.old) (texts_of messages.new)) }
+    ensures { OnOk result
+        (AddsAt (OfWhole schema.now S.may_answer S.text S.str_of object.now entries.now value.now)
+        place.now messages.old messages.new) }
 {
     let told = messages.len();
     add_faults_of_fields(alloc, schema, entries, object, place, messages)?;
@@ -187,7 +195,7 @@ fn add_faults_of_object<'p, S: CheckedScalar>(
     }
 }
 
-// Tells of each fault at the fields of an input object.
+// Reports each fault at the fields of an input object.
 #[cycle(faults)]
 fn add_faults_of_fields<'p, S: CheckedScalar>(
     alloc: Global,
@@ -199,8 +207,8 @@ fn add_faults_of_fields<'p, S: CheckedScalar>(
 ) -> Result<(), OutOfMemory>
     requires { IsIn schema.now (MetaTypeOf.InputObject object.now) }
     ensures { OnOk result
-        (Adds (OfFields schema.now S.may_answer S.text S.str_of object.now.input_fields.items entries.now)
-        (before place.now) (texts_of messages.old) (texts_of messages.new)) }
+        (AddsAt (OfFields schema.now S.may_answer S.text S.str_of object.now.input_fields.items entries.now)
+        place.now messages.old messages.new) }
 {
     let places = last_places(alloc, entries)?;
     for field in object.input_fields.as_slice() {
@@ -212,7 +220,7 @@ fn add_faults_of_fields<'p, S: CheckedScalar>(
     Ok(())
 }
 
-// Tells of each fault at a field, whose value is that of its last entry.
+// Reports each fault at a field, whose value is that of its last entry.
 #[cycle(faults)]
 fn add_faults_of_field<'p, S: CheckedScalar>(
     alloc: Global,
@@ -227,11 +235,10 @@ fn add_faults_of_field<'p, S: CheckedScalar>(
     requires places { HasPlaces places.now entries.now }
     requires known { is_input_in schema.now (borrowed_shape expected).name ≡ true }
     requires made { borrowed_shape expected ≡ shape field.now.arg_type }
-    ensures { OnOk result
-        (Adds
+    ensures { OnOk result (AddsAt
         (OfField schema.now S.may_answer S.text S.str_of field.now
-        (last_value (string_bytes field.now.name) entries.now)) (before place.now) (texts_of messages.old)
-        (texts_of messages.new)) }
+        (last_value (string_bytes field.now.name) entries.now))
+        place.now messages.old messages.new) }
 {
     let name = field.name.as_str();
     let at = Place::Field(name, place);
@@ -241,7 +248,7 @@ fn add_faults_of_field<'p, S: CheckedScalar>(
     }
 }
 
-// Tells of a field without a value, where its type is never null.
+// Reports a field without a value, where its type is never null.
 fn add_absence(
     alloc: Global,
     expected: BorrowedType<'_>,
@@ -249,8 +256,7 @@ fn add_absence(
     messages: &mut Vec<String>,
 ) -> Result<(), OutOfMemory>
     ensures { OnOk result
-        (Adds (λ fs. fs ≡ absent (borrowed_shape expected.entry)) (before place.now) (texts_of messages.old)
-        (texts_of messages.new)) }
+        (AddsAt (λ fs. fs ≡ absent (borrowed_shape expected.entry)) place.now messages.old messages.new) }
 {
     if expected.is_non_null() {
         add(null_message(alloc, place, expected)?, messages)
@@ -259,7 +265,7 @@ fn add_absence(
     }
 }
 
-// Tells of a list of another length than the expected one.
+// Reports a list of another length than the expected one.
 fn add_length_fault(
     alloc: Global,
     size: Option<usize>,
@@ -267,8 +273,7 @@ fn add_length_fault(
     place: &Place<'_>,
     messages: &mut Vec<String>,
 ) -> Result<(), OutOfMemory>
-    ensures { OnOk result (Adds (λ fs. fs ≡ wrong_length size found) (before place.now) (texts_of messages.old)
-        (texts_of messages.new)) }
+    ensures { OnOk result (AddsAt (λ fs. fs ≡ wrong_length size found) place.now messages.old messages.new) }
 {
     match size {
         None => Ok(()),
@@ -297,7 +302,7 @@ fn refusal<S: CheckedScalar>(
     }
 }
 
-// Tells of the fault of a value against a scalar.
+// Reports the fault of a value against a scalar.
 fn add_faults_of_scalar<S: CheckedScalar>(
     alloc: Global,
     value: &InputValue<S>,
@@ -305,12 +310,11 @@ fn add_faults_of_scalar<S: CheckedScalar>(
     place: &Place<'_>,
     messages: &mut Vec<String>,
 ) -> Result<(), OutOfMemory>
-    ensures { OnOk result
-        (Adds
+    ensures { OnOk result (AddsAt
         (Checked S.may_answer (scalar_check scalar.now) value.now
         (scalar_text (string_bytes scalar.now.name) (printed_value S.text S.str_of value.now))
-        (accepted_faults (string_bytes scalar.now.name) (out-InputValue S value.now))) (before place.now)
-        (texts_of messages.old) (texts_of messages.new)) }
+        (accepted_faults (string_bytes scalar.now.name) (out-InputValue S value.now)))
+        place.now messages.old messages.new) }
 {
     let name = scalar.name.as_str();
     match refusal(alloc, scalar.input_value_parse_fn(), value)? {
@@ -322,7 +326,7 @@ fn add_faults_of_scalar<S: CheckedScalar>(
     }
 }
 
-// Tells that a list or an object stands for a scalar.
+// Reports a list or an object that stands for a scalar.
 fn add_fault_of_accepted<S>(
     alloc: Global,
     value: &InputValue<S>,
@@ -330,8 +334,9 @@ fn add_fault_of_accepted<S>(
     place: &Place<'_>,
     messages: &mut Vec<String>,
 ) -> Result<(), OutOfMemory>
-    ensures { OnOk result (Adds (λ fs. fs ≡ accepted_faults name.now (out-InputValue S value.now)) (before place.now)
-        (texts_of messages.old) (texts_of messages.new)) }
+    ensures { OnOk result
+        (AddsAt (λ fs. fs ≡ accepted_faults name.now (out-InputValue S value.now))
+        place.now messages.old messages.new) }
 {
     match value {
         InputValue::List(_) => add(list_message(alloc, place, name)?, messages),
@@ -340,7 +345,7 @@ fn add_fault_of_accepted<S>(
     }
 }
 
-// Tells of what the check of an input object refuses.
+// Reports a value that the check of an input object refuses.
 fn add_refusal_of_object<S: CheckedScalar>(
     alloc: Global,
     value: &InputValue<S>,
@@ -348,11 +353,10 @@ fn add_refusal_of_object<S: CheckedScalar>(
     place: &Place<'_>,
     messages: &mut Vec<String>,
 ) -> Result<(), OutOfMemory>
-    ensures { OnOk result
-        (Adds
+    ensures { OnOk result (AddsAt
         (Checked S.may_answer (input_object_check object.now) value.now
-        (input_text (string_bytes object.now.name) (printed_value S.text S.str_of value.now)) []) (before place.now)
-        (texts_of messages.old) (texts_of messages.new)) }
+        (input_text (string_bytes object.now.name) (printed_value S.text S.str_of value.now)) [])
+        place.now messages.old messages.new) }
 {
     match refusal(alloc, object.input_value_parse_fn(), value)? {
         None => Ok(()),
@@ -365,7 +369,7 @@ fn add_refusal_of_object<S: CheckedScalar>(
     }
 }
 
-// Tells of a value that is none of an enum.
+// Reports a value that is not a value of an enum.
 fn add_fault_of_enum<S: ScalarValue, C>(
     alloc: Global,
     value: &InputValue<S>,
@@ -373,11 +377,10 @@ fn add_fault_of_enum<S: ScalarValue, C>(
     place: &Place<'_>,
     messages: &mut Vec<String>,
 ) -> Result<(), OutOfMemory>
-    ensures { OnOk result
-        (Adds (λ fs. fs
-        ≡ enum_faults (string_bytes known.now.name) (map (λ n. string_bytes n.name) known.now.values.items)
-        (name_in S.str_of (out-InputValue S value.now))) (before place.now) (texts_of messages.old)
-        (texts_of messages.new)) }
+    ensures { OnOk result (AddsAt
+        (λ fs. fs ≡ enum_faults (string_bytes known.now.name) (map (λ n. string_bytes n.name) known.now.values.items)
+        (name_in S.str_of (out-InputValue S value.now)))
+        place.now messages.old messages.new) }
 {
     match name_of(value) {
         None => add(

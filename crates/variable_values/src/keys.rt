@@ -18,7 +18,11 @@ use meta::arguments::Argument;
 use std::alloc::Global;
 use std::collections::BTreeSet;
 
-/// Tells of each key of an object that no field has, once.
+/// Reports once each key of an object that no field has.
+///
+/// # Errors
+///
+/// Out of memory. Some messages may have been added.
 pub fn add_unknown_keys<S>(
     alloc: Global,
     fields: &[Argument<S>],
@@ -37,7 +41,7 @@ pub fn add_unknown_keys<S>(
     Ok(())
 }
 
-// Tells of a key that isn't noted, and notes it.
+// Reports a key that is not noted yet, and notes it.
 #[tactic(auto, using(crate::proofs::KeyLaws::has_more))]
 fn note_key<'k>(
     alloc: Global,

@@ -1,11 +1,11 @@
-//! Where in the value of a variable something stands.
+//! Places in the value of a variable.
 ghost use Rattle.std.specs.Prelude.{Some};
 ghost use Rattle.std.specs.Fmt.{WritesOnOk};
 ghost use Rattle.variable_values.specs.Places.{before};
 
 use std::fmt;
 
-/// A place in the value of a variable. It borrows the place round it, so that none takes memory.
+/// A place in the value of a variable. It borrows the place around it, so it takes no memory.
 #[derive(Clone, Copy)]
 pub enum Place<'p> {
     /// The value of the variable of this name.
@@ -16,7 +16,7 @@ pub enum Place<'p> {
     Field(&'p str, &'p Place<'p>),
 }
 
-/// What stands before each fault that is told of the place.
+/// Writes the start of each message about this place.
 impl fmt::Display for Place<'_> {
     ghost output = { λ p. Some (before p) };
 

@@ -1,4 +1,4 @@
-//! Which row of a value and a type stands.
+//! What a type says of a value, its modifiers taken off.
 ghost use Rattle.std.specs.Prelude.{◌≡◌, List, Some, true};
 ghost use Rattle.language.specs.Types.{borrowed_shape, shape};
 ghost use Rattle.schema_validation.specs.Names.{argument_type};
@@ -28,7 +28,7 @@ pub enum Row<'t> {
     Named(&'t str),
 }
 
-/// The row of the value and the type.
+/// What a type says of a value.
 pub fn row_of<'t, S: CheckedScalar>(expected: BorrowedType<'t>, value: &InputValue<S>) -> Row<'t>
     ensures row { (schema : Catalog S S.Check) (fs : List Fault)
         → IsRowOf schema S.may_answer S.text S.str_of value.now (borrowed_shape expected.entry) result fs }
@@ -52,7 +52,7 @@ pub fn row_of<'t, S: CheckedScalar>(expected: BorrowedType<'t>, value: &InputVal
     }
 }
 
-/// The row of the value and a type whose name is that of an input type.
+/// What a type says of a value, where its name is that of an input type.
 pub fn known_row<'t, S: CheckedScalar>(
     schema: &SchemaType<S>,
     expected: BorrowedType<'t>,

@@ -1,4 +1,4 @@
-//! What is told of faults.
+//! The messages of faults.
 ghost use Rattle.std.specs.Prelude.{◌≡◌, ◌++◌, IfOk, codes, string_bytes};
 ghost use Rattle.language.specs.Types.{borrowed_shape, printed};
 ghost use Rattle.language.specs.ValuesPrinted.{printed_value};
@@ -13,6 +13,11 @@ use language::types::BorrowedType;
 use language::value::InputValue;
 use std::alloc::{AllocError, Global};
 
+/// The message for a missing or null value of a variable whose type is never null.
+///
+/// # Errors
+///
+/// Out of memory.
 pub fn required_message(
     alloc: Global,
     variable: &str,
@@ -23,6 +28,11 @@ pub fn required_message(
     format!(in alloc; "Variable \"${variable}\" of required type \"{required}\" was not provided.")
 }
 
+/// The message for null where the type is never null.
+///
+/// # Errors
+///
+/// Out of memory.
 pub fn null_message(
     alloc: Global,
     place: &Place<'_>,
@@ -34,6 +44,11 @@ pub fn null_message(
     format!(in alloc; "{place}Expected \"{expected}\", found null.")
 }
 
+/// The message for a list of another length than the expected one.
+///
+/// # Errors
+///
+/// Out of memory.
 pub fn length_message(
     alloc: Global,
     place: &Place<'_>,
@@ -45,6 +60,11 @@ pub fn length_message(
     format!(in alloc; "{place}Expected list of {expected} elements, found {found} elements.")
 }
 
+/// The message for a value that the check of a scalar refuses.
+///
+/// # Errors
+///
+/// Out of memory.
 pub fn scalar_message<S: ScalarValue>(
     alloc: Global,
     place: &Place<'_>,
@@ -59,6 +79,11 @@ pub fn scalar_message<S: ScalarValue>(
     format!(in alloc; "{place}Expected input scalar `{name}`. Got: `{value}`. Details: {why}.")
 }
 
+/// The message for a value that the check of an input object refuses.
+///
+/// # Errors
+///
+/// Out of memory.
 pub fn input_message<S: ScalarValue>(
     alloc: Global,
     place: &Place<'_>,
@@ -73,36 +98,66 @@ pub fn input_message<S: ScalarValue>(
     format!(in alloc; "{place}Expected input of type `{name}`. Got: `{value}`. Details: {why}.")
 }
 
+/// The message for a list that stands for a scalar.
+///
+/// # Errors
+///
+/// Out of memory.
 pub fn list_message(alloc: Global, place: &Place<'_>, name: &str) -> Result<String, AllocError>
     ensures { IfOk result (λ t. string_bytes t ≡ told_after (before place.now) (here (list_text name.now))) }
 {
     format!(in alloc; "{place}Expected \"{name}\", found list.")
 }
 
+/// The message for an object that stands for a scalar.
+///
+/// # Errors
+///
+/// Out of memory.
 pub fn object_message(alloc: Global, place: &Place<'_>, name: &str) -> Result<String, AllocError>
     ensures { IfOk result (λ t. string_bytes t ≡ told_after (before place.now) (here (object_text name.now))) }
 {
     format!(in alloc; "{place}Expected \"{name}\", found object.")
 }
 
+/// The message for a name that is not a value of the enum.
+///
+/// # Errors
+///
+/// Out of memory.
 pub fn enum_message(alloc: Global, place: &Place<'_>, name: &str) -> Result<String, AllocError>
     ensures { IfOk result (λ t. string_bytes t ≡ told_after (before place.now) (here (enum_text name.now))) }
 {
     format!(in alloc; "{place}Invalid value for enum \"{name}\".")
 }
 
+/// The message for a value that is neither a string nor an enum value, where an enum is expected.
+///
+/// # Errors
+///
+/// Out of memory.
 pub fn no_name_message(alloc: Global, place: &Place<'_>, name: &str) -> Result<String, AllocError>
     ensures { IfOk result (λ t. string_bytes t ≡ told_after (before place.now) (here (no_name_text name.now))) }
 {
     format!(in alloc; "{place}Expected \"{name}\", found not a string or enum.")
 }
 
+/// The message for a value that is not an object, where an input object is expected.
+///
+/// # Errors
+///
+/// Out of memory.
 pub fn no_object_message(alloc: Global, place: &Place<'_>, name: &str) -> Result<String, AllocError>
     ensures { IfOk result (λ t. string_bytes t ≡ told_after (before place.now) (here (no_object_text name.now))) }
 {
     format!(in alloc; "{place}Expected \"{name}\", found not an object.")
 }
 
+/// The message for a key that no input field has.
+///
+/// # Errors
+///
+/// Out of memory.
 pub fn unknown_message(alloc: Global, place: &Place<'_>, key: &str) -> Result<String, AllocError>
     ensures { IfOk result (λ t. string_bytes t ≡ told_after (before place.now) (unknown_field key.now)) }
 {

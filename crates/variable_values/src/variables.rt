@@ -21,12 +21,15 @@ use schema::model::SchemaType;
 use std::alloc::Global;
 use walk::RuleError;
 
-/// What is wrong with the values of an operation's variables (GraphQL, section 6.1.2), in ascending order, each error at the
-/// name of its variable.
+/// Reports what is wrong with the values of an operation's variables (GraphQL, October 2021, section 6.1.2).
 ///
-/// The type of each variable has to be a known input type, as it is in a document without errors. An input object is read as its
-/// `to_object_value`: of several entries of a key the last counts. A value without fault takes no memory for texts or places. The one
-/// error is `OutOfMemory`, where memory was refused or a check ran out of it.
+/// The errors are in ascending order, each at the name of its variable. The type of each variable has to be a known
+/// input type, as in a document without errors. An input object is read by its `to_object_value`: of several entries
+/// of a key the last counts. A value without a fault takes no memory for messages or places.
+///
+/// # Errors
+///
+/// Out of memory, here or in the check of a scalar or an input object.
 pub fn validate_input_values<S: CheckedScalar>(
     alloc: Global,
     values: &Variables<S>,
@@ -49,7 +52,7 @@ pub fn validate_input_values<S: CheckedScalar>(
     Ok(errors)
 }
 
-// What is said of a variable of this name and type.
+// The messages for a variable of this name and type.
 fn messages_of<S: CheckedScalar>(
     alloc: Global,
     schema: &SchemaType<S>,
@@ -77,7 +80,7 @@ fn messages_of<S: CheckedScalar>(
     Ok(messages)
 }
 
-// The value of a variable, if it has one that isn't null.
+// The value of a variable, if it has one that is not null.
 fn given_value<'v, S>(values: &'v Variables<S>, name: &str) -> Option<&'v InputValue<S>>
     ensures { option_copied result ≡ given (get_by_text values.now name.now) }
 {
@@ -88,7 +91,7 @@ fn given_value<'v, S>(values: &'v Variables<S>, name: &str) -> Option<&'v InputV
     }
 }
 
-// An error of each message, at this place.
+// Adds an error for each message, at this place.
 fn add_errors(
     alloc: Global,
     messages: &[String],

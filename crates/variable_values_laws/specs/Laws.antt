@@ -1,4 +1,4 @@
--- Laws of values that conform, and of the errors that tell of others.
+-- Laws of values that conform, and of the errors for those that do not.
 use Rattle.std.specs.Prelude.{◌≡◌, ◌↔◌, ℕ, List, [], Contains, Option, Some, IsPermutation, IsSorted, reverse}
 use Rattle.std.specs.BTreeMap.{get_by_text}
 use Rattle.language.specs.declared.tree.Operation.{Operation}
@@ -15,11 +15,11 @@ use Rattle.variable_values.specs.Messages.{OfOperation, Values}
 use Rattle.variable_values_laws.specs.Conforms.{Conforms, VariablesConform}
 
 module _ {S C : Type 0} (schema : Catalog S C) (may : Answers (InputValue S) C) (text : S → List ℕ) (str_of : S → Option (List ℕ)) where
-  -- a value is without fault exactly where it conforms
+  -- a value has no faults if and only if it conforms
   abbrev pub FaultlessIffConforms : Type 0
   FaultlessIffConforms = (value : InputValue S) (t : TypeShape) → Faults schema may text str_of value t [] ↔ Conforms schema may str_of (Some value) t
 
-  -- the faults of a value are none exactly where it conforms
+  -- the list of a value's faults is empty if and only if it conforms
   abbrev pub NoneIffConforms : Type 0
   NoneIffConforms = (value : InputValue S) (t : TypeShape) (fs : List Fault) → Faults schema may text str_of value t fs → (fs ≡ []) ↔ Conforms schema may str_of (Some value) t
 
@@ -27,7 +27,7 @@ module _ {S C : Type 0} (schema : Catalog S C) (may : Answers (InputValue S) C) 
   abbrev pub OneListOfErrors : Type 0
   OneListOfErrors = (values : Values S) (o : Operation S) (es fs : List ErrorValue) → OfOperation schema may text str_of values o es → OfOperation schema may text str_of values o fs → es ≡ fs
 
-  -- it is empty exactly where the values of all variables conform
+  -- it is empty if and only if the values of all variables conform
   abbrev pub NoErrorIffConform : Type 0
   NoErrorIffConform = (values : Values S) (o : Operation S) (es : List ErrorValue) → OfOperation schema may text str_of values o es → (es ≡ []) ↔ VariablesConform schema may str_of values o
 
@@ -37,12 +37,12 @@ module _ {S C : Type 0} (schema : Catalog S C) (may : Answers (InputValue S) C) 
       → VariablesConform schema may str_of values o → Contains (definitions_of o) d → get_by_text values d.0.item.now ≡ Some value
       → Asks schema value (reverse (shape d.1.var_type.item).modifiers) (shape d.1.var_type.item).name c inner → Accepts may c inner
 
-  -- what `validate_input_values` may answer: the errors of the operation, in ascending order
+  -- what `validate_input_values` may return: the errors of the operation, in ascending order
   pub record IsAnswer (values : Values S) (o : Operation S) (errors : List ErrorValue) : Type 0 where
     pub faults : (es : List ErrorValue) × OfOperation schema may text str_of values o es × IsPermutation es errors
     pub sorted : IsSorted error_cmp errors
 
-  -- it may give one answer, which is empty exactly where the values of all variables conform
+  -- it may return one list, which is empty if and only if the values of all variables conform
   abbrev pub OneSortedAnswer : Type 0
   OneSortedAnswer = (values : Values S) (o : Operation S) (es fs : List ErrorValue) → IsAnswer values o es → IsAnswer values o fs → es ≡ fs
 

@@ -1,5 +1,5 @@
-//! Values of variables that conform to their types (GraphQL, October 2021, section 6.1.2), in a reader's words, and what the errors of
-//! `validate_input_values` say of them.
+//! When the values of variables conform to their types (GraphQL, October 2021, section 6.1.2), and what the errors of
+//! `validate_input_values` say of it.
 #![tactic(auto)]
 
 pub mod laws;

@@ -6,7 +6,7 @@ use sample_reader::{ReadError, read_value};
 use std::alloc::Global;
 use std::collections::BTreeMap;
 
-/// The values of the variables, of which `c` alone has one; with an empty text none has.
+/// The values of the variables: one for `c`, and none for an empty text.
 pub fn values(alloc: Global, text: &str) -> Result<Variables, ReadError> {
     if text.is_empty() {
         return Ok(Variables::new(alloc));

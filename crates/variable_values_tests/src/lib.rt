@@ -1,4 +1,5 @@
-//! Values of variables: the rows of a text and its values, lists with an expected size, and requests for memory refused in turn.
+//! Values of variables: the rows of a text and its values, lists with an expected size, and requests for memory
+//! refused in turn.
 #![tactic(auto)]
 
 #[cfg(test)]
