@@ -3,9 +3,7 @@ use Rattle.std.proofs.Common.{◌≡◌, ℕ, ◌+◌, List, [], ◌∷◌, ◌+
 use Rattle.std.specs.Prelude.{String, Vec}
 use Rattle.std.specs.declared.alloc.Global.{Global}
 use Rattle.std.proofs.lemmas.List.{map-append, length-append, length-map, append-nil}
-use Rattle.meta.specs.declared.arguments.Argument.{Argument}
 use Rattle.variable_values.specs.Faults.{Fault, Step, under, unknown_field}
-use Rattle.variable_values.specs.Keys.{field_names, unknown_keys}
 use Rattle.variable_values.specs.Messages.{Adds, printed_path, printed_step, texts_of, told_after}
 
 -- what is told of a fault one step down
@@ -82,12 +80,3 @@ pub told-more : (before : List ℕ) (start old new : List (List ℕ)) (done fs :
 told-more before start old new done fs d e =
     e ∙ ap (λ ts. ts ++ map (told_after before) fs) d ∙ append_assoc start (map (told_after before) done) (map (told_after before) fs)
     ∙ ap (λ ts. start ++ ts) (sym (map-append (told_after before) done fs))
-
--- the same of the keys that none of these fields has, after the fields were read as a slice
-pub told-keys : {S : Type 0} (before : List ℕ) (start old new : List (List ℕ)) (done : List Fault) (slice fields : List (Argument S)) (keys : List (List ℕ)) → slice ≡ fields
-    → old ≡ start ++ map (told_after before) done
-    → new ≡ old ++ map (told_after before) (map unknown_field (unknown_keys (field_names slice) keys))
-    → new ≡ start ++ map (told_after before) (done ++ map unknown_field (unknown_keys (field_names fields) keys))
-told-keys before start old new done slice fields keys s d e =
-    told-more before start old new done (map unknown_field (unknown_keys (field_names fields) keys)) d
-    (e ∙ ap (λ fs. old ++ map (told_after before) (map unknown_field (unknown_keys (field_names fs) keys))) s)

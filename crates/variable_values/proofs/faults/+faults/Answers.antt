@@ -20,7 +20,7 @@ use Rattle.variable_values.proofs.InTurns.{done_all, done_more}
 use Rattle.variable_values.proofs.ObjectLaws.{by_no_object, by_object, field_none, field_some, whole_none, whole_some}
 use Rattle.variable_values.proofs.PlaceLaws.{before-Element, before-Field}
 use Rattle.variable_values.proofs.RowLaws.{by_meta, null_by_name, says_list}
-use Rattle.variable_values.proofs.Told.{adds-as, adds-both, adds-none, adds-one, adds-under, as_many, fewer, none-told, told-keys, told-more}
+use Rattle.variable_values.proofs.Told.{adds-as, adds-both, adds-none, adds-one, adds-under, as_many, fewer, none-told, told-more}
 use Rattle.variable_values.proofs.faults.+faults.Goals as goal
 
 pub add_faults-returns-in-Nothing : goal.add_faults-returns-in-Nothing
@@ -154,26 +154,44 @@ add_faults_of_meta-returns-in_ok-no_object_message-in_default-value g t c =
 
 pub add_faults_of_object-returns-then-len-told : goal.add_faults_of_object-returns-then-len-told
 add_faults_of_object-returns-then-len-told g t c =
+    let schema = c.args.schema.now in
+    let may = g.S.CheckedScalar.may_answer in
+    let text = g.S.ScalarValue.text in
+    let str_of = g.S.ScalarValue.str_of in
+    let value = c.args.value.now in
+    let object = c.args.object.now in
+    let entries = c.args.entries.now in
     let place = before c.args.place.now in
     let start = texts_of c.args.messages.now in
-    let now = texts_of c.add_unknown_keys.new.messages in
+    let keys = map unknown_field (unknown_keys (field_names object.input_fields.items) (keys_of entries)) in
     let at = c.in_ok-add_faults_of_fields.ensures in
-    let both = told-keys place start _ now at.0 _ c.args.object.now.input_fields.items (keys_of c.args.entries.now) c.as_slice.ensures.value at.2 c.in_ok-add_unknown_keys.ensures in
-    let none = none-told place start now _ both (as_many c.args.messages.now c.add_unknown_keys.new.messages c.len-told.result c.len.result c.len-told.ensures c.len.ensures c.if-len-told.true) in
-    let same : now ≡ start = both ∙ ap (λ hs. start ++ map (told_after place) hs) none ∙ append-nil start in
+    let both : texts_of c.add_unknown_keys.new.messages ≡ start ++ map (told_after place) (at.0 ++ keys) =
+    told-more place start (texts_of c.add_faults_of_fields.new.messages) (texts_of c.add_unknown_keys.new.messages) at.0 keys at.2
+    (c.in_ok-add_unknown_keys.ensures ∙ ap (λ fields. texts_of c.add_faults_of_fields.new.messages ++ map (told_after place) (map unknown_field (unknown_keys (field_names fields) (keys_of entries)))) c.as_slice.ensures.value) in
+    let none : at.0 ++ keys ≡ [] = none-told place start (texts_of c.add_unknown_keys.new.messages) (at.0 ++ keys) both (as_many c.args.messages.now c.add_unknown_keys.new.messages c.len-told.result c.len.result c.len-told.ensures c.len.ensures c.if-len-told.true) in
+    let same : texts_of c.add_unknown_keys.new.messages ≡ start = both ∙ ap (λ hs. start ++ map (told_after place) hs) none ∙ append-nil start in
     on_ok_weaker c.add_refusal_of_object.result
-    (λ a. (a.0, whole_none c.args.schema.now g.S.CheckedScalar.may_answer g.S.ScalarValue.text g.S.ScalarValue.str_of c.args.object.now c.args.entries.now c.args.value.now at.0 a.0 at.1 none a.1, a.2 ∙ ap (λ ts. ts ++ map (told_after place) a.0) same))
+    (λ a. (a.0, whole_none schema may text str_of object entries value at.0 a.0 at.1 none a.1, a.2 ∙ ap (λ ts. ts ++ map (told_after place) a.0) same))
     c.add_refusal_of_object.ensures
 
 pub add_faults_of_object-returns-else-len-told : goal.add_faults_of_object-returns-else-len-told
 add_faults_of_object-returns-else-len-told g t c =
+    let schema = c.args.schema.now in
+    let may = g.S.CheckedScalar.may_answer in
+    let text = g.S.ScalarValue.text in
+    let str_of = g.S.ScalarValue.str_of in
+    let value = c.args.value.now in
+    let object = c.args.object.now in
+    let entries = c.args.entries.now in
     let place = before c.args.place.now in
     let start = texts_of c.args.messages.now in
+    let keys = map unknown_field (unknown_keys (field_names object.input_fields.items) (keys_of entries)) in
     let at = c.in_ok-add_faults_of_fields.ensures in
-    let both = told-keys place start _ (texts_of c.add_unknown_keys.new.messages) at.0 _ c.args.object.now.input_fields.items (keys_of c.args.entries.now) c.as_slice.ensures.value at.2 c.in_ok-add_unknown_keys.ensures in
-    let some = λ (e : at.0 ++ map unknown_field (unknown_keys (field_names c.args.object.now.input_fields.items) (keys_of c.args.entries.now)) ≡ []).
-    c.if-len-told.false (fewer c.args.messages.now c.add_unknown_keys.new.messages c.len-told.result c.len.result c.len-told.ensures c.len.ensures (both ∙ ap (λ hs. start ++ map (told_after place) hs) e ∙ append-nil start)) in
-    (_, whole_some c.args.schema.now g.S.CheckedScalar.may_answer g.S.ScalarValue.text g.S.ScalarValue.str_of c.args.object.now c.args.entries.now c.args.value.now at.0 at.1 some, both)
+    let both : texts_of c.add_unknown_keys.new.messages ≡ start ++ map (told_after place) (at.0 ++ keys) =
+    told-more place start (texts_of c.add_faults_of_fields.new.messages) (texts_of c.add_unknown_keys.new.messages) at.0 keys at.2
+    (c.in_ok-add_unknown_keys.ensures ∙ ap (λ fields. texts_of c.add_faults_of_fields.new.messages ++ map (told_after place) (map unknown_field (unknown_keys (field_names fields) (keys_of entries)))) c.as_slice.ensures.value) in
+    let more = λ (e : at.0 ++ keys ≡ []). c.if-len-told.false (fewer c.args.messages.now c.add_unknown_keys.new.messages c.len-told.result c.len.result c.len-told.ensures c.len.ensures (both ∙ ap (λ hs. start ++ map (told_after place) hs) e ∙ append-nil start)) in
+    (at.0 ++ keys, whole_some schema may text str_of object entries value at.0 at.1 more, both)
 
 pub add_faults_of_fields-loop-field-preserved : goal.add_faults_of_fields-loop-field-preserved
 add_faults_of_fields-loop-field-preserved g t c =
