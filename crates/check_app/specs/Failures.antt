@@ -1,4 +1,4 @@
--- What is told of a failure.
+-- How a failure is reported.
 use Rattle.std.specs.Prelude.{◌≡◌, ℕ, List, [], ◌∷◌, ◌++◌, Option, codes}
 use Rattle.std.specs.Io.KnownBytes.{Appends}
 use Rattle.sample_reader.specs.declared.error.ReadError.{ReadError}
@@ -8,7 +8,7 @@ use Rattle.check_app.specs.declared.failure.Failure.TheVariants as f
 use Rattle.check_app.specs.Statuses.{status_of}
 use Rattle.language.specs.Position.{printed_position}
 
--- a text that is no document is a fault of its syntax, at the same place
+-- a text that can't be parsed is a syntax error, at the same position
 abbrev pub failure_of_read : ReadError → Failure
 failure_of_read (r.Fault place) = f.Syntax place
 failure_of_read r.OutOfMemory = f.OutOfMemory
@@ -20,7 +20,7 @@ failure_text f.OutOfMemory = codes "out of memory"
 failure_text f.Usage = codes "usage: check demo or check <pets, boxes> [merge, closed]"
 failure_text f.InputOutput = codes "input or output failed"
 
--- the line that tells of it
+-- the line that reports it
 abbrev pub failure_line : Failure → List ℕ
 failure_line failure = codes "check: " ++ failure_text failure ++ 10 ∷ []
 

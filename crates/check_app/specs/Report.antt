@@ -1,4 +1,4 @@
--- What the program writes of a document.
+-- The text of a report.
 use Rattle.std.specs.Prelude.{◌≡◌, ◌==◌, ℕ, List, [], ◌∷◌, ◌++◌, Option, Some, None, if◌then◌else◌, codes, length, IsSorted}
 use Rattle.std.specs.Fmt.{decimal}
 use Rattle.std.specs.Io.KnownBytes.{Appends}
@@ -13,7 +13,7 @@ line text = text ++ 10 ∷ []
 abbrev pub error_lines : List ErrorValue → List ℕ
 error_lines errors = flat_map (λ e. line (printed_error e)) errors
 
--- the number of pairs that were compared, where it is told
+-- the number of pairs that were compared, if it is known
 abbrev pub pairs_line : Option ℕ → List ℕ
 pairs_line None = []
 pairs_line (Some pairs) = line (codes "compared " ++ decimal pairs)

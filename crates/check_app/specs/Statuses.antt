@@ -1,4 +1,4 @@
--- The statuses that the program ends with where it tells nothing of a document.
+-- The exit statuses of failures.
 use Rattle.std.specs.Prelude.{ℕ}
 use Rattle.check_app.specs.declared.failure.Failure.{Failure}
 use Rattle.check_app.specs.declared.failure.Failure.TheVariants as f

@@ -1,4 +1,4 @@
-//! Why the program tells nothing of a document.
+//! Why the program writes no report.
 ghost use Rattle.std.specs.Prelude.{Some};
 ghost use Rattle.check_app.specs.Failures.{failure_text};
 
@@ -8,14 +8,14 @@ use std::{fmt, io};
 use validation::parser::SourcePosition;
 use validation::{OutOfMemory, SchemaError};
 
-/// Why the program tells nothing of a document.
+/// Why the program writes no report.
 #[derive(Clone, Copy, Debug)]
 pub enum Failure {
-    /// The input is no document: the first token that doesn't fit starts here.
+    /// The input has a syntax error: the first token that doesn't fit starts here.
     Syntax(SourcePosition),
-    /// A request for memory was refused.
+    /// Out of memory.
     OutOfMemory,
-    /// The words ask for nothing that there is.
+    /// The arguments are invalid.
     Usage,
     /// A read or a write failed.
     InputOutput,
@@ -25,7 +25,7 @@ impl Failure {
     ghost use Rattle.std.specs.Prelude.{◌≡◌, ◌≤◌};
     ghost use Rattle.check_app.specs.Statuses.{status_of};
 
-    /// The status that the program ends with.
+    /// The exit status.
     pub fn status(self) -> u8
         ensures value { result ≡ status_of self }
         ensures least { 2 ≤ result }
@@ -116,7 +116,7 @@ impl From<io::Error> for Failure {
     }
 }
 
-/// The sample lists are accepted, so want of memory alone refuses one.
+/// The sample types are accepted, so only out of memory refuses them.
 impl From<SchemaError> for Failure {
     ghost use Rattle.std.specs.Prelude.{◌≡◌};
     ghost use Rattle.check_app.specs.declared.failure.Failure.TheVariants as f;

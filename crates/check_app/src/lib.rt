@@ -1,4 +1,4 @@
-//! The work of the program `check`, over any reader and any writers: a document is validated against a sample schema.
+//! The work of the program `check`, over any reader and any writers: it validates a document against a sample schema.
 #![tactic(auto)]
 
 pub mod failure;

@@ -30,7 +30,7 @@ enum Sample {
     Boxes,
 }
 
-/// What is tried: every rule, that on fields that can be merged alone, or every rule where introspection is an error.
+/// Which rules run: all, only `overlapping_fields_can_be_merged`, or all with introspection disabled.
 #[derive(Clone, Copy, Debug, PartialEq, Eq)]
 enum Mode {
     Plain,
@@ -38,24 +38,24 @@ enum Mode {
     Closed,
 }
 
-/// What the words ask for: a document is judged against a sample schema.
+/// What the arguments ask for: to validate a document against a sample schema.
 #[derive(Clone, Copy, Debug, PartialEq, Eq)]
 struct Task {
     sample: Sample,
     mode: Mode,
 }
 
-/// Does what the words ask for, and answers the status to end with. The words are those after the program's own name.
+/// Does what the arguments ask for, and returns the exit status. The words are those after the program's own name.
 ///
-/// `demo` reads nothing; `pets` and `boxes` read the input to its end, as a document. With `merge` behind them only the rule on fields
-/// that can be merged is tried, and with `closed` introspection is an error. What is told of a document goes to `output`, in one
-/// piece; why there is nothing to tell goes to `faults`, as one line.
+/// `demo` reads nothing; `pets` and `boxes` read the input to its end, as a document. A second word `merge` runs only
+/// the rule `overlapping_fields_can_be_merged`, and `closed` reports introspection. The report goes to `output`, in
+/// one piece; why there is none goes to `faults`, as one line.
 ///
 /// - 0: the document has no error;
 /// - 1: it has errors;
-/// - 2: the input isn't a document that the reader reads;
-/// - 3: a request for memory was refused;
-/// - 4: the words are other ones;
+/// - 2: the input has a syntax error;
+/// - 3: out of memory;
+/// - 4: invalid arguments;
 /// - 5: a read or a write failed.
 #[tactic(auto, using(crate::proofs::Reports::tells))]
 pub fn run<R: Read, W: Write, E: Write>(
@@ -102,7 +102,7 @@ fn write_text<W: Write>(output: &mut W, text: &str) -> io::Result<()>
     Ok(())
 }
 
-/// Tells of a failure in a line, and answers its status, or that of a failed write.
+/// Writes a failure as a line, and returns its exit status, or that of a failed write.
 pub fn tell<E: Write>(failure: Failure, faults: &mut E) -> u8
     ensures value { (result ≡ status_of failure) ⊎ (result ≡ 5) }
     ensures least { 2 ≤ result }
@@ -206,7 +206,7 @@ fn sample_named(word: &str) -> Option<Sample>
     }
 }
 
-/// Validates the document of the text against a sample schema. The document of `demo` is built in code.
+/// Validates the document of a text against a sample schema. The document of `demo` is built in code.
 fn check(alloc: Global, task: Task, text: Vec<u8>) -> Result<Report, Failure>
     ensures report { IfOk result IsReport }
     ensures other { IfErr result (λ e. is_usage e ≡ false) }

@@ -1,4 +1,4 @@
-//! What is told of a document.
+//! The report on a document.
 ghost use Rattle.std.specs.Prelude.{◌≡◌, ◌==◌, ◌++◌, IfErr, IfOk, OnOk, false, length, string_bytes};
 ghost use Rattle.check_app.specs.Report.{error_lines, pairs_line};
 
@@ -11,10 +11,10 @@ use validation::{
     ValidatorContext, visit_root_rules,
 };
 
-/// What is told of a document.
+/// The report on a document.
 #[derive(Drop)]
 pub struct Report {
-    /// The errors in order, a line each, and then the number of pairs of fragments that were compared, where it is told.
+    /// The errors in order, a line each, and then the number of pairs of fragments that were compared, if it is known.
     pub text: String,
     /// Whether there is no error.
     pub is_clean: bool,
@@ -24,7 +24,11 @@ impl Report {
     ghost use Rattle.check_app.specs.Report.{report_text};
     ghost use Rattle.check_app.specs.Told.{IsReportOn, IsMergeReport};
 
-    /// Validates a document by all rules, and by that on introspection where it is closed.
+    /// Validates a document by all rules, and if `closed` also by `disable_introspection`.
+    ///
+    /// # Errors
+    ///
+    /// Out of memory.
     pub fn on<'a>(
         alloc: Global,
         schema: &'a SchemaType<DefaultScalarValue>,
@@ -41,7 +45,11 @@ impl Report {
         Ok(report)
     }
 
-    /// Tries the rule on fields that can be merged, and no other.
+    /// Validates a document by the rule `overlapping_fields_can_be_merged` alone.
+    ///
+    /// # Errors
+    ///
+    /// Out of memory.
     pub fn on_merging<'a>(
         alloc: Global,
         schema: &'a SchemaType<DefaultScalarValue>,
@@ -58,7 +66,7 @@ impl Report {
         Ok(report)
     }
 
-    /// The report on these errors, which tells how many pairs were compared where that is known.
+    /// The report on these errors, with the number of pairs that were compared, if it is known.
     fn of(
         alloc: Global,
         errors: &[RuleError],
@@ -87,7 +95,7 @@ fn print_errors(alloc: Global, errors: &[RuleError]) -> Result<String, OutOfMemo
     Ok(text)
 }
 
-/// The number of pairs that were compared, on a line, where it is told.
+/// The number of pairs that were compared, on a line, if it is known.
 fn write_pairs(text: &mut String, compared: Option<u128>) -> Result<(), OutOfMemory>
     ensures { OnOk result (string_bytes text.new ≡ string_bytes text.old ++ pairs_line compared) }
 {

@@ -1,4 +1,4 @@
-//! Runs in which memory, a read or a write is refused.
+//! Runs in which an allocation, a read or a write fails.
 use crate::words_failure;
 use check_app::program::{run, tell};
 use std::alloc::{AllocError, Global};
@@ -11,7 +11,7 @@ const NO_MEMORY: &str = "check: out of memory\n";
 
 const USAGE: &str = "check: usage: check demo or check <pets, boxes> [merge, closed]\n";
 
-/// Gives so many braces, a byte at a time, and then fails.
+/// Gives `left` braces, one byte at a time, and then fails.
 #[derive(Drop)]
 struct BrokenReader {
     left: usize,
@@ -34,7 +34,7 @@ impl Read for BrokenReader {
     }
 }
 
-/// Takes so many bytes, and then fails; or takes all and fails as it is flushed.
+/// Takes `left` bytes and then fails, or fails when it is flushed.
 #[derive(Drop)]
 struct BrokenWriter {
     left: usize,
@@ -61,7 +61,7 @@ fn one_word(alloc: Global, word: &str) -> Result<Vec<String>, AllocError> {
     Ok(words)
 }
 
-/// The words are asked for before `run`; those that are no text come as invalid data.
+/// Arguments are read before `run`; those that are not valid UTF-8 are invalid data.
 #[test]
 fn words_that_are_no_text_are_told(rt: HostRuntime) -> Result<(), Fail> {
     let kinds = [
@@ -148,7 +148,7 @@ fn a_failed_line_of_faults_ends_with_5(rt: HostRuntime) -> Result<(), Fail> {
     Ok(())
 }
 
-/// Documents with faults of several kinds, and what is told of each.
+/// Documents with errors of several kinds, and their reports.
 const REFUSED: [(&[u8], &str); 4] = [
     (
         b"query Q { dog { ...A } } query Q { dog { name } }",
@@ -168,7 +168,7 @@ const REFUSED: [(&[u8], &str); 4] = [
     ),
 ];
 
-/// Whether the program tells of a text what is wanted, or that memory was refused.
+/// Whether the program writes the expected report, or that it is out of memory.
 fn is_told_or_refused(alloc: Global, text: &[u8], wanted: &str) -> bool {
     let (Ok(words), Ok(mut output), Ok(mut faults)) = (
         one_word(alloc, "pets"),
@@ -191,7 +191,7 @@ fn is_told_or_refused(alloc: Global, text: &[u8], wanted: &str) -> bool {
     status == 1 && output.as_slice() == wanted.as_bytes() && faults.is_empty()
 }
 
-/// Run with each request for memory refused in turn, the program answers as the row says, or with status 3.
+/// Run with each allocation failing in turn, the program ends as the row says, or with status 3.
 #[test]
 fn a_refused_request_is_told(rt: HostRuntime) {
     let alloc = rt.alloc();

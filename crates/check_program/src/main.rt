@@ -2,11 +2,13 @@
 #![tactic(auto)]
 
 #[cfg(test)]
-mod bench;
-#[cfg(test)]
 mod broken;
 #[cfg(test)]
-mod merge_bench;
+mod merge_rows;
+#[cfg(test)]
+mod rows;
+#[cfg(test)]
+mod runs;
 
 use check_app::failure::Failure;
 use check_app::program;
@@ -30,7 +32,7 @@ fn main(rt: HostRuntime) -> ExitCode {
     ExitCode::from(status)
 }
 
-/// The words after the program's own name.
+/// The command-line arguments without the program's own name.
 fn words<R: Env + AllocGlobal>(rt: &R) -> io::Result<Vec<String>> {
     env::args(rt)?
         .skip(1)
@@ -38,7 +40,7 @@ fn words<R: Env + AllocGlobal>(rt: &R) -> io::Result<Vec<String>> {
         .map_err(io::Error::from)
 }
 
-// Words that are no text are other words than those that the program knows.
+// Arguments that are not valid UTF-8 are invalid arguments.
 fn words_failure(error: &io::Error) -> Failure {
     match error.kind() {
         io::ErrorKind::OutOfMemory => Failure::OutOfMemory,

@@ -28,4 +28,5 @@ pub record HasCounted (all : List Judged) (report : Report) : Type 0 where
 -- the lines that end what is told
 abbrev pub counts_text : Report → List ℕ
 counts_text report =
-    decimal report.listed ++ (codes " listed as open\n" ++ (decimal report.agree ++ (codes " of " ++ (decimal (counted (report.agree + report.differ)) ++ codes " agree\n"))))
+    decimal report.listed ++ (codes " listed as open\n" ++ (decimal report.agree
+    ++ (codes " of " ++ (decimal (counted (report.agree + report.differ)) ++ codes " agree\n"))))

@@ -10,18 +10,18 @@ use validation::{OutOfMemory, SchemaError};
 /// Why a file of vectors can't be judged.
 #[derive(Clone, Copy, Debug)]
 pub enum Failure {
-    /// The file is out of the format, first at this line, counted from 1.
+    /// The file's format is invalid, first at this line, counted from 1.
     Format(usize),
-    /// A document, a type or a value is none.
+    /// A document, a type or a value has a syntax error at this position.
     Unread(SourcePosition),
-    /// A request for memory was refused.
+    /// Out of memory.
     OutOfMemory,
     /// A read or a write failed.
     InputOutput,
 }
 
 impl Failure {
-    /// The status that the program ends with.
+    /// The exit status.
     pub fn status(self) -> u8
         ensures least { 2 ≤ result }
         ensures most { result ≤ 5 }
@@ -37,7 +37,7 @@ impl Failure {
 impl fmt::Display for Failure {
     fn fmt<W: fmt::Write>(&self, f: &mut fmt::Formatter<W>) -> fmt::Result {
         match self {
-            Failure::Format(line) => write!(f, "line {line} is out of the format"),
+            Failure::Format(line) => write!(f, "invalid format at line {line}"),
             Failure::Unread(place) => write!(f, "unread from {place}"),
             Failure::OutOfMemory => f.write_str("out of memory"),
             Failure::InputOutput => f.write_str("input or output failed"),
@@ -81,7 +81,7 @@ impl From<io::Error> for Failure {
     }
 }
 
-/// The sample lists are accepted, so want of memory alone refuses one.
+/// The sample types are accepted, so only out of memory refuses them.
 impl From<SchemaError> for Failure {
     fn from(_: SchemaError) -> Self {
         Failure::OutOfMemory

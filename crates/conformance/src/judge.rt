@@ -1,4 +1,4 @@
-//! What our own code reports of a vector's document.
+//! The errors that this repository's code reports of a vector's document.
 ghost use Rattle.std.specs.Prelude.{◌≡◌, IfOk, string_bytes};
 ghost use Rattle.conformance.specs.Told.{TellsConflicts, TellsErrors, error_lines};
 
@@ -14,7 +14,11 @@ use validation::{
     SchemaType, ValidatorContext,
 };
 
-/// The errors of a vector's document, a line each; of a document that isn't read a line says so.
+/// The errors of a vector's document, one per line. For a document that can't be parsed, one line says so.
+///
+/// # Errors
+///
+/// Out of memory.
 pub fn judge(alloc: Global, root: &RootNode, vector: &Vector<'_>) -> Result<String, Failure> {
     let came = match vector.mode {
         Mode::Plain | Mode::Closed => errors_of_text(alloc, root, vector.document),
@@ -32,7 +36,7 @@ fn errors_of_text(alloc: Global, root: &RootNode, text: &[u8]) -> Result<String,
     errors_of(alloc, root, document.as_slice())
 }
 
-// What all rules report, and that on introspection where it is closed.
+// The errors of all rules, with `disable_introspection` if introspection is disabled.
 fn errors_of(
     alloc: Global,
     root: &RootNode,
@@ -56,7 +60,7 @@ fn conflicts_of_text(
     conflicts_of(alloc, schema, document.as_slice())
 }
 
-// What the rule on fields that can be merged reports by itself.
+// The errors of the rule `overlapping_fields_can_be_merged` alone.
 fn conflicts_of<'a>(
     alloc: Global,
     schema: &'a SchemaType<DefaultScalarValue>,
@@ -74,7 +78,11 @@ fn conflicts_of<'a>(
     Ok(text)
 }
 
-/// Each error on a line.
+/// The errors, one per line.
+///
+/// # Errors
+///
+/// Out of memory.
 pub fn lines_of(alloc: Global, errors: &[RuleError]) -> Result<String, Failure>
     ensures { IfOk result (λ s. string_bytes s ≡ error_lines errors.now) }
 {

@@ -1,6 +1,6 @@
 //! The lines of a text.
 
-/// The lines of a text that are left. A line ends with a line feed alone.
+/// The remaining lines of a text. Only a line feed ends a line.
 #[derive(Drop)]
 pub struct Lines<'a> {
     text: &'a [u8],
@@ -18,17 +18,17 @@ impl<'a> Lines<'a> {
         self.number
     }
 
-    /// What is left.
+    /// The remaining text.
     pub fn left(&self) -> &'a [u8] {
         self.text
     }
 
-    /// More than the number of lines: a bound for loops that is never met.
+    /// A bound for loops over lines, never reached.
     pub fn bound(&self) -> usize {
         self.text.len().saturating_add(1)
     }
 
-    /// The next line, without its end; none where the text has ended.
+    /// The next line without its end, or `None` at the end of the text.
     pub fn ahead(&self) -> Option<&'a [u8]> {
         if self.text.is_empty() {
             return None;
@@ -36,14 +36,14 @@ impl<'a> Lines<'a> {
         self.text.get(..self.length())
     }
 
-    /// Goes past the next line.
+    /// Skips the next line.
     pub fn advance(&mut self) {
         let next = self.length().saturating_add(1);
         self.text = self.text.get(next..).unwrap_or(&[]);
         self.number = self.number.saturating_add(1);
     }
 
-    /// Takes the lines up to the first that begins so, or to the end, with their ends.
+    /// Takes the lines before the first that begins like this, or all of them, with their ends.
     pub fn take_until(&mut self, begin: &[u8]) -> &'a [u8] {
         let all = self.text;
         for _ in 0..self.bound() {
@@ -56,7 +56,7 @@ impl<'a> Lines<'a> {
             .unwrap_or(&[])
     }
 
-    // How many bytes the next line has.
+    // The length of the next line in bytes.
     fn length(&self) -> usize {
         self.text.iter().take_while(|byte| **byte != b'\n').count()
     }

@@ -1,5 +1,5 @@
-//! The program `conformance`: judges documents of which it is known what juniper's own code reports, and tells where the answers
-//! differ.
+//! The program `conformance`: validates documents for which the errors of juniper's own code are known, and reports
+//! where the errors differ.
 #![tactic(auto)]
 
 mod failure;

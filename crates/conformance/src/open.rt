@@ -1,12 +1,16 @@
-//! The list of the vectors that can't agree yet.
+//! The list of the vectors that are known to differ.
 use crate::failure::Failure;
 use std::alloc::Global;
 use std::collections::BTreeSet;
 
-/// The numbers that a list has of this file.
+/// The vectors of this file in a list, by their numbers from 1.
 ///
-/// Its lines are the name of a file, a number of a vector in it, counted from 1, and why it can't agree yet; a line that
-/// begins with `#` says nothing.
+/// A line of the list has the name of a file, the number of a vector in it, and why it differs. A line that begins with
+/// `#` is a comment.
+///
+/// # Errors
+///
+/// Out of memory.
 pub fn numbers_of(alloc: Global, list: &str, file: &str) -> Result<BTreeSet<usize>, Failure> {
     let mut numbers = BTreeSet::new(alloc);
     for line in list.lines() {

@@ -10,7 +10,7 @@ use std::env::{self, Env};
 use std::rt::Files;
 use std::{fs, io};
 
-/// The files that are judged where no word names any.
+/// The files that are judged if the command line names none.
 const FILES: [&str; 6] = [
     "pets.txt",
     "boxes.txt",
@@ -20,16 +20,15 @@ const FILES: [&str; 6] = [
     "pets_variables.txt",
 ];
 
-/// The list of the vectors in these files that can't agree yet.
+/// The list of those vectors in these files that are known to differ.
 const LIST: &str = "open.txt";
 
-/// Judges the files that the words name, or else the files at hand, tells of them on the output, and answers the status to end
-/// with.
+/// Judges the files of the command line, or else those at hand, prints the report, and returns the exit status.
 ///
 /// - 0: all vectors agree;
-/// - 1: some don't;
-/// - 2: a file is out of the format;
-/// - 3: a request for memory was refused;
+/// - 1: some differ;
+/// - 2: the format of a file is invalid;
+/// - 3: out of memory;
 /// - 5: a read or a write failed.
 pub fn run<R: Files + Env + AllocGlobal + Print + Eprint>(rt: &R) -> u8
     ensures { result ≤ 5 }
@@ -61,7 +60,7 @@ fn tell_failure<R: Eprint>(rt: &R, report: &Report, failure: Failure) -> u8
     }
 }
 
-// Judges the files that the words name, or else those at hand.
+// Judges the files of the command line, or else those at hand.
 fn judge_files<R: Files + Env + AllocGlobal>(rt: &R, report: &mut Report) -> Result<(), Failure> {
     let names = words(rt)?;
     if names.is_empty() {
@@ -73,7 +72,7 @@ fn judge_files<R: Files + Env + AllocGlobal>(rt: &R, report: &mut Report) -> Res
     Ok(())
 }
 
-/// The words after the program's own name.
+/// The command-line arguments without the program's own name.
 fn words<R: Env + AllocGlobal>(rt: &R) -> io::Result<Vec<String>> {
     env::args(rt)?
         .skip(1)
@@ -90,7 +89,7 @@ fn judge_files_at_hand<R: Files + AllocGlobal>(rt: &R, report: &mut Report) -> R
     Ok(())
 }
 
-// Judges a file of which some vectors are in the list.
+// Judges a file, some of whose vectors are in the list.
 fn judge_file<R: Files + AllocGlobal>(
     rt: &R,
     file: &str,

@@ -1,4 +1,4 @@
-//! What is told of files of vectors.
+//! The report on files of vectors.
 ghost use Rattle.std.specs.Prelude.{◌≡◌, ◌+◌, [], ◌∷◌, ◌++◌, ◌==◌, List, OnOk, count_by, string_bytes};
 ghost use Rattle.conformance.specs.Counts.{HasCounted, Judged, counted, counts_text, differs};
 
@@ -7,14 +7,14 @@ use std::alloc::{AllocError, Global};
 use std::collections::BTreeSet;
 use std::str;
 
-/// What is told of files of vectors.
+/// The report on files of vectors.
 #[derive(Drop)]
 pub struct Report {
-    /// A line for each vector that differs and isn't listed, and for each that is listed and agrees.
+    /// A line for each vector that differs but isn't listed, and for each that is listed but agrees.
     pub text: String,
-    /// The file at hand.
+    /// The current file.
     pub file: String,
-    // Which vectors of this file are listed as open, by their numbers from 1.
+    // The vectors of this file that are listed as open, numbered from 1.
     open: BTreeSet<usize>,
     // How many of this file were counted.
     number: usize,
@@ -25,7 +25,7 @@ pub struct Report {
 }
 
 impl Report {
-    /// Of no file.
+    /// The report on no file.
     pub fn new(alloc: Global) -> Report
         ensures { HasCounted [] result }
     {
@@ -40,7 +40,11 @@ impl Report {
         }
     }
 
-    /// Goes on to a file of which these vectors are listed.
+    /// Goes on to a file, of which these vectors are listed.
+    ///
+    /// # Errors
+    ///
+    /// Out of memory; the counts are unchanged.
     pub fn begin(&mut self, file: &str, open: BTreeSet<usize>) -> Result<(), Failure>
         ensures { (all : List Judged) → HasCounted all self.old → HasCounted all self.new }
     {
@@ -58,7 +62,11 @@ impl Report {
         self.differ == 0
     }
 
-    /// Counts a vector, by the errors that are wanted and those that came.
+    /// Counts a vector, given the expected errors and those that were reported.
+    ///
+    /// # Errors
+    ///
+    /// Out of memory.
     pub fn count(&mut self, wanted: &[u8], came: &str) -> Result<(), Failure>
         ensures { OnOk result ((all : List Judged) → HasCounted all self.old
             → HasCounted (record { wanted = wanted.now; came = came.now } ∷ all) self.new) }
@@ -103,7 +111,11 @@ impl Report {
         self.text.push_str("\n")
     }
 
-    /// Ends with the counts.
+    /// Appends the counts.
+    ///
+    /// # Errors
+    ///
+    /// Out of memory; the counts are unchanged.
     pub fn end(&mut self) -> Result<(), AllocError>
         ensures text { OnOk result (string_bytes self.new.text ≡ string_bytes self.old.text ++ counts_text self.old) }
         ensures same { (all : List Judged) → HasCounted all self.old → HasCounted all self.new }

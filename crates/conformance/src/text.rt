@@ -1,4 +1,4 @@
-//! The vectors of a text, judged in order.
+//! Judges the vectors of a text in order.
 use crate::failure::Failure;
 use crate::judge::judge;
 use crate::lines::Lines;
@@ -14,7 +14,11 @@ use std::alloc::Global;
 use validation::meta::default_check::DefaultCheck;
 use validation::{DefaultScalarValue, RootNode, SchemaType};
 
-/// Judges the vectors of a text, and counts each.
+/// Judges and counts the vectors of a text.
+///
+/// # Errors
+///
+/// The format is invalid, or out of memory.
 pub fn judge_text(alloc: Global, text: &[u8], report: &mut Report) -> Result<(), Failure> {
     let mut lines = Lines::new(text);
     for _ in 0..lines.bound() {
@@ -26,7 +30,8 @@ pub fn judge_text(alloc: Global, text: &[u8], report: &mut Report) -> Result<(),
     Ok(())
 }
 
-// Judges the vectors up to the first that asks for something else. The schema lives as long: whoever makes checks has to own them.
+// Judges the vectors up to the first with another header. The schema lives as long, since its checks must be owned
+// here.
 fn judge_all_like(
     alloc: Global,
     header: Header,
@@ -57,7 +62,7 @@ fn judge_all_like(
     judge_run(alloc, header, &root, lines, report)
 }
 
-// Closed where the header asks for that.
+// With introspection disabled if the header asks for it.
 fn root_of(schema: SchemaType<DefaultScalarValue>, mode: Mode) -> RootNode {
     let root = RootNode::new(schema);
     match mode {

@@ -1,4 +1,4 @@
-//! What our own code reports of the values of variables.
+//! The errors that this repository's code reports of values of variables.
 ghost use Rattle.std.specs.Prelude.{IfOk, string_bytes};
 ghost use Rattle.conformance.specs.Told.{TellsFaults};
 ghost use Rattle.variable_values.specs.Inputs.{HasInputTypes};
@@ -16,9 +16,13 @@ use validation::{
     has_input_types, validate_input_values,
 };
 
-/// The errors of the values of the variables of a document's first operation, a line each.
+/// The errors of the values for the variables of a document's first operation, one per line.
 ///
-/// Before the values, lines `@NAME TYPE` may say against which type the variable of this name is judged.
+/// Before the values, a line `@NAME TYPE` gives the variable of this name another type.
+///
+/// # Errors
+///
+/// A text can't be parsed, or out of memory.
 pub fn errors_of_values(
     alloc: Global,
     schema: &SchemaType<DefaultScalarValue>,
@@ -66,7 +70,7 @@ fn faults_of(
     Ok(text)
 }
 
-// Gives the variables of the lines the types that stand there.
+// Gives the variables of these lines their types.
 fn retype(
     alloc: Global,
     operation: &mut Operation<'_, DefaultScalarValue>,

@@ -1,4 +1,4 @@
-//! The format of vectors: documents, each with the errors that are wanted of it.
+//! The format of vectors: documents, each with its expected errors.
 use crate::failure::Failure;
 use crate::lines::Lines;
 
@@ -14,9 +14,9 @@ pub enum Sample {
 pub enum Mode {
     /// Every rule.
     Plain,
-    /// Every rule, and that on introspection.
+    /// Every rule, with introspection disabled.
     Closed,
-    /// The rule on overlapping fields alone.
+    /// The rule `overlapping_fields_can_be_merged` alone.
     Merge,
     /// The check of variable values.
     Variables,
@@ -29,18 +29,22 @@ pub struct Header {
     pub mode: Mode,
 }
 
-/// A document, and the errors that are wanted of it.
+/// A document and its expected errors.
 #[derive(Drop)]
 pub struct Vector<'a> {
     pub mode: Mode,
     pub document: &'a [u8],
-    /// What is told of variables.
+    /// The types and values of variables.
     pub values: &'a [u8],
-    /// The errors, a line each.
+    /// The expected errors, one per line.
     pub wanted: &'a [u8],
 }
 
-/// What the next vector asks for; none where the text has ended.
+/// The header of the next vector, or `None` at the end of the text.
+///
+/// # Errors
+///
+/// The format is invalid.
 pub fn next_header(lines: &Lines<'_>) -> Result<Option<Header>, Failure> {
     match lines.ahead() {
         None => Ok(None),
@@ -52,6 +56,10 @@ pub fn next_header(lines: &Lines<'_>) -> Result<Option<Header>, Failure> {
 }
 
 /// Takes the next vector, of this mode.
+///
+/// # Errors
+///
+/// The format is invalid.
 pub fn take_vector<'a>(lines: &mut Lines<'a>, mode: Mode) -> Result<Vector<'a>, Failure> {
     lines.advance();
     let (document, values) = match mode {
@@ -66,7 +74,7 @@ pub fn take_vector<'a>(lines: &mut Lines<'a>, mode: Mode) -> Result<Vector<'a>, 
     })
 }
 
-// The lines before the line of this mark, which is taken, too.
+// The lines before the line of this mark, which is also taken.
 fn take_part<'a>(lines: &mut Lines<'a>, mark: &[u8]) -> Result<&'a [u8], Failure> {
     let part = lines.take_until(mark);
     if lines.ahead() != Some(mark) {

@@ -1,4 +1,4 @@
--- Which values are a string, and which a truth value.
+-- Which values are a string, and which a Boolean.
 use Rattle.std.specs.Prelude.{Bool, true, false}
 use Rattle.language.specs.declared.value.DefaultScalarValue.{DefaultScalarValue}
 use Rattle.language.specs.declared.value.DefaultScalarValue.TheVariants as d
@@ -20,6 +20,6 @@ boolean_outermost _ = false
 abbrev pub is_string : InputValue DefaultScalarValue → Bool
 is_string value = string_outermost (out-InputValue DefaultScalarValue value)
 
--- a truth value
+-- a Boolean
 abbrev pub is_boolean : InputValue DefaultScalarValue → Bool
 is_boolean value = boolean_outermost (out-InputValue DefaultScalarValue value)

@@ -1,4 +1,4 @@
-//! A schema of three types, a document, and what is wrong with the document.
+//! Builds a schema of three types, and validates a document against it.
 #![tactic(auto)]
 
 ghost use Rattle.std.specs.Prelude.{codes};
@@ -17,14 +17,14 @@ use validation::{
 fn main(rt: HostRuntime) -> io::Result<()> {
     let text = b"{ greeting(nam: \"Ada\") { length } }";
     let Ok(document) = read_document(rt.alloc(), text) else {
-        return rt.eprintln("that is no document");
+        return rt.eprintln("not a GraphQL document");
     };
     let (string, boolean) = (
         DefaultCheck::new(check_string),
         DefaultCheck::new(check_boolean),
     );
     let Ok(root) = root(rt.alloc(), string, boolean) else {
-        return rt.eprintln("that is no schema");
+        return rt.eprintln("not a valid schema");
     };
     let Ok(errors) = root.validate(rt.alloc(), document.as_slice()) else {
         return rt.eprintln("out of memory");
@@ -42,14 +42,14 @@ fn root(
     boolean: DefaultCheck,
 ) -> Result<RootNode, SchemaError> {
     let types = types(alloc, string, boolean)?;
-    // These last names stand for no mutations and no subscriptions.
+    // These two names mean that there are no mutations and no subscriptions.
     let (mutations, subscriptions) = ("_EmptyMutation", "_EmptySubscription");
     let schema = SchemaType::new(alloc, types, "Query", mutations, subscriptions)?;
     Ok(RootNode::new(schema))
 }
 
-/// `type Query { greeting(name: String!): String }`, with its scalars. `@skip` and `@include` need `Boolean`, and introspection
-/// its two types, which have no field here.
+/// `type Query { greeting(name: String!): String }`, with its scalars. `@skip` and `@include` need `Boolean`, and
+/// introspection its two types, which have no fields here.
 fn types(
     alloc: Global,
     string: DefaultCheck,
@@ -72,7 +72,7 @@ fn scalar(alloc: Global, name: &str, check: DefaultCheck) -> Result<MetaType, Ou
     Ok(ScalarMetaOf::with_check(alloc, name, check)?.into_meta())
 }
 
-/// Which values are a `String`. That it answers a value the same each time is proved.
+/// Accepts a `String`. Proved: it returns the same for the same value.
 fn check_string(alloc: Global, value: &InputValue<DefaultScalarValue>) -> Result<(), CheckError>
     ensures { AnswersBy is_string (codes "not a string") value.now result }
 {
@@ -82,7 +82,7 @@ fn check_string(alloc: Global, value: &InputValue<DefaultScalarValue>) -> Result
     }
 }
 
-/// Which values are a `Boolean`.
+/// Accepts a `Boolean`.
 fn check_boolean(alloc: Global, value: &InputValue<DefaultScalarValue>) -> Result<(), CheckError>
     ensures { AnswersBy is_boolean (codes "not a boolean") value.now result }
 {

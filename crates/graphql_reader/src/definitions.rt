@@ -15,8 +15,12 @@ use language::value::InputValue;
 use sdl_scalars::scalar::SourceScalar;
 use std::alloc::Global;
 
-/// Reads an executable document, whose names are slices of the text: operations and fragments, one at least. Where the text is
-/// none, the error tells what was expected, what was found, and where. It takes time in proportion to the text.
+/// Parses an executable document: one or more operations and fragments (section 2.2). Names are slices of the text.
+/// It takes time in proportion to the length of the text.
+///
+/// # Errors
+///
+/// The text has a syntax error, whose position, expectation and finding the error holds, or out of memory.
 pub fn read_document<'a>(
     alloc: Global,
     text: &'a str,
@@ -50,7 +54,7 @@ fn read_definition<'a>(
     Err(tokens.fault("an operation or a fragment"))
 }
 
-/// The kind of operation whose word is ahead.
+/// The kind of operation whose keyword is next.
 pub fn operation_type_ahead(tokens: &Tokens<'_>) -> Option<OperationType> {
     match tokens.ahead() {
         Token::Name("query") => Some(OperationType::Query),
@@ -60,7 +64,7 @@ pub fn operation_type_ahead(tokens: &Tokens<'_>) -> Option<OperationType> {
     }
 }
 
-// A query of which only the selection set is written.
+// A query in shorthand form: only its selection set.
 fn read_bare_query<'a>(
     tokens: &mut Tokens<'a>,
 ) -> Result<Definition<'a, SourceScalar>, ReadError<'a>> {
@@ -122,7 +126,7 @@ fn read_fragment<'a>(
     }))
 }
 
-// A fragment's name, which is not `on`, and its type condition.
+// A fragment's name, which must not be `on`, and its type condition.
 fn read_fragment_head<'a>(
     tokens: &mut Tokens<'a>,
 ) -> Result<(Spanning<&'a str>, Spanning<&'a str>), ReadError<'a>> {
@@ -146,7 +150,7 @@ fn read_variable_definitions<'a>(
     read_variables_from(tokens, start)
 }
 
-// One variable after the other, after the parenthesis.
+// The variable definitions after the opening parenthesis.
 fn read_variables_from<'a>(
     tokens: &mut Tokens<'a>,
     start: SourcePosition,
@@ -180,7 +184,11 @@ fn read_variable_definition<'a>(
     })
 }
 
-/// Reads a default value, if there is one.
+/// Parses a default value, if there is one.
+///
+/// # Errors
+///
+/// A syntax error after the `=`, or out of memory.
 pub fn read_default_value<'a>(
     tokens: &mut Tokens<'a>,
 ) -> Result<Option<Spanning<InputValue<SourceScalar>>>, ReadError<'a>> {

@@ -9,16 +9,20 @@ use sdl_scalars::scalar::SourceScalar;
 
 type Nodes<'a> = Vec<Selection<'a, SourceScalar>>;
 
-/// Reads a selection set, which is never empty.
+/// Parses a selection set, which is never empty.
+///
+/// # Errors
+///
+/// A syntax error, more than [`NESTING_LIMIT`] levels, or out of memory.
 pub fn read_selection_set<'a>(tokens: &mut Tokens<'a>) -> Result<Nodes<'a>, ReadError<'a>> {
     read_set(tokens, NESTING_LIMIT)
 }
 
-// A selection set of at most so many levels.
+// A selection set of at most `levels` levels.
 #[cycle(selections)]
 fn read_set<'a>(tokens: &mut Tokens<'a>, levels: usize) -> Result<Nodes<'a>, ReadError<'a>> {
     let Some(inner) = levels.checked_sub(1) else {
-        return Err(tokens.fault("a selection set of fewer levels"));
+        return Err(tokens.too_deep(NESTING_LIMIT));
     };
     tokens.expect(Punctuator::BraceOpen, "{")?;
     let mut nodes = Vec::new(tokens.alloc());
@@ -32,8 +36,8 @@ fn read_set<'a>(tokens: &mut Tokens<'a>, levels: usize) -> Result<Nodes<'a>, Rea
     Err(tokens.fault("}"))
 }
 
-// One selection more. The functions below add it themselves, each in a frame of its own, so that a level takes little of the
-// machine's stack.
+// Adds one selection. The functions below add it themselves, each in a frame of its own, so that a level takes little
+// stack.
 #[cycle(selections)]
 fn read_selection<'a>(
     tokens: &mut Tokens<'a>,
@@ -105,7 +109,7 @@ fn read_alias_and_name<'a>(
     Ok((None, first))
 }
 
-// What follows the dots, and a type condition if there is one.
+// What follows the dots and the type condition, if there is one.
 #[inline(never)]
 #[cycle(selections)]
 fn read_inline_fragment<'a>(

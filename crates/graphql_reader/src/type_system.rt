@@ -6,10 +6,10 @@ use language::types::Type;
 use language::value::InputValue;
 use sdl_scalars::scalar::SourceScalar;
 
-/// A description (section 3.4.1), with the place of its string.
+/// A description (section 3.4.1), with the span of its string.
 pub type Description = Option<Spanning<String>>;
 
-/// A definition or an extension of a type system document, with the stretch that it takes.
+/// A definition or an extension of a type system document, with its span.
 #[derive(Drop)]
 pub enum TypeSystemDefinition<'a> {
     Schema(Spanning<SchemaDefinition<'a>>),
@@ -44,7 +44,7 @@ pub struct TypeDefinition<'a> {
     pub body: TypeBody<'a>,
 }
 
-/// What a type is made of, by its kind. Only objects and interfaces implement interfaces.
+/// The parts of a type, by its kind. Only objects and interfaces implement interfaces.
 #[derive(Drop)]
 pub enum TypeBody<'a> {
     /// Section 3.5.
@@ -99,7 +99,7 @@ pub struct DirectiveDefinition<'a> {
     pub locations: Vec<Spanning<DirectivePlace>>,
 }
 
-/// Where a directive may stand (section 3.13).
+/// A location of a directive (section 3.13).
 #[derive(Clone, Copy, Debug, PartialEq, Eq)]
 pub enum DirectivePlace {
     Query,
@@ -124,7 +124,7 @@ pub enum DirectivePlace {
 }
 
 impl DirectivePlace {
-    /// The place of a name, if it is one of a place.
+    /// The location of this name, if it is the name of one.
     pub fn of_name(name: &str) -> Option<DirectivePlace> {
         Some(match name {
             "QUERY" => DirectivePlace::Query,

@@ -17,8 +17,12 @@ use std::alloc::Global;
 
 type Names<'a> = Vec<Spanning<&'a str>>;
 
-/// Reads a type system document, whose names are slices of the text: definitions and extensions in any order, one at least.
-/// Where the text is none, the error tells what was expected, what was found, and where. It takes time in proportion to the text.
+/// Parses a type system document: one or more definitions and extensions in any order (section 3). Names are slices of
+/// the text. It takes time in proportion to the length of the text.
+///
+/// # Errors
+///
+/// The text has a syntax error, whose position, expectation and finding the error holds, or out of memory.
 pub fn read_type_system<'a>(
     alloc: Global,
     text: &'a str,
@@ -131,7 +135,7 @@ enum Kind {
     InputObject,
 }
 
-// The kind of type whose word is ahead.
+// The kind of type whose keyword is next.
 fn kind_ahead(tokens: &Tokens<'_>) -> Option<Kind> {
     match tokens.ahead() {
         Token::Name("scalar") => Some(Kind::Scalar),
@@ -160,7 +164,7 @@ fn read_type_definition<'a>(
     let is_bare = interfaces.is_empty() && directives.is_none();
     let body = read_body(tokens, kind)?;
     if is_extension && is_bare && is_empty_body(&body) {
-        return Err(tokens.fault("what extends the type"));
+        return Err(tokens.fault("an extension of the type"));
     }
     Ok(TypeSystemDefinition::Type(Spanning {
         item: TypeDefinition {
@@ -196,7 +200,7 @@ fn read_body<'a>(tokens: &mut Tokens<'a>, kind: Kind) -> Result<TypeBody<'a>, Re
     })
 }
 
-// The interfaces of an object or an interface; the word is a fault elsewhere, since nothing takes it.
+// The interfaces of an object or an interface. Elsewhere the keyword is a syntax error, since nothing takes it.
 fn read_interfaces<'a>(tokens: &mut Tokens<'a>, kind: Kind) -> Result<Names<'a>, ReadError<'a>> {
     match kind {
         Kind::Object | Kind::Interface if tokens.take_word("implements") => {

@@ -1,4 +1,4 @@
-//! Types as they are written (GraphQL, October 2021, section 2.11).
+//! Type references (GraphQL, October 2021, section 2.11).
 use graphql_lexer::error::ReadError;
 use graphql_lexer::lexer::Punctuator;
 use graphql_lexer::tokens::Tokens;
@@ -6,7 +6,11 @@ use language::error::OutOfMemory;
 use language::position::Spanning;
 use language::types::Type;
 
-/// Reads a type. It is made from its name outwards, so its levels need no recursion.
+/// Parses a type reference. It is made from its name outwards, so that its levels need no recursion.
+///
+/// # Errors
+///
+/// A syntax error, or out of memory.
 pub fn read_type<'a>(tokens: &mut Tokens<'a>) -> Result<Spanning<Type>, ReadError<'a>> {
     let start = tokens.start();
     let levels = take_opening_brackets(tokens);

@@ -1,5 +1,5 @@
 //! Values, arguments and directives (GraphQL, October 2021, sections 2.6, 2.9 and 2.12).
-use graphql_lexer::error::{ReadError, SyntaxError};
+use graphql_lexer::error::{Found, ReadError, SyntaxError, SyntaxFault};
 use graphql_lexer::lexer::{Punctuator, Token};
 use graphql_lexer::strings::{StringError, block_string_value, string_value};
 use graphql_lexer::tokens::Tokens;
@@ -10,12 +10,12 @@ use language::value::InputValue;
 use sdl_scalars::scalar::SourceScalar;
 use std::alloc::Global;
 
-/// How many levels of selection sets, and of lists and objects of a value, may stand in one another.
+/// How many levels deep selection sets, and lists and objects of a value, may nest.
 pub const NESTING_LIMIT: usize = 500;
 
 type Value = InputValue<SourceScalar>;
 
-/// The directives of a node, or none.
+/// The directives of a node, or `None` without any.
 pub type Directives<'a> = Option<Vec<Spanning<Directive<'a, SourceScalar>>>>;
 
 /// Whether a value may be or hold a variable.
@@ -25,7 +25,11 @@ pub enum Variables {
     Refused,
 }
 
-/// Reads a text that is one value without variables.
+/// Parses a text that is one value without variables.
+///
+/// # Errors
+///
+/// The text is not such a value, or out of memory.
 pub fn read_constant<'a>(
     alloc: Global,
     text: &'a str,
@@ -38,7 +42,11 @@ pub fn read_constant<'a>(
     Err(tokens.fault("the end of the text"))
 }
 
-/// Reads a value.
+/// Parses a value.
+///
+/// # Errors
+///
+/// A syntax error, more than [`NESTING_LIMIT`] levels, or out of memory.
 pub fn read_value<'a>(
     tokens: &mut Tokens<'a>,
     variables: Variables,
@@ -46,7 +54,7 @@ pub fn read_value<'a>(
     read_nested(tokens, variables, NESTING_LIMIT)
 }
 
-// A value of at most so many levels of lists and objects.
+// A value of at most `levels` levels of lists and objects.
 #[cycle(values)]
 fn read_nested<'a>(
     tokens: &mut Tokens<'a>,
@@ -76,7 +84,7 @@ fn read_items<'a>(
     levels: usize,
 ) -> Result<Vec<Spanning<Value>>, ReadError<'a>> {
     let Some(inner) = levels.checked_sub(1) else {
-        return Err(tokens.fault("a value of fewer levels"));
+        return Err(tokens.too_deep(NESTING_LIMIT));
     };
     tokens.advance();
     let mut items = Vec::new(tokens.alloc());
@@ -97,7 +105,7 @@ fn read_entries<'a>(
     levels: usize,
 ) -> Result<Vec<(Spanning<String>, Spanning<Value>)>, ReadError<'a>> {
     let Some(inner) = levels.checked_sub(1) else {
-        return Err(tokens.fault("a value of fewer levels"));
+        return Err(tokens.too_deep(NESTING_LIMIT));
     };
     tokens.advance();
     let mut entries = Vec::new(tokens.alloc());
@@ -121,7 +129,7 @@ fn read_key<'a>(tokens: &mut Tokens<'a>) -> Result<Spanning<String>, ReadError<'
     })
 }
 
-// A value that holds no other one.
+// A value that holds no other value.
 fn read_plain<'a>(tokens: &mut Tokens<'a>, variables: Variables) -> Result<Value, ReadError<'a>> {
     let alloc = tokens.alloc();
     let value = match tokens.ahead() {
@@ -161,7 +169,11 @@ fn named_value(alloc: Global, name: &str) -> Result<Value, OutOfMemory> {
     })
 }
 
-/// Reads a string or a block string.
+/// Parses a string or a block string.
+///
+/// # Errors
+///
+/// No string is next, one of its escape sequences is invalid, or out of memory.
 pub fn read_string<'a>(tokens: &mut Tokens<'a>) -> Result<String, ReadError<'a>> {
     let start = tokens.start();
     let text = match tokens.ahead() {
@@ -176,7 +188,7 @@ pub fn read_string<'a>(tokens: &mut Tokens<'a>) -> Result<String, ReadError<'a>>
     Ok(text)
 }
 
-// Where in a string an escape is wrong. A string stands on one line, after its quote.
+// An invalid escape sequence at its position. A string is on one line, after its quote.
 fn string_fault<'a>(start: SourcePosition, raw: &'a str, error: StringError) -> ReadError<'a> {
     match error {
         StringError::OutOfMemory => ReadError::OutOfMemory,
@@ -188,22 +200,25 @@ fn string_fault<'a>(start: SourcePosition, raw: &'a str, error: StringError) -> 
                     start.line(),
                     start.column().saturating_add(passed),
                 ),
-                expected,
-                found: found_in(raw, offset),
+                fault: SyntaxFault::Unexpected(expected, found_in(raw, offset)),
             })
         }
     }
 }
 
 // The character at an offset of a string, or the quote that ends it.
-fn found_in(raw: &str, offset: usize) -> graphql_lexer::error::Found<'_> {
+fn found_in(raw: &str, offset: usize) -> Found<'_> {
     match raw.get(offset..).and_then(|rest| rest.chars().next()) {
-        Some(character) => graphql_lexer::error::Found::Character(character),
-        None => graphql_lexer::error::Found::Character('"'),
+        Some(character) => Found::Character(character),
+        None => Found::Character('"'),
     }
 }
 
-/// Reads arguments, if there are any: never an empty list.
+/// Parses arguments, if there are any. The list is never empty.
+///
+/// # Errors
+///
+/// A syntax error after the parenthesis, or out of memory.
 pub fn read_arguments<'a>(
     tokens: &mut Tokens<'a>,
     variables: Variables,
@@ -228,7 +243,11 @@ pub fn read_arguments<'a>(
     Err(tokens.fault(")"))
 }
 
-/// Reads directives, if there are any: never an empty list.
+/// Parses directives, if there are any. The list is never empty.
+///
+/// # Errors
+///
+/// A syntax error after an `@`, or out of memory.
 pub fn read_directives<'a>(
     tokens: &mut Tokens<'a>,
     variables: Variables,

@@ -1,21 +1,15 @@
-//! Tests of the crate `graphql_reader`: what it takes and refuses, with the places of faults, the values of strings, and numbers as they are written.
+//! Tests of the crate `graphql_reader`: texts that are read, syntax errors with their positions, and the values of scalars.
 #![tactic(auto)]
 
 #[cfg(test)]
-mod documents;
+mod document_rows;
 #[cfg(test)]
 mod example_rows;
 #[cfg(test)]
-mod production_rows;
-#[cfg(test)]
-mod productions;
+mod readers;
 #[cfg(test)]
 mod scalars;
 #[cfg(test)]
 mod token_rows;
 #[cfg(test)]
 mod type_system_rows;
-#[cfg(test)]
-mod type_systems;
-#[cfg(test)]
-mod words;

@@ -1,9 +1,9 @@
-//! The values of strings and block strings, and numbers, which are kept as they are written.
+//! The values of scalars: strings and block strings, and numbers, which stay as written.
+use crate::readers::{Row, compare, is_empty};
 use graphql_reader::{ReadError, SourceScalar, read_document};
 use language::tree::{Definition, Selection};
 use language::value::InputValue;
 use std::alloc::{AllocError, Global};
-use std::process::Abort;
 
 // The scalar that is the first argument of the first field.
 fn first_scalar<'d>(document: &'d [Definition<'_, SourceScalar>]) -> Option<&'d SourceScalar> {
@@ -20,7 +20,7 @@ fn first_scalar<'d>(document: &'d [Definition<'_, SourceScalar>]) -> Option<&'d 
     }
 }
 
-fn told(alloc: Global, scalar: Option<&SourceScalar>) -> Result<String, AllocError> {
+fn shown(alloc: Global, scalar: Option<&SourceScalar>) -> Result<String, AllocError> {
     match scalar {
         Some(SourceScalar::Int(digits)) => format!(in alloc; "integer {digits}"),
         Some(SourceScalar::Float(number)) => format!(in alloc; "float {number}"),
@@ -33,13 +33,26 @@ fn told(alloc: Global, scalar: Option<&SourceScalar>) -> Result<String, AllocErr
 fn value_of(alloc: Global, literal: &str) -> Result<String, AllocError> {
     let text = format!(in alloc; "{{ a(x: {literal}) }}")?;
     match read_document(alloc, text.as_str()) {
-        Ok(document) => told(alloc, first_scalar(document.as_slice())),
+        Ok(document) => shown(alloc, first_scalar(document.as_slice())),
         Err(ReadError::Syntax(error)) => format!(in alloc; "{error}"),
         Err(ReadError::OutOfMemory) => String::from_str(alloc, "out of memory"),
     }
 }
 
-const STRINGS: &[(&str, &str)] = &[
+// Literals and their values.
+const VALUES: &[Row] = &[
+    ("-0", "integer -0"),
+    (
+        "12345678901234567890123456789",
+        "integer 12345678901234567890123456789",
+    ),
+    ("1.50", "float 1.50"),
+    ("1E400", "float 1E400"),
+    ("-0.10e+05", "float -0.10e+05"),
+    ("true", "true"),
+    ("false", "false"),
+    ("null", "no scalar"),
+    ("TRUE", "no scalar"),
     ("\"\"", ""),
     ("\"plain\"", "plain"),
     (
@@ -78,37 +91,53 @@ const STRINGS: &[(&str, &str)] = &[
     ("\"\"\"a \"\" b \\n\"\"\"", "a \"\" b \\n"),
     ("\"\"\"  a\r\n\t\tb\r  \tc\n\"\"\"", "  a\nb\n\tc"),
     ("\"\"\"  \n \t \n\"\"\"", ""),
-];
-
-const OTHERS: &[(&str, &str)] = &[
-    ("-0", "integer -0"),
     (
-        "12345678901234567890123456789",
-        "integer 12345678901234567890123456789",
+        "\"Hello,\\n  World!\\n\\nYours,\\n  GraphQL.\"",
+        "Hello,\n  World!\n\nYours,\n  GraphQL.",
     ),
-    ("1.50", "float 1.50"),
-    ("1E400", "float 1E400"),
-    ("-0.10e+05", "float -0.10e+05"),
-    ("true", "true"),
-    ("false", "false"),
-    ("null", "no scalar"),
-    ("TRUE", "no scalar"),
+    ("\"\\u0048\\u0069\\u002E\"", "Hi."),
+    ("\"\\u00e9\\u20AC\\u0009\"", "\u{e9}\u{20ac}\t"),
+    ("\"\\uD834\\uDD1E\\ud83d\\ude00\"", "\u{1d11e}\u{1f600}"),
+    ("\"\\uDBFF\\uDFFF\"", "\u{10ffff}"),
+    ("\"\\uD7FF\\uE000\"", "\u{d7ff}\u{e000}"),
+    ("\"\\\\u0041\"", "\\u0041"),
+    ("\"\\\\\\\"\\/\"", "\\\"/"),
+    ("\"\"\"\"\"\"", ""),
+    ("\"\"\"a\"\"\"", "a"),
+    ("\"\"\"  a  \"\"\"", "  a  "),
+    ("\"\"\" a\n b\"\"\"", " a\nb"),
+    ("\"\"\"\n  a\n b\n\"\"\"", " a\nb"),
+    ("\"\"\"\na\n  b\n    c\"\"\"", "a\n  b\n    c"),
+    ("\"\"\"\n    a\n \n    b\n\"\"\"", "a\n\nb"),
+    ("\"\"\"\n  a\n      \n  b\n\"\"\"", "a\n    \nb"),
+    ("\"\"\"\n\n \n  a\n \n\n\"\"\"", "a"),
+    ("\"\"\"a\n\n\"\"\"", "a"),
+    ("\"\"\"\n\n\ta\n\t\tb\"\"\"", "a\n\tb"),
+    ("\"\"\"\n\ta\n  b\"\"\"", "a\n b"),
+    ("\"\"\"a\rb\r\nc\nd\n\re\"\"\"", "a\nb\nc\nd\n\ne"),
+    ("\"\"\"\r\n a\r\n  b\r\n\"\"\"", "a\n b"),
+    (
+        "\"\"\"\\u0041 \\n \\\\ \\\" \\/\"\"\"",
+        "\\u0041 \\n \\\\ \\\" \\/",
+    ),
+    ("\"\"\"\\\"\"\"\\\"\"\"\"\"\"", "\"\"\"\"\"\""),
+    ("\"\"\"\"a\"\"\"", "\"a"),
+    ("\"\"\"\\\\\"\"\"b\"\"\"", "\\\"\"\"b"),
+    ("\"\"\"a\"\"b\"c\"\"\"", "a\"\"b\"c"),
+    ("\"\"\"\n  \\\"\"\"\n   a\"\"\"", "\"\"\"\n a"),
+    ("\"\"\"\n\u{a0}a\n  b\"\"\"", "\u{a0}a\n  b"),
 ];
 
-/// Each text is told so.
-pub fn tells(rt: &impl Abort, alloc: Global, rows: &[(&str, &str)]) {
-    for (text, wanted) in rows {
-        let found = value_of(alloc, text).expect(rt, "memory");
-        assert_eq!(rt; found.as_str(), *wanted);
+fn otherwise(alloc: Global, rows: &[Row]) -> Result<String, AllocError> {
+    let mut report = String::new(alloc);
+    for (literal, wanted) in rows {
+        let found = value_of(alloc, literal)?;
+        compare(&mut report, literal, found.as_str(), wanted)?;
     }
+    Ok(report)
 }
 
 #[test]
-fn others(rt: HostRuntime) {
-    tells(&rt, rt.alloc(), OTHERS);
-}
-
-#[test]
-fn strings(rt: HostRuntime) {
-    tells(&rt, rt.alloc(), STRINGS);
+fn literals_have_their_values(rt: HostRuntime) {
+    is_empty(&rt, otherwise(rt.alloc(), VALUES));
 }

@@ -1,9 +1,13 @@
-//! What is told of any definition: its description (section 3.2), and whether it is deprecated (section 3.13.3).
+//! Descriptions (section 3.2) and deprecation (section 3.13.3) of definitions.
 use crate::error::IntrospectionError;
 use crate::places::Place;
 use crate::strings::write_string;
 
-/// Writes the description, where there is one, and what sets it off.
+/// Writes the description, if there is one, and `after` behind it.
+///
+/// # Errors
+///
+/// The description is not a string, or out of memory; `text` may be partly written.
 pub fn write_description(
     text: &mut String,
     described: &Place<'_>,
@@ -16,8 +20,12 @@ pub fn write_description(
     Ok(())
 }
 
-/// Writes `@deprecated`, with the reason where one is given, if the definition is deprecated. Without one a reader of the text takes the
-/// reason that section 3.13.3 gives.
+/// Writes `@deprecated` and its reason, if the definition is deprecated. Without a reason the default of section 3.13.3
+/// applies.
+///
+/// # Errors
+///
+/// A member has another shape, or out of memory; `text` may be partly written.
 pub fn write_deprecation(text: &mut String, defined: &Place<'_>) -> Result<(), IntrospectionError> {
     if !is_true(defined, "isDeprecated")? {
         return Ok(());
@@ -31,7 +39,11 @@ pub fn write_deprecation(text: &mut String, defined: &Place<'_>) -> Result<(), I
     Ok(())
 }
 
-/// Whether the member of the name is true: one that is absent is not.
+/// Whether the member with this name is there and true.
+///
+/// # Errors
+///
+/// The member is not a Boolean, or out of memory.
 pub fn is_true(defined: &Place<'_>, name: &'static str) -> Result<bool, IntrospectionError> {
     match defined.optional(name) {
         Some(member) => member.is_true(),

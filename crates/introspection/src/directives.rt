@@ -5,15 +5,18 @@ use crate::lists::{DEFINITIONS, Entry, Frame, write_list};
 use crate::members::write_arguments;
 use crate::places::Place;
 
-// Where a directive may stand.
+// The locations of a directive.
 const LOCATION_LIST: Frame = Frame {
     open: " on ",
     between: " | ",
     close: "",
 };
 
-/// Writes the directives of a list, but for those that every schema has by itself: their definitions are those of the specification,
-/// which each server lists with descriptions of its own.
+/// Writes the directives of a list, without those that every schema has.
+///
+/// # Errors
+///
+/// A directive has another shape, or out of memory; `text` may be partly written.
 pub fn write_directives(
     text: &mut String,
     directives: &Place<'_>,
@@ -52,7 +55,7 @@ fn write_definition(
     Ok(())
 }
 
-// A directive has one location at least.
+// A directive has at least one location.
 fn write_locations(text: &mut String, locations: &Place<'_>) -> Result<(), IntrospectionError> {
     if locations.items()?.is_empty() {
         return Err(locations.unexpected("a list that is not empty"));

@@ -1,30 +1,32 @@
-//! Why a result has no schema text.
+//! Why an introspection result can't be written as type definitions.
 use std::alloc::{AllocError, AllocFailed};
 use std::error::Error;
 use std::fmt;
 
-/// Why no text could be written of an introspection result. A path says where in the result a value stands, as
-/// `__schema.types[3].fields[0].type`: names of members and places in lists, counted from 0. The path of the whole result is empty.
+/// Why an introspection result can't be written as type definitions.
+///
+/// A path leads to a value of the result, as `__schema.types[3].fields[0].type`: names of members and 0-based
+/// indices. The path of the whole result is empty.
 #[derive(Debug, PartialEq, Eq, Drop)]
 pub enum IntrospectionError {
-    /// The result is no JSON, or nests more than 127 levels deep.
+    /// The result is not JSON, or nests more than 127 levels deep.
     Syntax {
-        /// Where that shows, counted from 0.
+        /// The 0-based line.
         line: usize,
-        /// The byte of the line, counted from 0: that of the first byte that doesn't fit, or else the last one of a text that ends too
-        /// early.
+        /// The 0-based column, in bytes: of the first byte that doesn't fit, or of the last byte of a text that ends
+        /// too early.
         column: usize,
     },
-    /// A member that has to be there is absent; the path is where it would stand.
+    /// A required member is missing; the path is its own.
     Missing(String),
-    /// A value has another shape.
+    /// A value has another shape than expected.
     Unexpected {
         path: String,
         expected: &'static str,
     },
-    /// A name is no name (section 2.1.9).
+    /// A string is not a name (section 2.1.9).
     NotAName(String),
-    /// A request for memory was refused, so nothing is known of the result.
+    /// Out of memory; nothing is known of the result.
     OutOfMemory,
 }
 

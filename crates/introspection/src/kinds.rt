@@ -2,7 +2,7 @@
 use crate::error::IntrospectionError;
 use crate::places::Place;
 
-/// A kind of type that is defined by a name.
+/// A kind of named type.
 #[derive(Clone, Copy, Debug, PartialEq, Eq)]
 pub enum Kind {
     Scalar,
@@ -14,7 +14,7 @@ pub enum Kind {
 }
 
 impl Kind {
-    /// The word that a definition of this kind begins with (section 3.4).
+    /// The keyword of a definition of this kind (section 3.4).
     pub fn keyword(self) -> &'static str {
         match self {
             Kind::Scalar => "scalar",
@@ -28,6 +28,10 @@ impl Kind {
 }
 
 /// The kind of a named type.
+///
+/// # Errors
+///
+/// The member `kind` is missing or no kind of named type, or out of memory.
 pub fn kind_of(of_type: &Place<'_>) -> Result<Kind, IntrospectionError> {
     let kind = of_type.member("kind")?;
     match kind.text()? {

@@ -1,10 +1,10 @@
-//! From the result of an introspection query (GraphQL, October 2021, section 4) to the text of the same schema in GraphQL's schema
-//! definition language (section 3): [`schema_text`].
+//! Writes the result of an introspection query (GraphQL, October 2021, section 4) as type definitions (section 3):
+//! [`schema_text`].
 //!
-//! The text has the schema's roots, its types and its directives, and none of what every schema has by itself: the built-in scalars
-//! (section 3.5), the types whose names begin with `__` (section 4) and the four directives of section 3.13.
+//! The text has the schema's root types, types and directives, without those that every schema has: the built-in
+//! scalars (section 3.5), the types whose names begin with `__` (section 4) and the four directives of section 3.13.
 //!
-//! Safety is claimed: each call answers, whatever the result.
+//! Proved of every call: it is safe and returns, whatever the result. That the text says the same is only tested.
 #![tactic(auto)]
 
 mod descriptions;
@@ -28,16 +28,20 @@ use serde_json::Value;
 use std::alloc::Global;
 use types::write_types;
 
-/// The text of the schema of an introspection result: JSON with the member `__schema` of section 4.2, by itself or in the member `data`
-/// of a response (section 7.1).
+/// The type definitions of an introspection result: JSON with the member `__schema` of section 4.2, at the top or in
+/// the member `data` of a response (section 7.1).
 ///
-/// The text names the roots first, then each type and each directive in the order of the result. Descriptions, reasons and URLs come
-/// back exactly as they were. Of a default value it is seen that it is one value without variables (section 2.9); whether it is one of
-/// its type, and whether names are known, a reader of the text has to see.
+/// The root types come first, then the types and the directives in the order of the result. Descriptions, reasons and
+/// URLs are kept exactly. A default value must be one value without variables (section 2.9). Its type, and whether
+/// names are known, must be checked by a reader of the text.
 ///
-/// These members may be absent or null, since older servers and short queries leave them out: `description`, `mutationType`,
-/// `subscriptionType`, `interfaces`, `inputFields`, `specifiedByURL` (which some servers call `specifiedByUrl`), `defaultValue`,
+/// Older servers and short queries leave out members. These may be absent or null: `description`, `mutationType`,
+/// `subscriptionType`, `interfaces`, `inputFields`, `specifiedByURL` (or `specifiedByUrl`), `defaultValue`,
 /// `isDeprecated`, `deprecationReason` and `isRepeatable`.
+///
+/// # Errors
+///
+/// The text is not JSON, a member is missing or has another shape, a name is invalid, or out of memory.
 pub fn schema_text(alloc: Global, response: &str) -> Result<String, IntrospectionError> {
     let value = Value::from_str(alloc, response)?;
     let mut text = String::new(alloc);

@@ -1,13 +1,18 @@
-//! Lists of a definition: their entries with what stands between them.
+//! Lists: entries with the text around and between them.
 use crate::error::IntrospectionError;
 use crate::places::Place;
 
 /// How an entry of a list is written.
 pub trait Entry {
+    /// Writes an entry.
+    ///
+    /// # Errors
+    ///
+    /// The entry has another shape, or out of memory; `text` may be partly written.
     fn write(&self, text: &mut String, entry: &Place<'_>) -> Result<(), IntrospectionError>;
 }
 
-/// What stands before, between and after the entries of a list; nothing does where there are none.
+/// The text before, between and after the entries of a list. An empty list has none of it.
 #[derive(Clone, Copy)]
 pub struct Frame {
     pub open: &'static str,
@@ -15,14 +20,14 @@ pub struct Frame {
     pub close: &'static str,
 }
 
-/// Members of a type, a line each.
+/// Members of a type, one per line.
 pub const BLOCK: Frame = Frame {
     open: " {\n  ",
     between: "\n  ",
     close: "\n}",
 };
 
-/// Definitions, which set themselves off.
+/// Definitions, which write their own separators.
 pub const DEFINITIONS: Frame = Frame {
     open: "",
     between: "",
@@ -30,6 +35,10 @@ pub const DEFINITIONS: Frame = Frame {
 };
 
 /// Writes a list.
+///
+/// # Errors
+///
+/// The value is not a list, an entry has another shape, or out of memory; `text` may be partly written.
 pub fn write_list<E: Entry>(
     text: &mut String,
     list: &Place<'_>,
@@ -50,6 +59,10 @@ pub fn write_list<E: Entry>(
 }
 
 /// Writes a list that may be absent.
+///
+/// # Errors
+///
+/// As [`write_list`].
 pub fn write_optional_list<E: Entry>(
     text: &mut String,
     list: Option<Place<'_>>,

@@ -1,4 +1,5 @@
-//! What types are made of: fields with their arguments, input fields and enum values (GraphQL, October 2021, sections 3.6 to 3.10).
+//! Members of types: fields with their arguments, input fields and enum values (GraphQL, October 2021, sections 3.6 to
+//! 3.10).
 use crate::descriptions::{write_deprecation, write_description};
 use crate::error::IntrospectionError;
 use crate::lists::{Entry, Frame, write_list};
@@ -13,7 +14,7 @@ const ARGUMENT_LIST: Frame = Frame {
     close: ")",
 };
 
-// What sets a description off on a line of its own.
+// The separator after a description on a line of its own.
 const LINE: &str = "\n  ";
 
 /// Fields of an object or an interface.
@@ -33,6 +34,10 @@ impl Entry for Fields {
 }
 
 /// Writes the arguments of a field or a directive.
+///
+/// # Errors
+///
+/// An argument has another shape, or out of memory; `text` may be partly written.
 pub fn write_arguments(text: &mut String, owner: &Place<'_>) -> Result<(), IntrospectionError> {
     let arguments = owner.member("args")?;
     write_list(text, &arguments, &ARGUMENT_LIST, &Arguments)
@@ -72,7 +77,7 @@ fn write_input_value(
     write_deprecation(text, value)
 }
 
-// A default value is written as it is, so it may be one value and no more.
+// A default value is written as it is, so it must be exactly one value.
 fn write_default(text: &mut String, value: &Place<'_>) -> Result<(), IntrospectionError> {
     let Some(default) = value.optional("defaultValue") else {
         return Ok(());
@@ -81,7 +86,7 @@ fn write_default(text: &mut String, value: &Place<'_>) -> Result<(), Introspecti
     text.push_str(" = ")?;
     text.push_str(literal)?;
     if literal.contains('#') {
-        // A comment would take what comes next.
+        // A comment would swallow what follows.
         text.push('\n')?;
     }
     Ok(())
@@ -110,7 +115,7 @@ impl Entry for EnumValues {
     }
 }
 
-// A name that is no other literal (section 2.9.6).
+// A name that is not another literal (section 2.9.6).
 fn enum_value<'v>(place: &Place<'v>) -> Result<&'v str, IntrospectionError> {
     match place.name()? {
         "true" | "false" | "null" => Err(place.unexpected("an enum value")),

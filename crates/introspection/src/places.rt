@@ -1,4 +1,4 @@
-//! A value of the result, and where it stands.
+//! A value of the result, and its path.
 use crate::error::IntrospectionError;
 use crate::names::is_name;
 use serde_json::Value;
@@ -7,18 +7,18 @@ use std::alloc::{AllocError, Global};
 // The last step to a value.
 #[derive(Clone, Copy)]
 enum Step {
-    // None: the value is the whole result.
+    // No step: the value is the whole result.
     Whole,
     Member(&'static str),
     Item(usize),
 }
 
-/// A value of the result. Its path is made only where it is told.
+/// A value of the result. Its path is only made for an error.
 #[derive(Clone, Copy)]
 pub struct Place<'p> {
     alloc: Global,
     value: &'p Value,
-    // The object or the list that the value stands in.
+    // The object or list that holds the value.
     above: Option<&'p Place<'p>>,
     step: Step,
 }
@@ -34,7 +34,7 @@ impl<'p> Place<'p> {
         }
     }
 
-    /// Where memory is asked for.
+    /// The allocator.
     pub fn alloc(&self) -> Global {
         self.alloc
     }
@@ -53,7 +53,11 @@ impl<'p> Place<'p> {
         self.below(value, Step::Item(index))
     }
 
-    /// The member of the name, which this object has to have.
+    /// The member of this object with this name.
+    ///
+    /// # Errors
+    ///
+    /// This is not an object, the member is missing, or out of memory.
     pub fn member<'c>(&'c self, name: &'static str) -> Result<Place<'c>, IntrospectionError> {
         match self.value.get(name) {
             Some(value) => Ok(self.below(value, Step::Member(name))),
@@ -62,7 +66,7 @@ impl<'p> Place<'p> {
         }
     }
 
-    /// The member of the name, where there is one that is not null.
+    /// The member with this name, if there is one and it is not null.
     pub fn optional<'c>(&'c self, name: &'static str) -> Option<Place<'c>> {
         match self.value.get(name) {
             Some(value) if !value.is_null() => Some(self.below(value, Step::Member(name))),
@@ -71,6 +75,10 @@ impl<'p> Place<'p> {
     }
 
     /// The items of this list.
+    ///
+    /// # Errors
+    ///
+    /// This is not a list, or out of memory.
     pub fn items(&self) -> Result<&'p [Value], IntrospectionError> {
         match self.value.as_array() {
             Some(items) => Ok(items.as_slice()),
@@ -78,7 +86,11 @@ impl<'p> Place<'p> {
         }
     }
 
-    /// This text.
+    /// This string.
+    ///
+    /// # Errors
+    ///
+    /// This is not a string, or out of memory.
     pub fn text(&self) -> Result<&'p str, IntrospectionError> {
         match self.value.as_str() {
             Some(text) => Ok(text),
@@ -87,6 +99,10 @@ impl<'p> Place<'p> {
     }
 
     /// This name (section 2.1.9).
+    ///
+    /// # Errors
+    ///
+    /// This is not a name, or out of memory.
     pub fn name(&self) -> Result<&'p str, IntrospectionError> {
         let text = self.text()?;
         if is_name(text) {
@@ -96,7 +112,11 @@ impl<'p> Place<'p> {
         }
     }
 
-    /// Whether this is true.
+    /// This Boolean.
+    ///
+    /// # Errors
+    ///
+    /// This is not a Boolean, or out of memory.
     pub fn is_true(&self) -> Result<bool, IntrospectionError> {
         match self.value.as_bool() {
             Some(is_true) => Ok(is_true),
@@ -104,7 +124,7 @@ impl<'p> Place<'p> {
         }
     }
 
-    /// The error that something else was expected here.
+    /// The error that something else was expected here, or out of memory for its path.
     pub fn unexpected(&self, expected: &'static str) -> IntrospectionError {
         match self.path() {
             Ok(path) => IntrospectionError::Unexpected { path, expected },

@@ -4,10 +4,10 @@ use crate::kinds::kind_of;
 use crate::lists::Entry;
 use crate::places::Place;
 
-// More levels than the JSON reader lets values nest.
+// More levels than a JSON value may nest.
 const LEVELS: usize = 128;
 
-/// Types that are told by their names: interfaces, and members of a union.
+/// References by name: interfaces, and members of a union.
 #[derive(Clone, Copy)]
 pub struct TypeNames;
 
@@ -18,19 +18,23 @@ impl Entry for TypeNames {
     }
 }
 
-/// Writes a reference to a type.
+/// Writes a type reference.
+///
+/// # Errors
+///
+/// The reference has another shape, or out of memory; `text` may be partly written.
 pub fn write_reference(text: &mut String, of_type: &Place<'_>) -> Result<(), IntrospectionError> {
     write_nested(text, of_type, LEVELS)
 }
 
-// A reference of at most so many levels.
+// A reference of at most `levels` levels.
 fn write_nested(
     text: &mut String,
     of_type: &Place<'_>,
     levels: usize,
 ) -> Result<(), IntrospectionError> {
     let Some(inner) = levels.checked_sub(1) else {
-        return Err(of_type.unexpected("a type of fewer levels"));
+        return Err(of_type.unexpected("a type nested at most 128 levels deep"));
     };
     match of_type.member("kind")?.text()? {
         "LIST" => {
@@ -47,11 +51,11 @@ fn write_nested(
     Ok(())
 }
 
-// What a type that is not null wraps, which may be null (section 3.12).
+// The type inside a non-null type, which must be nullable (section 3.12).
 fn nullable<'c>(of_type: &'c Place<'_>) -> Result<Place<'c>, IntrospectionError> {
     let wrapped = of_type.member("ofType")?;
     if wrapped.member("kind")?.text()? == "NON_NULL" {
-        return Err(wrapped.unexpected("a type that may be null"));
+        return Err(wrapped.unexpected("a nullable type"));
     }
     Ok(wrapped)
 }

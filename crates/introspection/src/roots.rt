@@ -1,9 +1,13 @@
-//! The definition of the schema itself: its description and its roots (GraphQL, October 2021, section 3.3).
+//! The schema definition: its description and root types (GraphQL, October 2021, section 3.3).
 use crate::descriptions::write_description;
 use crate::error::IntrospectionError;
 use crate::places::Place;
 
-/// Writes the definition, also where the roots have the usual names: a type of such a name that is no root is none then.
+/// Writes the schema definition, also if the root types have their default names: another type may have one of these.
+///
+/// # Errors
+///
+/// A member is missing or has another shape, or out of memory; `text` may be partly written.
 pub fn write_roots(text: &mut String, schema: &Place<'_>) -> Result<(), IntrospectionError> {
     let query = schema.member("queryType")?;
     write_description(text, schema, "\n")?;

@@ -1,8 +1,11 @@
-//! Texts as string literals (GraphQL, October 2021, section 2.9.4).
+//! String literals (GraphQL, October 2021, section 2.9.4).
 use std::alloc::AllocError;
 
-/// Writes a string literal whose value is the text: on one line, with escapes for quotes, backslashes and control characters, and all
-/// else as it is.
+/// Writes a string literal with this value, on one line. Quotes, backslashes and control characters are escaped.
+///
+/// # Errors
+///
+/// Out of memory; `text` may be partly written.
 pub fn write_string(text: &mut String, value: &str) -> Result<(), AllocError> {
     text.push('"')?;
     for character in value.chars() {

@@ -22,7 +22,11 @@ const MEMBERS: Frame = Frame {
     close: "",
 };
 
-/// Writes the types of a list, but for those that every schema has by itself.
+/// Writes the types of a list, without those that every schema has.
+///
+/// # Errors
+///
+/// A type has another shape, or out of memory; `text` may be partly written.
 pub fn write_types(text: &mut String, types: &Place<'_>) -> Result<(), IntrospectionError> {
     write_list(text, types, &DEFINITIONS, &Types)
 }
@@ -41,7 +45,7 @@ impl Entry for Types {
     }
 }
 
-// Whether it is a built-in scalar (section 3.5) or a type of introspection (section 4).
+// Whether it is a built-in scalar (section 3.5) or an introspection type (section 4).
 fn is_of_every_schema(kind: Kind, name: &str) -> bool {
     let is_built_in = matches!(name, "Int" | "Float" | "String" | "Boolean" | "ID");
     name.starts_with("__") || (is_built_in && kind == Kind::Scalar)
@@ -93,7 +97,7 @@ fn write_fields(text: &mut String, of_type: &Place<'_>) -> Result<(), Introspect
     write_list(text, &of_type.member("fields")?, &BLOCK, &Fields)
 }
 
-// The URL that says what a scalar is (section 3.13.4); some servers write its name in another way.
+// The URL of a scalar's specification (section 3.13.4). Some servers spell its name differently.
 fn write_specification(text: &mut String, of_type: &Place<'_>) -> Result<(), IntrospectionError> {
     let url = of_type.optional("specifiedByURL");
     let Some(url) = url.or(of_type.optional("specifiedByUrl")) else {

@@ -1,4 +1,4 @@
-//! Results of which no text is written, each with what is told.
+//! Results that can't be written as type definitions, each with its error.
 use crate::results::{told, told_of};
 use crate::schemas::SHOP_RESULT;
 use introspection::{IntrospectionError, schema_text};
@@ -136,7 +136,7 @@ const REFERENCES: &[(&str, &str)] = &[
     ),
     (
         r#"{"kind":"NON_NULL","ofType":{"kind":"NON_NULL","ofType":{"kind":"SCALAR","name":"Int"}}}"#,
-        ".ofType: expected a type that may be null",
+        ".ofType: expected a nullable type",
     ),
 ];
 
@@ -188,7 +188,7 @@ fn tells_faults_of_references(rt: HostRuntime) {
     }
 }
 
-// Whether the answer is want of memory, or the same as ever.
+// Whether the result is out of memory, or the expected one.
 fn is_steady(alloc: Global, response: &str, is_schema: bool) -> bool {
     match schema_text(alloc, response) {
         Ok(_) => is_schema,

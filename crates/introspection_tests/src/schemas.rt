@@ -1,4 +1,4 @@
-//! Schemas that are told in both ways: by their own text, and by the result of an introspection query.
+//! Schemas in both forms: as type definitions, and as the result of an introspection query.
 use crate::shown::shown_text;
 use introspection::schema_text;
 
@@ -135,7 +135,7 @@ pub const SHOP_RESULT: &str = r#"{"data": {"__schema": {
    "args": [{"name": "reason", "type": {"kind": "SCALAR", "name": "String"}, "defaultValue": "\"No longer supported\""}]}]
 }}}"#;
 
-// A schema with a second type in the place of each usual name, as an older server tells it.
+// A schema whose root types have other names, as an older server returns it.
 const SMALL: &str =
     "schema { query: Q mutation: M } type Q { a: Int } type M { a: Query } scalar Query";
 

@@ -12,7 +12,7 @@ type SourceSchema = SchemaTypeOf<SourceScalar, SourceCheck>;
 
 type SourceMeta = MetaTypeOf<SourceScalar, SourceCheck>;
 
-/// What the schema of the text says, or why there is none.
+/// What the schema of a text holds, or why it is not a schema.
 pub fn shown_text(alloc: Global, text: &str) -> Result<String, AllocError> {
     match read_schema(alloc, text) {
         Ok(schema) => shown_schema(alloc, &schema),

@@ -1,4 +1,4 @@
-//! The program `lint`: tells whether files of GraphQL queries fit a schema.
+//! The program `lint`: validates files of GraphQL queries against a schema.
 #![tactic(auto)]
 
 use lint_app::machine;

@@ -1,4 +1,4 @@
-//! The files of queries, judged one by one or as one document.
+//! Validates the files of queries, one by one or as one document.
 ghost use Rattle.std.specs.Prelude.{◌≡◌, ◌∷◌, [], IfOk, OnOk, Some};
 ghost use Rattle.std.specs.Option.{option_copied};
 ghost use Rattle.lint_app.specs.Told.{Adds, AddsIf, AreToldAs, HasKnownTypes, IsErrorFree, TellsDocument, TellsEach, TellsFaultsAt, TellsFaultsIn, TellsFiles, TellsRead, TellsTogether};
@@ -15,26 +15,32 @@ use validation::{
     AllRules, Definition, OutOfMemory, RootNode, RuleError, Variables, validate_input_values,
 };
 
-/// What files of queries are judged by, and the files.
+/// The schema and the values by which files of queries are judged, and the files.
 #[derive(Clone, Copy)]
 pub struct Judge<'j> {
+    /// The schema.
     pub root: &'j RootNode<SourceScalar>,
-    /// Values of variables, which are judged where a document has no error.
+    /// Values of variables, which are checked if a document has no error.
     pub values: Option<&'j Variables<SourceScalar>>,
+    /// The files, in order.
     pub sources: &'j [Source],
 }
 
-/// What is said of files.
+/// What was found in the files.
 #[derive(Drop)]
 pub struct Report {
     /// The errors of the documents.
     pub issues: Vec<Issue>,
-    /// How many files are documents, or in one.
+    /// How many files could be judged.
     pub judged: usize,
 }
 
 impl Judge<'_> {
-    /// Judges each file by itself. A file with a fault of syntax is told of, and the others are judged.
+    /// Judges each file by itself. Syntax errors go to `faults`, and the other files are judged.
+    ///
+    /// # Errors
+    ///
+    /// Out of memory.
     pub fn each(&self, alloc: Global, faults: &mut String) -> Result<Report, Failure>
         ensures { IfOk result
             (TellsEach ⟦<SourceScalar as AllRules>⟧.rules self.now.root.now (option_copied self.now.values)
@@ -50,7 +56,7 @@ impl Judge<'_> {
         Ok(Report { issues, judged })
     }
 
-    // Judges the document of a file, if it is one; else it is told why not.
+    // Judges the document of a file. Returns false if it has a syntax error, which goes to `faults`.
     fn judge_file(
         &self,
         alloc: Global,
@@ -70,7 +76,11 @@ impl Judge<'_> {
         Ok(is_document)
     }
 
-    /// Judges all files as one document, if none has a fault of syntax; else these are told.
+    /// Judges all files as one document, unless one has a syntax error. Syntax errors go to `faults`.
+    ///
+    /// # Errors
+    ///
+    /// Out of memory.
     pub fn together(&self, alloc: Global, faults: &mut String) -> Result<Report, Failure>
         ensures { IfOk result
             (TellsTogether ⟦<SourceScalar as AllRules>⟧.rules self.now.root.now (option_copied self.now.values)
@@ -90,7 +100,7 @@ impl Judge<'_> {
         })
     }
 
-    // Whether each of several files is a document by itself, so that no token reaches from one into the next. One file is read later.
+    // Whether each of several files is a document by itself, so that no token reaches from one into the next.
     fn are_documents(&self, alloc: Global, faults: &mut String) -> Result<bool, Failure> {
         let mut are_all = true;
         if self.sources.len() > 1 {
@@ -121,7 +131,7 @@ impl Judge<'_> {
         }
     }
 
-    // Judges the document of a joined text, if it is one; else it is told why not.
+    // Judges the document of a joined text. Returns false if it has a syntax error, which goes to `faults`.
     fn judge_joined(
         &self,
         alloc: Global,
@@ -149,7 +159,7 @@ impl Judge<'_> {
         }
     }
 
-    // Adds the errors of a document, and where it has none the faults of values.
+    // Adds the errors of a document, or if it has none the faults of values.
     fn add_issues(
         &self,
         alloc: Global,
@@ -241,7 +251,7 @@ impl Judge<'_> {
 }
 
 impl Report {
-    /// Of no file.
+    /// The report on no file.
     pub fn empty(alloc: Global) -> Report
         ensures issues { result.issues.items ≡ [] }
         ensures judged { result.judged ≡ 0 }
@@ -253,7 +263,7 @@ impl Report {
     }
 }
 
-// Adds errors with their places led back to the files.
+// Adds errors, their positions mapped back to the files.
 fn add_errors(
     alloc: Global,
     joined: &Joined,

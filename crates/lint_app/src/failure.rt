@@ -1,14 +1,14 @@
-//! Why the program judges no further.
+//! Why the program ends early.
 use std::alloc::{AllocError, AllocFailed};
 use std::{fmt, io};
 use validation::OutOfMemory;
 
-/// Why the program judges no further.
+/// Why the program ends early.
 #[derive(Clone, Copy, Debug)]
 pub enum Failure {
-    /// There are faults of files or words, which are told.
+    /// Files or arguments are at fault, which has been reported.
     Told,
-    /// A request for memory was refused.
+    /// Out of memory.
     OutOfMemory,
     /// A read or a write failed.
     InputOutput,
@@ -17,7 +17,7 @@ pub enum Failure {
 impl fmt::Display for Failure {
     fn fmt<W: fmt::Write>(&self, f: &mut fmt::Formatter<W>) -> fmt::Result {
         f.write_str(match self {
-            Failure::Told => "there are faults",
+            Failure::Told => "invalid input",
             Failure::OutOfMemory => "out of memory",
             Failure::InputOutput => "input or output failed",
         })

@@ -1,4 +1,4 @@
-//! Files by the words that name them.
+//! Files by their paths.
 ghost use Rattle.std.specs.Prelude.{◌≡◌, ◌++◌, IfOk, IfSome, OnOk};
 ghost use Rattle.std.specs.Option.{option_to_list};
 ghost use Rattle.lint_app.specs.Told.{AreReadOf, HasText, IsFileOf, IsJoined};
@@ -14,15 +14,23 @@ use std::{io, str};
 pub trait Inputs {
     ghost use Rattle.std.specs.Prelude.{ℕ, List, None, Option};
 
-    // The bytes of the file of a name, where they are known.
+    // The bytes of the file at a path, if they are known.
     ghost file: { Self → List ℕ → Option (List ℕ) } = { λ _ _. None };
 
-    /// The bytes of the file that a word names.
+    /// The bytes of the file at a path.
+    ///
+    /// # Errors
+    ///
+    /// The file can't be read, or out of memory.
     fn read(&self, alloc: Global, path: &str) -> io::Result<Vec<u8>>
         ensures { IfOk result (λ bytes. IfSome (file self.now path.now) (λ known. bytes.items ≡ known)) };
 }
 
-/// The files of these paths that can be read. Of each other one it is told why it can't.
+/// The files at these paths that can be read. Why the others can't be read goes to `faults`.
+///
+/// # Errors
+///
+/// Out of memory.
 pub fn read_sources<I: Inputs>(
     alloc: Global,
     inputs: &I,
@@ -48,7 +56,7 @@ fn add_read(sources: &mut Vec<Source>, read: Option<Source>) -> Result<(), Failu
     Ok(())
 }
 
-// The file of this path, if it can be read; else it is told why not.
+// The file at this path, if it can be read.
 fn read_source<I: Inputs>(
     alloc: Global,
     inputs: &I,
@@ -81,13 +89,17 @@ fn source_of(
         })),
         Err(error) => {
             write_place(faults, path, position_at(bytes, error.valid_up_to()))?;
-            faults.push_str("error: bytes that are no UTF-8\n")?;
+            faults.push_str("error: not valid UTF-8\n")?;
             Ok(None)
         }
     }
 }
 
 /// All files as one text.
+///
+/// # Errors
+///
+/// Out of memory.
 pub fn joined_of(alloc: Global, sources: &[Source]) -> Result<Joined, Failure>
     ensures { IfOk result (IsJoined 0 sources.now) }
 {

@@ -1,9 +1,11 @@
-//! The work of the program `lint`, over files that come from anywhere and any two writers: whether files of GraphQL queries fit a schema.
+//! The work of the program `lint`, over any source of files and any two writers: it validates files of GraphQL
+//! queries against a schema.
 //!
-//! The contracts say which report the output got where it got one, of the trees that were read: an issue for each error that
-//! `RootNode::validate` reports of them, and for each fault of given values where there is no error, in order and led back to the
-//! files, as text or as JSON; and that nothing else was told then. Which files, options and form those are, the words say, by
-//! the contract of `lint_words`. That the trees and the schema are those of the texts is tested.
+//! Proved: a run that ends with 0 or 1 wrote exactly this report to the output, as text or as JSON, and nothing else.
+//! It has an issue for each error that `RootNode::validate` reports of the trees that were read. A document without
+//! errors has an issue for each fault of given values instead. Issues are in order, with their positions mapped back
+//! to the files. The files and options are those of the command line, by the contract of `lint_args`. That the trees
+//! and the schema are those of the texts is only tested.
 #![tactic(auto)]
 
 pub mod documents;

@@ -1,4 +1,4 @@
-//! Words, files and the standard input of the machine.
+//! The command line, files and standard input of the machine.
 ghost use Rattle.std.specs.Prelude.{◌≡◌, ◌≤◌};
 
 use crate::failure::Failure;
@@ -11,7 +11,7 @@ use std::fs;
 use std::io::{self, Read, Write};
 use std::rt::Files;
 
-/// The files of the machine; the word `-` names the standard input.
+/// The files of the machine. The path `-` is the standard input.
 #[derive(Clone, Copy)]
 pub struct Machine<'r, R: Files + Input + AllocGlobal> {
     pub rt: &'r R,
@@ -28,7 +28,7 @@ impl<R: Files + Input + AllocGlobal> Inputs for Machine<'_, R> {
     }
 }
 
-/// Does what the words ask for that the process was started with, over the machine's files, and answers the status to end with.
+/// Does what the command line of the process asks for, over the machine's files, and returns the exit status.
 pub fn run<R: Files + Env + Input + AllocGlobal, W: Write, E: Write>(
     rt: &R,
     output: &mut W,

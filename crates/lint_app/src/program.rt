@@ -1,4 +1,4 @@
-//! The program's work, over files of anywhere and any writers.
+//! The program's work, over any source of files and any writers.
 ghost use Rattle.std.specs.Prelude.{◌≡◌, ◌≤◌, ◌⊎◌, IfOk, OnOk, Some, string_bytes, true, false, if◌then◌else◌};
 ghost use Rattle.std.specs.Io.KnownBytes.{Appends};
 ghost use Rattle.std.specs.Option.{option_copied};
@@ -24,19 +24,23 @@ use std::alloc::Global;
 use std::io::{self, Write};
 use validation::{AllRules, OutOfMemory, RootNode, Variables};
 
-/// What is written to the output.
+/// The report, as it is written to the output.
 #[derive(Drop)]
 struct Told {
     text: String,
-    /// Whether it tells of errors.
+    /// Whether it has errors.
     has_errors: bool,
-    /// Whether all files were judged.
+    /// Whether all files could be judged.
     is_whole: bool,
 }
 
-/// Does what the words ask for, of which the first is the program's own name, and answers the status to end with: 0 where no document
-/// has an error, 1 where some have, and 2 where the words, a file or the schema are at fault, memory is wanting, or the output can't be
-/// written. What is told of documents goes to `output`, in one piece; why a document can't be judged goes to `errors`.
+/// Does what the command line asks for, and returns the exit status. The first word is the program's own name.
+///
+/// - 0: no document has an error, or help was asked for;
+/// - 1: a document has an error;
+/// - 2: the arguments, a file or the schema are invalid, a read or a write failed, or out of memory.
+///
+/// The report goes to `output`, in one piece. Why a document could not be judged goes to `errors`.
 pub fn run<I: Inputs, W: Write, E: Write>(
     alloc: Global,
     words: &[String],
@@ -59,7 +63,7 @@ pub fn run<I: Inputs, W: Write, E: Write>(
     }
 }
 
-// Whether a word is one that is answered with help.
+// Whether a word asks for help.
 fn asks_for_help(words: &[String]) -> bool
     ensures { result ≡ asks_for_help words.now }
 {
@@ -72,7 +76,7 @@ fn begins_help(word: &str) -> bool
     word == "--help" || word.as_bytes().starts_with(b"-h")
 }
 
-// Help, or what is wrong with the words.
+// Help, or what is wrong with the arguments.
 fn show<W: Write, E: Write>(error: &Error, is_asked: bool, output: &mut W, errors: &mut E) -> u8
     ensures status { result ≤ 2 }
     ensures asked { result ≤ 1 → is_asked ≡ true }
@@ -80,7 +84,7 @@ fn show<W: Write, E: Write>(error: &Error, is_asked: bool, output: &mut W, error
     ensures quiet { result ≤ 1 → errors.new ≡ errors.old }
 {
     if error.kind() != ErrorKind::DisplayHelp || !is_asked {
-        // Where it can't be written, the status alone tells of it.
+        // If this write fails, only the status says so.
         let _ = write!(errors, "{error}");
         return 2;
     }
@@ -97,7 +101,7 @@ fn show_help<W: Write>(help: &Error, output: &mut W) -> io::Result<()> {
     Ok(())
 }
 
-/// Judges the files of a task, and answers the status to end with.
+/// Judges the files of a task, and returns the exit status.
 pub fn run_task<I: Inputs, W: Write, E: Write>(
     alloc: Global,
     task: &Task<'_>,
@@ -118,7 +122,7 @@ pub fn run_task<I: Inputs, W: Write, E: Write>(
     }
 }
 
-// Tells what there is to tell of the documents. Where anything kept a file from being judged, that is told first, and the status is 2.
+// Writes the report, and before it the faults for which a file could not be judged. With such faults the status is 2.
 fn tell<W: Write, E: Write>(told: &Told, faults: &str, output: &mut W, errors: &mut E) -> u8
     ensures status { result ≤ 2 }
     ensures whole { result ≤ 1 → told.now.is_whole ≡ true }
@@ -162,11 +166,11 @@ fn status_of(told: &Told) -> u8
     }
 }
 
-/// Tells of faults, and then of a failure that they don't tell of. The status is 2.
+/// Writes faults, and then a failure that they don't report. Returns the exit status 2.
 pub fn tell_failure<E: Write>(failure: Failure, faults: &str, errors: &mut E) -> u8
     ensures { result ≡ 2 }
 {
-    // Where they can't be written, the status alone tells of it.
+    // If these writes fail, only the status says so.
     if write_text(errors, faults).is_ok() && !matches!(failure, Failure::Told) {
         let _ = writeln!(errors, "lint: error: {failure}");
     }
@@ -191,14 +195,14 @@ fn judge_all<I: Inputs>(
     ensures { IfOk result (TellsTask ⟦<SourceScalar as AllRules>⟧.rules (I.file inputs.now) task.now) }
 {
     if task.inputs() > 1 {
-        faults.push_str("lint: error: the standard input is read once\n")?;
+        faults.push_str("lint: error: the standard input can be named only once\n")?;
         return Err(Failure::Told);
     }
     let root = read_root(alloc, task, inputs, faults)?;
     judge_by(alloc, task, inputs, &root, faults)
 }
 
-// The same, where the schema is read. The owner of values only calls and drops, and so does that of the schema.
+// The same with the schema. The owner of a schema or of values only calls and drops, which keeps its proof small.
 fn judge_by<I: Inputs>(
     alloc: Global,
     task: &Task<'_>,
@@ -252,7 +256,7 @@ fn judge_queries<I: Inputs>(
     Ok(told)
 }
 
-// Several files are one document only if all of them are read.
+// With `--together`, all files must have been read.
 fn report_of(
     alloc: Global,
     task: &Task<'_>,

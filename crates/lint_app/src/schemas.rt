@@ -1,4 +1,4 @@
-//! The schema of the files that the words name.
+//! Reads the schema from its files.
 ghost use Rattle.std.specs.Prelude.{◌≡◌, IfOk};
 
 use crate::failure::Failure;
@@ -13,7 +13,11 @@ use sdl_reader::{SchemaReadError, read_schema};
 use std::alloc::Global;
 use validation::{RootNode, SchemaType};
 
-/// The schema, closed where the words ask for that. Its faults are told.
+/// The schema of a task, with introspection disabled if the task says so. Its faults go to `faults`.
+///
+/// # Errors
+///
+/// The schema or one of its files is invalid, which has been reported, or out of memory.
 pub fn read_root<I: Inputs>(
     alloc: Global,
     task: &Task<'_>,
@@ -53,7 +57,7 @@ fn schema_of(
     }
 }
 
-// The definitions of an introspection result.
+// The type definitions of an introspection result.
 fn text_of_result(
     alloc: Global,
     sources: &[Source],
@@ -74,7 +78,7 @@ fn text_of_result(
     }
 }
 
-/// Tells why the first file is not the JSON that is wanted, and answers that it is told, or that memory is wanting.
+/// Reports why the first file is not the JSON that is expected, and returns that it was reported, or out of memory.
 pub fn tell_json(sources: &[Source], error: JsonError, faults: &mut String) -> Failure {
     let Some(position) = error.position() else {
         return Failure::OutOfMemory;
@@ -85,7 +89,7 @@ pub fn tell_json(sources: &[Source], error: JsonError, faults: &mut String) -> F
     }
 }
 
-// The places of this text are not in the file, so its faults have none.
+// This text is not the file's, so its faults have no positions.
 fn schema_of_result(
     alloc: Global,
     source: &Source,
@@ -114,7 +118,7 @@ fn schema_of_files(
     }
 }
 
-// Tells of a fault of the definitions at its place, and answers that it is told, or that memory is wanting.
+// Reports a fault of the definitions, and returns that it was reported, or out of memory.
 fn tell_schema(
     sources: &[Source],
     joined: &Joined,
@@ -132,7 +136,7 @@ fn tell_schema(
     }
 }
 
-// Each of several files is to be definitions by itself, so that no token reaches from one into the next.
+// Each of several files must be definitions by itself, so that no token reaches from one into the next.
 fn check_each(alloc: Global, sources: &[Source], faults: &mut String) -> Result<(), Failure> {
     let mut is_clean = true;
     for (file, source) in sources.iter().enumerate() {
@@ -154,7 +158,7 @@ fn check_file(
         let path = source.path.as_str();
         writeln!(
             faults,
-            "{path}: error: an introspection result is a schema by itself, beside no other file"
+            "{path}: error: an introspection result can't be combined with other schema files"
         )?;
         return Ok(false);
     }

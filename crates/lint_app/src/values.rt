@@ -1,4 +1,4 @@
-//! Values of variables, of a file.
+//! Reads values of variables from a file.
 use crate::failure::Failure;
 use crate::files::{Inputs, read_sources};
 use crate::schemas::tell_json;
@@ -8,7 +8,11 @@ use lint_report::variables::read_variables;
 use std::alloc::Global;
 use validation::Variables;
 
-/// The values of the file of this path. Its faults are told.
+/// The values in the file at this path. Its faults go to `faults`.
+///
+/// # Errors
+///
+/// The file can't be read or is not a JSON object, which has been reported, or out of memory.
 pub fn values_of_file<I: Inputs>(
     alloc: Global,
     inputs: &I,

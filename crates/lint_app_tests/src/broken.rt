@@ -1,4 +1,4 @@
-//! Runs in which memory, a read or a write is refused.
+//! Runs in which an allocation, a read or a write fails.
 use crate::fakes::{BrokenWriter, Memory, run_broken, words_of};
 use lint_app::program::run;
 use std::alloc::Global;
@@ -11,19 +11,19 @@ const TOLD: &str =
 
 const FAILED: &str = "lint: error: input or output failed\n";
 
-// The line of a want of memory ends so; it begins with the file's path where a read wants it.
+// How the line on out of memory ends. It begins with a file's path if its read failed.
 const NO_MEMORY: &str = "error: out of memory\n";
 
-// A file that can't be read, and what the output has then.
+// A file that can't be read, and the output then.
 const READS: &[(&str, &str)] = &[
     ("shop.graphql", ""),
     ("item.graphql", ""),
     ("values.json", ""),
     (
         "good.graphql",
-        "bad.graphql:3:3: error: Unknown field \"nme\" on type \"Item\"\n\t\tnme\n\t\t^\n1 error in 1 of 1 file, 1 file not judged\n",
+        "bad.graphql:3:3: error: Unknown field \"nme\" on type \"Item\"\n\t\tnme\n\t\t^\n1 error in 1 of 1 file, 1 file not checked\n",
     ),
-    ("bad.graphql", "no errors in 1 file, 1 file not judged\n"),
+    ("bad.graphql", "no errors in 1 file, 1 file not checked\n"),
 ];
 
 #[test]
@@ -39,7 +39,7 @@ fn a_failed_read_is_told(rt: HostRuntime) {
     }
 }
 
-/// Each write of the output refused in turn.
+/// Each write of the output fails in turn.
 #[test]
 fn a_failed_write_is_told(rt: HostRuntime) {
     let alloc = rt.alloc();
@@ -54,7 +54,7 @@ fn a_failed_write_is_told(rt: HostRuntime) {
     }
 }
 
-/// Where the errors can't be written, the status alone tells of them, and the output gets nothing.
+/// If the faults can't be written, only the status says so, and the output stays empty.
 #[test]
 fn failed_errors_end_with_2(rt: HostRuntime) {
     let alloc = rt.alloc();
@@ -75,7 +75,7 @@ fn failed_errors_end_with_2(rt: HostRuntime) {
     }
 }
 
-// Whether a run tells what is wanted, or that memory was refused.
+// Whether a run writes the expected report, or that it is out of memory.
 fn is_told_or_refused(alloc: Global) -> bool {
     let (Ok(words), Ok(mut output), Ok(mut errors)) = (
         words_of(alloc, LINE),
@@ -92,7 +92,7 @@ fn is_told_or_refused(alloc: Global) -> bool {
     status == 1 && output.as_slice() == TOLD.as_bytes() && errors.is_empty()
 }
 
-/// Run with each request for memory refused in turn, the program tells what is wanted, or that memory is.
+/// Run with each allocation failing in turn, the program writes the expected report, or that it is out of memory.
 #[test]
 fn a_refused_request_is_told(rt: HostRuntime) {
     assert!(rt; is_told_or_refused(rt.alloc()));

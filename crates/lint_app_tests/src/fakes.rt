@@ -4,6 +4,44 @@ use lint_app::program::run;
 use std::alloc::{AllocError, Global};
 use std::io::{self, Write};
 
+// A schema as type definitions.
+const KENNEL: &str = "type Query {
+  dog(name: String!): Dog
+  pets(like: Taste, size: Size = SMALL): [Pet!]!
+}
+
+interface Named {
+  name: String!
+}
+
+type Dog implements Named {
+  name: String!
+  barks: Boolean
+}
+
+type Cat implements Named {
+  name: String!
+  lives: Int
+}
+
+union Pet = Dog | Cat
+
+enum Size {
+  SMALL
+  BIG
+}
+
+input Taste {
+  food: [String!] = [\"bone\"]
+}
+
+directive @near(place: String) on FIELD
+";
+
+// The same schema as the result of an introspection query.
+const KENNEL_RESULT: &str =
+    r#"{"data":{"__schema":{"queryType":{"name":"Query"},"types":[{"kind":"OBJECT","name":"Query","interfaces":[],"fields":[{"name":"dog","args":[{"name":"name","type":{"kind":"NON_NULL","ofType":{"kind":"SCALAR","name":"String"}},"defaultValue":null}],"type":{"kind":"OBJECT","name":"Dog"},"isDeprecated":false},{"name":"pets","args":[{"name":"like","type":{"kind":"INPUT_OBJECT","name":"Taste"},"defaultValue":null},{"name":"size","type":{"kind":"ENUM","name":"Size"},"defaultValue":"SMALL"}],"type":{"kind":"NON_NULL","ofType":{"kind":"LIST","ofType":{"kind":"NON_NULL","ofType":{"kind":"UNION","name":"Pet"}}}},"isDeprecated":false}]},{"kind":"INTERFACE","name":"Named","interfaces":[],"fields":[{"name":"name","args":[],"type":{"kind":"NON_NULL","ofType":{"kind":"SCALAR","name":"String"}},"isDeprecated":false}]},{"kind":"OBJECT","name":"Dog","interfaces":[{"name":"Named"}],"fields":[{"name":"name","args":[],"type":{"kind":"NON_NULL","ofType":{"kind":"SCALAR","name":"String"}},"isDeprecated":false},{"name":"barks","args":[],"type":{"kind":"SCALAR","name":"Boolean"},"isDeprecated":false}]},{"kind":"OBJECT","name":"Cat","interfaces":[{"name":"Named"}],"fields":[{"name":"name","args":[],"type":{"kind":"NON_NULL","ofType":{"kind":"SCALAR","name":"String"}},"isDeprecated":false},{"name":"lives","args":[],"type":{"kind":"SCALAR","name":"Int"},"isDeprecated":false}]},{"kind":"UNION","name":"Pet","possibleTypes":[{"name":"Dog"},{"name":"Cat"}]},{"kind":"ENUM","name":"Size","enumValues":[{"name":"SMALL","isDeprecated":false},{"name":"BIG","isDeprecated":false}]},{"kind":"INPUT_OBJECT","name":"Taste","inputFields":[{"name":"food","type":{"kind":"LIST","ofType":{"kind":"NON_NULL","ofType":{"kind":"SCALAR","name":"String"}}},"defaultValue":"[\"bone\"]"}]},{"kind":"SCALAR","name":"String"},{"kind":"SCALAR","name":"Boolean"},{"kind":"SCALAR","name":"Int"}],"directives":[{"name":"near","args":[{"name":"place","type":{"kind":"SCALAR","name":"String"},"defaultValue":null}],"locations":["FIELD"]}]}}}"#;
+
 const FILES: &[(&str, &str)] = &[
     ("shop.graphql", "type Query {\n  item(id: ID!): Item\n}\n"),
     (
@@ -22,6 +60,16 @@ const FILES: &[(&str, &str)] = &[
     ("use.graphql", "{\n  item(id: 1) {\n    ...Names\n  }\n}\n"),
     ("names.graphql", "fragment Names on Item {\n  name\n}\n"),
     ("cut.graphql", "{ item(id: 1) {\n"),
+    ("kennel.graphql", KENNEL),
+    ("kennel.json", KENNEL_RESULT),
+    (
+        "walk.graphql",
+        "query Walk($size: Size) {\n  dog { barks }\n  pets(size: HUGE) {\n    name\n    ... on Dog { lives }\n  }\n}\n",
+    ),
+    (
+        "far.graphql",
+        "{\n  pets(like: {fod: []}) @far {\n    ... on Cat { lives }\n  }\n  dog(name: \"Rex\") @near {\n    name { first }\n  }\n}\n",
+    ),
     ("values.json", "{\"id\": \"7\"}"),
     ("null.json", "{\"id\": null}"),
     ("-", "{ item(id: 1) { name } }"),
@@ -48,7 +96,7 @@ impl Inputs for Memory<'_> {
     }
 }
 
-/// Takes so many bytes, and then fails.
+/// Takes `left` bytes, and then fails.
 #[derive(Drop)]
 pub struct BrokenWriter {
     pub left: usize,
@@ -69,7 +117,7 @@ impl Write for BrokenWriter {
     }
 }
 
-/// The words behind the program's own name, which blanks part.
+/// The words of a command line, with the program's own name before them.
 pub fn words_of(alloc: Global, line: &str) -> Result<Vec<String>, AllocError> {
     let mut words = Vec::new(alloc);
     words.push(String::from_str(alloc, "lint")?)?;
@@ -79,7 +127,7 @@ pub fn words_of(alloc: Global, line: &str) -> Result<Vec<String>, AllocError> {
     Ok(words)
 }
 
-/// What a run gives.
+/// The result of a run.
 #[derive(Debug, Drop)]
 pub struct Run {
     pub status: u8,
@@ -87,7 +135,7 @@ pub struct Run {
     pub errors: Vec<u8>,
 }
 
-/// A run with these words, where one file can't be read.
+/// A run with these arguments, where one file can't be read.
 pub fn run_broken(alloc: Global, line: &str, broken: &str) -> Result<Run, AllocError> {
     let words = words_of(alloc, line)?;
     let mut output = Vec::new(alloc);

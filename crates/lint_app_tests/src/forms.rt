@@ -1,7 +1,39 @@
-//! What runs over files in memory tell.
+//! Runs over files in memory.
 use crate::fakes::run_broken;
 
-// Words, the status, what is written to the output, and what to the errors.
+// The errors of two documents. A schema has one meaning, as type definitions and as an introspection result.
+const KENNEL_ERRORS: &str =
+    "walk.graphql:1:12: error: Variable \"$size\" is not used by operation \"Walk\"
+query Walk($size: Size) {
+           ^
+walk.graphql:2:3: error: Field \"dog\" argument \"name\" of type \"String!\" is required but not provided
+  dog { barks }
+  ^
+walk.graphql:3:14: error: Invalid value for argument \"size\", reason: Invalid value \"HUGE\" for type \"Size\"
+  pets(size: HUGE) {
+             ^
+walk.graphql:4:5: error: Unknown field \"name\" on type \"Pet\"
+    name
+    ^
+walk.graphql:5:18: error: Unknown field \"lives\" on type \"Dog\"
+    ... on Dog { lives }
+                 ^
+far.graphql:2:14: error: Invalid value for argument \"like\", reason: Field \"fod\" does not exist on type \"Taste\"
+  pets(like: {fod: []}) @far {
+             ^
+far.graphql:2:25: error: Unknown directive \"far\"
+  pets(like: {fod: []}) @far {
+                        ^
+far.graphql:6:5: error: Field \"name\" must not have a selection since type String! has no subfields
+    name { first }
+    ^
+far.graphql:6:12: error: Unknown field \"first\" on type \"String\"
+    name { first }
+           ^
+9 errors in 2 of 2 files
+";
+
+// Arguments, the exit status, the output, and the errors.
 const RUNS: &[(&str, u8, &str, &str)] = &[
     (
         "--schema shop.graphql --schema item.graphql good.graphql",
@@ -55,17 +87,29 @@ const RUNS: &[(&str, u8, &str, &str)] = &[
         "--schema - --schema item.graphql -",
         2,
         "",
-        "lint: error: the standard input is read once\n",
+        "lint: error: the standard input can be named only once\n",
+    ),
+    (
+        "--schema kennel.graphql walk.graphql far.graphql",
+        1,
+        KENNEL_ERRORS,
+        "",
+    ),
+    (
+        "--schema kennel.json walk.graphql far.graphql",
+        1,
+        KENNEL_ERRORS,
+        "",
     ),
     (
         "--schema shop.graphql --schema item.graphql bad.graphql absent.graphql",
         2,
-        "bad.graphql:3:3: error: Unknown field \"nme\" on type \"Item\"\n\t\tnme\n\t\t^\n1 error in 1 of 1 file, 1 file not judged\n",
+        "bad.graphql:3:3: error: Unknown field \"nme\" on type \"Item\"\n\t\tnme\n\t\t^\n1 error in 1 of 1 file, 1 file not checked\n",
         "absent.graphql: error: entity not found\n",
     ),
 ];
 
-// Words of runs that only end with a status: errors whose texts stand elsewhere, and faults.
+// Arguments and exit statuses: errors whose texts are tested elsewhere, and faults.
 const STATUSES: &[(&str, u8)] = &[
     (
         "--schema shop.graphql --schema item.graphql --no-introspection asks.graphql",
@@ -102,7 +146,7 @@ fn runs(rt: HostRuntime) {
     }
 }
 
-/// A run with a status of 0 or 1 writes nothing to the errors, and one with 2 tells there why.
+/// A run that ends with 0 or 1 writes nothing to the errors, and one that ends with 2 writes why.
 #[test]
 fn statuses(rt: HostRuntime) {
     for (line, status) in STATUSES {

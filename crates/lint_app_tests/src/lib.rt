@@ -1,4 +1,4 @@
-//! Tests of the crate `lint_run`: runs over files in memory, and such runs with a read, a write or a request for memory refused.
+//! Tests of the crate `lint_app`: runs over files in memory, also with a read, a write or an allocation that fails.
 #![tactic(auto)]
 
 #[cfg(test)]

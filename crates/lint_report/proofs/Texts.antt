@@ -8,7 +8,7 @@ use Rattle.lint_report.specs.declared.issues.Issue.{Issue}
 use Rattle.lint_report.specs.declared.sources.Place.{Place}
 use Rattle.lint_report.specs.declared.sources.Source.{Source}
 use Rattle.lint_report.specs.Issues.{file_count}
-use Rattle.lint_report.specs.Texts.{Adds, AreNotes, AreTexts, IsErrorText, IsIssueText, IsNoteText, IsTextAt, IsTextReport, ShowsLine, counts_text, line, told_place, unjudged_text}
+use Rattle.lint_report.specs.Texts.{Adds, AreNotes, AreTexts, IsErrorText, IsIssueText, IsNoteText, IsTextAt, IsTextReport, ShowsLine, last_line, line, told_place}
 
 -- one item more
 each_more : {X Y : Type 0} (P : X → Y → Type 0) (xs : List X) (ys : List Y) (x : X) (y : Y) → AllZip P xs ys → P x y → AllZip P (xs ++ x ∷ []) (ys ++ y ∷ [])
@@ -65,10 +65,14 @@ placed_added sources file message first others places old one new is error notes
   holds = record { error = error.added; notes = notes.added; is_error = error.holds; are_notes = notes.holds; text_is = refl };
 })
 
--- the errors, their counts and what was not judged
-pub report_told : (sources : List Source) (issues : List Issue) (n errors files judged unjudged : ℕ) (told counted new : List ℕ) → length issues ≤ n → Adds (AreTexts (IsIssueText sources) (take n issues)) [] told → errors ≡ length issues → files ≡ file_count issues → counted ≡ told ++ counts_text errors files judged → new ≡ counted ++ unjudged_text unjudged → IsTextReport sources issues judged unjudged new
-report_told sources issues n errors files judged unjudged told counted new all so_far errors_are files_are counts rest = record {
+-- the errors and the line of counts
+pub report_told : (sources : List Source) (issues : List Issue) (n errors files judged unjudged : ℕ) (told new : List ℕ)
+    → length issues ≤ n → Adds (AreTexts (IsIssueText sources) (take n issues)) [] told → errors ≡ length issues → files ≡ file_count issues
+    → new ≡ told ++ last_line errors files judged unjudged → IsTextReport sources issues judged unjudged new
+report_told sources issues n errors files judged unjudged told new all so_far errors_are files_are ended = record {
   texts = so_far.holds.texts;
   each = subst (λ l. AllZip (IsIssueText sources) l so_far.holds.texts) (take_all n issues all) so_far.holds.each;
-  text_is = rest ∙ ap (λ t. t ++ unjudged_text unjudged) (counts ∙ ap (λ t. t ++ counts_text errors files judged) (so_far.new_is ∙ so_far.holds.text_is) ∙ ap (λ e. concat so_far.holds.texts ++ counts_text e files judged) errors_are ∙ ap (λ f. concat so_far.holds.texts ++ counts_text (length issues) f judged) files_are);
+  text_is = ended ∙ ap (λ t. t ++ last_line errors files judged unjudged) (so_far.new_is ∙ so_far.holds.text_is)
+      ∙ ap (λ e. concat so_far.holds.texts ++ last_line e files judged unjudged) errors_are
+      ∙ ap (λ f. concat so_far.holds.texts ++ last_line (length issues) f judged unjudged) files_are;
 }

@@ -1,4 +1,4 @@
--- Errors as JSON: the tokens of the text, which the kit's crate `json` lays out and escapes (RFC 8259).
+-- Errors as JSON: the tokens of the text, which the crate `json` lays out and escapes (RFC 8259).
 use Rattle.std.specs.Prelude.{◌==◌, ℕ, List, [], ◌∷◌, ◌++◌, codes, flat_map, if◌then◌else◌, string_bytes}
 use Rattle.std.specs.Fmt.{decimal}
 use Rattle.json.specs.Layout.{pretty}
@@ -20,26 +20,28 @@ number_member name value = key name ∷ number (decimal value) ∷ []
 -- `{ line, column }`, counted from 1
 abbrev pub location_tokens : SourcePosition → List Token
 location_tokens p =
-    begin_object ∷ number_member (codes "line") (from_one (line_of p)) ++ number_member (codes "column") (from_one (column_of p)) ++ end_object ∷ []
+    begin_object ∷ number_member (codes "line") (from_one (line_of p))
+    ++ number_member (codes "column") (from_one (column_of p)) ++ end_object ∷ []
 
--- a place that lies in the file
+-- a place, if it is in the file
 abbrev pub told_locations : ℕ → Place → List Token
 told_locations file place = if place.file == file then location_tokens place.position else []
 
--- the places that do, as a list
+-- the places in the file, as a list
 abbrev pub locations_tokens : ℕ → List Place → List Token
 locations_tokens file places = begin_array ∷ flat_map (told_locations file) places ++ end_array ∷ []
 
 -- `{ path, message, locations }`
 abbrev pub issue_tokens : List Source → Issue → List Token
 issue_tokens sources issue =
-    begin_object ∷ text_member (codes "path") (path_in sources issue.file) ++ text_member (codes "message") (string_bytes issue.message)
+    begin_object ∷ text_member (codes "path") (path_in sources issue.file)
+    ++ text_member (codes "message") (string_bytes issue.message)
     ++ key (codes "locations") ∷ locations_tokens issue.file issue.places.items ++ end_object ∷ []
 
 -- the errors in order, as a list
 abbrev pub report_tokens : List Source → List Issue → List Token
 report_tokens sources issues = begin_array ∷ flat_map (issue_tokens sources) issues ++ end_array ∷ []
 
--- the text: a line for each item and member, two spaces deeper for each bracket
+-- the text: a line for each item and member, indented by two spaces for each bracket
 abbrev pub json_text : List Source → List Issue → List ℕ
 json_text sources issues = line (pretty (report_tokens sources issues))

@@ -1,4 +1,4 @@
--- Where a place of several files, read as one text, stands in its file.
+-- A position of several files, read as one text, mapped back to its file.
 use Rattle.std.specs.Prelude.{◌≡◌, ◌+◌, ◌-◌, ◌^◌, ℕ, List, [], ◌∷◌, ◌++◌, None, filter, length, min, nat_le, string_bytes, unwrap_or}
 use Rattle.std.specs.List.{last_or}
 use Rattle.language.specs.declared.position.SourcePosition.{SourcePosition}
@@ -20,7 +20,7 @@ first_start = record { file = 0; index = 0; line = 0 }
 abbrev pub start_at : List Start → ℕ → Start
 start_at starts index = unwrap_or (last_or None (filter (λ s. nat_le s.index index) starts)) first_start
 
--- the place as the file with this start has it: its column stays, since each file begins a line
+-- the position counted from the start of a file: its column stays, since each file begins a line
 abbrev pub seen_from : Start → SourcePosition → Place
 seen_from start p = record {
   file = start.file;
@@ -31,7 +31,7 @@ seen_from start p = record {
 abbrev pub place_in : Joined → SourcePosition → Place
 place_in joined p = seen_from (start_at joined.starts.items (index_of p)) p
 
--- what stands before a next file: a line feed, if there is a file already
+-- what comes before a next file: a line feed, if there is a file already
 abbrev pub between_files : List Start → List ℕ
 between_files [] = []
 between_files (start ∷ starts) = 10 ∷ []
@@ -42,8 +42,8 @@ pub record HasNoFile (joined : Joined) : Type 0 where
   pub starts_are : joined.starts.items ≡ []
   pub lines_are : joined.lines ≡ 0
 
--- a file of this number and this text comes last, from a line of its own; the lines that end in it and in the line feed after it are
--- counted, up to the greatest number
+-- a file of this number and this text is added, from a line of its own; the lines that end in it and in the line feed
+-- after it are counted, up to the greatest number
 pub record JoinsFile (old : Joined) (file : ℕ) (text : List ℕ) (new : Joined) : Type 0 where
   pub text_is : text_of new ≡ text_of old ++ between_files old.starts.items ++ text
   pub starts_are : new.starts.items ≡ old.starts.items ++ record { file = file; index = length (text_of old ++ between_files old.starts.items); line = old.lines } ∷ []

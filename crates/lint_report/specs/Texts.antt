@@ -1,4 +1,4 @@
--- Errors as text for a reader.
+-- Errors as text.
 use Rattle.std.specs.Prelude.{◌≡◌, ◌==◌, ◌+◌, ◌-◌, ◌^◌, ℕ, List, [], ◌∷◌, ◌++◌, codes, length, min, slice_get, string_bytes, if◌then◌else◌}
 use Rattle.std.specs.Fmt.{decimal}
 use Rattle.std.specs.List.{AllZip, concat}
@@ -15,25 +15,26 @@ use Rattle.lint_report.specs.ShownLines.{IsLineOf, IsBefore, blanks}
 abbrev pub line : List ℕ → List ℕ
 line text = text ++ 10 ∷ []
 
--- a number that is counted from 0, counted from 1; the largest word stays
+-- a 0-based number counted from 1, up to the largest number
 abbrev pub from_one : ℕ → ℕ
 from_one n = min (n + 1) (2 ^ 64 - 1)
 
--- the path of a file and its text, where there is such a file
+-- the path and the text of a file; empty if there is no such file
 abbrev pub path_in : List Source → ℕ → List ℕ
 path_in sources file = option_map_or (λ s. string_bytes s.path) (slice_get sources file) []
 
 abbrev pub text_in : List Source → ℕ → List ℕ
 text_in sources file = option_map_or (λ s. string_bytes s.text) (slice_get sources file) []
 
--- what stands before a message: `path:line:column: `
+-- what comes before a message: `path:line:column: `
 abbrev pub place_text : List ℕ → SourcePosition → List ℕ
-place_text path p = path ++ codes ":" ++ decimal (from_one (line_of p)) ++ codes ":" ++ decimal (from_one (column_of p)) ++ codes ": "
+place_text path p =
+    path ++ codes ":" ++ decimal (from_one (line_of p)) ++ codes ":" ++ decimal (from_one (column_of p)) ++ codes ": "
 
 abbrev pub told_place : List Source → Place → List ℕ
 told_place sources place = place_text (path_in sources place.file) place.position
 
--- the line of a place, and below it blanks up to the place and a mark
+-- the line of a place, and below it spaces up to the place and a mark
 pub record ShowsLine (sources : List Source) (place : Place) (text : List ℕ) : Type 0 where
   pub shown : List ℕ
   pub before : List ℕ
@@ -47,7 +48,7 @@ pub record IsErrorText (sources : List Source) (place : Place) (message : List �
   pub shows : ShowsLine sources place below
   pub text_is : text ≡ told_place sources place ++ codes "error: " ++ line message ++ below
 
--- a note that tells of a further place, and its line
+-- a note at a further place, and its line
 pub record IsNoteText (sources : List Source) (place : Place) (text : List ℕ) : Type 0 where
   pub below : List ℕ
   pub shows : ShowsLine sources place below
@@ -79,7 +80,7 @@ IsTextAt sources file message (first ∷ others) text = IsPlacedText sources fir
 abbrev pub IsIssueText : List Source → Issue → List ℕ → Type 0
 IsIssueText sources issue text = IsTextAt sources issue.file (string_bytes issue.message) issue.places.items text
 
--- how many of something there are: `no errors`, `1 error`, `2 errors`
+-- a count in words: `no errors`, `1 error`, `2 errors`
 abbrev pub count_text : ℕ → List ℕ → List ℕ
 count_text number one =
     if number == 0 then codes "no " ++ one ++ codes "s"
@@ -93,9 +94,20 @@ counts_text errors files judged =
     ++ (if files == 0 then [] else decimal files ++ codes " of ")
     ++ count_text judged (codes "file")
 
--- `, 1 file not judged`, where there is such a file, and the end of the line
+-- `1 file not checked`
 abbrev pub unjudged_text : ℕ → List ℕ
-unjudged_text unjudged = line (if unjudged == 0 then [] else codes ", " ++ count_text unjudged (codes "file") ++ codes " not judged")
+unjudged_text unjudged = count_text unjudged (codes "file") ++ codes " not checked"
+
+-- the counts, then the files that were not checked; these alone if no file was
+abbrev pub summary_text : ℕ → ℕ → ℕ → ℕ → List ℕ
+summary_text errors files judged unjudged =
+    if unjudged == 0 then counts_text errors files judged
+    else if judged == 0 then unjudged_text unjudged
+    else counts_text errors files judged ++ codes ", " ++ unjudged_text unjudged
+
+-- the last line of a report
+abbrev pub last_line : ℕ → ℕ → ℕ → ℕ → List ℕ
+last_line errors files judged unjudged = line (summary_text errors files judged unjudged)
 
 -- what was added to a text has the property
 pub record Adds (P : List ℕ → Type 0) (old new : List ℕ) : Type 0 where
@@ -103,8 +115,8 @@ pub record Adds (P : List ℕ → Type 0) (old new : List ℕ) : Type 0 where
   pub new_is : new ≡ old ++ added
   pub holds : P added
 
--- the errors in order, and a line of their counts
+-- the errors in order, and a line of counts
 pub record IsTextReport (sources : List Source) (issues : List Issue) (judged unjudged : ℕ) (text : List ℕ) : Type 0 where
   pub texts : List (List ℕ)
   pub each : AllZip (IsIssueText sources) issues texts
-  pub text_is : text ≡ concat texts ++ counts_text (length issues) (file_count issues) judged ++ unjudged_text unjudged
+  pub text_is : text ≡ concat texts ++ last_line (length issues) (file_count issues) judged unjudged

@@ -1,4 +1,4 @@
-//! Errors of documents, with their places in files.
+//! Errors of documents, with their positions in files.
 ghost use Rattle.std.specs.Prelude.{◌≡◌, IfOk, map};
 ghost use Rattle.std.specs.BTreeSet.{IsFromIterResult};
 ghost use Rattle.std.specs.Ordering.{nat_cmp};
@@ -10,18 +10,22 @@ use language::position::SourcePosition;
 use std::alloc::{AllocError, Global};
 use std::collections::BTreeSet;
 
-/// An error of a document, or a fault of a file.
+/// An error of a document.
 #[derive(Debug, Drop)]
 pub struct Issue {
-    /// The number of the file that it is told of: that of its first place.
+    /// The 0-based number of its file: that of its first place.
     pub file: usize,
     pub message: String,
-    /// The places that it speaks of, the first one first.
+    /// Its places, in order.
     pub places: Vec<Place>,
 }
 
 impl Issue {
-    /// An error at these places of a joined text; one without a place is of this file.
+    /// An error at these positions of a joined text. One without a position belongs to `file`.
+    ///
+    /// # Errors
+    ///
+    /// Out of memory.
     pub fn of_joined(
         alloc: Global,
         joined: &Joined,
@@ -45,7 +49,7 @@ impl Issue {
     }
 }
 
-// The file of the first place, and this one where there is no place.
+// The file of the first place, or `file` without any place.
 fn file_of_first(places: &[Place], file: usize) -> usize
     ensures { result ≡ file_of file places.now }
 {
@@ -55,7 +59,11 @@ fn file_of_first(places: &[Place], file: usize) -> usize
     }
 }
 
-/// How many files errors are told of.
+/// The number of files that have errors.
+///
+/// # Errors
+///
+/// Out of memory.
 pub fn files_of(alloc: Global, issues: &[Issue]) -> Result<usize, OutOfMemory>
     ensures { IfOk result (λ n. n ≡ file_count issues.now) }
 {
@@ -63,7 +71,7 @@ pub fn files_of(alloc: Global, issues: &[Issue]) -> Result<usize, OutOfMemory>
     Ok(files.len())
 }
 
-// The files that errors are told of.
+// The files that have errors.
 fn file_set(alloc: Global, issues: &[Issue]) -> Result<BTreeSet<usize>, AllocError>
     ensures { IfOk result (IsFromIterResult nat_cmp (map (λ i. i.file) issues.now)) }
 {

@@ -1,4 +1,4 @@
-//! Errors as JSON for a program: in the form in which servers answer them, each with the path of its file.
+//! Errors as JSON: in the form of a response (GraphQL, October 2021, section 7.1.2), each with the path of its file.
 ghost use Rattle.std.specs.Prelude.{◌≡◌, ◌++◌, IfOk, OnOk, string_bytes};
 ghost use Rattle.json.specs.Layout.{pretty};
 ghost use Rattle.lint_report.specs.Json.{issue_tokens, json_text, location_tokens, locations_tokens, number_member, report_tokens, text_member, told_locations};
@@ -11,8 +11,12 @@ use language::error::OutOfMemory;
 use language::position::SourcePosition;
 use std::alloc::{AllocError, Global};
 
-/// The errors in order, as a list of objects with `path`, `message` and `locations`. Where the places of an error lie in several files,
-/// it has those of its first place's file.
+/// The errors in order, as a list of objects with `path`, `message` and `locations`. An error with places in several
+/// files has only those in the file of its first place. Lines and columns count from 1, columns in bytes.
+///
+/// # Errors
+///
+/// Out of memory.
 pub fn json_report(
     alloc: Global,
     sources: &[Source],
@@ -27,7 +31,7 @@ pub fn json_report(
     Ok(text)
 }
 
-// The whole text, which is UTF-8, as each token is.
+// The whole text, which is valid UTF-8, as each token is.
 fn text_of(out: Pretty) -> Result<String, OutOfMemory>
     ensures { IfOk result (λ s. string_bytes s ≡ pretty out) }
 {
@@ -89,7 +93,7 @@ fn write_locations(alloc: Global, out: &mut Pretty, issue: &Issue) -> Result<(),
     Ok(())
 }
 
-// A place, if it lies in this file.
+// A place, if it is in this file.
 fn write_place(
     alloc: Global,
     out: &mut Pretty,
@@ -104,7 +108,7 @@ fn write_place(
     Ok(())
 }
 
-// Line and column, counted from 1, as section 7.1.2 has them.
+// Line and column, counted from 1 (section 7.1.2).
 fn write_location(
     alloc: Global,
     out: &mut Pretty,

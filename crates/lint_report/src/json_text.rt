@@ -1,4 +1,4 @@
-//! Texts of JSON: whether a text is meant as JSON, and where one is none.
+//! JSON texts: which text is meant as JSON, and where its first error is.
 use crate::text_places::position_at;
 use json::{Reader, Scratch, Value};
 use language::error::OutOfMemory;
@@ -7,19 +7,19 @@ use std::alloc::{AllocError, AllocFailed, Global};
 use std::error::Error;
 use std::fmt;
 
-/// Why a text is not the JSON that is wanted.
+/// Why a text is not the JSON that is expected.
 #[derive(Clone, Copy, Debug, PartialEq, Eq)]
 pub enum JsonError {
-    /// It is no JSON, which shows at this place.
+    /// A syntax error at this position.
     Syntax(SourcePosition),
-    /// It is no object; its value starts at this place.
+    /// The value is not an object; it starts at this position.
     NoObject(SourcePosition),
-    /// A request for memory was refused, so nothing is known of the text.
+    /// Out of memory; nothing is known of the text.
     OutOfMemory,
 }
 
 impl JsonError {
-    /// The place of the fault.
+    /// The position of the error, if it has one.
     pub fn position(&self) -> Option<SourcePosition> {
         match self {
             JsonError::Syntax(position) | JsonError::NoObject(position) => Some(*position),
@@ -58,17 +58,21 @@ impl From<OutOfMemory> for JsonError {
     }
 }
 
-/// The text without the byte order mark that it may begin with.
+/// The text without its byte order mark, if it begins with one.
 pub fn without_mark(text: &str) -> &str {
     text.strip_prefix('\u{feff}').unwrap_or(text)
 }
 
-/// Whether a text begins with `{`, after a byte order mark and blanks: no definition of a schema does.
+/// Whether a text begins with `{`, after a byte order mark and white space. No type definition does.
 pub fn is_object_text(text: &str) -> bool {
     without_mark(text).trim_start().starts_with('{')
 }
 
-/// The value of a text, after a byte order mark. It nests at most 128 levels deep.
+/// The JSON value of a text, which may begin with a byte order mark and nest at most 128 levels deep.
+///
+/// # Errors
+///
+/// The text is not such a value, or out of memory.
 pub fn read_value<'a>(
     alloc: Global,
     text: &'a str,
@@ -89,12 +93,16 @@ pub fn read_value<'a>(
     Ok(value)
 }
 
-// No JSON from so many bytes after the mark on.
+// The syntax error at an offset after the byte order mark.
 fn syntax_error(text: &str, mark: usize, offset: usize) -> JsonError {
     JsonError::Syntax(position_at(text.as_bytes(), mark.saturating_add(offset)))
 }
 
-/// Tells where a text is no JSON, if it is none.
+/// Checks that a text is JSON.
+///
+/// # Errors
+///
+/// The text is not JSON, or out of memory.
 pub fn check_syntax(alloc: Global, text: &str) -> Result<(), JsonError> {
     let mut scratch = Scratch::new(alloc);
     read_value(alloc, text, &mut scratch)?;

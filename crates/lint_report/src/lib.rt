@@ -1,12 +1,13 @@
-//! The parts of the program `lint` that are no input and output: several files as one text, the places of a joined text led back to
-//! their files, the two forms in which errors are told, and JSON as values of variables (GraphQL, October 2021, section 6.1.2).
+//! The parts of the program `lint` without input and output: several files as one text and positions mapped back to
+//! their files; errors printed as text and as JSON; values of variables read from JSON (GraphQL, October 2021,
+//! section 6.1.2).
 //!
-//! Each call answers, whatever the texts. The contracts of places and issues say more: files stand in the joined text as they are, with
-//! a line feed between each two; a place belongs to the last file that starts at it or before it, and counts from there; an error has
-//! its message and its places led back, and is told of the file of the first one; and each file that errors are told of counts once.
-//! The contract of the text report pins its bytes: the errors in order, each with its path, line, column and message, the line of the
-//! place as the file has it and a mark below the place, a note of the same form for each further place, and at last the counts.
-//! Of what is not named here safety is claimed.
+//! Every call is safe and returns, whatever the texts. Proved beyond that:
+//!
+//! - the joined text has the files as they are, with a line feed between each two;
+//! - a position belongs to the last file that starts at or before it, and counts from there;
+//! - an issue has its error's message and positions, and belongs to the file of the first one;
+//! - the text report and the JSON report are pinned byte for byte, down to the line that counts errors and files.
 #![tactic(auto)]
 
 pub mod issues;

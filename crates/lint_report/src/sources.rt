@@ -1,4 +1,4 @@
-//! Files that are read as one text, and the places of that text in the files.
+//! Several files as one text, and its positions mapped back to the files.
 ghost use Rattle.std.specs.Prelude.{◌≡◌, OnOk};
 ghost use Rattle.lint_report.specs.Places.{HasNoFile, JoinsFile, place_in, start_at, text_of};
 
@@ -10,7 +10,7 @@ use std::alloc::Global;
 /// A file.
 #[derive(Debug, Drop)]
 pub struct Source {
-    /// The word that names it.
+    /// Its path, as it was given.
     pub path: String,
     pub text: String,
 }
@@ -18,13 +18,13 @@ pub struct Source {
 /// A place in one of several files.
 #[derive(Clone, Copy, Debug, PartialEq, Eq)]
 pub struct Place {
-    /// The number of the file, counted from 0.
+    /// The 0-based number of the file.
     pub file: usize,
-    /// The place in the file's own text.
+    /// The position in the file's own text.
     pub position: SourcePosition,
 }
 
-// Where a file starts in a joined text.
+// The start of a file in a joined text.
 #[derive(Clone, Copy, Debug)]
 struct Start {
     file: usize,
@@ -32,17 +32,17 @@ struct Start {
     line: usize,
 }
 
-/// The texts of files as one text, with a line feed between each two.
+/// The texts of several files as one text, with a line feed between each two.
 #[derive(Debug, Drop)]
 pub struct Joined {
     text: String,
     starts: Vec<Start>,
-    // How many lines end before a next file, whose line feed is counted.
+    // The line at which the next file would start.
     lines: usize,
 }
 
 impl Joined {
-    /// Of no file.
+    /// The empty text of no files.
     pub fn new(alloc: Global) -> Joined
         ensures { HasNoFile result }
     {
@@ -60,7 +60,11 @@ impl Joined {
         self.text.as_str()
     }
 
-    /// Adds the file of this number and this text.
+    /// Adds a file.
+    ///
+    /// # Errors
+    ///
+    /// Out of memory; part of the file may have been added.
     pub fn add(&mut self, file: usize, text: &str) -> Result<(), OutOfMemory>
         ensures { OnOk result (JoinsFile self.old file text.now self.new) }
     {
@@ -77,7 +81,8 @@ impl Joined {
         Ok(())
     }
 
-    /// Where a place of the joined text stands in its file. Its column stays, since each file begins a line.
+    /// A position of the joined text, mapped back to its file. The column stays the same, since each file begins a
+    /// line.
     pub fn place_of(&self, position: SourcePosition) -> Place
         ensures { result ≡ place_in self.now position }
     {

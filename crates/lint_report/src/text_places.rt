@@ -1,4 +1,5 @@
-//! Places of a text, and its lines. A line ends with a line feed, a carriage return, or both in this order (section 2.1.3).
+//! Positions and lines of a text. A line ends with a line feed, a carriage return, or both in this order (section
+//! 2.1.3).
 ghost use Rattle.std.specs.Prelude.{◌≡◌, ◌+◌, ◌≤◌, if◌then◌else◌, [], ◌∷◌, ◌++◌, length, take, take_while};
 ghost use Rattle.std.specs.List.{prefix_len};
 ghost use Rattle.language.specs.Position as position;
@@ -7,7 +8,7 @@ ghost use Rattle.lint_report.specs.ShownLines.{IsLineOf, column_after, is_in_lin
 
 use language::position::SourcePosition;
 
-/// The place of an index of a text: its line, and the number of bytes before it in that line.
+/// The position of a byte index: its 0-based line and column, in bytes.
 pub fn position_at(text: &[u8], index: usize) -> SourcePosition
     ensures index { position.index_of result ≡ length (take index text.now) }
     ensures line { position.line_of result ≡ line_ends (take index text.now) }
@@ -17,7 +18,7 @@ pub fn position_at(text: &[u8], index: usize) -> SourcePosition
     SourcePosition::new(before.len(), lines_ended(before).0, last_length(before))
 }
 
-// How many bytes stand behind the last end of a line.
+// The number of bytes after the last line terminator.
 fn last_length(text: &[u8]) -> usize
     ensures { result ≡ column_after text.now }
 {
@@ -27,7 +28,7 @@ fn last_length(text: &[u8]) -> usize
         .count()
 }
 
-/// How many lines end in a text that a line feed follows.
+/// The number of lines that end in a text with a line feed after it.
 pub fn lines_before_feed(text: &str) -> usize
     ensures { result ≡ line_ends (text.now ++ 10 ∷ []) }
 {
@@ -35,7 +36,7 @@ pub fn lines_before_feed(text: &str) -> usize
     if after_return { ended } else { ended + 1 }
 }
 
-// How many lines end in a text, and whether its last byte is a carriage return, so that a line feed ends no further line.
+// The number of lines that end in a text, and whether its last byte is a carriage return, which a line feed would join.
 fn lines_ended(text: &[u8]) -> (usize, bool)
     ensures ended { result.0 ≡ line_ends text.now }
     ensures fed { result.0 + (if result.1 then 0 else 1) ≡ line_ends (text.now ++ 10 ∷ []) }
@@ -50,7 +51,7 @@ fn lines_ended(text: &[u8]) -> (usize, bool)
     (ended, after_return)
 }
 
-// How many lines end with a byte, which a carriage return may precede.
+// The number of lines that end with a byte, which may follow a carriage return.
 fn more_ended(byte: u8, after_return: bool) -> usize
     ensures { result ≡ more_ends after_return byte }
 {
@@ -61,7 +62,7 @@ fn more_ended(byte: u8, after_return: bool) -> usize
     }
 }
 
-/// The line in which a place of a text stands, without its end.
+/// The line of a position, without its line terminator.
 pub fn line_of(text: &str, position: SourcePosition) -> &str
     ensures { IsLineOf text.now position result.now }
 {
@@ -73,14 +74,14 @@ pub fn line_of(text: &str, position: SourcePosition) -> &str
     }
 }
 
-// What stands before the first end of a line.
+// The text before the first line terminator.
 fn first_line(text: &str) -> &str
     ensures { result.now ≡ take_while is_in_line text.now }
 {
     &text[..first_length(text)]
 }
 
-// How many bytes stand before the first end of a line.
+// The number of bytes before the first line terminator.
 fn first_length(text: &str) -> usize
     ensures { result ≡ prefix_len is_in_line text.now }
 {

@@ -1,7 +1,7 @@
-//! Errors as text for a reader: each with its place, its line and a mark below the place.
+//! Errors as text: each with its place, its line and a mark below the place.
 ghost use Rattle.std.specs.Prelude.{◌≡◌, ◌++◌, IfOk, IfSome, OnOk, Some, string_bytes};
 ghost use Rattle.lint_report.specs.ShownLines.{IsBefore, blanks};
-ghost use Rattle.lint_report.specs.Texts.{Adds, AreNotes, IsErrorText, IsIssueText, IsNoteText, IsTextReport, ShowsLine, count_text, counts_text, path_in, place_text, text_in, unjudged_text};
+ghost use Rattle.lint_report.specs.Texts.{Adds, AreNotes, IsErrorText, IsIssueText, IsNoteText, IsTextReport, ShowsLine, count_text, counts_text, last_line, path_in, place_text, summary_text, text_in, unjudged_text};
 
 use crate::issues::{Issue, files_of};
 use crate::sources::{Place, Source};
@@ -11,7 +11,7 @@ use language::position::SourcePosition;
 use std::alloc::Global;
 use std::fmt;
 
-// How many of something there are, in words: `no errors`, `1 error`, `2 errors`.
+// A count in words: `no errors`, `1 error`, `2 errors`.
 #[derive(Clone, Copy, Debug)]
 struct Count<'w> {
     number: usize,
@@ -39,7 +39,12 @@ impl fmt::Display for Count<'_> {
     }
 }
 
-/// The errors in order, and a line of their counts at last. So many files were judged, and so many were not.
+/// The errors in order, and a last line that counts errors and files. `judged` files were validated, and `unjudged`
+/// files could not be.
+///
+/// # Errors
+///
+/// Out of memory.
 pub fn text_report(
     alloc: Global,
     sources: &[Source],
@@ -54,13 +59,17 @@ pub fn text_report(
         write_issue(&mut text, sources, issue)?;
     }
     let files = files_of(alloc, issues)?;
-    write_counts(&mut text, issues.len(), files, judged)?;
-    write_unjudged(&mut text, unjudged)?;
+    write_last_line(&mut text, issues.len(), files, judged, unjudged)?;
     Ok(text)
 }
 
-/// An error: `path:line:column: error: message`, line and column counted from 1 and the column in bytes, and below it the line of that
-/// place with a mark below the place. Each further place is a note in the same form. An error without a place has its path alone.
+/// Appends an error: `path:line:column: error: message`, and below it the line of that place with a mark below the
+/// place. Each further place is a note in the same form. An error without a place has its path alone. Line and column
+/// count from 1, the column in bytes.
+///
+/// # Errors
+///
+/// Out of memory; `text` may be partly written.
 pub fn write_issue(text: &mut String, sources: &[Source], issue: &Issue) -> Result<(), OutOfMemory>
     ensures { OnOk result (Adds (IsIssueText sources.now issue.now) (string_bytes text.old) (string_bytes text.new)) }
 {
@@ -73,7 +82,11 @@ pub fn write_issue(text: &mut String, sources: &[Source], issue: &Issue) -> Resu
     write_notes(text, sources, others)
 }
 
-/// A fault at a place, in the form of an error with one place.
+/// Appends an error with one place.
+///
+/// # Errors
+///
+/// Out of memory; `text` may be partly written.
 pub fn write_fault<M: fmt::Display>(
     text: &mut String,
     sources: &[Source],
@@ -107,7 +120,11 @@ fn write_note(text: &mut String, sources: &[Source], place: Place) -> Result<(),
     write_line(text, sources, place)
 }
 
-/// What stands before a message: `path:line:column: `.
+/// Appends what comes before a message: `path:line:column: `, counted from 1.
+///
+/// # Errors
+///
+/// Out of memory; `text` may be partly written.
 pub fn write_place(
     text: &mut String,
     path: &str,
@@ -121,7 +138,7 @@ pub fn write_place(
     Ok(())
 }
 
-/// The path of a file.
+/// The path of a file, or an empty one if there is no such file.
 pub fn path_of(sources: &[Source], file: usize) -> &str
     ensures { result.now ≡ path_in sources.now file }
 {
@@ -152,7 +169,7 @@ fn write_line(text: &mut String, sources: &[Source], place: Place) -> Result<(),
     Ok(())
 }
 
-// What stands before a column of a line.
+// The part of a line before a column.
 fn before_column(line: &str, column: usize) -> &str
     ensures { IsBefore line.now column result.now }
 {
@@ -163,7 +180,7 @@ fn before_column(line: &str, column: usize) -> &str
     }
 }
 
-// A blank for each character, and a tab for a tab, so that what follows lines up.
+// A space for each character and a tab for a tab, so that what follows lines up.
 fn write_blanks(text: &mut String, before: &str) -> Result<(), OutOfMemory>
     ensures { OnOk result (string_bytes text.new ≡ string_bytes text.old ++ blanks before.now) }
 {
@@ -190,13 +207,48 @@ fn write_counts(
     Ok(())
 }
 
-// What could not be judged is told at the end of the line.
+// `1 file not checked`.
 fn write_unjudged(text: &mut String, unjudged: usize) -> Result<(), OutOfMemory>
     ensures { OnOk result (string_bytes text.new ≡ string_bytes text.old ++ unjudged_text unjudged) }
 {
-    if unjudged > 0 {
-        write!(text, ", {} not judged", Count::of(unjudged, "file"))?;
+    write!(text, "{} not checked", Count::of(unjudged, "file"))?;
+    Ok(())
+}
+
+// The counts, then the files that could not be validated; these alone if no file could.
+fn write_summary(
+    text: &mut String,
+    errors: usize,
+    files: usize,
+    judged: usize,
+    unjudged: usize,
+) -> Result<(), OutOfMemory>
+    ensures { OnOk result (string_bytes text.new ≡ string_bytes text.old ++ summary_text errors files judged unjudged) }
+{
+    if unjudged == 0 {
+        write_counts(text, errors, files, judged)?;
+        return Ok(());
     }
+    if judged == 0 {
+        write_unjudged(text, unjudged)?;
+        return Ok(());
+    }
+    write_counts(text, errors, files, judged)?;
+    text.push_str(", ")?;
+    write_unjudged(text, unjudged)?;
+    Ok(())
+}
+
+fn write_last_line(
+    text: &mut String,
+    errors: usize,
+    files: usize,
+    judged: usize,
+    unjudged: usize,
+) -> Result<(), OutOfMemory>
+    ensures { OnOk result (string_bytes text.new ≡ string_bytes text.old ++ last_line errors files judged unjudged) }
+{
+    write_summary(text, errors, files, judged, unjudged)?;
     text.push('\n')?;
     Ok(())
 }

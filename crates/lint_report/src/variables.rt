@@ -1,4 +1,4 @@
-//! A JSON object as values of variables (GraphQL, October 2021, section 6.1.2).
+//! Values of variables, from a JSON object (GraphQL, October 2021, section 6.1.2).
 use crate::json_text::{JsonError, read_value, without_mark};
 use crate::text_places::position_at;
 use json::{Scratch, Value};
@@ -11,10 +11,14 @@ use std::collections::BTreeMap;
 
 type Entry = (Spanning<String>, Spanning<InputValue<SourceScalar>>);
 
-/// The values of a text that is one JSON object: a value for each variable, by its name. Where a name stands again the last counts.
+/// The values of variables in a JSON object, by name. Of a repeated name the last value counts.
 ///
-/// A string is a string, which a value of an enum may be given as, since JSON has no other form of it. A number is an integer if it is
-/// written without fraction and exponent, and else a float, and keeps its text.
+/// A string stays a string; it may stand for an enum value, since JSON has no other form for one. A number without
+/// fraction and exponent is an integer, any other is a float. Numbers keep their text.
+///
+/// # Errors
+///
+/// The text is not a JSON object, or out of memory.
 pub fn read_variables(alloc: Global, text: &str) -> Result<Variables<SourceScalar>, JsonError> {
     let mut scratch = Scratch::new(alloc);
     match read_value(alloc, text, &mut scratch)? {
@@ -23,7 +27,7 @@ pub fn read_variables(alloc: Global, text: &str) -> Result<Variables<SourceScala
     }
 }
 
-// Where the value of a text starts.
+// The start of the value of a text.
 fn start_of(text: &str) -> SourcePosition {
     let written = without_mark(text).trim_start();
     position_at(text.as_bytes(), text.len().saturating_sub(written.len()))
@@ -40,7 +44,11 @@ fn variables_of(
     Ok(variables)
 }
 
-/// The value of a JSON value.
+/// A JSON value as an input value.
+///
+/// # Errors
+///
+/// Out of memory.
 #[cycle(convert)]
 pub fn value_of(alloc: Global, value: &Value<'_>) -> Result<InputValue<SourceScalar>, OutOfMemory> {
     Ok(match value {
@@ -90,7 +98,7 @@ fn number_of(alloc: Global, number: &str) -> Result<SourceScalar, OutOfMemory> {
     })
 }
 
-// Values of variables have no place in a document.
+// Values of variables have no position in a document.
 fn unplaced<T>(item: T) -> Spanning<T> {
     let start = SourcePosition::new(0, 0, 0);
     Spanning {

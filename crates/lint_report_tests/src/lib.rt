@@ -1,4 +1,4 @@
-//! Tests of the crate `lint_parts`: places of joined texts, errors as text and as JSON, and JSON as values of variables.
+//! Tests of the crate `lint_report`: positions of joined texts, errors as text and as JSON, and values of variables from JSON.
 #![tactic(auto)]
 
 #[cfg(test)]

@@ -57,13 +57,13 @@ const JSON: &str = "[
 ]
 ";
 
-// How many of the errors there are, files that were judged, those that were not, and the line of counts.
+// The number of errors, of files that were judged, of files that were not, and the last line.
 const COUNTS: &[(usize, usize, usize, &str)] = &[
     (3, 5, 0, "3 errors in 2 of 5 files\n"),
     (1, 1, 0, "1 error in 1 of 1 file\n"),
-    (1, 2, 1, "1 error in 1 of 2 files, 1 file not judged\n"),
+    (1, 2, 1, "1 error in 1 of 2 files, 1 file not checked\n"),
     (0, 5, 0, "no errors in 5 files\n"),
-    (0, 0, 2, "no errors in no files, 2 files not judged\n"),
+    (0, 0, 2, "2 files not checked\n"),
 ];
 
 fn sources(alloc: Global) -> Result<Vec<Source>, OutOfMemory> {

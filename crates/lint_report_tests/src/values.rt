@@ -5,7 +5,7 @@ use lint_report::variables::read_variables;
 use sdl_scalars::scalar::SourceScalar;
 use std::alloc::{AllocError, Global};
 
-// A text, and its values in the order of their names; or why it has none.
+// A text, and its values in the order of their names, or its error.
 const TEXTS: &[(&str, &str)] = &[
     ("{}", ""),
     (

@@ -1,4 +1,4 @@
-//! Tests of the crate `document_reader`.
+//! Tests of the crate `sample_reader`.
 #![tactic(auto)]
 
 #[cfg(test)]

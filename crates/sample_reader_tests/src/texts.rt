@@ -28,7 +28,7 @@ fn is_at(rt: &impl Abort, refused: Option<ReadError>, index: usize) {
     assert!(rt; told);
 }
 
-/// A type is the whole text, and a value of a variable holds none.
+/// A type must be the whole text, and a value of a variable must not hold a variable.
 #[test]
 fn a_fault_is_told_where_it_is(rt: HostRuntime) {
     is_at(&rt, read_type(rt.alloc(), b"[Int] !!").err(), 7);

@@ -1,4 +1,4 @@
-//! What directives of a definition say: `@deprecated` and `@specifiedBy` (sections 3.13.3 and 3.13.4).
+//! The directives of a definition that have a meaning: `@deprecated` and `@specifiedBy` (sections 3.13.3 and 3.13.4).
 use graphql_reader::SourceScalar;
 use language::error::OutOfMemory;
 use language::position::Spanning;
@@ -10,7 +10,12 @@ use std::alloc::Global;
 
 type Applied<'a> = Option<Vec<Spanning<Directive<'a, SourceScalar>>>>;
 
-/// Whether `@deprecated` stands there, and with which reason: that of section 3.13.3, where none is given.
+/// Whether a definition with these directives is deprecated, and for which reason. The default reason is that of
+/// section 3.13.3.
+///
+/// # Errors
+///
+/// Out of memory.
 pub fn deprecation(
     alloc: Global,
     directives: &Applied<'_>,
@@ -25,7 +30,7 @@ pub fn deprecation(
     Ok(DeprecationStatus::Deprecated(copy_text(alloc, reason)?))
 }
 
-/// The URL of `@specifiedBy`, if it stands there.
+/// The URL of `@specifiedBy`, if it is among these directives.
 pub fn specified_by<'n>(directives: &'n Applied<'_>) -> Option<&'n str> {
     match first_named(directives, "specifiedBy") {
         Some(directive) => match value_of(directive, "url") {
@@ -36,7 +41,7 @@ pub fn specified_by<'n>(directives: &'n Applied<'_>) -> Option<&'n str> {
     }
 }
 
-// The first directive of the name.
+// The first directive with this name.
 fn first_named<'n, 'a>(
     directives: &'n Applied<'a>,
     name: &str,
@@ -52,7 +57,7 @@ fn first_named<'n, 'a>(
     None
 }
 
-// The value of the argument of the name.
+// The value of the argument with this name.
 fn value_of<'n>(
     directive: &'n Directive<'_, SourceScalar>,
     name: &str,
@@ -66,7 +71,7 @@ fn value_of<'n>(
     }
 }
 
-// The text of a string.
+// The text of a string value.
 fn text_of(value: &InputValue<SourceScalar>) -> Option<&str> {
     match value {
         InputValue::Scalar(SourceScalar::String(text)) => Some(text.as_str()),

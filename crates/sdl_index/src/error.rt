@@ -1,4 +1,4 @@
-//! Why a text makes no schema.
+//! Why a text is not a schema.
 use graphql_reader::{ReadError, SyntaxError};
 use language::error::OutOfMemory;
 use language::position::SourcePosition;
@@ -7,10 +7,10 @@ use std::alloc::{AllocError, AllocFailed};
 use std::error::Error;
 use std::fmt;
 
-/// What has a name that no other of its list may have.
+/// What must have a unique name in its list.
 #[derive(Clone, Copy, Debug, PartialEq, Eq)]
 pub enum Defined {
-    /// The root of a kind of operation (section 3.3.1).
+    /// A root operation type (section 3.3.1).
     Root,
     /// A type (section 3.3).
     Type,
@@ -30,6 +30,16 @@ pub enum Defined {
     InputField,
 }
 
+impl Defined {
+    // How it comes into its list.
+    fn verb(self) -> &'static str {
+        match self {
+            Defined::Interface | Defined::Member => "listed",
+            _ => "defined",
+        }
+    }
+}
+
 impl fmt::Display for Defined {
     fn fmt<W: fmt::Write>(&self, f: &mut fmt::Formatter<W>) -> fmt::Result {
         f.write_str(match self {
@@ -46,20 +56,20 @@ impl fmt::Display for Defined {
     }
 }
 
-/// What is wrong with the definitions of a text.
+/// A fault of the definitions of a text.
 #[derive(Debug, PartialEq, Eq, Drop)]
 pub enum SchemaFault<'a> {
     /// A second `schema` is defined (section 3.3).
     SecondSchema,
-    /// No root of queries is named, and no type `Query` is defined (section 3.3.1).
+    /// The schema has no query root type (section 3.3.1).
     NoQueryRoot,
-    /// The name stands a second time in its list.
+    /// The name is in its list twice.
     Repeated(Defined, &'a str),
-    /// A type is extended that is not defined (section 3.4.3).
+    /// An extension of a type that is not defined (section 3.4.3).
     UnknownExtended(&'a str),
-    /// A type is extended that is of another kind (section 3.4.3).
+    /// An extension of a type of another kind (section 3.4.3).
     OtherKindExtended(&'a str),
-    /// The definitions make no schema.
+    /// `SchemaType` refuses the types, or a directive.
     Refused(SchemaError),
 }
 
@@ -67,29 +77,35 @@ impl fmt::Display for SchemaFault<'_> {
     fn fmt<W: fmt::Write>(&self, f: &mut fmt::Formatter<W>) -> fmt::Result {
         match self {
             SchemaFault::SecondSchema => f.write_str("the schema is defined twice"),
-            SchemaFault::NoQueryRoot => f.write_str("there is no root of queries"),
+            SchemaFault::NoQueryRoot => f.write_str("the schema has no query type"),
             SchemaFault::Repeated(defined, name) => {
-                write!(f, "the {defined} \"{name}\" is defined twice")
+                write!(f, "the {defined} \"{name}\" is {} twice", defined.verb())
             }
             SchemaFault::UnknownExtended(name) => {
-                write!(f, "the type \"{name}\" is extended and not defined")
+                write!(f, "the type \"{name}\" is extended but not defined")
             }
             SchemaFault::OtherKindExtended(name) => {
                 write!(f, "the type \"{name}\" is extended as another kind of type")
+            }
+            SchemaFault::Refused(SchemaError::MissingRoot(name)) => {
+                write!(f, "the root type \"{name}\" is not defined")
+            }
+            SchemaFault::Refused(SchemaError::UnknownType(name)) => {
+                write!(f, "the type \"{name}\" is not defined")
             }
             SchemaFault::Refused(error) => write!(f, "{error}"),
         }
     }
 }
 
-/// Why no schema could be made of a text.
+/// Why a text could not be read as a schema.
 #[derive(Debug, PartialEq, Eq, Drop)]
 pub enum SchemaReadError<'a> {
-    /// The text is no type system document.
+    /// The text has a syntax error.
     Syntax(SyntaxError<'a>),
-    /// The definitions are at fault, at this place: that of the name, or of the type that has it innermost.
+    /// A fault of the definitions, and its position: that of the name, or of the type reference that holds it.
     Fault(SourcePosition, SchemaFault<'a>),
-    /// A request for memory was refused, so nothing is known of the text.
+    /// Out of memory; nothing is known of the text.
     OutOfMemory,
 }
 

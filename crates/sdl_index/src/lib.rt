@@ -1,6 +1,7 @@
-//! The definitions of a type system document (GraphQL, October 2021, section 3) by what they define, and what is wrong with them.
+//! An index of the definitions of a type system document (GraphQL, October 2021, section 3), and the faults of these
+//! definitions.
 //!
-//! Safety is claimed: each call answers.
+//! Proved of every call: it is safe and returns.
 #![tactic(auto)]
 
 pub mod applied;

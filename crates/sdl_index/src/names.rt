@@ -1,10 +1,10 @@
-//! Names of which each may stand once.
+//! Lists of unique names.
 use crate::error::{Defined, SchemaFault, SchemaReadError};
 use language::error::OutOfMemory;
 use language::position::Spanning;
 use std::alloc::Global;
 
-/// Names that are all different.
+/// A list of unique names.
 #[derive(Drop)]
 pub struct Names<'a> {
     defined: Defined,
@@ -12,6 +12,7 @@ pub struct Names<'a> {
 }
 
 impl<'a> Names<'a> {
+    /// An empty list of names of this kind.
     pub fn new(alloc: Global, defined: Defined) -> Names<'a> {
         Names {
             defined,
@@ -28,7 +29,11 @@ impl<'a> Names<'a> {
         false
     }
 
-    /// One name more, which is refused if it is there.
+    /// Adds a name.
+    ///
+    /// # Errors
+    ///
+    /// The list has the name already, or out of memory; the list is unchanged then.
     pub fn add(&mut self, name: &Spanning<&'a str>) -> Result<(), SchemaReadError<'a>> {
         if self.has(name.item) {
             let fault = SchemaFault::Repeated(self.defined, name.item);
@@ -38,7 +43,11 @@ impl<'a> Names<'a> {
         Ok(())
     }
 
-    /// Some names more.
+    /// Adds several names.
+    ///
+    /// # Errors
+    ///
+    /// The list has one of the names already, or out of memory; the names before it are added then.
     pub fn add_all(&mut self, names: &[Spanning<&'a str>]) -> Result<(), SchemaReadError<'a>> {
         for name in names {
             self.add(name)?;
@@ -46,7 +55,11 @@ impl<'a> Names<'a> {
         Ok(())
     }
 
-    /// The names, as texts.
+    /// Copies of the names, in order.
+    ///
+    /// # Errors
+    ///
+    /// Out of memory.
     pub fn copied(&self, alloc: Global) -> Result<Vec<String>, OutOfMemory> {
         let mut copies = Vec::new(alloc);
         for name in self.names.as_slice() {

@@ -1,4 +1,4 @@
-//! The definitions of a document, by what they define.
+//! The definitions of a document, by kind.
 use crate::error::{Defined, SchemaFault, SchemaReadError};
 use crate::names::Names;
 use graphql_reader::type_system::{
@@ -8,7 +8,7 @@ use language::error::OutOfMemory;
 use language::position::Spanning;
 use std::alloc::Global;
 
-/// The definitions and the extensions of a document, and the standard types whose names it does not define.
+/// The definitions and extensions of a document, and those standard types that it does not define itself.
 #[derive(Drop)]
 pub struct Parts<'a> {
     pub schemas: Vec<Spanning<SchemaDefinition<'a>>>,
@@ -18,7 +18,11 @@ pub struct Parts<'a> {
     pub directives: Vec<DirectiveDefinition<'a>>,
 }
 
-/// The parts of a document. A name of a type may be defined once, and an extension is of a type of its kind.
+/// The parts of a document. `standard` holds the definitions of the standard types.
+///
+/// # Errors
+///
+/// A type is defined twice, an extended type is not defined or of another kind, or out of memory.
 pub fn parts_of<'a>(
     alloc: Global,
     document: Vec<TypeSystemDefinition<'a>>,
@@ -63,7 +67,7 @@ fn add_type<'a>(parts: &mut Parts<'a>, defined: TypeDefinition<'a>) -> Result<()
     Ok(())
 }
 
-// A standard type, if its name is not defined.
+// Adds a standard type, unless the document defines its name.
 fn add_standard<'a>(
     parts: &mut Parts<'a>,
     definition: TypeSystemDefinition<'a>,
@@ -76,7 +80,7 @@ fn add_standard<'a>(
     Ok(())
 }
 
-/// The first type of the name.
+/// The first type with this name.
 pub fn first_named<'d, 'a>(
     types: &'d [TypeDefinition<'a>],
     name: &str,

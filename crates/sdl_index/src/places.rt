@@ -1,21 +1,21 @@
-//! Where a name stands at which a schema is refused.
+//! The position of a name for which a schema is refused.
 use graphql_reader::type_system::{
     FieldDefinition, InputValueDefinition, TypeBody, TypeDefinition,
 };
 use language::position::{SourcePosition, Spanning};
 
-/// The places of a type's definition where a type is named.
+/// Which references to a type count.
 #[derive(Clone, Copy, Debug, PartialEq, Eq)]
 pub enum Mention {
-    /// All.
+    /// All references.
     Any,
-    /// Among the members of a union.
+    /// Members of a union.
     Member,
-    /// As the innermost type of an argument or an input field.
+    /// Types of arguments and input fields, wrapped or not.
     Input,
 }
 
-/// The first place where types name this one.
+/// The start of the first reference to the type with this name.
 pub fn first_mention(
     types: &[TypeDefinition<'_>],
     mention: Mention,
@@ -55,7 +55,7 @@ fn mention_in(
     }
 }
 
-// Where the name stands in a list of names.
+// The start of the name in a list of names.
 fn place_among(names: &[Spanning<&str>], name: &str) -> Option<SourcePosition> {
     for listed in names {
         if listed.item == name {
@@ -79,7 +79,7 @@ fn mention_in_fields(
     None
 }
 
-// Arguments stand before the field's type.
+// Arguments come before the field's type.
 fn mention_in_field(
     field: &FieldDefinition<'_>,
     mention: Mention,
@@ -95,7 +95,7 @@ fn mention_in_field(
     None
 }
 
-/// Where the first type stands that has the name innermost.
+/// The start of the first type reference to this name among arguments or input fields.
 pub fn place_of_input(values: &[InputValueDefinition<'_>], name: &str) -> Option<SourcePosition> {
     for value in values {
         if value.value_type.item.innermost_name() == name {

@@ -1,18 +1,18 @@
-//! The roots of a schema (GraphQL, October 2021, section 3.3.1).
+//! The root operation types of a schema (GraphQL, October 2021, section 3.3.1).
 use crate::error::{Defined, SchemaFault, SchemaReadError};
 use crate::parts::{Parts, first_named};
 use graphql_reader::type_system::{RootOperationType, TypeDefinition};
 use language::position::SourcePosition;
 use language::tree::OperationType;
 
-/// A root's name, and where it stands.
+/// The name of a root type, and its position.
 #[derive(Clone, Copy)]
 pub struct Root<'a> {
     pub name: &'a str,
     pub position: SourcePosition,
 }
 
-/// The roots that a document names.
+/// The root types that a document names.
 #[derive(Clone, Copy)]
 pub struct Roots<'a> {
     query: Option<Root<'a>>,
@@ -20,7 +20,7 @@ pub struct Roots<'a> {
     subscription: Option<Root<'a>>,
 }
 
-/// The roots of all three kinds, of which queries have one.
+/// The root types of a schema, which has one of queries at least.
 #[derive(Clone, Copy)]
 pub struct SchemaRoots<'a> {
     pub query: Root<'a>,
@@ -29,7 +29,7 @@ pub struct SchemaRoots<'a> {
 }
 
 impl<'a> SchemaRoots<'a> {
-    /// The name of the root of mutations, or the one that means none.
+    /// The name of the mutation root type, or `_EmptyMutation`.
     pub fn mutation_name(&self) -> &'a str {
         match self.mutation {
             Some(root) => root.name,
@@ -37,7 +37,7 @@ impl<'a> SchemaRoots<'a> {
         }
     }
 
-    /// The name of the root of subscriptions, or the one that means none.
+    /// The name of the subscription root type, or `_EmptySubscription`.
     pub fn subscription_name(&self) -> &'a str {
         match self.subscription {
             Some(root) => root.name,
@@ -45,7 +45,7 @@ impl<'a> SchemaRoots<'a> {
         }
     }
 
-    /// Where the root of the name stands.
+    /// The position of the root type with this name.
     pub fn position_of(&self, name: &str) -> SourcePosition {
         match (self.mutation, self.subscription) {
             (_, _) if self.query.name == name => self.query.position,
@@ -56,7 +56,11 @@ impl<'a> SchemaRoots<'a> {
     }
 }
 
-/// The roots of a document: those that are named, and where no schema is defined those that have the usual names.
+/// The root types of a document. Without a schema definition they are the types `Query`, `Mutation` and `Subscription`.
+///
+/// # Errors
+///
+/// The schema or a root is defined twice, or there is no query root type.
 pub fn roots_of<'a>(parts: &Parts<'a>) -> Result<SchemaRoots<'a>, SchemaReadError<'a>> {
     let mut roots = Roots {
         query: None,
@@ -83,7 +87,7 @@ pub fn roots_of<'a>(parts: &Parts<'a>) -> Result<SchemaRoots<'a>, SchemaReadErro
     }
 }
 
-// Where the schema is defined, which it may be once.
+// The position of the schema definition, of which there may be one.
 fn schema_start<'a>(parts: &Parts<'a>) -> Result<Option<SourcePosition>, SchemaReadError<'a>> {
     let mut start = None;
     for schema in parts.schemas.as_slice() {

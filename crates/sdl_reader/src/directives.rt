@@ -12,10 +12,14 @@ use sdl_index::places::place_of_input;
 use sdl_scalars::check::SourceCheck;
 use std::alloc::Global;
 
-/// A schema that is made of a text.
+/// A schema that is read from a text.
 pub type SourceSchema = SchemaTypeOf<SourceScalar, SourceCheck>;
 
-/// Adds the directives, each in the place of the one of its name that every schema has.
+/// Adds directives to a schema. One of the name of a standard directive takes its place.
+///
+/// # Errors
+///
+/// A directive or an argument is defined twice, an argument's type is refused, or out of memory.
 pub fn add_directives<'a>(
     alloc: Global,
     schema: &mut SourceSchema,
@@ -55,7 +59,7 @@ fn directive_of<'a>(
     })
 }
 
-// A directive is refused for the type of an argument.
+// A directive is refused because of an argument's type.
 fn refusal_of<'a>(defined: &DirectiveDefinition<'a>, error: SchemaError) -> SchemaReadError<'a> {
     let place = match &error {
         SchemaError::OutOfMemory => return SchemaReadError::OutOfMemory,
@@ -68,7 +72,7 @@ fn refusal_of<'a>(defined: &DirectiveDefinition<'a>, error: SchemaError) -> Sche
     SchemaReadError::Fault(position, SchemaFault::Refused(error))
 }
 
-// Locations of a type system document that no executable document has are not kept.
+// Locations that `DirectiveLocation` lacks are left out; all of them are in type system documents.
 fn locations_of(
     alloc: Global,
     places: &[Spanning<DirectivePlace>],

@@ -1,4 +1,4 @@
-//! Metadata of fields, of arguments and input fields, and of enum values.
+//! Metadata of fields, arguments, input fields and enum values.
 use graphql_reader::SourceScalar;
 use graphql_reader::type_system::{
     Description, EnumValueDefinition, FieldDefinition, InputValueDefinition,
@@ -14,7 +14,11 @@ use sdl_index::error::{Defined, SchemaReadError};
 use sdl_index::names::Names;
 use std::alloc::Global;
 
-/// The description, if there is one.
+/// A copy of the description, if there is one.
+///
+/// # Errors
+///
+/// Out of memory.
 pub fn copied(alloc: Global, description: &Description) -> Result<Option<String>, OutOfMemory> {
     match description {
         Some(text) => Ok(Some(String::from_str(alloc, text.item.as_str())?)),
@@ -22,7 +26,11 @@ pub fn copied(alloc: Global, description: &Description) -> Result<Option<String>
     }
 }
 
-/// Appends fields, whose names are to be new ones.
+/// Appends fields and their names.
+///
+/// # Errors
+///
+/// A field or an argument is defined twice, or out of memory; the fields before it are appended then.
 pub fn add_fields<'a>(
     alloc: Global,
     defined: &[FieldDefinition<'a>],
@@ -36,7 +44,7 @@ pub fn add_fields<'a>(
     Ok(())
 }
 
-// A field that is written without arguments has an empty list of them: each argument is unknown there (section 5.4.1).
+// A field without arguments gets an empty list, so that every argument is unknown there (section 5.4.1).
 fn field_of<'a>(
     alloc: Global,
     defined: &FieldDefinition<'a>,
@@ -51,7 +59,11 @@ fn field_of<'a>(
     })
 }
 
-/// The arguments of a field or of a directive.
+/// The arguments of a field or a directive.
+///
+/// # Errors
+///
+/// An argument is defined twice, or out of memory.
 pub fn arguments_of<'a>(
     alloc: Global,
     defined: &[InputValueDefinition<'a>],
@@ -62,7 +74,11 @@ pub fn arguments_of<'a>(
     Ok(arguments)
 }
 
-/// Appends arguments or input fields, whose names are to be new ones.
+/// Appends arguments or input fields, and their names.
+///
+/// # Errors
+///
+/// One is defined twice, or out of memory; those before it are appended then.
 pub fn add_arguments<'a>(
     alloc: Global,
     defined: &[InputValueDefinition<'a>],
@@ -97,7 +113,11 @@ fn default_of(
     }
 }
 
-/// Appends values of an enum, whose names are to be new ones.
+/// Appends enum values and their names.
+///
+/// # Errors
+///
+/// A value is defined twice, or out of memory; the values before it are appended then.
 pub fn add_values<'a>(
     alloc: Global,
     defined: &[EnumValueDefinition<'a>],

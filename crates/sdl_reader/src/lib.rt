@@ -1,7 +1,8 @@
-//! Makes a schema of a type system document (GraphQL, October 2021, section 3): from text to `SchemaType`.
+//! Reads a schema from a type system document (GraphQL, October 2021, section 3): from text to `SchemaType`.
 //!
-//! Definitions may stand in any order, and extensions are merged into what they extend. Built-in scalars and the types of
-//! introspection are there where the text defines none of their names. Safety is claimed: each call answers, whatever the text.
+//! Definitions may be in any order, and extensions are merged into what they extend. Built-in scalars and the types
+//! of introspection are added unless the text defines their names. Proved of every call: it is safe and returns,
+//! whatever the text. That the schema is that of the text is only tested.
 #![tactic(auto)]
 
 mod directives;
@@ -10,6 +11,6 @@ mod reader;
 mod standard;
 mod types;
 
-pub use graphql_reader::{Found, SourceScalar, SyntaxError};
+pub use graphql_reader::{Found, SourceScalar, SyntaxError, SyntaxFault};
 pub use reader::read_schema;
 pub use sdl_index::error::{Defined, SchemaFault, SchemaReadError};

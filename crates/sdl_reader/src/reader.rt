@@ -12,7 +12,11 @@ use sdl_index::places::{Mention, first_mention};
 use sdl_index::roots::{SchemaRoots, roots_of};
 use std::alloc::Global;
 
-/// Reads a type system document and makes its schema. The error tells the first fault that is found, with its place.
+/// The schema of a type system document.
+///
+/// # Errors
+///
+/// The first fault that is found, with its position (0-based index, line and column, in bytes), or out of memory.
 pub fn read_schema<'a>(alloc: Global, text: &'a str) -> Result<SourceSchema, SchemaReadError<'a>> {
     let document = read_type_system(alloc, text)?;
     let standard = read_type_system(alloc, STANDARD_TYPES)?;
@@ -27,7 +31,7 @@ fn schema_of<'a>(alloc: Global, parts: &Parts<'a>) -> Result<SourceSchema, Schem
     Ok(schema)
 }
 
-// The schema of the types and the roots.
+// The schema of the types and the root types, without descriptions and directives.
 fn plain_schema<'a>(alloc: Global, parts: &Parts<'a>) -> Result<SourceSchema, SchemaReadError<'a>> {
     let roots = roots_of(parts)?;
     let types = types_of(alloc, parts)?;
@@ -47,7 +51,7 @@ fn describe<'a>(schema: &mut SourceSchema, parts: &Parts<'a>) -> Result<(), Sche
     Ok(())
 }
 
-// The refusal at the place of its name.
+// The refusal, at the position of its name.
 fn refusal_of<'a>(
     parts: &Parts<'a>,
     roots: &SchemaRoots<'a>,
@@ -66,8 +70,8 @@ fn refusal_of<'a>(
     SchemaReadError::Fault(position, SchemaFault::Refused(error))
 }
 
-// Where the document names the type first, in a definition or else in an extension, or else defines it: what the standard types name is
-// there where it is not of their kind.
+// The first reference to the type, in a definition or else in an extension. A standard type may refer to a type that
+// the document only defines, as one of another kind.
 fn place_of(parts: &Parts<'_>, mention: Mention, name: &str) -> SourcePosition {
     if let Some(position) = first_mention(parts.types.as_slice(), mention, name) {
         return position;

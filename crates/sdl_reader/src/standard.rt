@@ -1,4 +1,4 @@
-//! The types that a schema has by itself: built-in scalars (section 3.5) and those of introspection (section 4.2).
+//! The types that every schema has: the built-in scalars (section 3.5) and those of introspection (section 4.2).
 
 /// Their definitions.
 pub const STANDARD_TYPES: &str = "

@@ -1,4 +1,4 @@
-//! Metadata of types: of a definition with its extensions.
+//! Metadata of types, each from its definition and extensions.
 use crate::fields::{add_arguments, add_fields, add_values, copied};
 use graphql_reader::SourceScalar;
 use graphql_reader::type_system::{TypeBody, TypeDefinition};
@@ -21,13 +21,17 @@ use sdl_index::parts::Parts;
 use sdl_scalars::check::SourceCheck;
 use std::alloc::Global;
 
-/// Metadata of a type that a text defines.
+/// Metadata of a type of a text.
 pub type SourceMeta = MetaTypeOf<SourceScalar, SourceCheck>;
 
-// The extensions of a document, of which those of a type's name are of that type.
+// The extensions of a document. Those with a type's name extend that type.
 type Extensions<'e, 'a> = &'e [TypeDefinition<'a>];
 
-/// The types of a document, and then the standard ones.
+/// The types of a document, followed by the standard types.
+///
+/// # Errors
+///
+/// A name is in its list twice, or out of memory.
 pub fn types_of<'a>(
     alloc: Global,
     parts: &Parts<'a>,
@@ -66,7 +70,7 @@ fn type_of<'a>(
     }
 }
 
-// The built-in scalars are told by their names (section 3.5).
+// Built-in scalars are known by their names (section 3.5).
 fn check_of(name: &str) -> SourceCheck {
     match name {
         "Int" => SourceCheck::Int,

@@ -1,4 +1,4 @@
-//! Texts that make no schema, each with its fault and the place: line, column and index, each counted from 0.
+//! Texts that are not schemas, each with its fault and its 0-based position: line, column and index.
 use crate::shown::shown_error;
 use sdl_reader::{SchemaReadError, read_schema};
 use std::alloc::{AllocError, Global};
@@ -38,11 +38,11 @@ const FAULTS: &[(&str, &str)] = &[
     ),
     (
         "type Query { a: Int } union U = Query | Query",
-        "fault 0:40 40 the member \"Query\" is defined twice",
+        "fault 0:40 40 the member \"Query\" is listed twice",
     ),
     (
         "type Query implements I & I { a: Int } interface I { a: Int }",
-        "fault 0:26 26 the interface \"I\" is defined twice",
+        "fault 0:26 26 the interface \"I\" is listed twice",
     ),
     (
         "type Query { a: Int } directive @d on FIELD directive @d on QUERY",
@@ -58,7 +58,7 @@ const FAULTS: &[(&str, &str)] = &[
     ),
     (
         "type Query { a: Int } extend type Dog { a: Int }",
-        "fault 0:34 34 the type \"Dog\" is extended and not defined",
+        "fault 0:34 34 the type \"Dog\" is extended but not defined",
     ),
     (
         "type Query { a: Int } extend interface Query { b: Int }",
@@ -66,23 +66,23 @@ const FAULTS: &[(&str, &str)] = &[
     ),
     (
         "type Dog { a: Int }",
-        "fault 0:0 0 there is no root of queries",
+        "fault 0:0 0 the schema has no query type",
     ),
     (
         "type Query { a: Int } schema { mutation: Query }",
-        "fault 0:22 22 there is no root of queries",
+        "fault 0:22 22 the schema has no query type",
     ),
     (
         "schema { query: Q }",
-        "fault 0:16 16 the root type \"Q\" is not listed",
+        "fault 0:16 16 the root type \"Q\" is not defined",
     ),
     (
         "schema { query: Q mutation: M } type Q { a: Int }",
-        "fault 0:28 28 the root type \"M\" is not listed",
+        "fault 0:28 28 the root type \"M\" is not defined",
     ),
     (
         "schema { query: Q\n subscription: S } type Q { a: Int }",
-        "fault 1:15 33 the root type \"S\" is not listed",
+        "fault 1:15 33 the root type \"S\" is not defined",
     ),
     (
         "type Dog { a: Int } scalar Query",
@@ -94,27 +94,27 @@ const FAULTS: &[(&str, &str)] = &[
     ),
     (
         "type Query {\n  a: Int\n  dog: [Dog!] }",
-        "fault 2:7 29 the type \"Dog\" is not listed",
+        "fault 2:7 29 the type \"Dog\" is not defined",
     ),
     (
         "type Query { a(x: Dog): Dog }",
-        "fault 0:18 18 the type \"Dog\" is not listed",
+        "fault 0:18 18 the type \"Dog\" is not defined",
     ),
     (
         "type Query implements Dog { a: Int }",
-        "fault 0:22 22 the type \"Dog\" is not listed",
+        "fault 0:22 22 the type \"Dog\" is not defined",
     ),
     (
         "type Query { a: Int } union U = Query | Dog",
-        "fault 0:40 40 the type \"Dog\" is not listed",
+        "fault 0:40 40 the type \"Dog\" is not defined",
     ),
     (
         "type Query { a: Int } input I { a: Dog! }",
-        "fault 0:35 35 the type \"Dog\" is not listed",
+        "fault 0:35 35 the type \"Dog\" is not defined",
     ),
     (
         "extend type Query { b: Dog } type Query { a: Int } ",
-        "fault 0:23 23 the type \"Dog\" is not listed",
+        "fault 0:23 23 the type \"Dog\" is not defined",
     ),
     (
         "union U = Query | I type Query { a: Int i: I } interface I { a: Int }",
@@ -134,7 +134,7 @@ const FAULTS: &[(&str, &str)] = &[
     ),
     (
         "type Query { a: Int } directive @d(x: Dog) on FIELD",
-        "fault 0:38 38 the type \"Dog\" is not listed",
+        "fault 0:38 38 the type \"Dog\" is not defined",
     ),
     (
         "type Query { a: Int } directive @d(x: Int y: Query) on FIELD",
@@ -161,7 +161,7 @@ fn tells_faults(rt: HostRuntime) {
     }
 }
 
-// Whether the answer is want of memory, or the same as ever.
+// Whether the result is out of memory, or the expected one.
 fn is_steady(alloc: Global, text: &str, is_schema: bool) -> bool {
     match read_schema(alloc, text) {
         Ok(_) => is_schema,
@@ -171,7 +171,7 @@ fn is_steady(alloc: Global, text: &str, is_schema: bool) -> bool {
 }
 
 #[test]
-fn a_refused_request_changes_no_answer(rt: HostRuntime) {
+fn running_out_of_memory_is_reported(rt: HostRuntime) {
     assert!(rt; is_steady(rt.alloc(), "type Query { a: E } enum E { A }", true));
     assert!(rt; is_steady(rt.alloc(), "type Query { a: Dog }", false));
     assert!(rt; is_steady(rt.alloc(), "type Query { a: Int a: Int }", false));

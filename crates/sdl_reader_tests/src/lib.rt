@@ -1,4 +1,4 @@
-//! Tests of the crate `schema_reader`: schemas that are read and what they say, and faults with their places.
+//! Tests of the crate `sdl_reader`: schemas that are read and what they hold, and faults with their positions.
 #![tactic(auto)]
 
 #[cfg(test)]

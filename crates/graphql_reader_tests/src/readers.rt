@@ -1,0 +1,113 @@
+//! Parses the rows of the tables. A test shows all rows that come out otherwise.
+use crate::document_rows::{DOCUMENTS, NESTED_DOCUMENTS, NO_DOCUMENTS};
+use crate::example_rows::{DOCUMENT_EXAMPLES, TYPE_SYSTEM_EXAMPLES};
+use crate::token_rows::{NO_TOKENS, TOKENS};
+use crate::type_system_rows::{NESTED_TYPE_SYSTEMS, NO_TYPE_SYSTEMS, TYPE_SYSTEMS};
+use graphql_reader::{ReadError, read_document, read_type_system};
+use std::alloc::{AllocError, Global};
+use std::process::Abort;
+
+/// A text, and what comes out: the number of its definitions, or index, line and column of a syntax error and its message.
+pub type Row = (&'static str, &'static str);
+
+#[derive(Clone, Copy)]
+enum Reader {
+    Document,
+    TypeSystem,
+}
+
+// The number of definitions of a text.
+fn count_of<'a>(alloc: Global, reader: Reader, text: &'a str) -> Result<usize, ReadError<'a>> {
+    match reader {
+        Reader::Document => Ok(read_document(alloc, text)?.len()),
+        Reader::TypeSystem => Ok(read_type_system(alloc, text)?.len()),
+    }
+}
+
+fn outcome(alloc: Global, reader: Reader, text: &str) -> Result<String, AllocError> {
+    match count_of(alloc, reader, text) {
+        Ok(count) => format!(in alloc; "{count}"),
+        Err(ReadError::Syntax(error)) => {
+            let (index, position) = (error.position.index(), error.position);
+            format!(in alloc; "{index} {position} {error}")
+        }
+        Err(ReadError::OutOfMemory) => String::from_str(alloc, "out of memory"),
+    }
+}
+
+/// Adds a row that comes out otherwise to a report.
+pub fn compare(
+    report: &mut String,
+    text: &str,
+    found: &str,
+    wanted: &str,
+) -> Result<(), AllocError> {
+    if found == wanted {
+        return Ok(());
+    }
+    report.push_str(text)?;
+    report.push_str("\n    found:    ")?;
+    report.push_str(found)?;
+    report.push_str("\n    expected: ")?;
+    report.push_str(wanted)?;
+    report.push_str("\n")
+}
+
+// The rows of a table that come out otherwise.
+fn otherwise(alloc: Global, reader: Reader, rows: &[Row]) -> Result<String, AllocError> {
+    let mut report = String::new(alloc);
+    for (text, wanted) in rows {
+        let found = outcome(alloc, reader, text)?;
+        compare(&mut report, text, found.as_str(), wanted)?;
+    }
+    Ok(report)
+}
+
+// The text of pieces as `500*[`, which `|` separates.
+fn repeated(alloc: Global, pieces: &str) -> Result<String, AllocError> {
+    let mut text = String::new(alloc);
+    for piece in pieces.split('|') {
+        let (times, part) = piece.split_once('*').unwrap_or(("0", ""));
+        for _ in 0..times.parse::<usize>().unwrap_or(0) {
+            text.push_str(part)?;
+        }
+    }
+    Ok(text)
+}
+
+// The same as `otherwise` of a table of pieces.
+fn nested_otherwise(alloc: Global, reader: Reader, rows: &[Row]) -> Result<String, AllocError> {
+    let mut report = String::new(alloc);
+    for (pieces, wanted) in rows {
+        let text = repeated(alloc, pieces)?;
+        let found = outcome(alloc, reader, text.as_str())?;
+        compare(&mut report, pieces, found.as_str(), wanted)?;
+    }
+    Ok(report)
+}
+
+/// Fails with the report, unless it is empty.
+pub fn is_empty(rt: &impl Abort, report: Result<String, AllocError>) {
+    let report = report.expect(rt, "memory");
+    assert_eq!(rt; report.as_str(), "");
+}
+
+#[test]
+fn documents_are_read(rt: HostRuntime) {
+    let (alloc, reader) = (rt.alloc(), Reader::Document);
+    is_empty(&rt, otherwise(alloc, reader, DOCUMENTS));
+    is_empty(&rt, otherwise(alloc, reader, TOKENS));
+    is_empty(&rt, otherwise(alloc, reader, DOCUMENT_EXAMPLES));
+    is_empty(&rt, otherwise(alloc, reader, NO_DOCUMENTS));
+    is_empty(&rt, otherwise(alloc, reader, NO_TOKENS));
+    is_empty(&rt, nested_otherwise(alloc, reader, NESTED_DOCUMENTS));
+}
+
+#[test]
+fn type_systems_are_read(rt: HostRuntime) {
+    let (alloc, reader) = (rt.alloc(), Reader::TypeSystem);
+    is_empty(&rt, otherwise(alloc, reader, TYPE_SYSTEMS));
+    is_empty(&rt, otherwise(alloc, reader, TYPE_SYSTEM_EXAMPLES));
+    is_empty(&rt, otherwise(alloc, reader, NO_TYPE_SYSTEMS));
+    is_empty(&rt, nested_otherwise(alloc, reader, NESTED_TYPE_SYSTEMS));
+}
