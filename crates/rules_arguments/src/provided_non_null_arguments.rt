@@ -181,7 +181,8 @@ fn is_required<S>(bearer: Bearer<'_>, argument: &Argument<S>) -> bool
     ensures { result ≡ is_required bearer.entry argument.now }
 {
     match bearer {
-        Bearer::Field(_, _) => is_never_null(&argument.arg_type) && argument.default_value.is_none(),
+        Bearer::Field(_, _) => is_never_null(&argument.arg_type)
+            && argument.default_value.is_none(),
         Bearer::Directive(_) => is_never_null(&argument.arg_type),
     }
 }
