@@ -1,4 +1,4 @@
--- Cycles of a document's fragments, by names.
+-- Cycles of a document's fragments, by names (section 5.5.2.2).
 use Rattle.std.specs.Prelude.{ℕ, List, [], length, map, ◌≡◌, ◌⊎◌, ◌↔◌, slice_get}
 use Rattle.std.specs.Option.{unwrap_or}
 use Rattle.std.specs.List.{All, Contains}

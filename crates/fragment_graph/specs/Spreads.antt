@@ -1,4 +1,4 @@
--- The spreads of fragments in a document, each with its place.
+-- The spreads of fragments in a document, each with its place (section 5.5.2.2).
 use Rattle.std.specs.Prelude.{ℕ, List, [], ◌∷◌, if◌then◌else◌}
 use Rattle.std.specs.List.{flat_map}
 use Rattle.std.specs.Option.{option_map_or}

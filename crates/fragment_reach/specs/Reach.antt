@@ -1,4 +1,4 @@
--- Scopes of a document, and which of them an operation reaches.
+-- Scopes of a document, and which of them an operation reaches (section 5.5.1.4).
 use Rattle.std.specs.Prelude.{ℕ, List, [], Option, Some, None, Bool, true, false, option_map, if◌then◌else◌}
 use Rattle.std.specs.List.{Contains, flat_map}
 use Rattle.std.specs.Option.{option_eq}

@@ -1,4 +1,4 @@
--- The three numbers of a position in a text, and what it prints; items with their spans.
+-- The three numbers of a position in a text, and what it prints; items with their spans (section 2.1).
 use Rattle.std.specs.Prelude.{ℕ, List, ◌++◌, codes}
 use Rattle.std.specs.Fmt.{decimal}
 use Rattle.language.specs.declared.position.SourcePosition.{SourcePosition}

@@ -1,4 +1,4 @@
--- The bytes that a value prints.
+-- The bytes that a value prints (section 2.9).
 use Rattle.std.specs.Prelude.{ℕ, List, [], ◌∷◌, ◌++◌, map, codes, Bool, true, false, Option, Some, None, string_bytes}
 use Rattle.std.specs.List.{flat_map}
 use Rattle.language.specs.declared.position.Span.{Span}

@@ -1,4 +1,4 @@
--- A value against a type, case by case: `None` if it conforms, else the text of its first fault.
+-- A value against a type, case by case: `None` if it conforms, else the text of its first fault (sections 5.6.1, 3.10 and 3.11).
 use Rattle.std.specs.Prelude.{◌≡◌, ℕ, List, [], ◌∷◌, length, reverse, map, Bool, true, false, Option, Some, None, option_map, unwrap_or, string_bytes, nat_eq, if◌then◌else◌}
 use Rattle.language.specs.declared.types.TypeModifier.{TypeModifier}
 use Rattle.language.specs.declared.types.TypeModifier.TheVariants as m

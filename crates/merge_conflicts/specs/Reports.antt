@@ -1,4 +1,4 @@
--- Conflicts of fields as trees: two fields fail by themselves, or by the fields below them.
+-- Conflicts of fields as trees: two fields fail by themselves, or by the fields below them (section 5.3.2).
 use Rattle.std.specs.Prelude.{◌≡◌, List, [], ◌∷◌, ◌++◌, Bool, Some, length, slice_get}
 use Rattle.merge_search.specs.declared.node.Entry.{Entry}
 use Rattle.merge_search.specs.declared.state.Finding.{Finding}

@@ -1,4 +1,4 @@
--- The texts for conflicts: the reasons, and the places of both sides.
+-- The texts for conflicts: the reasons, and the places of both sides (section 5.3.2).
 use Rattle.std.specs.Prelude.{ℕ, List, [], ◌∷◌, ◌++◌, Bool, map}
 use Rattle.std.specs.List.{flat_map}
 use Rattle.std.specs.Option.{option_map_or}

@@ -1,4 +1,4 @@
--- When fields can be merged.
+-- When fields can be merged (section 5.3.2).
 use Rattle.std.specs.Prelude.{◌≡◌, List, Bool, true, false, Option, Some, None}
 use Rattle.std.specs.Option.{is_some}
 use Rattle.std.specs.declared.vec.Vec.{Vec}

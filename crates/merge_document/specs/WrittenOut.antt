@@ -1,4 +1,4 @@
--- Selection sets written out: the own fields of a set, and for each spread the written-out set of the fragment's last definition.
+-- Selection sets written out: the own fields of a set, and for each spread the written-out set of the fragment's last definition (section 5.3.2).
 -- A spread of an unknown fragment gives nothing.
 use Rattle.std.specs.Prelude.{◌≡◌, ℕ, List, Option, Some, slice_get}
 use Rattle.std.specs.List.{Contains}

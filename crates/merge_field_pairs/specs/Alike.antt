@@ -1,4 +1,4 @@
--- Fields that are plainly alike.
+-- Fields that are plainly alike (section 5.3.2).
 use Rattle.std.specs.Prelude.{◌≡◌, ℕ, List, Option, Some, None, option_map, slice_get}
 use Rattle.language.specs.Types.{TypeShape, shape}
 use Rattle.meta.specs.declared.fields.Field as metadata

@@ -1,4 +1,4 @@
--- What stands between two fields by themselves.
+-- What stands between two fields by themselves (section 5.3.2).
 use Rattle.std.specs.Prelude.{Bool, false, not, ◌&&◌, Option, Some, None, if◌then◌else◌}
 use Rattle.std.specs.Str.{bytes_eq}
 use Rattle.language.specs.Types.{shape}

@@ -1,4 +1,4 @@
--- The own fields of a selection set, and the names that it spreads itself: inline fragments are opened, in order.
+-- The own fields of a selection set, and the names that it spreads itself: inline fragments are opened, in order (section 5.3.2).
 use Rattle.std.specs.Prelude.{ℕ, List, [], ◌∷◌, Option, option_and_then}
 use Rattle.std.specs.List.{flat_map}
 use Rattle.std.specs.Option.{option_or}

@@ -1,4 +1,4 @@
--- Whether two types can't stand in one place of a response.
+-- Whether two types can't stand in one place of a response (section 5.3.2).
 use Rattle.std.specs.Prelude.{ℕ, List, [], ◌∷◌, reverse, Bool, true, false, not, ◌&&◌, ◌||◌, nat_eq, Option, Some, None, if◌then◌else◌}
 use Rattle.std.specs.Option.{option_map_or, option_eq}
 use Rattle.std.specs.Str.{bytes_eq}

@@ -1,4 +1,4 @@
--- The selection sets and fields of a document, each with the type around it.
+-- The selection sets and fields of a document, each with the type around it (section 5.3.2).
 use Rattle.std.specs.Prelude.{◌≡◌, List, Option}
 use Rattle.std.specs.List.{Contains}
 use Rattle.language.specs.declared.tree.Selection.{Selection}

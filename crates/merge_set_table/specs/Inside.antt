@@ -1,4 +1,4 @@
--- The selection sets inside a set, each with the type around it.
+-- The selection sets inside a set, each with the type around it (section 5.3.2).
 use Rattle.std.specs.Prelude.{◌≡◌, List, Option, Some}
 use Rattle.std.specs.List.{Contains}
 use Rattle.std.specs.declared.vec.Vec.{Vec}

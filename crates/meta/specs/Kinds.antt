@@ -1,4 +1,4 @@
--- What the metadata of each kind says.
+-- What the metadata of each kind says (section 3.4).
 use Rattle.std.specs.Prelude.{ℕ, List, [], Bool, true, false, ◌||◌, Option, Some, None, option_map, string_bytes, find, nat_eq, codes}
 use Rattle.std.specs.List.{starts_with}
 use Rattle.std.specs.Option.{option_map_or}
@@ -136,5 +136,6 @@ module _ {S C : Type 0} where
   is_input_meta (m.InputObject x) = true
   is_input_meta _ = false
 
+  -- the name begins with `__`, or is that of a scalar of the specification or of an empty root
   abbrev pub is_builtin_meta : MetaTypeOf S C → Bool
   is_builtin_meta t = option_map_or is_builtin_name (name_of_meta t) false

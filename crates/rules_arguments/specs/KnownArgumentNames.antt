@@ -1,4 +1,4 @@
--- Arguments that their field or their directive does not define.
+-- Arguments that their field or their directive does not define (section 5.4.1).
 use Rattle.std.specs.Prelude.{ℕ, List, [], ◌∷◌, ◌++◌, Bool, Option, Some, None, is_some, find, if◌then◌else◌, codes, string_bytes}
 use Rattle.std.specs.List.{flat_map}
 use Rattle.std.specs.Str.{bytes_eq}

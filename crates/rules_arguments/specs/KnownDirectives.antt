@@ -1,4 +1,4 @@
--- Directives that the schema does not define, or that are not allowed where they stand.
+-- Directives that the schema does not define, or that are not allowed where they stand (sections 5.7.1 and 5.7.2).
 use Rattle.std.specs.Prelude.{ℕ, List, [], ◌∷◌, ◌++◌, Bool, Option, Some, None, if◌then◌else◌, codes}
 use Rattle.std.specs.declared.alloc.Global.{Global}
 use Rattle.std.specs.declared.vec.Vec.{Vec}

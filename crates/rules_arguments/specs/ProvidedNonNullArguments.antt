@@ -1,4 +1,4 @@
--- Required arguments that are not given.
+-- Required arguments that are not given (section 5.4.2.1).
 use Rattle.std.specs.Prelude.{ℕ, List, [], ◌∷◌, ◌++◌, Bool, false, ◌&&◌, not, Option, Some, None, is_some, is_none, if◌then◌else◌, codes, string_bytes}
 use Rattle.std.specs.List.{flat_map}
 use Rattle.language.specs.Pairs.{first_of_name}

@@ -1,4 +1,4 @@
--- Later arguments of a name.
+-- Later arguments of a name (section 5.4.2).
 use Rattle.std.specs.Prelude.{ℕ, List, [], Option, Some, None, map, codes}
 use Rattle.language.specs.declared.tree.Arguments.{Arguments}
 use Rattle.walk.specs.ContextState.{DocumentScope}

@@ -1,4 +1,4 @@
--- Later keys of an object value.
+-- Later keys of an object value (section 5.6.3).
 use Rattle.std.specs.Prelude.{ℕ, List, [], map, codes}
 use Rattle.walk.specs.ContextState.{DocumentScope}
 use Rattle.walk.specs.ErrorValue.{ErrorValue}

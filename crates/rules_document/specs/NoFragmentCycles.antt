@@ -1,4 +1,4 @@
--- Fragments that lead back to themselves.
+-- Fragments that lead back to themselves (section 5.5.2.2).
 use Rattle.std.specs.Prelude.{◌≡◌, ℕ, List, [], ◌∷◌, ◌++◌, Some, codes, length, map}
 use Rattle.language.specs.declared.tree.Definition.{Definition}
 use Rattle.walk.specs.ContextState.{DocumentScope}

@@ -1,4 +1,4 @@
--- Variables that are used where they are not defined.
+-- Variables that are used where they are not defined (section 5.8.3).
 use Rattle.std.specs.Prelude.{ℕ, List, [], ◌∷◌, ◌++◌, Option, None, Some, codes}
 use Rattle.walk.specs.ErrorValue.{ErrorValue}
 use Rattle.variable_usages.specs.Undefined.{Undefined, UndefinedVariables}

@@ -1,4 +1,4 @@
--- Fragments that no operation reaches.
+-- Fragments that no operation reaches (section 5.5.1.4).
 use Rattle.std.specs.Prelude.{◌≡◌, ◌⊎◌, ◌↔◌, ℕ, List, [], ◌∷◌, ◌++◌, Some, codes, slice_get}
 use Rattle.std.specs.List.{Contains}
 use Rattle.language.specs.declared.tree.Definition.{Definition}

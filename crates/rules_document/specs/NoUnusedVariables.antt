@@ -1,4 +1,4 @@
--- Variables that are defined and not used.
+-- Variables that are defined and not used (section 5.8.4).
 use Rattle.std.specs.Prelude.{ℕ, List, [], ◌∷◌, ◌++◌, Option, None, Some, codes}
 use Rattle.walk.specs.ErrorValue.{ErrorValue}
 use Rattle.variable_usages.specs.Unused.{Unused, UnusedVariables}

@@ -1,4 +1,4 @@
--- Fields that ask for the schema itself.
+-- Fields that ask for the schema itself (section 4.1).
 use Rattle.std.specs.Prelude.{ℕ, List, [], ◌∷◌, ◌++◌, Bool, ◌||◌, if◌then◌else◌, codes}
 use Rattle.std.specs.Str.{bytes_eq}
 use Rattle.walk.specs.ContextState.{DocumentScope}

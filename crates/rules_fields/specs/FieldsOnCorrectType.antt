@@ -1,4 +1,4 @@
--- Fields that the type around them does not have.
+-- Fields that the type around them does not have (sections 5.3.1 and 5.2.3.1).
 use Rattle.std.specs.Prelude.{ℕ, List, [], ◌∷◌, ◌++◌, Bool, true, false, ◌||◌, ◌&&◌, Option, Some, None, is_some, if◌then◌else◌, codes}
 use Rattle.std.specs.List.{flat_map}
 use Rattle.std.specs.Option.{unwrap_or}

@@ -1,4 +1,4 @@
--- Fields with a selection set that may have none, and fields without one that need one.
+-- Fields with a selection set that may have none, and fields without one that need one (section 5.3.3).
 use Rattle.std.specs.Prelude.{ℕ, List, [], ◌∷◌, ◌++◌, Bool, true, false, Option, Some, is_some, codes}
 use Rattle.language.specs.Types.{TypeShape, printed}
 use Rattle.language.specs.declared.tree.Field.{Field}

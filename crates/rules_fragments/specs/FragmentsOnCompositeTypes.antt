@@ -1,4 +1,4 @@
--- Fragments on types that have no fields.
+-- Fragments on types that have no fields (section 5.5.1.3).
 use Rattle.std.specs.Prelude.{ℕ, List, [], ◌∷◌, ◌++◌, Option, Some, None, if◌then◌else◌, codes}
 use Rattle.meta.specs.Kinds.{is_composite_meta}
 use Rattle.meta.specs.declared.kinds.MetaTypeOf.{MetaTypeOf}

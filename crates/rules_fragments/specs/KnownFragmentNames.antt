@@ -1,4 +1,4 @@
--- Spreads of names that no fragment of the document has.
+-- Spreads of names that no fragment of the document has (section 5.5.2.1).
 use Rattle.std.specs.Prelude.{ℕ, List, [], ◌∷◌, ◌++◌, if◌then◌else◌, codes}
 use Rattle.walk.specs.ContextState.{DocumentScope}
 use Rattle.walk.specs.ErrorValue.{ErrorValue}

@@ -1,4 +1,4 @@
--- Names of types that a schema does not list.
+-- Names of types that a schema does not list (section 5.5.1.2).
 use Rattle.std.specs.Prelude.{ℕ, List, [], ◌∷◌, ◌++◌, Option, Some, None, is_some, if◌then◌else◌, codes}
 use Rattle.language.specs.Types.{shape}
 use Rattle.language.specs.declared.position.SourcePosition.{SourcePosition}

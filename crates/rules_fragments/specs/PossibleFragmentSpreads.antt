@@ -1,4 +1,4 @@
--- Spreads of fragments where no object of their type is possible.
+-- Spreads of fragments where no object of their type is possible (section 5.5.2.3).
 use Rattle.std.specs.Prelude.{ℕ, List, [], ◌∷◌, ◌++◌, Bool, false, ◌||◌, Option, Some, None, option_and_then, if◌then◌else◌, map, string_bytes, codes}
 use Rattle.std.specs.Option.{option_map_or, unwrap_or}
 use Rattle.std.specs.Str.{bytes_eq}

@@ -1,4 +1,4 @@
--- Later fragments of a name.
+-- Later fragments of a name (section 5.5.1.1).
 use Rattle.std.specs.Prelude.{ℕ, List, [], Option, Some, None, codes}
 use Rattle.events.specs.Node.{Node, fragment_definition}
 use Rattle.rules_support.specs.Names.{Named}

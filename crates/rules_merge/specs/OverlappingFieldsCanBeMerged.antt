@@ -1,4 +1,4 @@
--- Fields of one response name that can't be merged.
+-- Fields of one response name that can't be merged (section 5.3.2).
 use Rattle.std.specs.Prelude.{◌≡◌, ◌≤◌, ◌*◌, ◌-◌, ℕ, List, length, Bool, map, IsPermutation}
 use Rattle.language.specs.declared.tree.Definition.{Definition}
 use Rattle.schema.specs.Catalog.{Catalog}

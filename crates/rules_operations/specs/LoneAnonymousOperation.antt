@@ -1,4 +1,4 @@
--- Operations without a name that are not alone.
+-- Operations without a name that are not alone (section 5.2.2.1).
 use Rattle.std.specs.Prelude.{Bool, ℕ, List, [], ◌∷◌, Option, Some, None, nat_lt, length, if◌then◌else◌, codes}
 use Rattle.std.specs.List.{flat_map}
 use Rattle.language.specs.declared.tree.Definition.{Definition}

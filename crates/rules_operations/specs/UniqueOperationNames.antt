@@ -1,4 +1,4 @@
--- Later operations of a name.
+-- Later operations of a name (section 5.2.1.1).
 use Rattle.std.specs.Prelude.{ℕ, List, [], Option, None, codes}
 use Rattle.std.specs.Option.{option_map}
 use Rattle.events.specs.Node.{Node, operation_definition}

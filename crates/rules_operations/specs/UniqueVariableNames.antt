@@ -1,4 +1,4 @@
--- Later variables of a name.
+-- Later variables of a name (section 5.8.1).
 use Rattle.std.specs.Prelude.{ℕ, List, [], Option, Some, None, map, codes}
 use Rattle.language.specs.declared.tree.VariableDefinitions.{VariableDefinitions}
 use Rattle.walk.specs.ContextState.{DocumentScope}

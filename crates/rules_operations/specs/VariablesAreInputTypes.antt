@@ -1,4 +1,4 @@
--- Variables of types that no input has.
+-- Variables of types that no input has (section 5.8.2).
 use Rattle.std.specs.Prelude.{ℕ, List, [], ◌∷◌, ◌++◌, Option, Some, None, if◌then◌else◌, codes}
 use Rattle.language.specs.Types.{TypeShape, printed, shape}
 use Rattle.meta.specs.Kinds.{is_input_meta}

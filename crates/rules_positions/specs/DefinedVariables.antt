@@ -1,4 +1,4 @@
--- The variables that operations define.
+-- The variables that operations define (section 5.8.5).
 use Rattle.std.specs.Prelude.{ℕ, List, [], Option, None, Some, find, slice_get, if◌then◌else◌}
 use Rattle.std.specs.List.{flat_map}
 use Rattle.std.specs.Option.{option_map_or}

@@ -1,4 +1,4 @@
--- The variables in the values of a definition, where a type is expected.
+-- The variables in the values of a definition, where a type is expected (section 5.8.5).
 use Rattle.std.specs.Prelude.{ℕ, List, [], ◌∷◌, ◌++◌, Option, Some, None, map}
 use Rattle.std.specs.List.{flat_map}
 use Rattle.language.specs.Types.{TypeShape, borrowed_shape}

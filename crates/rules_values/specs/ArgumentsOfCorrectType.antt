@@ -1,4 +1,4 @@
--- Values of arguments that do not conform to the argument's type.
+-- Values of arguments that do not conform to the argument's type (section 5.6.1).
 use Rattle.std.specs.Prelude.{◌≡◌, ℕ, List, [], ◌++◌, Option, codes}
 use Rattle.language.specs.declared.value.InputValue.{InputValue}
 use Rattle.language.specs.Types.{TypeShape}

@@ -1,4 +1,4 @@
--- Default values of variables that are never used, or do not conform to the variable's type.
+-- Default values of variables that are never used, or do not conform to the variable's type (section 5.6.1).
 use Rattle.std.specs.Prelude.{◌≡◌, ℕ, List, [], ◌++◌, Bool, true, false, Option, Some, None, codes}
 use Rattle.language.specs.declared.value.InputValue.{InputValue}
 use Rattle.language.specs.Types.{TypeShape, is_never_null, shape, printed}

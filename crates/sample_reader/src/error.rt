@@ -6,7 +6,7 @@ use std::alloc::{AllocError, AllocFailed};
 /// Why a text can't be read.
 #[derive(Clone, Copy, Debug)]
 pub enum ReadError {
-    /// A syntax error: the start of the first token that doesn't fit, or the end of the text.
+    /// A syntax error, at the first token that cannot follow what stands before it, or at the end of the text.
     Fault(SourcePosition),
     /// Out of memory; nothing is known of the text.
     OutOfMemory,

@@ -1,4 +1,4 @@
--- The schema that a list of types makes.
+-- The schema that a list of types makes (section 3.3).
 use Rattle.std.specs.Prelude.{◌≡◌, List, None, map}
 use Rattle.meta.specs.declared.kinds.MetaTypeOf.{MetaTypeOf}
 use Rattle.schema_validation.specs.Accepted.{Roots}

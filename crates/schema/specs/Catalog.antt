@@ -1,4 +1,4 @@
--- What callers see of a schema: lists, and no maps.
+-- What callers see of a schema: lists, and no maps (section 3.3).
 use Rattle.std.specs.Prelude.{◌≡◌, ℕ, List, true, Option, Some, String, find, option_and_then, option_map, string_bytes}
 use Rattle.std.specs.List.{list_all}
 use Rattle.std.specs.declared.alloc.Global.{Global}

@@ -1,4 +1,4 @@
--- What changes leave of a schema, and which directives are refused.
+-- What changes leave of a schema, and which directives are refused (section 3.13).
 use Rattle.std.specs.Prelude.{◌≡◌, ⊤, ℕ, List, [], ◌∷◌, false, true, Contains, map, string_bytes, if◌then◌else◌}
 use Rattle.std.specs.List.{list_all}
 use Rattle.schema_validation.specs.declared.error.SchemaError.{SchemaError}

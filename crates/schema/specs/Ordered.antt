@@ -1,4 +1,4 @@
--- The orders in which a schema lists its types and its directives.
+-- The orders in which a schema lists its types and its directives (section 4.2).
 use Rattle.std.specs.Prelude.{ℕ, List, [], string_bytes, map, unwrap_or}
 use Rattle.std.specs.Ordering.{nat_cmp, ordering_then}
 use Rattle.std.specs.Cmp.Lexicographic.{slice_cmp}

@@ -1,4 +1,4 @@
--- The possible types of a type at run time, and which types overlap.
+-- The possible types of a type at run time, and which types overlap (section 5.5.2.3).
 use Rattle.std.specs.Prelude.{ℕ, List, Bool, false, ◌&&◌, ◌||◌, find, map, string_bytes, option_to_list}
 use Rattle.std.specs.List.{list_any, filter, filter_map}
 use Rattle.std.specs.Option.{option_map_or}

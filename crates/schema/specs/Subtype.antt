@@ -1,4 +1,4 @@
--- Which types are subtypes of which.
+-- Which types are subtypes of which (sections 3.6 and 5.8.5).
 use Rattle.std.specs.Prelude.{◌≡◌, ℕ, List, Bool, true, false, ◌&&◌, ◌||◌, Option, find}
 use Rattle.std.specs.Option.{option_map_or}
 use Rattle.std.specs.Str.{bytes_eq}

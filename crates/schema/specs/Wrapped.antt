@@ -1,4 +1,4 @@
--- The types of a schema: metadata with modifiers.
+-- The types of a schema: metadata with modifiers (section 3.4).
 use Rattle.std.specs.Prelude.{List, [], ◌∷◌, ◌++◌, Option, Some, None, option_map, reverse, unwrap_or}
 use Rattle.language.specs.declared.types.TypeModifier.{TypeModifier}
 use Rattle.language.specs.declared.types.TypeModifier.TheVariants as m

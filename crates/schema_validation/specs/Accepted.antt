@@ -1,4 +1,4 @@
--- Which lists of types make a schema, and when a refusal applies to a list.
+-- Which lists of types make a schema, and when a refusal applies to a list (sections 3.3 and 3.6 to 3.10).
 use Rattle.std.specs.Prelude.{◌≡◌, ⊤, ℕ, ◌≤◌, List, [], ◌∷◌, ◌++◌, Bool, true, false, ◌&&◌, Option, Some, None, codes, Contains, count_by, string_bytes, if◌then◌else◌}
 use Rattle.std.specs.List.{list_any, list_all}
 use Rattle.std.specs.Option.{option_to_list}

@@ -1,4 +1,4 @@
--- What a schema adds to a list of types: two fields of the query root, and four directives.
+-- What a schema adds to a list of types: two fields of the query root, and four directives (sections 3.13 and 4.1).
 use Rattle.std.specs.Prelude.{◌≡◌, ℕ, List, [], ◌∷◌, ◌++◌, Bool, false, Option, Some, None, is_some, codes, map, option_map, string_bytes}
 use Rattle.language.specs.Types.{TypeShape, shape, non_null_named}
 use Rattle.meta.specs.declared.arguments.Argument.{Argument}

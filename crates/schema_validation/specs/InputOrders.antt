@@ -1,4 +1,4 @@
--- The input fields of the types of a schema in the order of their names, by the name of the type.
+-- The input fields of the types of a schema in the order of their names, by the name of the type (section 3.10).
 use Rattle.std.specs.Prelude.{◌≡◌, ℕ, List, String, Vec, Some, find, map, string_bytes}
 use Rattle.std.specs.declared.alloc.Global.{Global}
 use Rattle.std.specs.Map.{lookup}

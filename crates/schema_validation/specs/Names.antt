@@ -1,4 +1,4 @@
--- The names of types that metadata names.
+-- The names of types that metadata names (section 3.3).
 use Rattle.std.specs.Prelude.{ℕ, List, [], ◌∷◌, ◌++◌, codes, map, string_bytes}
 use Rattle.std.specs.List.{flat_map}
 use Rattle.language.specs.Types.{shape}

@@ -1,4 +1,4 @@
--- What is reported of the documents that are sent to a root node.
+-- What is reported of the documents that are sent to a root node (section 4.1).
 use Rattle.std.specs.Prelude.{◌≡◌, Bool, true, false, ℕ, List, [], ◌++◌, IsPermutation}
 use Rattle.language.specs.declared.tree.Definition.{Definition}
 use Rattle.schema.specs.Catalog.{Catalog}

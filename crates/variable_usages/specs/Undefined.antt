@@ -1,4 +1,4 @@
--- Variables that are used where they are not defined.
+-- Variables that are used where they are not defined (section 5.8.3).
 use Rattle.std.specs.Prelude.{◌≡◌, ℕ, List, [], ◌∷◌, ◌++◌, Bool, Option, Vec, option_map, if◌then◌else◌}
 use Rattle.std.specs.List.{flat_map}
 use Rattle.std.specs.declared.alloc.Global.{Global}

@@ -1,4 +1,4 @@
--- Variables that are defined and not used.
+-- Variables that are defined and not used (section 5.8.4).
 use Rattle.std.specs.Prelude.{◌≡◌, ◌≤◌, ◌↔◌, ◌⊎◌, ℕ, List, [], ◌∷◌, ◌++◌, Bool, true, false, Option, option_map, map}
 use Rattle.std.specs.List.{Contains}
 use denote.Ref.{Bor}

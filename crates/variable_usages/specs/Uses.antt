@@ -1,4 +1,4 @@
--- The variables that definitions use.
+-- The variables that definitions use (section 5.8.3).
 use Rattle.std.specs.Prelude.{◌≡◌, ℕ, List, [], ◌++◌, Option, Vec, map}
 use Rattle.std.specs.List.{flat_map}
 use Rattle.std.specs.Option.{option_map_or}

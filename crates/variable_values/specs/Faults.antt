@@ -1,4 +1,4 @@
--- The faults of a value that is handed in for a variable, row by row.
+-- The faults of a value that is handed in for a variable, row by row (section 6.1.2).
 use Rattle.std.specs.Prelude.{◌≡◌, ◌⊎◌, ℕ, List, [], ◌∷◌, ◌++◌, length, reverse, map, Option, Some, None, string_bytes, nat_eq, if◌then◌else◌}
 use Rattle.language.specs.declared.types.TypeModifier.{TypeModifier}
 use Rattle.language.specs.declared.types.TypeModifier.TheVariants as m

@@ -1,4 +1,4 @@
--- The types of variables.
+-- The types of variables (section 5.8.2).
 use Rattle.std.specs.Prelude.{◌≡◌, ℕ, List, [], Bool, true, false, Option, Some, None}
 use Rattle.std.specs.List.{list_all}
 use Rattle.std.specs.Option.{option_map_or}

@@ -1,4 +1,4 @@
--- Which values may stand where one of a type is expected.
+-- Which values may stand where one of a type is expected (section 6.1.2).
 use Rattle.std.specs.Prelude.{◌≡◌, ℕ, List, Contains, length, Option, Some, None, String, map, string_bytes}
 use Rattle.std.specs.BTreeMap.{get_by_text}
 use Rattle.std.specs.declared.alloc.Global.{Global}

@@ -35,6 +35,7 @@ module _ {S C : Type 0} where
   abbrev pub finding_step : {V : Type 0} → (DocumentScope S C → Occurrence S C → List ErrorValue) → StepOf S C V
   finding_step finds = entering_step (λ scope o a b es. (b ≡ a) × (es ≡ finds scope o))
 
+  -- what is found at each occurrence of the document
   abbrev pub found : (DocumentScope S C → Occurrence S C → List ErrorValue) → Collection S C
   found finds scope t doc = flat_map (finds scope) (occurrences scope.schema t doc)
 
