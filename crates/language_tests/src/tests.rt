@@ -15,8 +15,6 @@ use std::process::Abort;
 
 type Value = InputValue<DefaultScalarValue>;
 
-type Entry = (Spanning<String>, Spanning<Value>);
-
 type Set<'a> = Vec<Selection<'a, DefaultScalarValue>>;
 
 /// A list of one item.
@@ -51,7 +49,7 @@ fn list(items: Vec<Spanning<Value>>) -> Value {
     InputValue::List(items)
 }
 
-fn object(entries: Vec<Entry>) -> Value {
+fn object(entries: Vec<(Spanning<String>, Spanning<Value>)>) -> Value {
     InputValue::Object(entries)
 }
 
@@ -67,52 +65,17 @@ fn variable(alloc: Global, s: &str) -> Result<Value, AllocError> {
     Ok(InputValue::Variable(text(alloc, s)?))
 }
 
-fn enum_value(alloc: Global, s: &str) -> Result<Value, AllocError> {
-    Ok(InputValue::Enum(text(alloc, s)?))
-}
-
-/// Appends an item.
-fn add_item(items: &mut Vec<Spanning<Value>>, item: Value) -> Result<(), AllocError> {
-    items.push(here(item))?;
-    Ok(())
-}
-
-/// Appends `1, "a", SIT`.
-fn add_sample_items(alloc: Global, items: &mut Vec<Spanning<Value>>) -> Result<(), AllocError> {
-    add_item(items, int(1))?;
-    add_item(items, string(alloc, "a")?)?;
-    add_item(items, enum_value(alloc, "SIT")?)
-}
-
-/// `[1, "a", SIT]`
-fn sample_list(alloc: Global) -> Result<Value, AllocError> {
-    let mut items = Vec::new(alloc);
-    add_sample_items(alloc, &mut items)?;
-    Ok(list(items))
-}
-
-/// Appends an entry.
-fn add_entry(
-    alloc: Global,
-    entries: &mut Vec<Entry>,
-    key: &str,
-    value: Value,
-) -> Result<(), AllocError> {
-    entries.push((here(text(alloc, key)?), here(value)))?;
-    Ok(())
-}
-
-/// Appends `k: [1, "a", SIT], l: $v`.
-fn add_sample_entries(alloc: Global, entries: &mut Vec<Entry>) -> Result<(), AllocError> {
-    add_entry(alloc, entries, "k", sample_list(alloc)?)?;
-    add_entry(alloc, entries, "l", variable(alloc, "v")?)
-}
-
 /// `{k: [1, "a", SIT], l: $v}`
 fn sample(alloc: Global) -> Result<Value, AllocError> {
-    let mut entries = Vec::new(alloc);
-    add_sample_entries(alloc, &mut entries)?;
-    Ok(object(entries))
+    let list = InputValue::List(vec![in alloc;
+        here(int(1)),
+        here(string(alloc, "a")?),
+        here(InputValue::Enum(text(alloc, "SIT")?)),
+    ]?);
+    Ok(InputValue::Object(vec![in alloc;
+        (here(text(alloc, "k")?), here(list)),
+        (here(text(alloc, "l")?), here(variable(alloc, "v")?)),
+    ]?))
 }
 
 #[test]
@@ -233,17 +196,21 @@ fn copies_are_the_same(rt: HostRuntime) {
 }
 
 /// An object with two integers.
-fn two_entries(rt: &impl Abort, alloc: Global, first: (&str, i32), second: (&str, i32)) -> Value {
-    let mut entries = Vec::new(alloc);
-    add_entry(alloc, &mut entries, first.0, int(first.1)).expect(rt, "memory");
-    add_entry(alloc, &mut entries, second.0, int(second.1)).expect(rt, "memory");
-    object(entries)
+fn two_entries(
+    alloc: Global,
+    first: (&str, i32),
+    second: (&str, i32),
+) -> Result<Value, OutOfMemory> {
+    Ok(object(vec![in alloc;
+        (here(text(alloc, first.0)?), here(int(first.1))),
+        (here(text(alloc, second.0)?), here(int(second.1))),
+    ]?))
 }
 
 #[test]
 fn the_last_entry_of_a_key_wins(rt: HostRuntime) {
     let alloc = rt.alloc();
-    let value = two_entries(&rt, alloc, ("k", 1), ("k", 2));
+    let value = two_entries(alloc, ("k", 1), ("k", 2)).expect(&rt, "memory");
     let entries = value
         .to_object_value(alloc)
         .expect(&rt, "memory")
@@ -255,11 +222,11 @@ fn the_last_entry_of_a_key_wins(rt: HostRuntime) {
 #[test]
 fn places_and_order_of_keys_do_not_count(rt: HostRuntime) {
     let alloc = rt.alloc();
-    let left = two_entries(&rt, alloc, ("a", 1), ("b", 2));
-    let right = two_entries(&rt, alloc, ("b", 2), ("a", 1));
+    let left = two_entries(alloc, ("a", 1), ("b", 2)).expect(&rt, "memory");
+    let right = two_entries(alloc, ("b", 2), ("a", 1)).expect(&rt, "memory");
     assert!(rt; left.unlocated_eq(&right));
     assert!(rt; left != right);
-    let repeated = two_entries(&rt, alloc, ("a", 1), ("a", 1));
+    let repeated = two_entries(alloc, ("a", 1), ("a", 1)).expect(&rt, "memory");
     assert!(rt; repeated.unlocated_eq(&left));
     assert!(rt; !left.unlocated_eq(&repeated));
 }
@@ -277,32 +244,17 @@ fn places_do_not_count(rt: HostRuntime) {
     assert!(rt; left != right);
 }
 
-/// Appends a variable.
-fn add_variable(rt: &impl Abort, alloc: Global, items: &mut Vec<Spanning<Value>>, name: &str) {
-    let value = variable(alloc, name).expect(rt, "memory");
-    add_item(items, value).expect(rt, "memory");
-}
-
-/// `{k: $a}`
-fn object_with_variable(rt: &impl Abort, alloc: Global) -> Value {
-    let mut entries = Vec::new(alloc);
-    let value = variable(alloc, "a").expect(rt, "memory");
-    add_entry(alloc, &mut entries, "k", value).expect(rt, "memory");
-    object(entries)
-}
-
 /// `[$b, {k: $a}, $b]`
-fn with_variables(rt: &impl Abort, alloc: Global) -> Value {
-    let mut items = Vec::new(alloc);
-    add_variable(rt, alloc, &mut items, "b");
-    add_item(&mut items, object_with_variable(rt, alloc)).expect(rt, "memory");
-    add_variable(rt, alloc, &mut items, "b");
-    list(items)
+fn with_variables(alloc: Global) -> Result<Value, OutOfMemory> {
+    let entry = (here(text(alloc, "k")?), here(variable(alloc, "a")?));
+    let entries = object(vec![in alloc; entry]?);
+    let first = here(variable(alloc, "b")?);
+    Ok(list(vec![in alloc; first, here(entries), here(variable(alloc, "b")?)]?))
 }
 
 #[test]
 fn variables_come_in_order_with_repeats(rt: HostRuntime) {
-    let value = with_variables(&rt, rt.alloc());
+    let value = with_variables(rt.alloc()).expect(&rt, "memory");
     let names = value.referenced_variables(rt.alloc()).expect(&rt, "memory");
     assert_eq!(rt; names.as_slice(), ["b", "a", "b"].as_slice());
 }
@@ -400,28 +352,15 @@ fn refusals_print_their_text(rt: HostRuntime) {
 
 /// Two counts from the sample, or out of memory.
 fn said_of_sample(alloc: Global) -> Result<(usize, usize), OutOfMemory> {
-    let counted = count_of_sample(alloc)?;
-    Ok((counted, length_of_type(alloc)?))
-}
-
-/// The number of entries and of variables of the sample.
-fn count_of_sample(alloc: Global) -> Result<usize, OutOfMemory> {
     let value = sample(alloc)?;
-    Ok(count_of_entries(alloc, &value)? + count_of_variables(alloc, &value)?)
-}
-
-fn count_of_entries(alloc: Global, value: &Value) -> Result<usize, OutOfMemory> {
-    Ok(value.to_object_value(alloc)?.map_or(0, |found| found.len()))
-}
-
-fn count_of_variables(alloc: Global, value: &Value) -> Result<usize, OutOfMemory> {
-    Ok(value.referenced_variables(alloc)?.len())
-}
-
-/// The length of the printed type `[Int!]`.
-fn length_of_type(alloc: Global) -> Result<usize, OutOfMemory> {
+    let entries = value.to_object_value(alloc)?;
+    let variables = value.referenced_variables(alloc)?;
     let wrapped = Type::non_null(alloc, "Int")?.wrap_list(None)?;
-    Ok(wrapped.to_string(alloc)?.len())
+    let shown = wrapped.to_string(alloc)?;
+    Ok((
+        entries.map_or(0, |found| found.len()) + variables.len(),
+        shown.len(),
+    ))
 }
 
 /// Run with each allocation failing in turn: the result is the same, or out of memory.
