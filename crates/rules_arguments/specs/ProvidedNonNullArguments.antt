@@ -62,10 +62,6 @@ module _ {S : Type 0} where
   is_required (bearer.Field name parent) a = required_on_field a
   is_required (bearer.Directive name) a = required_on_directive a
 
-  -- an argument of a field or a directive, reported at a place
-  abbrev pub missing_on : Bearer → SourcePosition → Option (Placed (Arguments S)) → Argument S → List ErrorValue
-  missing_on b place written a = missing_argument (is_required b) (words_before b) place written a
-
 module _ {S C : Type 0} where
   -- the missing arguments of a field
   abbrev pub missing_on_field : Option (MetaTypeOf S C) → Placed (Field S) → List ErrorValue

@@ -1,5 +1,5 @@
 -- Later arguments of a name (section 5.4.2).
-use Rattle.std.specs.Prelude.{ℕ, List, [], Option, Some, None, map, codes}
+use Rattle.std.specs.Prelude.{ℕ, List, [], ◌++◌, Option, Some, None, map, codes}
 use Rattle.language.specs.declared.tree.Arguments.{Arguments}
 use Rattle.walk.specs.ContextState.{DocumentScope}
 use Rattle.walk.specs.ErrorValue.{ErrorValue}
@@ -7,10 +7,9 @@ use Rattle.events.specs.Node.{Node, Placed, field, directive}
 use Rattle.events.specs.Occurrence.{Occurrence}
 use Rattle.rules_support.specs.Names.{text_name}
 use Rattle.rules_support.specs.Repeats.{repeats}
-use Rattle.rules_support.specs.Texts.{between}
 
 abbrev pub repeated_argument_message : List ℕ → List ℕ
-repeated_argument_message = between (codes "There can only be one argument named \"") (codes "\"")
+repeated_argument_message name = (codes "There can only be one argument named \"" ++ name) ++ codes "\""
 
 -- those of a list of arguments, if there is one
 abbrev pub repeated_in : {S : Type 0} → Option (Placed (Arguments S)) → List ErrorValue

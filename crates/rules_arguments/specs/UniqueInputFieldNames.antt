@@ -1,15 +1,14 @@
 -- Later keys of an object value (section 5.6.3).
-use Rattle.std.specs.Prelude.{ℕ, List, [], map, codes}
+use Rattle.std.specs.Prelude.{ℕ, List, [], ◌++◌, map, codes}
 use Rattle.walk.specs.ContextState.{DocumentScope}
 use Rattle.walk.specs.ErrorValue.{ErrorValue}
 use Rattle.events.specs.Node.{Node, object_value}
 use Rattle.events.specs.Occurrence.{Occurrence}
 use Rattle.rules_support.specs.Names.{key_name}
 use Rattle.rules_support.specs.Repeats.{repeats}
-use Rattle.rules_support.specs.Texts.{between}
 
 abbrev pub repeated_key_message : List ℕ → List ℕ
-repeated_key_message = between (codes "There can only be one input field named \"") (codes "\"")
+repeated_key_message name = (codes "There can only be one input field named \"" ++ name) ++ codes "\""
 
 -- at a node: an object value
 abbrev pub repeated_in_object : {S : Type 0} → Node S → List ErrorValue

@@ -9,7 +9,7 @@ ghost use Rattle.walk.specs.Rule.{always, any_value, exactly, is_empty};
 ghost use Rattle.walk.specs.RuleLaws.{exactly_silent};
 ghost use Rattle.walk.specs.Step.{KeepsPlace};
 ghost use Rattle.walk.proofs.Entering.{finding_keeps};
-ghost use Rattle.rules_arguments.specs.ProvidedNonNullArguments.{is_given, is_required, missing_on, missing_where_known, missing_message, missing_on_field, missing_on_directive, missing_arguments, words_before};
+ghost use Rattle.rules_arguments.specs.ProvidedNonNullArguments.{is_given, is_required, missing_argument, missing_where_known, missing_message, missing_on_field, missing_on_directive, missing_arguments, words_before};
 
 use crate::bearers::{Bearer, arguments_of_directive, arguments_of_field, name_of_known};
 use language::error::OutOfMemory;
@@ -147,7 +147,8 @@ fn report_each<'a, S: CheckedScalar>(
     written: &Option<Spanning<Arguments<'_, S>>>,
 ) -> Result<(), OutOfMemory>
     ensures ok { OnOk result (ctx.new ≡ with_errors ctx.old
-        (flat_map (missing_on bearer.entry place written.now) known.now)) }
+        (flat_map (missing_argument (is_required bearer.entry) (words_before bearer.entry) place written.now)
+        known.now)) }
     ensures err { OnErr result (KeepsPlace ctx.old ctx.new) }
 {
     for argument in known {
@@ -166,7 +167,7 @@ fn report_missing<'a, S: CheckedScalar>(
     written: &Option<Spanning<Arguments<'_, S>>>,
 ) -> Result<(), OutOfMemory>
     ensures ok { OnOk result (ctx.new ≡ with_errors ctx.old
-        (missing_on bearer.entry place written.now argument.now)) }
+        (missing_argument (is_required bearer.entry) (words_before bearer.entry) place written.now argument.now)) }
     ensures err { OnErr result (KeepsPlace ctx.old ctx.new) }
 {
     if is_required(bearer, argument) && !is_given(written, argument.name.as_str()) {

@@ -4,7 +4,7 @@ use Rattle.language.specs.declared.tree.Definition.{Definition}
 use Rattle.events.specs.Node.{Node, document}
 use Rattle.events.specs.TypedEvent.{Side, entering, leaving}
 use Rattle.walk.specs.ErrorValue.{ErrorValue}
-use Rattle.walk.specs.ContextState.{ContextState, DocumentScope, with_errors}
+use Rattle.walk.specs.ContextState.{DocumentScope}
 use Rattle.walk.specs.Step.{StepOf}
 use Rattle.walk.specs.Rule.{Allowance}
 
@@ -35,8 +35,3 @@ module _ {S C V : Type 0} where
   -- what is given of the document, with the state at the end
   abbrev pub given_at_end : Gives S C V → V → Allowance S C
   given_at_end gives end scope t doc es = gives scope doc end es
-
-module _ {S C : Type 0} where
-  -- a list of which P holds was found, and an error for each entry was appended
-  abbrev pub Listed : {X : Type 0} → (List X → Type 0) → (X → ErrorValue) → ContextState S C → ContextState S C → Type 0
-  Listed {X} P error old new = (found : List X) × P found × (new ≡ with_errors old (map error found))

@@ -15,4 +15,4 @@ undefined_error u = record { locations = u.place ∷ u.operation_place ∷ []; m
 
 -- for each name of operations: each use in their reach whose variable the last of them doesn't define
 abbrev pub undefined_errors : {S C : Type 0} → Gives S C NoUndefinedVariables
-undefined_errors = lists UndefinedVariables undefined_error
+undefined_errors scope document end es = lists UndefinedVariables undefined_error scope document end es

@@ -43,7 +43,7 @@ module _ {S : Type 0} where
 
   -- their errors
   abbrev pub unused_errors : {C : Type 0} → Gives S C NoUnusedFragments
-  unused_errors = lists UnusedOf unused_error
+  unused_errors scope document end es = lists UnusedOf unused_error scope document end es
 
 -- a fragment is added where it has no mark and was not met; what is added is met from then on
 pub record AddsFragment (r : ReachedFragments) (old new : MetFragments) (p : NameAndSpan) (fs : List NameAndSpan) : Type 0 where

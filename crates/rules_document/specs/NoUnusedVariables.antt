@@ -15,4 +15,4 @@ unused_variable_error u = record { locations = u.span.start ∷ []; message = un
 
 -- for each name of operations: each variable that the last of them defines and that isn't used in their reach, once
 abbrev pub unused_variable_errors : {S C : Type 0} → Gives S C NoUnusedVariables
-unused_variable_errors = lists UnusedVariables unused_variable_error
+unused_variable_errors scope document end es = lists UnusedVariables unused_variable_error scope document end es

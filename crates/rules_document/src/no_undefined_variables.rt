@@ -1,12 +1,12 @@
 //! Each variable that an operation uses is defined by the operation (GraphQL, October 2021, section 5.8.3).
 
-ghost use Rattle.std.specs.Prelude.{◌≡◌, [], Some, IfOk, OnOk, OnErr, map, option_map, string_bytes};
+ghost use Rattle.std.specs.Prelude.{◌≡◌, [], List, Some, IfOk, OnOk, OnErr, map, option_map, string_bytes};
 ghost use Rattle.walk.specs.ContextState.{with_errors};
 ghost use Rattle.walk.specs.Rule.{any_value};
 ghost use Rattle.walk.specs.Step.{KeepsPlace};
 ghost use Rattle.variable_usages.specs.DocumentIndex.{IsDocumentIndex};
-ghost use Rattle.variable_usages.specs.Undefined.{UndefinedVariables, undefined_of};
-ghost use Rattle.rules_document.specs.AtDocument.{document_step, given_at_end, Listed};
+ghost use Rattle.variable_usages.specs.Undefined.{Undefined, UndefinedVariables, undefined_of};
+ghost use Rattle.rules_document.specs.AtDocument.{document_step, given_at_end};
 ghost use Rattle.rules_document.specs.AtDocumentLaws.{document_keeps};
 ghost use Rattle.rules_document.specs.NoUndefinedVariablesLaws.{undefineds_silent};
 ghost use Rattle.rules_document.specs.NoUndefinedVariables.{undefined_error, undefined_errors, undefined_message};
@@ -110,7 +110,8 @@ pub fn report_undefined<'a, 'd, S: CheckedScalar>(
     index: &DocumentIndex<'d>,
 ) -> Result<(), OutOfMemory>
     requires { IsDocumentIndex document.now index.now }
-    ensures ok { OnOk result (Listed (UndefinedVariables document.now) undefined_error ctx.old ctx.new) }
+    ensures ok { OnOk result ((found : List Undefined) × UndefinedVariables document.now found
+        × (ctx.new ≡ with_errors ctx.old (map undefined_error found))) }
     ensures err { OnErr result (KeepsPlace ctx.old ctx.new) }
 {
     let found = undefined_in(alloc, document, index)?;

@@ -1,17 +1,17 @@
 //! Each fragment is reached from some operation (GraphQL, October 2021, section 5.5.1.4).
 
-ghost use Rattle.std.specs.Prelude.{◌≡◌, ◌∷◌, [], Some, IfOk, OnOk, OnErr, string_bytes};
+ghost use Rattle.std.specs.Prelude.{◌≡◌, ◌∷◌, [], List, Some, IfOk, OnOk, OnErr, map, string_bytes};
 ghost use Rattle.walk.specs.ContextState.{with_errors};
 ghost use Rattle.walk.specs.Rule.{any_value};
 ghost use Rattle.walk.specs.Step.{KeepsPlace};
 ghost use Rattle.fragment_graph.specs.DocumentGraph.{IsNumbered};
 ghost use Rattle.fragment_graph.specs.Numbers.{defined_number, number_of, WellNumbered};
 ghost use Rattle.operation_scopes.specs.Index.{IsIndexOf};
-ghost use Rattle.rules_document.specs.AtDocument.{document_step, given_at_end, Listed};
+ghost use Rattle.rules_document.specs.AtDocument.{document_step, given_at_end};
 ghost use Rattle.rules_document.specs.AtDocumentLaws.{document_keeps};
 ghost use Rattle.rules_document.specs.NoUnusedFragmentsLaws.{unused_silent};
-ghost use Rattle.rules_document.specs.MetFragments.{name_and_span, IsKeptFor};
-ghost use Rattle.rules_document.specs.NoUnusedFragments.{unused_error, unused_errors, NoneUnused, unused_message, AddsFragment, AddsUnused, UnusedOf};
+ghost use Rattle.rules_document.specs.MetFragments.{name_and_span, IsKeptFor, NameAndSpan};
+ghost use Rattle.rules_document.specs.NoUnusedFragments.{unused_error, unused_errors, NoneUnused, unused_message, AddsFragment, AddsUnused, UnusedAmong};
 
 use crate::met_fragments::{MetFragments, meet, none_met};
 use fragment_reach::reached::{ReachedFragments, is_reached, reached_fragments};
@@ -101,8 +101,9 @@ fn report_once<'a, 'd, S: CheckedScalar>(
     requires number { number_of reached.now.graph.now.numbers fragment.now.item.name.item.now ≡ Some number }
     requires kept { IsKeptFor reached.now.graph.now.numbers met.old }
     ensures kept { OnOk result (IsKeptFor reached.now.graph.now.numbers met.new) }
-    ensures ok { OnOk result (Listed
-        (AddsFragment reached.now met.old met.new (name_and_span fragment.now)) unused_error ctx.old ctx.new) }
+    ensures ok { OnOk result ((fs : List NameAndSpan)
+        × AddsFragment reached.now met.old met.new (name_and_span fragment.now) fs
+        × (ctx.new ≡ with_errors ctx.old (map unused_error fs))) }
     ensures err { OnErr result (KeepsPlace ctx.old ctx.new) }
 {
     if is_reached(reached, Some(number)) {
@@ -128,8 +129,8 @@ fn report_if_unused<'a, 'd, S: CheckedScalar>(
     requires has { IsNumbered reached.now.graph.now.numbers definition.now }
     requires kept { IsKeptFor reached.now.graph.now.numbers met.old }
     ensures kept { OnOk result (IsKeptFor reached.now.graph.now.numbers met.new) }
-    ensures ok { OnOk result (Listed
-        (AddsUnused reached.now met.old met.new definition.now) unused_error ctx.old ctx.new) }
+    ensures ok { OnOk result ((fs : List NameAndSpan) × AddsUnused reached.now met.old met.new definition.now fs
+        × (ctx.new ≡ with_errors ctx.old (map unused_error fs))) }
     ensures err { OnErr result (KeepsPlace ctx.old ctx.new) }
 {
     match definition {
@@ -153,7 +154,8 @@ pub fn report_unused<'a, 'd, S: CheckedScalar>(
     index: &ScopeIndex<'_>,
 ) -> Result<(), OutOfMemory>
     requires { IsIndexOf document.now index.now }
-    ensures ok { OnOk result (Listed (UnusedOf document.now) unused_error ctx.old ctx.new) }
+    ensures ok { OnOk result ((fs : List NameAndSpan) × UnusedAmong document.now document.now fs
+        × (ctx.new ≡ with_errors ctx.old (map unused_error fs))) }
     ensures err { OnErr result (KeepsPlace ctx.old ctx.new) }
 {
     let starts = index.spreads.items.as_slice();

@@ -1,12 +1,12 @@
 //! Each variable that an operation defines is used by the operation (GraphQL, October 2021, section 5.8.4).
 
-ghost use Rattle.std.specs.Prelude.{◌≡◌, [], Some, IfOk, OnOk, OnErr, map, option_map, string_bytes};
+ghost use Rattle.std.specs.Prelude.{◌≡◌, [], List, Some, IfOk, OnOk, OnErr, map, option_map, string_bytes};
 ghost use Rattle.walk.specs.ContextState.{with_errors};
 ghost use Rattle.walk.specs.Rule.{any_value};
 ghost use Rattle.walk.specs.Step.{KeepsPlace};
 ghost use Rattle.variable_usages.specs.DocumentIndex.{IsDocumentIndex};
-ghost use Rattle.variable_usages.specs.Unused.{UnusedVariables, unused_of};
-ghost use Rattle.rules_document.specs.AtDocument.{document_step, given_at_end, Listed};
+ghost use Rattle.variable_usages.specs.Unused.{Unused, UnusedVariables, unused_of};
+ghost use Rattle.rules_document.specs.AtDocument.{document_step, given_at_end};
 ghost use Rattle.rules_document.specs.AtDocumentLaws.{document_keeps};
 ghost use Rattle.rules_document.specs.NoUnusedVariablesLaws.{unused_variables_silent};
 ghost use Rattle.rules_document.specs.NoUnusedVariables.{unused_variable_error, unused_variable_errors, unused_variable_message};
@@ -107,7 +107,8 @@ pub fn report_unused<'a, 'd, S: CheckedScalar>(
     index: &DocumentIndex<'d>,
 ) -> Result<(), OutOfMemory>
     requires { IsDocumentIndex document.now index.now }
-    ensures ok { OnOk result (Listed (UnusedVariables document.now) unused_variable_error ctx.old ctx.new) }
+    ensures ok { OnOk result ((found : List Unused) × UnusedVariables document.now found
+        × (ctx.new ≡ with_errors ctx.old (map unused_variable_error found))) }
     ensures err { OnErr result (KeepsPlace ctx.old ctx.new) }
 {
     let found = unused_in(alloc, document, index)?;

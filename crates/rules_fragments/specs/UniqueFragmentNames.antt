@@ -1,11 +1,10 @@
 -- Later fragments of a name (section 5.5.1.1).
-use Rattle.std.specs.Prelude.{ℕ, List, [], Option, Some, None, codes}
+use Rattle.std.specs.Prelude.{ℕ, List, ◌++◌, Option, Some, None, codes}
 use Rattle.events.specs.Node.{Node, fragment_definition}
 use Rattle.rules_support.specs.Names.{Named}
-use Rattle.rules_support.specs.Texts.{between}
 
 abbrev pub repeated_fragment_message : List ℕ → List ℕ
-repeated_fragment_message = between (codes "There can only be one fragment named ") []
+repeated_fragment_message name = codes "There can only be one fragment named " ++ name
 
 -- the name that a definition of a fragment gives, with the place of the name
 abbrev pub fragment_name : {S : Type 0} → Node S → Option Named

@@ -1,5 +1,6 @@
 //! No two fragments of a document have the same name (GraphQL, October 2021, section 5.5.1.1).
 
+ghost use Rattle.std.specs.Prelude.{◌≡◌, IfOk, string_bytes};
 ghost use Rattle.walk.specs.Rule.{always, exactly, is_empty};
 ghost use Rattle.walk.specs.RuleLaws.{exactly_silent};
 ghost use Rattle.rules_support.specs.Noting.{noting_step, repeated, NothingNoted};
@@ -10,12 +11,13 @@ ghost use Rattle.rules_fragments.specs.UniqueFragmentNames.{fragment_name, repea
 use language::error::OutOfMemory;
 use meta::check::CheckedScalar;
 use rules_support::first_places::FirstPlaces;
-use std::alloc::Global;
+use std::alloc::{AllocError, Global};
 use walk::{Criterion, Event, Fresh, Machine, Rule, SettledRule, ValidatorContext, Visitor};
 
 /// Reports each fragment whose name an earlier fragment has: at the first fragment's name, and at its own.
 #[derive(Drop)]
 pub struct UniqueFragmentNames<'a> {
+    alloc: Global,
     names: FirstPlaces<'a>,
 }
 
@@ -24,6 +26,7 @@ pub fn factory<'a>(alloc: Global) -> UniqueFragmentNames<'a>
     ensures { NothingNoted (λ a. places_of a.names) result }
 {
     UniqueFragmentNames {
+        alloc,
         names: FirstPlaces::new(alloc),
     }
 }
@@ -57,18 +60,23 @@ impl<'a, S: CheckedScalar> Visitor<'a, S> for UniqueFragmentNames<'a> {
         event: &Event<'a, S>,
     ) -> Result<(), OutOfMemory> {
         match *event {
-            Event::EnterDocument(document) => self.names.make_room(document.len()),
+            Event::EnterDocument(document) => self.names.make_room(document.len())?,
             Event::EnterFragmentDefinition(fragment) => {
                 let name = &fragment.item.name;
-                self.names.note_or_report(
-                    ctx,
-                    name.item,
-                    name.span.start,
-                    "There can only be one fragment named ",
-                    "",
-                )
+                let place = name.span.start;
+                if let Some(first) = self.names.note(name.item, place)? {
+                    let message = error_message(self.alloc, name.item)?;
+                    ctx.report_error(message.as_str(), &[first, place])?;
+                }
             }
-            _ => Ok(()),
+            _ => {}
         }
+        Ok(())
     }
+}
+
+fn error_message(alloc: Global, name: &str) -> Result<String, AllocError>
+    ensures { IfOk result (λ message. string_bytes message ≡ repeated_fragment_message name.now) }
+{
+    format!(in alloc; "There can only be one fragment named {name}")
 }

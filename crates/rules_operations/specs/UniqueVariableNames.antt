@@ -1,5 +1,5 @@
 -- Later variables of a name (section 5.8.1).
-use Rattle.std.specs.Prelude.{ℕ, List, [], Option, Some, None, map, codes}
+use Rattle.std.specs.Prelude.{ℕ, List, [], ◌++◌, Option, Some, None, map, codes}
 use Rattle.language.specs.declared.tree.VariableDefinitions.{VariableDefinitions}
 use Rattle.walk.specs.ContextState.{DocumentScope}
 use Rattle.walk.specs.ErrorValue.{ErrorValue}
@@ -7,10 +7,9 @@ use Rattle.events.specs.Node.{Node, Placed, operation_definition}
 use Rattle.events.specs.Occurrence.{Occurrence}
 use Rattle.rules_support.specs.Names.{text_name}
 use Rattle.rules_support.specs.Repeats.{repeats}
-use Rattle.rules_support.specs.Texts.{between}
 
 abbrev pub repeated_variable_message : List ℕ → List ℕ
-repeated_variable_message = between (codes "There can only be one variable named ") []
+repeated_variable_message name = codes "There can only be one variable named " ++ name
 
 -- those of a list of variables, if there is one
 abbrev pub repeated_among : {S : Type 0} → Option (Placed (VariableDefinitions S)) → List ErrorValue

@@ -1,5 +1,6 @@
 //! No two operations of a document have the same name (GraphQL, October 2021, section 5.2.1.1).
 
+ghost use Rattle.std.specs.Prelude.{◌≡◌, IfOk, string_bytes};
 ghost use Rattle.walk.specs.Rule.{always, exactly, is_empty};
 ghost use Rattle.walk.specs.RuleLaws.{exactly_silent};
 ghost use Rattle.rules_support.specs.Noting.{noting_step, repeated, NothingNoted};
@@ -10,12 +11,13 @@ ghost use Rattle.rules_operations.specs.UniqueOperationNames.{operation_name, re
 use language::error::OutOfMemory;
 use meta::check::CheckedScalar;
 use rules_support::first_places::FirstPlaces;
-use std::alloc::Global;
+use std::alloc::{AllocError, Global};
 use walk::{Criterion, Event, Fresh, Machine, Rule, SettledRule, ValidatorContext, Visitor};
 
 /// Reports each operation whose name an earlier operation has: at the start of the first operation of the name, and at its own.
 #[derive(Drop)]
 pub struct UniqueOperationNames<'a> {
+    alloc: Global,
     names: FirstPlaces<'a>,
 }
 
@@ -24,6 +26,7 @@ pub fn factory<'a>(alloc: Global) -> UniqueOperationNames<'a>
     ensures { NothingNoted (λ a. places_of a.names) result }
 {
     UniqueOperationNames {
+        alloc,
         names: FirstPlaces::new(alloc),
     }
 }
@@ -57,18 +60,24 @@ impl<'a, S: CheckedScalar> Visitor<'a, S> for UniqueOperationNames<'a> {
         event: &Event<'a, S>,
     ) -> Result<(), OutOfMemory> {
         match *event {
-            Event::EnterDocument(document) => self.names.make_room(document.len()),
-            Event::EnterOperationDefinition(operation) => match &operation.item.name {
-                Some(name) => self.names.note_or_report(
-                    ctx,
-                    name.item,
-                    operation.span.start,
-                    "There can only be one operation named ",
-                    "",
-                ),
-                None => Ok(()),
-            },
-            _ => Ok(()),
+            Event::EnterDocument(document) => self.names.make_room(document.len())?,
+            Event::EnterOperationDefinition(operation) => {
+                if let Some(name) = &operation.item.name {
+                    let place = operation.span.start;
+                    if let Some(first) = self.names.note(name.item, place)? {
+                        let message = error_message(self.alloc, name.item)?;
+                        ctx.report_error(message.as_str(), &[first, place])?;
+                    }
+                }
+            }
+            _ => {}
         }
+        Ok(())
     }
+}
+
+fn error_message(alloc: Global, name: &str) -> Result<String, AllocError>
+    ensures { IfOk result (λ message. string_bytes message ≡ repeated_operation_message name.now) }
+{
+    format!(in alloc; "There can only be one operation named {name}")
 }

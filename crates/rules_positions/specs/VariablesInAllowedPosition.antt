@@ -48,15 +48,12 @@ module _ {S C : Type 0} (types : List (MetaTypeOf S C)) where
   abbrev pub UsesGive : (List ℕ → Option (VariableEntry S)) → List UseValue → List ErrorValue → Type 0
   UsesGive known us es = EachGives (λ u fs. JudgedIfDefined (known u.variable) u fs) us es
 
-  -- each use in the definitions at these places
-  abbrev pub PlacesGive : (List ℕ → Option (VariableEntry S)) → List (List UseValue) → List ℕ → List ErrorValue → Type 0
-  PlacesGive known uses places es = EachGives (λ place fs. UsesGive known (uses_in uses place) fs) places es
-
   module _ (document : List (Definition S)) (uses : List (List UseValue)) where
     -- the operations of a name: each use in each definition that they reach, by the first definition of its variable in all of them
     abbrev pub OperationsGive : Option (List ℕ) → List ErrorValue → Type 0
     OperationsGive name es =
-        (places : List ℕ) × InReach document name places × PlacesGive (first_of (variables_of document name)) uses places es
+        (places : List ℕ) × InReach document name places
+        × EachGives (λ place fs. UsesGive (first_of (variables_of document name)) (uses_in uses place) fs) places es
 
     -- the operations of each name, in some order
     abbrev pub DocumentGives : List ErrorValue → Type 0

@@ -14,7 +14,7 @@ ghost use Rattle.rules_positions.specs.FirstVariables.{kept_first};
 ghost use Rattle.rules_positions.specs.VariablesInAllowedPositionLaws.{positions_keep, positions_settled};
 ghost use Rattle.rules_positions.specs.Recording.{recording_step};
 ghost use Rattle.rules_positions.specs.TypedUses.{next_uses, use_value, use_values, with_use_if_expected};
-ghost use Rattle.rules_positions.specs.VariablesInAllowedPosition.{given_by_uses, misplaced_variables, recorded_uses, uses_in, DocumentGives, JudgedIfDefined, OperationsGive, PlacesGive, UsesGive};
+ghost use Rattle.rules_positions.specs.VariablesInAllowedPosition.{given_by_uses, misplaced_variables, recorded_uses, uses_in, DocumentGives, JudgedIfDefined, OperationsGive, UsesGive};
 
 use crate::first_variables::FirstVariables;
 use crate::judging::judge;
@@ -206,7 +206,9 @@ fn report_places<'a, S: CheckedScalar>(
     places: &[usize],
 ) -> Result<(), OutOfMemory>
     ensures ok { OnOk result (Appended
-        (PlacesGive ctx.old.schema.types (kept_first variables.now) (use_values uses.now) places.now) ctx.old ctx.new) }
+        (EachGives
+        (λ place fs. UsesGive ctx.old.schema.types (kept_first variables.now) (uses_in (use_values uses.now) place) fs)
+        places.now) ctx.old ctx.new) }
     ensures err { OnErr result (KeepsPlace ctx.old ctx.new) }
 {
     for place in places {

@@ -3,4 +3,3 @@ pub mod Names
 pub mod Noting
 pub mod NotingLaws
 pub mod Repeats
-pub mod Texts

@@ -1,13 +1,15 @@
 //! Lists whose entries have names, of which no two should be the same.
 
-ghost use Rattle.std.specs.Prelude.{◌≡◌, OnOk, OnErr, map};
+ghost use Rattle.std.specs.Prelude.{◌≡◌, ◌++◌, OnOk, OnErr, map};
 ghost use Rattle.walk.specs.ContextState.{with_errors};
 ghost use Rattle.walk.specs.Step.{KeepsPlace};
 ghost use Rattle.rules_support.specs.Names.{Named, key_name, text_name};
-ghost use Rattle.rules_support.specs.Repeats.{repeats};
-ghost use Rattle.rules_support.specs.Texts.{between};
+ghost use Rattle.rules_support.specs.Repeats.{repeat_at, repeats};
+ghost use Rattle.rules_support.specs.Noting.{noted};
+ghost use Rattle.rules_support.specs.FirstPlaces.{places_of};
 
 use crate::first_places::FirstPlaces;
+use crate::texts::between;
 use language::error::OutOfMemory;
 use language::position::{SourcePosition, Spanning};
 use meta::check::CheckedScalar;
@@ -62,7 +64,7 @@ pub fn report_repeats<'a, S: CheckedScalar, N: HasName>(
     after: &str,
 ) -> Result<(), OutOfMemory>
     ensures ok { OnOk result (ctx.new ≡ with_errors ctx.old
-        (repeats (between before.now after.now) (map N.named entries.now.items))) }
+        (repeats (λ name. (before.now ++ name) ++ after.now) (map N.named entries.now.items))) }
     ensures err { OnErr result (KeepsPlace ctx.old ctx.new) }
 {
     // most lists have one entry, for which a map would ask for memory
@@ -72,7 +74,37 @@ pub fn report_repeats<'a, S: CheckedScalar, N: HasName>(
     let mut names = FirstPlaces::new(alloc);
     names.make_room(entries.len())?;
     for entry in entries {
-        names.note_or_report(ctx, entry.name(), entry.place(), before, after)?;
+        report_repeat(
+            alloc,
+            ctx,
+            &mut names,
+            entry.name(),
+            entry.place(),
+            before,
+            after,
+        )?;
+    }
+    Ok(())
+}
+
+// Notes a name, and reports it where it was noted before.
+fn report_repeat<'a, 'n, S: CheckedScalar>(
+    alloc: Global,
+    ctx: &mut ValidatorContext<'a, S>,
+    names: &mut FirstPlaces<'n>,
+    name: &'n str,
+    place: SourcePosition,
+    before: &str,
+    after: &str,
+) -> Result<(), OutOfMemory>
+    ensures kept { OnOk result (places_of names.new ≡ noted (places_of names.old) (name.now, place)) }
+    ensures ok { OnOk result (ctx.new ≡ with_errors ctx.old
+        (repeat_at (λ n. (before.now ++ n) ++ after.now) (places_of names.old name.now) (name.now, place))) }
+    ensures err { OnErr result (KeepsPlace ctx.old ctx.new) }
+{
+    if let Some(first) = names.note(name, place)? {
+        let message = between(alloc, before, name, after)?;
+        ctx.report_error(message.as_str(), &[first, place])?;
     }
     Ok(())
 }

@@ -1,7 +1,6 @@
 //! Texts of messages.
 
-ghost use Rattle.std.specs.Prelude.{◌≡◌, IfOk, string_bytes};
-ghost use Rattle.rules_support.specs.Texts.{between};
+ghost use Rattle.std.specs.Prelude.{◌≡◌, ◌++◌, IfOk, string_bytes};
 
 use std::alloc::{AllocError, Global};
 
@@ -11,7 +10,7 @@ use std::alloc::{AllocError, Global};
 ///
 /// Out of memory.
 pub fn between(alloc: Global, before: &str, name: &str, after: &str) -> Result<String, AllocError>
-    ensures { IfOk result (λ message. string_bytes message ≡ between before.now after.now name.now) }
+    ensures { IfOk result (λ message. string_bytes message ≡ (before.now ++ name.now) ++ after.now) }
 {
     format!(in alloc; "{before}{name}{after}")
 }

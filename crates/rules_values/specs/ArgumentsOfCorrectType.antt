@@ -4,7 +4,7 @@ use Rattle.language.specs.declared.value.InputValue.{InputValue}
 use Rattle.language.specs.Types.{TypeShape}
 use Rattle.meta.specs.Answers.{Answers}
 use Rattle.schema.specs.Catalog.{Catalog}
-use Rattle.events.specs.Node.{Node, ArgumentEntry, argument}
+use Rattle.events.specs.Node.{Node, argument}
 use Rattle.events.specs.Occurrence.{Occurrence}
 use Rattle.walk.specs.ContextState.{DocumentScope}
 use Rattle.walk.specs.ErrorValue.{ErrorValue}
@@ -14,13 +14,9 @@ abbrev pub wrong_argument_message : List ℕ → List ℕ → List ℕ
 wrong_argument_message name fault = codes "Invalid value for argument \"" ++ (name ++ (codes "\", reason: " ++ fault))
 
 module _ {S C : Type 0} (may : Answers (InputValue S) C) (shown : InputValue S → List ℕ) where
-  -- an argument where a type is expected
-  abbrev pub wrong_value : Catalog S C → Option TypeShape → ArgumentEntry S → List ErrorValue → Type 0
-  wrong_value schema t a es = reported may shown schema (wrong_argument_message a.0.item.now) t a.1 es
-
   -- at a node: an argument, whose value is judged against the type that is expected
   abbrev pub wrong_argument : Catalog S C → Option TypeShape → Node S → List ErrorValue → Type 0
-  wrong_argument schema t (argument a) es = wrong_value schema t a es
+  wrong_argument schema t (argument a) es = reported may shown schema (wrong_argument_message a.0.item.now) t a.1 es
   wrong_argument schema t _ es = es ≡ []
 
   -- at an argument: its value has a fault against the type of the first argument of its name, on its field or directive

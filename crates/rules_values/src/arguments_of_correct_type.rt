@@ -9,7 +9,8 @@ ghost use Rattle.walk.specs.RuleLaws.{settled_silent};
 ghost use Rattle.walk.specs.Step.{KeepsPlace};
 ghost use Rattle.walk.proofs.Entering.{relating_keeps};
 ghost use Rattle.rules_values.specs.ArgumentsOfCorrectTypeLaws.{arguments_settled};
-ghost use Rattle.rules_values.specs.ArgumentsOfCorrectType.{wrong_argument_message, wrong_arguments, wrong_value};
+ghost use Rattle.rules_values.specs.ArgumentsOfCorrectType.{wrong_argument_message, wrong_arguments};
+ghost use Rattle.rules_values.specs.Faults.{reported};
 
 use crate::faults::fault_at;
 use language::error::OutOfMemory;
@@ -77,8 +78,8 @@ fn report<'a, S: CheckedScalar>(
     argument: &(Spanning<&str>, Spanning<InputValue<S>>),
 ) -> Result<(), OutOfMemory>
     ensures ok { OnOk result (Appended
-        (wrong_value S.may_answer (printed_value S.text S.str_of) ctx.old.schema (typing ctx.old).input argument.now)
-        ctx.old ctx.new) }
+        (reported S.may_answer (printed_value S.text S.str_of) ctx.old.schema
+        (wrong_argument_message argument.now.0.item.now) (typing ctx.old).input argument.now.1) ctx.old ctx.new) }
     ensures err { OnErr result (KeepsPlace ctx.old ctx.new) }
 {
     if let Some(written) = ctx.current_input_type_literal() {

@@ -1,29 +1,38 @@
-use Rattle.std.proofs.Common.{Some, ap, ◌∙◌, subst}
-use Rattle.language.specs.Types.{printed, shape}
+use Rattle.std.proofs.Common.{◌≡◌, [], Some, None, refl, ap, ◌∙◌, subst, arith, option_map, string_bytes}
+use Rattle.std.proofs.lemmas.Grind.{common_steps}
+use Rattle.language.specs.Types.{borrowed_shape, printed, shape}
 use Rattle.language.specs.ValuesPrinted.{printed_value}
-use Rattle.walk.specs.Rule.{Appended}
+use Rattle.literals.specs.Judged.{WrittenFault}
+use Rattle.walk.specs.ContextState.{with_errors}
 use Rattle.rules_values.specs.DefaultValuesOfCorrectType.{default_of, wrong_default_message}
-use Rattle.rules_values.proofs.FaultReports.{fault_reported, nothing_reported}
+use Rattle.rules_values.specs.Faults.{error_at}
 use Rattle.rules_values.proofs.default_values_of_correct_type.report.Goals as goal
 
 pub returns-in_ok-report_error-2-clause-ok : goal.returns-in_ok-report_error-2-clause-ok
 returns-in_ok-report_error-2-clause-ok g c =
     let may = g.S.CheckedScalar.may_answer in
     let shown = printed_value g.S.ScalarValue.text g.S.ScalarValue.str_of in
-    let w = c.args.ctx.now in
+    let schema = c.args.ctx.now.schema in
     let name = c.args.name.now in
     let t = shape c.args.t.now in
-    let message = wrong_default_message name (printed t) in
-    subst (λ b. Appended (default_of may shown b w.schema name t c.args.value.now) w c.report_error-2.new.self) c.if-is_never_null.ensures
-    (fault_reported may shown w.schema message c.args.value.now w _ (Some t) (ap Some c.as_borrowed.ensures) _ c.in_ok-fault.ensures
-    _ _ _ c.in-Some.is (c.as_str-in-Some-2.ensures.value ∙ c.in_ok-message-2.ensures ∙ ap message c.as_str-in-Some.ensures.value) c.in_ok-report_error-2.ensures.ok)
+    let value = c.args.value.now in
+    let m = string_bytes c.in-Some.fault in
+    let es = error_at value c.as_str-in-Some-2.result.now in
+    let told : WrittenFault schema may shown value.item t (Some m) =
+    subst (λ z. WrittenFault schema may shown value.item z (Some m)) c.as_borrowed.ensures
+    (subst (λ o. WrittenFault schema may shown value.item (borrowed_shape c.as_borrowed.result) (option_map string_bytes o)) c.in-Some.is c.in_ok-fault.ensures) in
+    let said : c.as_str-in-Some-2.result.now ≡ wrong_default_message name (printed t) m = c.as_str-in-Some-2.ensures.value ∙ c.in_ok-message-2.ensures ∙ ap (wrong_default_message name (printed t)) c.as_str-in-Some.ensures.value in
+    (es, subst (λ b. default_of may shown b schema name t value es) c.if-is_never_null.ensures (Some m, told, ap (error_at value) said), c.in_ok-report_error-2.ensures.ok)
 
 pub returns-in_default-clause-ok : goal.returns-in_default-clause-ok
 returns-in_default-clause-ok g c =
     let may = g.S.CheckedScalar.may_answer in
     let shown = printed_value g.S.ScalarValue.text g.S.ScalarValue.str_of in
-    let w = c.args.ctx.now in
-    let name = c.args.name.now in
+    let schema = c.args.ctx.now.schema in
     let t = shape c.args.t.now in
-    subst (λ b. Appended (default_of may shown b w.schema name t c.args.value.now) w w) c.if-is_never_null.ensures
-    (nothing_reported may shown w.schema (wrong_default_message name (printed t)) c.args.value.now w _ (Some t) (ap Some c.as_borrowed.ensures) _ c.in_ok-fault.ensures c.in_default.is)
+    let value = c.args.value.now in
+    let told : WrittenFault schema may shown value.item t None =
+    subst (λ z. WrittenFault schema may shown value.item z None) c.as_borrowed.ensures
+    (subst (λ o. WrittenFault schema may shown value.item (borrowed_shape c.as_borrowed.result) (option_map string_bytes o)) c.in_default.is c.in_ok-fault.ensures) in
+    let same : c.args.ctx.now ≡ with_errors c.args.ctx.now [] = grind (arith, common_steps) in
+    ([], subst (λ b. default_of may shown b schema c.args.name.now t value []) c.if-is_never_null.ensures (None, told, refl), same)
