@@ -10,6 +10,6 @@ use Rattle.rules_first_stage.specs.CleanStage.{IsCleanWhere}
 use Rattle.validation.specs.Stages.{Rules}
 
 -- their types are known input types
-pub known_types : (rules : Rules SourceScalar SourceCheck) → IsCleanWhere rules.find_nothing → (root : Root) (document : Document) (def : Definition SourceScalar) → IsErrorFree rules root document → Contains document def → HasKnownTypes root def
-known_types rules clean root document (definition.Operation operation) valid stands = (clean root.schema untyped document valid.0.stage_one).variable_types operation stands
-known_types rules clean root document (definition.Fragment fragment) valid stands = tt
+pub known_types : (rules : Rules SourceScalar SourceCheck) (root : Root) (document : Document) (def : Definition SourceScalar) → IsErrorFree rules root document → IsCleanWhere rules.first_stage.find_nothing → Contains document def → HasKnownTypes root def
+known_types rules root document (definition.Operation operation) valid clean stands = (clean root.schema untyped document valid.0.stage_one).variable_types operation stands
+known_types rules root document (definition.Fragment fragment) valid clean stands = tt

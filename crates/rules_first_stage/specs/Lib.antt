@@ -1,3 +1,4 @@
 pub mod Across
 pub mod AcrossLaws
 pub mod CleanStage
+pub mod Stage

@@ -2,12 +2,11 @@
 
 ghost use Rattle.rules_first_stage.specs.CleanStage.{IsCleanWhere};
 
-use crate::rules::StageRules;
+use crate::rules::FirstStage;
 use meta::check::CheckedScalar;
-use walk::Criterion;
 
 /// A document in which the rules of the first stage find nothing has no cycle of fragments. The names in its lists are unique, its
 /// spreads and type conditions are known, and its variables have input types.
 pub fn clean_documents<S: CheckedScalar>()
-    ensures { IsCleanWhere ⟦<StageRules<'static, S> as Criterion<S, S::Check>>⟧.finds_nothing }
+    ensures { IsCleanWhere ⟦<S as FirstStage>⟧.stage.find_nothing }
 {}

@@ -6,4 +6,4 @@ pub mod across;
 pub mod laws;
 pub mod rules;
 
-pub use crate::rules::{StageRules, visit_stage_one};
+pub use crate::rules::{FirstStage, StageRules, visit_stage_one};

@@ -5,6 +5,7 @@ ghost use Rattle.walk.specs.ContextState.{IsMadeFor};
 ghost use Rattle.walk.specs.Rule.{Appended, AppendsAllowed, Meets, any_value, at_some_end};
 ghost use Rattle.walk.specs.Step.{KeepsPlace};
 ghost use Rattle.fragment_graph.specs.DocumentCycles.{SearchedDocument};
+ghost use Rattle.rules_first_stage.specs.Stage.{Stage};
 
 use crate::across;
 use crate::across::AcrossDocument;
@@ -119,6 +120,20 @@ pub type StageRules<'a, S> = MultiVisitorCons<
     MultiVisitorCons<AcrossDocument<'a>, Groups<'a>>,
 >;
 
+/// The first stage, for a kind of scalars. Every kind of scalars has it.
+pub trait FirstStage: CheckedScalar {
+    // What its rules may report, and where they find nothing.
+    ghost stage: { Stage Self Self.Check };
+}
+
+// A long list takes long to read in a clause. So the clauses cite this name for what it says.
+impl<S: CheckedScalar> FirstStage for S {
+    ghost stage = { record {
+      may_report = at_some_end ⟦<StageRules<'static, S> as Rule<S, S::Check>>⟧.allows;
+      find_nothing = ⟦<StageRules<'static, S> as Criterion<S, S::Check>>⟧.finds_nothing;
+    } };
+}
+
 // The rules on operations and their variables.
 fn of_operations<'a>(alloc: Global) -> OfOperations<'a>
     ensures { ⟦<OfOperations<'a> as Fresh>⟧.fresh result }
@@ -186,9 +201,9 @@ pub fn visit_stage_one<'a, 't, S: CheckedScalar>(
 ) -> Result<DocumentCycles<'a>, OutOfMemory>
     ensures searched { IfOk result (SearchedDocument document.now) }
     ensures appended { OnOk result (IsMadeFor ctx.old document.now
-        → AppendsAllowed (at_some_end ⟦<StageRules<'a, S> as Rule<S, S::Check>>⟧.allows) document.now ctx.old ctx.new) }
-    ensures silent { OnOk result (IsMadeFor ctx.old document.now → (ctx.new.errors ≡ ctx.old.errors)
-        ↔ Meets ⟦<StageRules<'a, S> as Criterion<S, S::Check>>⟧.finds_nothing ctx.old document.now) }
+        → AppendsAllowed ⟦<S as FirstStage>⟧.stage.may_report document.now ctx.old ctx.new) }
+    ensures silent { OnOk result (IsMadeFor ctx.old document.now
+        → (ctx.new.errors ≡ ctx.old.errors) ↔ Meets ⟦<S as FirstStage>⟧.stage.find_nothing ctx.old document.now) }
     ensures only { OnOk result (Appended any_value ctx.old ctx.new) }
     ensures err { OnErr result (KeepsPlace ctx.old ctx.new) }
     ensures failed { OnErr result (ctx.new.failed ≡ true) }

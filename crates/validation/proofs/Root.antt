@@ -21,9 +21,9 @@ asked_none : {S C : Type 0} (disabled : Bool) (scope : DocumentScope S C) (t : T
 asked_none true scope t doc es p = (λ e h. permuted_none _ (IsPermutation-sym _ _ (subst (λ z. IsPermutation (found introspection_fields scope t doc) z) e p)), λ h. permuted_none _ (subst (λ z. IsPermutation z es) (h refl) p))
 asked_none false scope t doc es p = (λ e h. absurd (true≢false (sym h)), λ h. p)
 
-module _ {S C : Type 0} (rules : Rules S C) (clean : IsCleanWhere rules.find_nothing) (schema : Catalog S C) (document : List (Definition S)) where
-  pub root_valid : (disabled : Bool) (errors : List ErrorValue) (pairs : ℕ) → IsRootReport rules disabled schema document errors pairs → (errors ≡ []) ↔ IsRootValid rules disabled schema document
-  root_valid disabled errors pairs r =
+module _ {S C : Type 0} (rules : Rules S C) (schema : Catalog S C) (document : List (Definition S)) where
+  pub root_valid : (disabled : Bool) (errors : List ErrorValue) (pairs : ℕ) → IsRootReport rules disabled schema document errors pairs → IsCleanWhere rules.first_stage.find_nothing → (errors ≡ []) ↔ IsRootValid rules disabled schema document
+  root_valid disabled errors pairs r clean =
       let valid = none_iff rules clean schema untyped document [] r.reported.of_rules pairs refl r.reported.reported in
       let asked = asked_none disabled (scope_of schema document) untyped document r.reported.asked r.reported.introspected in
       let told : r.found ≡ r.reported.of_rules ++ r.reported.asked = r.reported.all in (

@@ -17,7 +17,7 @@ use Rattle.rules_merge.specs.declared.overlapping_fields_can_be_merged.Overlappi
 use Rattle.rules_merge.specs.OverlappingFieldsCanBeMerged.{MergeErrors, error_value}
 use Rattle.walk.specs.ContextState.{ContextState, DocumentScope, has_some, scope_of, typing, with_errors}
 use Rattle.walk.specs.ErrorValue.{ErrorValue}
-use Rattle.walk.specs.Rule.{AppendsAllowed, Condition, Meets}
+use Rattle.walk.specs.Rule.{AppendsAllowed, Meets}
 use Rattle.rules_first_stage.specs.CleanStage.{CleanDocument, IsCleanWhere}
 use Rattle.events.specs.Node.{field}
 use Rattle.merge_walk_laws.proofs.Agreeing.{fields_are_tidy, tidy_arguments}
@@ -63,11 +63,11 @@ module _ {S C : Type 0} (E : S → S → Bool) (schema : Catalog S C) where
 
 module _ {S C : Type 0} (rules : Rules S C) where
   -- the first stage reported, or there were errors before
-  pub after_one : (old new : ContextState S C) (document : List (Definition S)) → AppendsAllowed rules.may_report document old new → (new.errors ≡ old.errors) ↔ Meets rules.find_nothing old document
+  pub after_one : (old new : ContextState S C) (document : List (Definition S)) → AppendsAllowed rules.first_stage.may_report document old new → (new.errors ≡ old.errors) ↔ Meets rules.first_stage.find_nothing old document
       → has_some new.errors ≡ true → AppendsReported rules old new document 0
   after_one old new document (es, allowed, e) silent some =
       let told : new.errors ≡ old.errors ++ es = ap (λ w. w.errors) e in
-      let settled : (es ≡ []) ↔ Meets rules.find_nothing old document = (
+      let settled : (es ≡ []) ↔ Meets rules.first_stage.find_nothing old document = (
         λ nothing. silent.0 (told ∙ ap (λ z. old.errors ++ z) nothing ∙ append-nil old.errors),
         λ met. no_more old.errors es (sym told ∙ silent.1 met),
       ) in
@@ -78,7 +78,7 @@ module _ {S C : Type 0} (rules : Rules S C) where
     Two pairs = (es : List ErrorValue) × (end : OverlappingFieldsCanBeMerged) × MergeErrors rules.same mid.schema document end es × (end.compared ≡ pairs) × (new ≡ with_errors mid es)
 
     -- neither reported anything before the second stage
-    pub after_two : AppendsAllowed rules.may_report document old mid → (mid.errors ≡ old.errors) ↔ Meets rules.find_nothing old document → has_some mid.errors ≡ false → (pairs : ℕ) → Two pairs
+    pub after_two : AppendsAllowed rules.first_stage.may_report document old mid → (mid.errors ≡ old.errors) ↔ Meets rules.first_stage.find_nothing old document → has_some mid.errors ≡ false → (pairs : ℕ) → Two pairs
         → AppendsReported rules old new document pairs
     after_two (fs, allowed, e) silent quiet pairs (es, end, told, counted, e') =
         let none_now : mid.errors ≡ [] = is_none mid.errors quiet in
@@ -91,7 +91,7 @@ module _ {S C : Type 0} (rules : Rules S C) where
         )
 
   -- nothing is reported if and only if the document is valid
-  module _ (clean : IsCleanWhere rules.find_nothing) (schema : Catalog S C) (t : Typing S C) (document : List (Definition S)) where
+  module _ (clean : IsCleanWhere rules.first_stage.find_nothing) (schema : Catalog S C) (t : Typing S C) (document : List (Definition S)) where
     pub none_iff : (before es : List ErrorValue) (pairs : ℕ) → before ≡ [] → Reported rules before (scope_of schema document) t document es pairs → (es ≡ []) ↔ IsValid rules (scope_of schema document) t document
     none_iff before es pairs empty (of_stage_one allowed silent some) =
         let nothing : es ≡ [] → ⊥ = λ e. some (ap (λ zs. before ++ zs) e ∙ append-nil before ∙ empty) in
@@ -123,10 +123,10 @@ pub few_pairs : {S C : Type 0} (rules : Rules S C) (before : List ErrorValue) (s
 few_pairs rules before scope t document es pairs (of_stage_one allowed silent some) = omega arith
 few_pairs rules before scope t document es pairs (of_stage_two none_before clean told) = told.few
 
-module _ {S C : Type 0} (rules : Rules S C) (clean : IsCleanWhere rules.find_nothing) (old new : ContextState S C) (document : List (Definition S)) where
+module _ {S C : Type 0} (rules : Rules S C) (old new : ContextState S C) (document : List (Definition S)) where
   -- a context that held no error holds none if and only if the document is valid
-  pub valid_iff : (pairs : ℕ) → AppendsReported rules old new document pairs → old.errors ≡ [] → (new.errors ≡ []) ↔ IsValidIn rules old document
-  valid_iff pairs (es, reported, e) empty =
+  pub valid_iff : (pairs : ℕ) → AppendsReported rules old new document pairs → IsCleanWhere rules.first_stage.find_nothing → old.errors ≡ [] → (new.errors ≡ []) ↔ IsValidIn rules old document
+  valid_iff pairs (es, reported, e) clean empty =
       let judged = none_iff rules clean old.schema (typing old) document old.errors es pairs empty reported in
       let now : new.errors ≡ es = ap (λ w. w.errors) e ∙ ap (λ zs. zs ++ es) empty in
       (λ nothing. judged.0 (sym now ∙ nothing), λ v. now ∙ judged.1 v)

@@ -4,17 +4,16 @@ use Rattle.language.specs.declared.tree.Definition.{Definition}
 use Rattle.events.specs.Typing.{Typing}
 use Rattle.walk.specs.ContextState.{ContextState, DocumentScope, scope_of, typing, with_errors}
 use Rattle.walk.specs.ErrorValue.{ErrorValue}
-use Rattle.walk.specs.Rule.{Allowance, Condition, Meets}
+use Rattle.walk.specs.Rule.{Meets}
 use Rattle.merge_document.specs.Merging.{DocumentMerges}
 use Rattle.rules_merge.specs.declared.overlapping_fields_can_be_merged.OverlappingFieldsCanBeMerged.{OverlappingFieldsCanBeMerged}
 use Rattle.rules_merge.specs.OverlappingFieldsCanBeMerged.{MergeErrors}
+use Rattle.rules_first_stage.specs.Stage.{Stage}
 
 -- what is known of all rules, for one kind of scalars
 pub record Rules (S C : Type 0) : Type 1 where
-  -- what the rules of the first stage may report
-  pub may_report : Allowance S C
-  -- what a document is like in which they find nothing
-  pub find_nothing : Condition S C
+  -- the rules of the first stage
+  pub first_stage : Stage S C
   -- which scalars are equal, where two fields are merged
   pub same : S → S → Bool
 
@@ -24,13 +23,13 @@ module _ {S C : Type 0} (rules : Rules S C) where
   -- Otherwise they are those of fields that can't be merged.
   pub data Reported (before : List ErrorValue) (scope : DocumentScope S C) (t : Typing S C) (doc : List (Definition S)) : List ErrorValue → ℕ → Type 0 where
     of_stage_one : {es : List ErrorValue}
-        → rules.may_report scope t doc es → (es ≡ []) ↔ rules.find_nothing scope t doc → (before ++ es ≡ [] → ⊥) → Reported before scope t doc es 0
+        → rules.first_stage.may_report scope t doc es → (es ≡ []) ↔ rules.first_stage.find_nothing scope t doc → (before ++ es ≡ [] → ⊥) → Reported before scope t doc es 0
     of_stage_two : {es : List ErrorValue} {end : OverlappingFieldsCanBeMerged}
-        → before ≡ [] → rules.find_nothing scope t doc → MergeErrors rules.same scope.schema doc end es → Reported before scope t doc es end.compared
+        → before ≡ [] → rules.first_stage.find_nothing scope t doc → MergeErrors rules.same scope.schema doc end es → Reported before scope t doc es end.compared
 
   -- The document is valid: the rules of the first stage find nothing, and each of its selection sets merges, with its spreads written out.
   pub record IsValid (scope : DocumentScope S C) (t : Typing S C) (doc : List (Definition S)) : Type 0 where
-    pub stage_one : rules.find_nothing scope t doc
+    pub stage_one : rules.first_stage.find_nothing scope t doc
     pub merges : DocumentMerges rules.same scope.schema doc
 
   -- the rules appended what they report of the document, at the types of the context

@@ -3,7 +3,7 @@
 ghost use Rattle.std.specs.Prelude.{◌≡◌, ◌≤◌, ◌*◌, ◌-◌, ◌↔◌, ℕ, List, [], IfOk, OnOk, OnErr, IsErr, true};
 ghost use Rattle.walk.specs.ContextState.{IsMadeFor, with_errors};
 ghost use Rattle.walk.specs.ErrorValue.{ErrorValue};
-ghost use Rattle.walk.specs.Rule.{Appended, any_value, at_some_end};
+ghost use Rattle.walk.specs.Rule.{Appended, any_value};
 ghost use Rattle.walk.specs.Step.{KeepsPlace};
 ghost use Rattle.fragment_graph.specs.DocumentCycles.{SearchedDocument};
 ghost use Rattle.merge_graph.specs.Definitions.{fragment_count};
@@ -25,7 +25,7 @@ pub use rules_document::{
 };
 pub use rules_fields::{disable_introspection, fields_on_correct_type, scalar_leafs};
 use rules_first_stage::laws::clean_documents;
-use rules_first_stage::{StageRules, visit_stage_one};
+use rules_first_stage::{FirstStage, visit_stage_one};
 pub use rules_fragments::{
     fragments_on_composite_types, known_fragment_names, known_type_names,
     possible_fragment_spreads, unique_fragment_names,
@@ -37,7 +37,7 @@ pub use rules_operations::{
 };
 pub use rules_positions::variables_in_allowed_position;
 pub use rules_values::{arguments_of_correct_type, default_values_of_correct_type};
-use walk::{Criterion, Rule, ValidatorContext};
+use walk::ValidatorContext;
 
 /// All rules, for a kind of scalars. Every kind of scalars has them.
 pub trait AllRules: CheckedScalar {
@@ -45,13 +45,9 @@ pub trait AllRules: CheckedScalar {
     ghost rules: { Rules Self Self.Check };
 }
 
-// The first stage is the list `StageRules`; two fields are merged by the equality of their scalars.
+// Two fields are merged by the equality of their scalars.
 impl<S: CheckedScalar> AllRules for S {
-    ghost rules = { record {
-      may_report = at_some_end ⟦<StageRules<'static, S> as Rule<S, S::Check>>⟧.allows;
-      find_nothing = ⟦<StageRules<'static, S> as Criterion<S, S::Check>>⟧.finds_nothing;
-      same = S.eq;
-    } };
+    ghost rules = { record { first_stage = ⟦<S as FirstStage>⟧.stage; same = S.eq } };
 }
 
 /// Tries every rule on a document, in two stages, and appends the errors.

@@ -24,8 +24,7 @@ pub returns-clause-valid : goal.returns-clause-valid
 returns-clause-valid g c =
     IfOk-weaker c.visit_stage_two.result _ _
     (λ pairs told known.
-    valid_iff _ c.clean_documents.ensures c.args.ctx.now c.visit_stage_two.new.ctx c.args.document.now
-    pairs (told known))
+    valid_iff _ c.args.ctx.now c.visit_stage_two.new.ctx c.args.document.now pairs (told known) c.clean_documents.ensures)
     (returns-clause-appended g c)
 
 pub returns-clause-few : goal.returns-clause-few

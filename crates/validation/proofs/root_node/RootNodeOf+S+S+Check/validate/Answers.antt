@@ -17,6 +17,5 @@ pub returns-clause-valid : goal.returns-clause-valid
 returns-clause-valid g c =
     IfOk-weaker c.into_errors.result _ _
     (λ errors (pairs, report).
-    root_valid _ c.clean_documents.ensures c.args.self.now.schema c.args.document.now
-    c.args.self.now.introspection_disabled errors.items pairs report)
+    root_valid _ c.args.self.now.schema c.args.document.now c.args.self.now.introspection_disabled errors.items pairs report c.clean_documents.ensures)
     (returns-clause-all g c)
