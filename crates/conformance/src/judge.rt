@@ -43,7 +43,7 @@ fn errors_of(
     document: &[Definition<'_, DefaultScalarValue>],
 ) -> Result<String, Failure>
     ensures { IfOk result
-        (λ text. TellsErrors ⟦<DefaultScalarValue as AllRules>⟧.rules root.now.introspection_disabled root.now.schema
+        (λ text. TellsErrors ⟦<DefaultScalarValue as AllRules<'static>>⟧.rules root.now.introspection_disabled root.now.schema
         document.now (string_bytes text)) }
 {
     let errors = root.validate(alloc, document)?;

@@ -43,7 +43,7 @@ impl Judge<'_> {
     /// Out of memory.
     pub fn each(&self, alloc: Global, faults: &mut String) -> Result<Report, Failure>
         ensures { IfOk result
-            (TellsEach ⟦<SourceScalar as AllRules>⟧.rules self.now.root.now (option_copied self.now.values)
+            (TellsEach ⟦<SourceScalar as AllRules<'static>>⟧.rules self.now.root.now (option_copied self.now.values)
             self.now.sources.now) }
     {
         let mut issues = Vec::new(alloc);
@@ -67,7 +67,7 @@ impl Judge<'_> {
     ) -> Result<bool, Failure>
         ensures { IfOk result
             (λ is_document. AddsIf is_document
-            (TellsFiles ⟦<SourceScalar as AllRules>⟧.rules self.now.root.now (option_copied self.now.values) file
+            (TellsFiles ⟦<SourceScalar as AllRules<'static>>⟧.rules self.now.root.now (option_copied self.now.values) file
             (source.now ∷ [])) issues.old.items issues.new.items) }
     {
         let mut joined = Joined::new(alloc);
@@ -83,7 +83,7 @@ impl Judge<'_> {
     /// Out of memory.
     pub fn together(&self, alloc: Global, faults: &mut String) -> Result<Report, Failure>
         ensures { IfOk result
-            (TellsTogether ⟦<SourceScalar as AllRules>⟧.rules self.now.root.now (option_copied self.now.values)
+            (TellsTogether ⟦<SourceScalar as AllRules<'static>>⟧.rules self.now.root.now (option_copied self.now.values)
             self.now.sources.now) }
     {
         if !self.are_documents(alloc, faults)? {
@@ -142,7 +142,7 @@ impl Judge<'_> {
     ) -> Result<bool, Failure>
         ensures { IfOk result
             (λ is_document. AddsIf is_document
-            (TellsRead ⟦<SourceScalar as AllRules>⟧.rules self.now.root.now (option_copied self.now.values) joined.now
+            (TellsRead ⟦<SourceScalar as AllRules<'static>>⟧.rules self.now.root.now (option_copied self.now.values) joined.now
             file) issues.old.items issues.new.items) }
     {
         match read_document(alloc, joined.text()) {
@@ -169,7 +169,7 @@ impl Judge<'_> {
         issues: &mut Vec<Issue>,
     ) -> Result<(), OutOfMemory>
         ensures { OnOk result
-            (Adds (TellsDocument ⟦<SourceScalar as AllRules>⟧.rules self.now.root.now (option_copied self.now.values)
+            (Adds (TellsDocument ⟦<SourceScalar as AllRules<'static>>⟧.rules self.now.root.now (option_copied self.now.values)
             joined.now file document.now) issues.old.items issues.new.items) }
     {
         let found = self.root.validate(alloc, document)?;
@@ -191,7 +191,7 @@ impl Judge<'_> {
         document: &[Definition<'_, SourceScalar>],
         issues: &mut Vec<Issue>,
     ) -> Result<(), OutOfMemory>
-        requires { IsErrorFree ⟦<SourceScalar as AllRules>⟧.rules self.now.root.now document.now }
+        requires { IsErrorFree ⟦<SourceScalar as AllRules<'static>>⟧.rules self.now.root.now document.now }
         ensures { OnOk result
             (Adds (TellsFaultsIn self.now.root.now (option_copied self.now.values) joined.now file document.now)
             issues.old.items issues.new.items) }
@@ -213,7 +213,7 @@ impl Judge<'_> {
         values: &Variables<SourceScalar>,
         issues: &mut Vec<Issue>,
     ) -> Result<(), OutOfMemory>
-        requires { IsErrorFree ⟦<SourceScalar as AllRules>⟧.rules self.now.root.now document.now }
+        requires { IsErrorFree ⟦<SourceScalar as AllRules<'static>>⟧.rules self.now.root.now document.now }
         ensures { OnOk result (Adds (TellsFaultsIn self.now.root.now (Some values.now) joined.now file document.now)
             issues.old.items issues.new.items) }
     {

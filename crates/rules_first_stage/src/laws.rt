@@ -7,6 +7,6 @@ use meta::check::CheckedScalar;
 
 /// A document in which the rules of the first stage find nothing has no cycle of fragments. The names in its lists are unique, its
 /// spreads and type conditions are known, and its variables have input types.
-pub fn clean_documents<S: CheckedScalar>()
-    ensures { IsCleanWhere ⟦<S as FirstStage>⟧.stage.find_nothing }
+pub fn clean_documents<'a, S: CheckedScalar + 'a>()
+    ensures { IsCleanWhere ⟦<S as FirstStage<'a>>⟧.stage.find_nothing }
 {}

@@ -121,16 +121,16 @@ pub type StageRules<'a, S> = MultiVisitorCons<
 >;
 
 /// The first stage, for a kind of scalars. Every kind of scalars has it.
-pub trait FirstStage: CheckedScalar {
+pub trait FirstStage<'a>: CheckedScalar {
     // What its rules may report, and where they find nothing.
     ghost stage: { Stage Self Self.Check };
 }
 
 // A long list takes long to read in a clause. So the clauses cite this name for what it says.
-impl<S: CheckedScalar> FirstStage for S {
+impl<'a, S: CheckedScalar + 'a> FirstStage<'a> for S {
     ghost stage = { record {
-      may_report = at_some_end ⟦<StageRules<'static, S> as Rule<S, S::Check>>⟧.allows;
-      find_nothing = ⟦<StageRules<'static, S> as Criterion<S, S::Check>>⟧.finds_nothing;
+      may_report = at_some_end ⟦<StageRules<'a, S> as Rule<S, S::Check>>⟧.allows;
+      find_nothing = ⟦<StageRules<'a, S> as Criterion<S, S::Check>>⟧.finds_nothing;
     } };
 }
 
@@ -201,9 +201,9 @@ pub fn visit_stage_one<'a, 't, S: CheckedScalar>(
 ) -> Result<DocumentCycles<'a>, OutOfMemory>
     ensures searched { IfOk result (SearchedDocument document.now) }
     ensures appended { OnOk result (IsMadeFor ctx.old document.now
-        → AppendsAllowed ⟦<S as FirstStage>⟧.stage.may_report document.now ctx.old ctx.new) }
+        → AppendsAllowed ⟦<S as FirstStage<'a>>⟧.stage.may_report document.now ctx.old ctx.new) }
     ensures silent { OnOk result (IsMadeFor ctx.old document.now
-        → (ctx.new.errors ≡ ctx.old.errors) ↔ Meets ⟦<S as FirstStage>⟧.stage.find_nothing ctx.old document.now) }
+        → (ctx.new.errors ≡ ctx.old.errors) ↔ Meets ⟦<S as FirstStage<'a>>⟧.stage.find_nothing ctx.old document.now) }
     ensures only { OnOk result (Appended any_value ctx.old ctx.new) }
     ensures err { OnErr result (KeepsPlace ctx.old ctx.new) }
     ensures failed { OnErr result (ctx.new.failed ≡ true) }

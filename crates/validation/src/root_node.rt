@@ -72,10 +72,10 @@ impl<S: CheckedScalar> RootNodeOf<S, S::Check> {
         document: &'a [Definition<'_, S>],
     ) -> Result<Vec<RuleError>, OutOfMemory>
         ensures all { IfOk result (λ errors. (pairs : ℕ)
-            × IsRootReport ⟦<S as AllRules>⟧.rules self.now.introspection_disabled self.now.schema document.now errors.items
+            × IsRootReport ⟦<S as AllRules<'a>>⟧.rules self.now.introspection_disabled self.now.schema document.now errors.items
             pairs) }
         ensures valid { IfOk result (λ errors. (errors.items ≡ [])
-            ↔ IsRootValid ⟦<S as AllRules>⟧.rules self.now.introspection_disabled self.now.schema document.now) }
+            ↔ IsRootValid ⟦<S as AllRules<'a>>⟧.rules self.now.introspection_disabled self.now.schema document.now) }
         ensures sorted { IfOk result (λ errors. IsSorted error_cmp errors.items) }
     {
         clean_documents::<S>();
@@ -98,7 +98,7 @@ pub fn visit_root_rules<'a, S: CheckedScalar>(
     introspection_disabled: bool,
 ) -> Result<u128, OutOfMemory>
     ensures appended { IfOk result (λ pairs. IsMadeFor ctx.old document.now
-        → AppendsRootReported ⟦<S as AllRules>⟧.rules introspection_disabled ctx.old ctx.new document.now pairs) }
+        → AppendsRootReported ⟦<S as AllRules<'a>>⟧.rules introspection_disabled ctx.old ctx.new document.now pairs) }
     ensures only { OnOk result (Appended any_value ctx.old ctx.new) }
     ensures err { OnErr result (KeepsPlace ctx.old ctx.new) }
     ensures failed { OnErr result (ctx.new.failed ≡ true) }

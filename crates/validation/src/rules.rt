@@ -40,14 +40,14 @@ pub use rules_values::{arguments_of_correct_type, default_values_of_correct_type
 use walk::ValidatorContext;
 
 /// All rules, for a kind of scalars. Every kind of scalars has them.
-pub trait AllRules: CheckedScalar {
+pub trait AllRules<'a>: CheckedScalar {
     // What the rules report, and where they find nothing.
     ghost rules: { Rules Self Self.Check };
 }
 
 // Two fields are merged by the equality of their scalars.
-impl<S: CheckedScalar> AllRules for S {
-    ghost rules = { record { first_stage = ⟦<S as FirstStage>⟧.stage; same = S.eq } };
+impl<'a, S: CheckedScalar + 'a> AllRules<'a> for S {
+    ghost rules = { record { first_stage = ⟦<S as FirstStage<'a>>⟧.stage; same = S.eq } };
 }
 
 /// Tries every rule on a document, in two stages, and appends the errors.
@@ -67,9 +67,9 @@ pub fn visit_all_rules<'a, 't, S: CheckedScalar>(
     document: &'a [Definition<'t, S>],
 ) -> Result<u128, OutOfMemory>
     ensures appended { IfOk result (λ pairs. IsMadeFor ctx.old document.now
-        → AppendsReported ⟦<S as AllRules>⟧.rules ctx.old ctx.new document.now pairs) }
+        → AppendsReported ⟦<S as AllRules<'a>>⟧.rules ctx.old ctx.new document.now pairs) }
     ensures valid { IfOk result (λ pairs. IsMadeFor ctx.old document.now → ctx.old.errors ≡ []
-        → (ctx.new.errors ≡ []) ↔ IsValidIn ⟦<S as AllRules>⟧.rules ctx.old document.now) }
+        → (ctx.new.errors ≡ []) ↔ IsValidIn ⟦<S as AllRules<'a>>⟧.rules ctx.old document.now) }
     ensures few { IfOk result (λ pairs. IsMadeFor ctx.old document.now
         → pairs ≤ fragment_count document.now * (fragment_count document.now - 1)) }
     ensures only { OnOk result (Appended any_value ctx.old ctx.new) }

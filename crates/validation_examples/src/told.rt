@@ -36,7 +36,7 @@ pub fn told_by_all<'a, S: CheckedScalar>(
     schema: &'a SchemaType<S>,
     document: &'a [Definition<'_, S>],
 ) -> Result<String, OutOfMemory>
-    ensures { IfOk result (λ told. TellsAll ⟦<S as AllRules>⟧.rules schema.now document.now (string_bytes told)) }
+    ensures { IfOk result (λ told. TellsAll ⟦<S as AllRules<'a>>⟧.rules schema.now document.now (string_bytes told)) }
 {
     let mut ctx = ValidatorContext::new(alloc, schema, document)?;
     let compared = visit_all_rules(&mut ctx, document)?;
