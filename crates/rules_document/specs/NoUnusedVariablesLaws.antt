@@ -1,4 +1,5 @@
 -- When the rule reports nothing. In specs/, since ghost members of an impl cite nothing else.
+use Rattle.std.specs.Prelude.{[]}
 use Rattle.walk.specs.Rule.{SilentIff}
 use Rattle.variable_usages.specs.Unused.{UnusedVariables}
 use Rattle.variable_usages.proofs.Settling.{unused_settled}
