@@ -1,6 +1,6 @@
 //! Whether a variable is allowed where it is used.
 
-ghost use Rattle.std.specs.Prelude.{◌≡◌, ◌↔◌, IfOk, IsTrue, OnOk, OnErr, string_bytes};
+ghost use Rattle.std.specs.Prelude.{◌≡◌, ◌↔◌, IfOk, IsTrue, OnErr, string_bytes};
 ghost use Rattle.language.specs.Types.{borrowed_shape, printed, shape};
 ghost use Rattle.schema.specs.Subtype.{IsSubtype};
 ghost use Rattle.walk.specs.Rule.{Appended};
@@ -59,7 +59,7 @@ pub fn judge<'a, S: CheckedScalar>(
     entry: &VariableEntry<'_, S>,
     found: &TypedUse<'_>,
 ) -> Result<(), OutOfMemory>
-    ensures ok { OnOk result (Appended (Judged ctx.old.schema.types entry.now (use_value found.now)) ctx.old ctx.new) }
+    ensures ok { IfOk result (λ _. Appended (Judged ctx.old.schema.types entry.now (use_value found.now)) ctx.old ctx.new) }
     ensures err { OnErr result (KeepsPlace ctx.old ctx.new) }
 {
     let below = is_below(ctx.schema, &entry.1, found.expected)?;

@@ -1,6 +1,6 @@
 //! Each variable is used only where its type is allowed (GraphQL, October 2021, section 5.8.5).
 
-ghost use Rattle.std.specs.Prelude.{◌≡◌, [], ℕ, List, Option, OnErr, OnOk, map, option_map};
+ghost use Rattle.std.specs.Prelude.{◌≡◌, [], ℕ, List, Option, IfOk, OnErr, OnOk, map, option_map};
 ghost use Rattle.language.specs.Types.{borrowed_shape};
 ghost use Rattle.walk.specs.Entering.{EachGives};
 ghost use Rattle.walk.specs.Rule.{allows_none, always, Appended};
@@ -61,7 +61,7 @@ impl<'a> VariableInAllowedPosition<'a> {
         index: &ScopeIndex<'_>,
     ) -> Result<(), OutOfMemory>
         requires { IsIndexOf document.now index.now }
-        ensures ok { OnOk result (Appended
+        ensures ok { IfOk result (λ _. Appended
             (DocumentGives ctx.old.schema.types document.now (recorded_uses self.now)) ctx.old ctx.new) }
         ensures err { OnErr result (KeepsPlace ctx.old ctx.new) }
     {
@@ -150,7 +150,7 @@ fn report_use<'a, S: CheckedScalar>(
     variables: &FirstVariables<'_, S>,
     found: &TypedUse<'_>,
 ) -> Result<(), OutOfMemory>
-    ensures ok { OnOk result (Appended
+    ensures ok { IfOk result (λ _. Appended
         (JudgedIfDefined ctx.old.schema.types (kept_first variables.now found.now.variable.now) (use_value found.now))
         ctx.old ctx.new) }
     ensures err { OnErr result (KeepsPlace ctx.old ctx.new) }
@@ -168,7 +168,7 @@ fn report_uses<'a, S: CheckedScalar>(
     variables: &FirstVariables<'_, S>,
     uses: &[TypedUse<'_>],
 ) -> Result<(), OutOfMemory>
-    ensures ok { OnOk result (Appended
+    ensures ok { IfOk result (λ _. Appended
         (UsesGive ctx.old.schema.types (kept_first variables.now) (map use_value uses.now)) ctx.old ctx.new) }
     ensures err { OnErr result (KeepsPlace ctx.old ctx.new) }
 {
@@ -186,7 +186,7 @@ fn report_place<'a, S: CheckedScalar>(
     uses: &[Vec<TypedUse<'_>>],
     place: usize,
 ) -> Result<(), OutOfMemory>
-    ensures ok { OnOk result (Appended
+    ensures ok { IfOk result (λ _. Appended
         (UsesGive ctx.old.schema.types (kept_first variables.now) (uses_in (use_values uses.now) place))
         ctx.old ctx.new) }
     ensures err { OnErr result (KeepsPlace ctx.old ctx.new) }
@@ -205,7 +205,7 @@ fn report_places<'a, S: CheckedScalar>(
     uses: &[Vec<TypedUse<'_>>],
     places: &[usize],
 ) -> Result<(), OutOfMemory>
-    ensures ok { OnOk result (Appended
+    ensures ok { IfOk result (λ _. Appended
         (EachGives
         (λ place fs. UsesGive ctx.old.schema.types (kept_first variables.now) (uses_in (use_values uses.now) place) fs)
         places.now) ctx.old ctx.new) }
@@ -230,7 +230,7 @@ fn report_operations<'a, S: CheckedScalar>(
 ) -> Result<(), OutOfMemory>
     requires index { IsIndexOf document.now index.now }
     requires ready { IsReady index.now search.old }
-    ensures ok { OnOk result ((name : Option (List ℕ)) → own.now ≡ places_of document.now (operation name)
+    ensures ok { IfOk result (λ _. (name : Option (List ℕ)) → own.now ≡ places_of document.now (operation name)
         → Appended (OperationsGive ctx.old.schema.types document.now (use_values uses.now) name) ctx.old ctx.new) }
     ensures ready { OnOk result (IsReady index.now search.new) }
     ensures err { OnErr result (KeepsPlace ctx.old ctx.new) }
@@ -254,7 +254,7 @@ fn report_names<'a, S: CheckedScalar>(
 ) -> Result<(), OutOfMemory>
     requires index { IsIndexOf document.now index.now }
     requires ready { IsReady index.now search.old }
-    ensures ok { OnOk result (Appended
+    ensures ok { IfOk result (λ _. Appended
         (EachGives (OperationsGive ctx.old.schema.types document.now (use_values uses.now)) (operation_names index.now))
         ctx.old ctx.new) }
     ensures err { OnErr result (KeepsPlace ctx.old ctx.new) }
@@ -275,7 +275,7 @@ fn report_document<'a, S: CheckedScalar>(
     uses: &[Vec<TypedUse<'_>>],
 ) -> Result<(), OutOfMemory>
     requires { IsIndexOf document.now index.now }
-    ensures ok { OnOk result (Appended
+    ensures ok { IfOk result (λ _. Appended
         (DocumentGives ctx.old.schema.types document.now (use_values uses.now)) ctx.old ctx.new) }
     ensures err { OnErr result (KeepsPlace ctx.old ctx.new) }
 {
