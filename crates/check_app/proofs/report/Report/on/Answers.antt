@@ -15,6 +15,6 @@ returns g c = record {
     is_clean = c.in_ok-report.ensures.is_clean;
   };
   compared = c.in_ok-compared.compared;
-  all = told_all _ _ _ c.args.document.now _ _ c.args.schema.now _ _ _ _ c.in_ok-ctx.ensures c.in_ok-compared.ensures.appended (permuted_as _ _ _ c.in_ok-errors.ensures.all c.as_slice.ensures.value);
+  all = told_all _ c.args.document.now _ _ c.args.schema.now _ _ _ _ c.in_ok-ctx.ensures c.in_ok-compared.ensures.appended (permuted_as _ _ _ c.in_ok-errors.ensures.all c.as_slice.ensures.value);
   pairs = refl;
 }
