@@ -1,3 +1,4 @@
+pub mod Rules
 pub mod Tasks
 pub mod Told
 pub mod Written

@@ -5,15 +5,14 @@ ghost use Rattle.lint_app.specs.Told.{Adds, AddsIf, AreToldAs, HasKnownTypes, Is
 
 use crate::failure::Failure;
 use crate::files::joined_of;
+use crate::rules::LintRules;
 use graphql_reader::{ReadError, SourceScalar, read_document};
 use lint_report::issues::Issue;
 use lint_report::sources::{Joined, Place, Source};
 use lint_report::text_report::write_fault;
 use std::alloc::Global;
 use validation::laws::clean_documents;
-use validation::{
-    AllRules, Definition, OutOfMemory, RootNode, RuleError, Variables, validate_input_values,
-};
+use validation::{Definition, OutOfMemory, RootNode, RuleError, Variables, validate_input_values};
 
 /// The schema and the values by which files of queries are judged, and the files.
 #[derive(Clone, Copy)]
@@ -43,7 +42,7 @@ impl Judge<'_> {
     /// Out of memory.
     pub fn each(&self, alloc: Global, faults: &mut String) -> Result<Report, Failure>
         ensures { IfOk result
-            (TellsEach ⟦<SourceScalar as AllRules<'static>>⟧.rules self.now.root.now (option_copied self.now.values)
+            (TellsEach ⟦<SourceScalar as LintRules>⟧.rules self.now.root.now (option_copied self.now.values)
             self.now.sources.now) }
     {
         let mut issues = Vec::new(alloc);
@@ -67,7 +66,7 @@ impl Judge<'_> {
     ) -> Result<bool, Failure>
         ensures { IfOk result
             (λ is_document. AddsIf is_document
-            (TellsFiles ⟦<SourceScalar as AllRules<'static>>⟧.rules self.now.root.now (option_copied self.now.values) file
+            (TellsFiles ⟦<SourceScalar as LintRules>⟧.rules self.now.root.now (option_copied self.now.values) file
             (source.now ∷ [])) issues.old.items issues.new.items) }
     {
         let mut joined = Joined::new(alloc);
@@ -83,7 +82,7 @@ impl Judge<'_> {
     /// Out of memory.
     pub fn together(&self, alloc: Global, faults: &mut String) -> Result<Report, Failure>
         ensures { IfOk result
-            (TellsTogether ⟦<SourceScalar as AllRules<'static>>⟧.rules self.now.root.now (option_copied self.now.values)
+            (TellsTogether ⟦<SourceScalar as LintRules>⟧.rules self.now.root.now (option_copied self.now.values)
             self.now.sources.now) }
     {
         if !self.are_documents(alloc, faults)? {
@@ -142,7 +141,7 @@ impl Judge<'_> {
     ) -> Result<bool, Failure>
         ensures { IfOk result
             (λ is_document. AddsIf is_document
-            (TellsRead ⟦<SourceScalar as AllRules<'static>>⟧.rules self.now.root.now (option_copied self.now.values) joined.now
+            (TellsRead ⟦<SourceScalar as LintRules>⟧.rules self.now.root.now (option_copied self.now.values) joined.now
             file) issues.old.items issues.new.items) }
     {
         match read_document(alloc, joined.text()) {
@@ -169,7 +168,7 @@ impl Judge<'_> {
         issues: &mut Vec<Issue>,
     ) -> Result<(), OutOfMemory>
         ensures { OnOk result
-            (Adds (TellsDocument ⟦<SourceScalar as AllRules<'static>>⟧.rules self.now.root.now (option_copied self.now.values)
+            (Adds (TellsDocument ⟦<SourceScalar as LintRules>⟧.rules self.now.root.now (option_copied self.now.values)
             joined.now file document.now) issues.old.items issues.new.items) }
     {
         let found = self.root.validate(alloc, document)?;
@@ -191,7 +190,7 @@ impl Judge<'_> {
         document: &[Definition<'_, SourceScalar>],
         issues: &mut Vec<Issue>,
     ) -> Result<(), OutOfMemory>
-        requires { IsErrorFree ⟦<SourceScalar as AllRules<'static>>⟧.rules self.now.root.now document.now }
+        requires { IsErrorFree ⟦<SourceScalar as LintRules>⟧.rules self.now.root.now document.now }
         ensures { OnOk result
             (Adds (TellsFaultsIn self.now.root.now (option_copied self.now.values) joined.now file document.now)
             issues.old.items issues.new.items) }
@@ -213,7 +212,7 @@ impl Judge<'_> {
         values: &Variables<SourceScalar>,
         issues: &mut Vec<Issue>,
     ) -> Result<(), OutOfMemory>
-        requires { IsErrorFree ⟦<SourceScalar as AllRules<'static>>⟧.rules self.now.root.now document.now }
+        requires { IsErrorFree ⟦<SourceScalar as LintRules>⟧.rules self.now.root.now document.now }
         ensures { OnOk result (Adds (TellsFaultsIn self.now.root.now (Some values.now) joined.now file document.now)
             issues.old.items issues.new.items) }
     {

@@ -13,5 +13,6 @@ pub mod failure;
 pub mod files;
 pub mod machine;
 pub mod program;
+pub mod rules;
 pub mod schemas;
 pub mod values;

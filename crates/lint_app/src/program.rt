@@ -11,6 +11,7 @@ ghost use Rattle.lint_app.specs.Written.{WritesAsked, WritesTask, asks_for_help,
 use crate::documents::{Judge, Report};
 use crate::failure::Failure;
 use crate::files::{Inputs, read_sources};
+use crate::rules::LintRules;
 use crate::schemas::read_root;
 use crate::values::values_of_file;
 use clap::Error;
@@ -22,7 +23,7 @@ use lint_report::sources::Source;
 use lint_report::text_report::text_report;
 use std::alloc::Global;
 use std::io::{self, Write};
-use validation::{AllRules, OutOfMemory, RootNode, Variables};
+use validation::{OutOfMemory, RootNode, Variables};
 
 /// The report, as it is written to the output.
 #[derive(Drop)]
@@ -50,10 +51,10 @@ pub fn run<I: Inputs, W: Write, E: Write>(
 ) -> u8
     ensures status { result ≤ 2 }
     ensures told { asks_for_help words.now ≡ false → result ≤ 1
-        → WritesAsked ⟦<SourceScalar as AllRules<'static>>⟧.rules words.now (I.file inputs.now) (W.contents output.old)
+        → WritesAsked ⟦<SourceScalar as LintRules>⟧.rules words.now (I.file inputs.now) (W.contents output.old)
         (W.contents output.new) result }
     ensures answered { result ≤ 1
-        → WantsHelp (word_texts words.now) ⊎ WritesAsked ⟦<SourceScalar as AllRules<'static>>⟧.rules words.now
+        → WantsHelp (word_texts words.now) ⊎ WritesAsked ⟦<SourceScalar as LintRules>⟧.rules words.now
         (I.file inputs.now) (W.contents output.old) (W.contents output.new) result }
     ensures quiet { result ≤ 1 → errors.new ≡ errors.old }
 {
@@ -111,7 +112,7 @@ pub fn run_task<I: Inputs, W: Write, E: Write>(
 ) -> u8
     ensures status { result ≤ 2 }
     ensures told { result ≤ 1
-        → WritesTask ⟦<SourceScalar as AllRules<'static>>⟧.rules (I.file inputs.now) task.now (W.contents output.old)
+        → WritesTask ⟦<SourceScalar as LintRules>⟧.rules (I.file inputs.now) task.now (W.contents output.old)
         (W.contents output.new) result }
     ensures quiet { result ≤ 1 → errors.new ≡ errors.old }
 {
@@ -192,7 +193,7 @@ fn judge_all<I: Inputs>(
     inputs: &I,
     faults: &mut String,
 ) -> Result<Told, Failure>
-    ensures { IfOk result (TellsTask ⟦<SourceScalar as AllRules<'static>>⟧.rules (I.file inputs.now) task.now) }
+    ensures { IfOk result (TellsTask ⟦<SourceScalar as LintRules>⟧.rules (I.file inputs.now) task.now) }
 {
     if task.inputs() > 1 {
         faults.push_str("lint: error: the standard input can be named only once\n")?;
@@ -210,7 +211,7 @@ fn judge_by<I: Inputs>(
     root: &RootNode<SourceScalar>,
     faults: &mut String,
 ) -> Result<Told, Failure>
-    ensures { IfOk result (TellsBy ⟦<SourceScalar as AllRules<'static>>⟧.rules (I.file inputs.now) task.now root.now) }
+    ensures { IfOk result (TellsBy ⟦<SourceScalar as LintRules>⟧.rules (I.file inputs.now) task.now root.now) }
 {
     match task.variables {
         Some(path) => judge_with(alloc, task, inputs, root, path, faults),
@@ -227,7 +228,7 @@ fn judge_with<I: Inputs>(
     faults: &mut String,
 ) -> Result<Told, Failure>
     ensures { IfOk result (λ told. (values : GivenValues)
-        × TellsQueries ⟦<SourceScalar as AllRules<'static>>⟧.rules (I.file inputs.now) task.now root.now (Some values) told) }
+        × TellsQueries ⟦<SourceScalar as LintRules>⟧.rules (I.file inputs.now) task.now root.now (Some values) told) }
 {
     let values = values_of_file(alloc, inputs, path, faults)?;
     judge_queries(alloc, task, inputs, root, Some(&values), faults)
@@ -241,7 +242,7 @@ fn judge_queries<I: Inputs>(
     values: Option<&Variables<SourceScalar>>,
     faults: &mut String,
 ) -> Result<Told, Failure>
-    ensures { IfOk result (TellsQueries ⟦<SourceScalar as AllRules<'static>>⟧.rules (I.file inputs.now) task.now root.now
+    ensures { IfOk result (TellsQueries ⟦<SourceScalar as LintRules>⟧.rules (I.file inputs.now) task.now root.now
         (option_copied values.entry)) }
 {
     let read = read_sources(alloc, inputs, task.queries.as_slice(), faults)?;
@@ -263,7 +264,7 @@ fn report_of(
     judge: &Judge<'_>,
     faults: &mut String,
 ) -> Result<Report, Failure>
-    ensures { IfOk result (IsReport ⟦<SourceScalar as AllRules<'static>>⟧.rules task.now.is_together judge.now.root.now
+    ensures { IfOk result (IsReport ⟦<SourceScalar as LintRules>⟧.rules task.now.is_together judge.now.root.now
         (option_copied judge.now.values) judge.now.sources.now) }
 {
     if !task.is_together {
