@@ -92,22 +92,69 @@ pub fn is_empty(rt: &impl Abort, report: Result<String, AllocError>) {
     assert_eq!(rt; report.as_str(), "");
 }
 
+// Each table has a test of its own: a function that names several takes too many steps to check.
+
 #[test]
 fn documents_are_read(rt: HostRuntime) {
-    let (alloc, reader) = (rt.alloc(), Reader::Document);
-    is_empty(&rt, otherwise(alloc, reader, DOCUMENTS));
-    is_empty(&rt, otherwise(alloc, reader, TOKENS));
-    is_empty(&rt, otherwise(alloc, reader, DOCUMENT_EXAMPLES));
-    is_empty(&rt, otherwise(alloc, reader, NO_DOCUMENTS));
-    is_empty(&rt, otherwise(alloc, reader, NO_TOKENS));
-    is_empty(&rt, nested_otherwise(alloc, reader, NESTED_DOCUMENTS));
+    is_empty(&rt, otherwise(rt.alloc(), Reader::Document, DOCUMENTS));
+}
+
+#[test]
+fn tokens_are_read(rt: HostRuntime) {
+    is_empty(&rt, otherwise(rt.alloc(), Reader::Document, TOKENS));
+}
+
+#[test]
+fn document_examples_are_read(rt: HostRuntime) {
+    is_empty(
+        &rt,
+        otherwise(rt.alloc(), Reader::Document, DOCUMENT_EXAMPLES),
+    );
+}
+
+#[test]
+fn faulty_documents_are_refused(rt: HostRuntime) {
+    is_empty(&rt, otherwise(rt.alloc(), Reader::Document, NO_DOCUMENTS));
+}
+
+#[test]
+fn faulty_tokens_are_refused(rt: HostRuntime) {
+    is_empty(&rt, otherwise(rt.alloc(), Reader::Document, NO_TOKENS));
+}
+
+#[test]
+fn nested_documents_are_read_up_to_the_limit(rt: HostRuntime) {
+    is_empty(
+        &rt,
+        nested_otherwise(rt.alloc(), Reader::Document, NESTED_DOCUMENTS),
+    );
 }
 
 #[test]
 fn type_systems_are_read(rt: HostRuntime) {
-    let (alloc, reader) = (rt.alloc(), Reader::TypeSystem);
-    is_empty(&rt, otherwise(alloc, reader, TYPE_SYSTEMS));
-    is_empty(&rt, otherwise(alloc, reader, TYPE_SYSTEM_EXAMPLES));
-    is_empty(&rt, otherwise(alloc, reader, NO_TYPE_SYSTEMS));
-    is_empty(&rt, nested_otherwise(alloc, reader, NESTED_TYPE_SYSTEMS));
+    is_empty(&rt, otherwise(rt.alloc(), Reader::TypeSystem, TYPE_SYSTEMS));
+}
+
+#[test]
+fn type_system_examples_are_read(rt: HostRuntime) {
+    is_empty(
+        &rt,
+        otherwise(rt.alloc(), Reader::TypeSystem, TYPE_SYSTEM_EXAMPLES),
+    );
+}
+
+#[test]
+fn faulty_type_systems_are_refused(rt: HostRuntime) {
+    is_empty(
+        &rt,
+        otherwise(rt.alloc(), Reader::TypeSystem, NO_TYPE_SYSTEMS),
+    );
+}
+
+#[test]
+fn nested_type_systems_are_read_up_to_the_limit(rt: HostRuntime) {
+    is_empty(
+        &rt,
+        nested_otherwise(rt.alloc(), Reader::TypeSystem, NESTED_TYPE_SYSTEMS),
+    );
 }
