@@ -3,6 +3,7 @@ use crate::merge_rows::{CONFLICTS, DEEP, OWN, TYPES, WORKED};
 use crate::rows::{ANSWERS, NAMES, PARTS, RULES, STRINGS, TEXTS, VALUES, VARIABLES, WORDS};
 use check_app::program::run;
 use std::alloc::{AllocError, Global};
+use std::process::Abort;
 use std::test::Fail;
 
 /// Arguments, with a space between each two; the input; the exit status; and what is written: to the output with a
@@ -57,20 +58,81 @@ fn first_wrong(alloc: Global, rows: &[Row]) -> Result<Option<&'static str>, Allo
     Ok(None)
 }
 
+// Fails at the first row that ends otherwise.
+fn all_end_so(rt: &impl Abort, first: Result<Option<&'static str>, AllocError>) {
+    assert_eq!(rt; first.expect(rt, "memory"), None);
+}
+
+// Each table has a test of its own: a function that names several takes too many steps to check.
+
 #[test]
-fn runs_end_as_each_row_says(rt: HostRuntime) {
-    for rows in [
-        WORDS, ANSWERS, VARIABLES, RULES, VALUES, TEXTS, PARTS, STRINGS, NAMES,
-    ] {
-        assert_eq!(rt; first_wrong(rt.alloc(), rows).expect(&rt, "memory"), None);
-    }
+fn arguments_end_as_each_row_says(rt: HostRuntime) {
+    all_end_so(&rt, first_wrong(rt.alloc(), WORDS));
 }
 
 #[test]
-fn fields_merge_as_each_row_says(rt: HostRuntime) {
-    for rows in [WORKED, OWN, CONFLICTS, DEEP, TYPES] {
-        assert_eq!(rt; first_wrong(rt.alloc(), rows).expect(&rt, "memory"), None);
-    }
+fn answers_end_as_each_row_says(rt: HostRuntime) {
+    all_end_so(&rt, first_wrong(rt.alloc(), ANSWERS));
+}
+
+#[test]
+fn variables_end_as_each_row_says(rt: HostRuntime) {
+    all_end_so(&rt, first_wrong(rt.alloc(), VARIABLES));
+}
+
+#[test]
+fn rules_end_as_each_row_says(rt: HostRuntime) {
+    all_end_so(&rt, first_wrong(rt.alloc(), RULES));
+}
+
+#[test]
+fn values_end_as_each_row_says(rt: HostRuntime) {
+    all_end_so(&rt, first_wrong(rt.alloc(), VALUES));
+}
+
+#[test]
+fn texts_end_as_each_row_says(rt: HostRuntime) {
+    all_end_so(&rt, first_wrong(rt.alloc(), TEXTS));
+}
+
+#[test]
+fn parts_of_documents_end_as_each_row_says(rt: HostRuntime) {
+    all_end_so(&rt, first_wrong(rt.alloc(), PARTS));
+}
+
+#[test]
+fn strings_end_as_each_row_says(rt: HostRuntime) {
+    all_end_so(&rt, first_wrong(rt.alloc(), STRINGS));
+}
+
+#[test]
+fn names_end_as_each_row_says(rt: HostRuntime) {
+    all_end_so(&rt, first_wrong(rt.alloc(), NAMES));
+}
+
+#[test]
+fn worked_merging_end_as_each_row_says(rt: HostRuntime) {
+    all_end_so(&rt, first_wrong(rt.alloc(), WORKED));
+}
+
+#[test]
+fn own_fields_end_as_each_row_says(rt: HostRuntime) {
+    all_end_so(&rt, first_wrong(rt.alloc(), OWN));
+}
+
+#[test]
+fn conflicts_end_as_each_row_says(rt: HostRuntime) {
+    all_end_so(&rt, first_wrong(rt.alloc(), CONFLICTS));
+}
+
+#[test]
+fn deep_fields_end_as_each_row_says(rt: HostRuntime) {
+    all_end_so(&rt, first_wrong(rt.alloc(), DEEP));
+}
+
+#[test]
+fn types_of_fields_end_as_each_row_says(rt: HostRuntime) {
+    all_end_so(&rt, first_wrong(rt.alloc(), TYPES));
 }
 
 /// A document after this many line feeds and spaces.
