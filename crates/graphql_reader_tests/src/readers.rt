@@ -1,8 +1,13 @@
 //! Parses the rows of the tables. A test shows all rows that come out otherwise.
-use crate::document_rows::{DOCUMENTS, NESTED_DOCUMENTS, NO_DOCUMENTS};
+use crate::document_rows::{
+    DOCUMENTS, NESTED_DOCUMENTS, NO_DOCUMENTS, NO_DOCUMENTS_2, NO_DOCUMENTS_3, NO_DOCUMENTS_4,
+};
 use crate::example_rows::{DOCUMENT_EXAMPLES, TYPE_SYSTEM_EXAMPLES};
-use crate::token_rows::{NO_TOKENS, TOKENS};
-use crate::type_system_rows::{NESTED_TYPE_SYSTEMS, NO_TYPE_SYSTEMS, TYPE_SYSTEMS};
+use crate::token_rows::{NO_TOKENS, NO_TOKENS_2, NO_TOKENS_3, NO_TOKENS_4, TOKENS};
+use crate::type_system_rows::{
+    NESTED_TYPE_SYSTEMS, NO_TYPE_SYSTEMS, NO_TYPE_SYSTEMS_2, NO_TYPE_SYSTEMS_3, NO_TYPE_SYSTEMS_4,
+    NO_TYPE_SYSTEMS_5, TYPE_SYSTEMS,
+};
 use graphql_reader::{ReadError, read_document, read_type_system};
 use std::alloc::{AllocError, Global};
 use std::process::Abort;
@@ -118,8 +123,38 @@ fn faulty_documents_are_refused(rt: HostRuntime) {
 }
 
 #[test]
+fn faulty_documents_are_refused_2(rt: HostRuntime) {
+    is_empty(&rt, otherwise(rt.alloc(), Reader::Document, NO_DOCUMENTS_2));
+}
+
+#[test]
+fn faulty_documents_are_refused_3(rt: HostRuntime) {
+    is_empty(&rt, otherwise(rt.alloc(), Reader::Document, NO_DOCUMENTS_3));
+}
+
+#[test]
+fn faulty_documents_are_refused_4(rt: HostRuntime) {
+    is_empty(&rt, otherwise(rt.alloc(), Reader::Document, NO_DOCUMENTS_4));
+}
+
+#[test]
 fn faulty_tokens_are_refused(rt: HostRuntime) {
     is_empty(&rt, otherwise(rt.alloc(), Reader::Document, NO_TOKENS));
+}
+
+#[test]
+fn faulty_tokens_are_refused_2(rt: HostRuntime) {
+    is_empty(&rt, otherwise(rt.alloc(), Reader::Document, NO_TOKENS_2));
+}
+
+#[test]
+fn faulty_tokens_are_refused_3(rt: HostRuntime) {
+    is_empty(&rt, otherwise(rt.alloc(), Reader::Document, NO_TOKENS_3));
+}
+
+#[test]
+fn faulty_tokens_are_refused_4(rt: HostRuntime) {
+    is_empty(&rt, otherwise(rt.alloc(), Reader::Document, NO_TOKENS_4));
 }
 
 #[test]
@@ -148,6 +183,38 @@ fn faulty_type_systems_are_refused(rt: HostRuntime) {
     is_empty(
         &rt,
         otherwise(rt.alloc(), Reader::TypeSystem, NO_TYPE_SYSTEMS),
+    );
+}
+
+#[test]
+fn faulty_type_systems_are_refused_2(rt: HostRuntime) {
+    is_empty(
+        &rt,
+        otherwise(rt.alloc(), Reader::TypeSystem, NO_TYPE_SYSTEMS_2),
+    );
+}
+
+#[test]
+fn faulty_type_systems_are_refused_3(rt: HostRuntime) {
+    is_empty(
+        &rt,
+        otherwise(rt.alloc(), Reader::TypeSystem, NO_TYPE_SYSTEMS_3),
+    );
+}
+
+#[test]
+fn faulty_type_systems_are_refused_4(rt: HostRuntime) {
+    is_empty(
+        &rt,
+        otherwise(rt.alloc(), Reader::TypeSystem, NO_TYPE_SYSTEMS_4),
+    );
+}
+
+#[test]
+fn faulty_type_systems_are_refused_5(rt: HostRuntime) {
+    is_empty(
+        &rt,
+        otherwise(rt.alloc(), Reader::TypeSystem, NO_TYPE_SYSTEMS_5),
     );
 }
 
