@@ -1,5 +1,5 @@
 //! A matrix of bits: a set of columns for each row.
-ghost use Rattle.std.specs.Prelude.{◌≡◌, ◌<◌, ◌&&◌, ◌||◌, ℕ, false, not, nat_lt, length, IsTrue, OnOk, OnErr, IfOk};
+ghost use Rattle.std.specs.Prelude.{◌≡◌, ◌<◌, ◌&&◌, ◌||◌, ℕ, false, not, nat_lt, length, IsOk, IsTrue, OnOk, OnErr, IfOk};
 ghost use Rattle.bit_matrix.specs.Count.{count_below};
 ghost use Rattle.bit_matrix.specs.Rows.{marked};
 ghost use Rattle.bit_matrix.specs.Set.{has};
@@ -39,11 +39,12 @@ impl BitRows {
     ///
     /// # Errors
     ///
-    /// Out of memory; no set has changed then.
+    /// Out of memory, for a new member alone; no set has changed then.
     pub fn insert(&mut self, row: usize, column: usize) -> Result<(), AllocError>
         ensures there { OnOk result (IsTrue (marked self.new row column)) }
         ensures others { (i j : ℕ) → ((i ≡ row) × (j ≡ column) → ⊥) → marked self.new i j ≡ marked self.old i j }
         ensures err { OnErr result (marked self.new row column ≡ marked self.old row column) }
+        ensures succeeds { IsTrue (marked self.old row column) → IsOk result }
     {
         self.grow(row)?;
         self.rows[row].insert(column)?;
@@ -72,6 +73,7 @@ impl BitRows {
     fn grow(&mut self, row: usize) -> Result<(), AllocError>
         ensures same { (i j : ℕ) → marked self.new i j ≡ marked self.old i j }
         ensures room { OnOk result (row < length self.new.rows.items) }
+        ensures succeeds { row < length self.old.rows.items → IsOk result }
     {
         while self.rows.len() <= row {
             self.rows.push(BitSet::new(self.alloc))?;

@@ -1,5 +1,5 @@
 //! A set of small numbers, one bit for each.
-ghost use Rattle.std.specs.Prelude.{◌≡◌, ◌≢◌, ◌<◌, ◌≤◌, ◌+◌, ◌*◌, ◌/◌, ◌%◌, ◌^◌, ◌&&◌, ◌||◌, ℕ, false, not, nat_eq, nat_lt, length, IsTrue, OnOk, OnErr, IfOk};
+ghost use Rattle.std.specs.Prelude.{◌≡◌, ◌≢◌, ◌<◌, ◌≤◌, ◌+◌, ◌*◌, ◌/◌, ◌%◌, ◌^◌, ◌&&◌, ◌||◌, ℕ, false, not, nat_eq, nat_lt, length, IsOk, IsTrue, OnOk, OnErr, IfOk};
 ghost use Rattle.bit_matrix.specs.Set.{has, bit_of, is_bit, new_below};
 
 use std::alloc::{AllocError, Global};
@@ -34,12 +34,13 @@ impl BitSet {
     ///
     /// # Errors
     ///
-    /// Out of memory; the set has the same members then.
+    /// Out of memory, for a new member alone; the set has the same members then.
     pub fn insert(&mut self, n: usize) -> Result<bool, AllocError>
         ensures there { OnOk result (IsTrue (has self.new n)) }
         ensures others { (m : ℕ) → m ≢ n → has self.new m ≡ has self.old m }
         ensures fresh { IfOk result (λ fresh. fresh ≡ not (has self.old n)) }
         ensures err { OnErr result (has self.new n ≡ has self.old n) }
+        ensures succeeds { IsTrue (has self.old n) → IsOk result }
     {
         self.grow(n / 64 + 1)?;
         let word = self.words[n / 64];
@@ -84,6 +85,7 @@ impl BitSet {
         requires { count ≤ 2 ^ 58 }
         ensures same { (m : ℕ) → has self.new m ≡ has self.old m }
         ensures room { OnOk result (count ≤ length self.new.words.items) }
+        ensures succeeds { count ≤ length self.old.words.items → IsOk result }
     {
         if self.words.len() < count {
             self.words.resize(count, 0)?;

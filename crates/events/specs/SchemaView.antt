@@ -9,18 +9,12 @@ use Rattle.meta.specs.declared.kinds.MetaTypeOf.{MetaTypeOf}
 use Rattle.meta.specs.declared.fields.Field.{Field}
 use Rattle.meta.specs.declared.arguments.Argument.{Argument}
 use Rattle.meta.specs.Kinds.{name_of_meta, field_named, input_field_named}
-use Rattle.schema.specs.Catalog.{Catalog, type_in, root_in, directive_in}
+use Rattle.schema.specs.Catalog.{Catalog, type_in, directive_in, root_type}
 
 module _ {S C : Type 0} where
   -- the type that a written type names
   abbrev pub named_type : Catalog S C → Option TypeShape → Option (MetaTypeOf S C)
   named_type schema literal = option_and_then (λ l. type_in l.name schema) literal
-
-  -- the root of the operations of a kind, where the schema has one
-  abbrev pub root_type : Catalog S C → OperationType → Option (MetaTypeOf S C)
-  root_type schema kind.Query = root_in (Some schema.roots.query) schema
-  root_type schema kind.Mutation = root_in schema.roots.mutation schema
-  root_type schema kind.Subscription = root_in schema.roots.subscription schema
 
   -- as a type that is never null
   abbrev pub root_literal : Catalog S C → OperationType → Option TypeShape

@@ -1,5 +1,5 @@
 //! A list of lists, stored in one vector.
-ghost use Rattle.std.specs.Prelude.{◌≡◌, ◌+◌, ◌++◌, ◌∷◌, [], List, OnOk, length};
+ghost use Rattle.std.specs.Prelude.{◌≡◌, ◌+◌, ◌++◌, ◌∷◌, [], List, OnErr, OnOk, length};
 ghost use Rattle.jagged_lists.specs.Lists.{Holds, list_at};
 
 use std::alloc::{AllocError, Global};
@@ -42,10 +42,12 @@ impl<T> FlatLists<T> {
     ///
     /// # Errors
     ///
-    /// Out of memory.
+    /// Out of memory; the lists, and the items of the next one, are the same then.
     pub fn end_list(&mut self) -> Result<(), AllocError>
-        ensures { OnOk result ((ls : List (List T)) (next : List T) → Holds ls next self.old
+        ensures ok { OnOk result ((ls : List (List T)) (next : List T) → Holds ls next self.old
             → Holds (ls ++ next ∷ []) [] self.new) }
+        ensures err { OnErr result ((ls : List (List T)) (next : List T) → Holds ls next self.old
+            → Holds ls next self.new) }
     {
         let end = self.items.len();
         self.ranges.push((self.start, end))?;

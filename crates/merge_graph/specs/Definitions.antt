@@ -7,17 +7,11 @@ use Rattle.language.specs.declared.tree.OperationType.TheVariants as kind
 use Rattle.language.specs.declared.tree.Definition.{Definition}
 use Rattle.language.specs.declared.tree.Definition.TheVariants as definition
 use Rattle.meta.specs.declared.kinds.MetaTypeOf.{MetaTypeOf}
-use Rattle.schema.specs.Catalog.{Catalog, type_in, root_in}
+use Rattle.schema.specs.Catalog.{Catalog, type_in, root_type}
 use Rattle.fragment_graph.specs.declared.numbers.Numbers.{Numbers}
 use Rattle.fragment_graph.specs.Numbers.{number_of, IsNamed, Defines}
 
 module _ {S C : Type 0} where
-  -- the root of the operations of a kind, where the schema has one
-  abbrev pub root_type : Catalog S C → OperationType → Option (MetaTypeOf S C)
-  root_type schema kind.Query = root_in (Some schema.roots.query) schema
-  root_type schema kind.Mutation = root_in schema.roots.mutation schema
-  root_type schema kind.Subscription = root_in schema.roots.subscription schema
-
   -- the type around a definition's set: the root of its kind, or the type of its condition, where they are known
   abbrev pub type_round : Catalog S C → Definition S → Option (MetaTypeOf S C)
   type_round schema (definition.Operation o) = root_type schema o.item.operation_type

@@ -2,7 +2,8 @@
 ghost use Rattle.std.specs.Prelude.{◌≡◌, None, IfOk, option_copied, length};
 ghost use Rattle.std.specs.List.{All};
 ghost use Rattle.fragment_graph.specs.DocumentGraph.{IsGraphOf};
-ghost use Rattle.merge_graph.specs.Definitions.{root_type, type_round, selections_of, AreLast, last_place, noted};
+ghost use Rattle.schema.specs.Catalog.{root_type};
+ghost use Rattle.merge_graph.specs.Definitions.{type_round, selections_of, AreLast, last_place, noted};
 
 use fragment_graph::document_graph::DocumentGraph;
 use fragment_graph::numbers::name_count;

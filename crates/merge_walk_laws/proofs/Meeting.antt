@@ -13,10 +13,10 @@ use Rattle.meta.specs.declared.fields.Field as metadata
 use Rattle.meta.specs.declared.kinds.MetaTypeOf.{MetaTypeOf}
 use Rattle.meta.specs.Kinds.{name_of_meta}
 use Rattle.schema_validation.specs.Accepted.{is_named}
-use Rattle.schema.specs.Catalog.{Catalog, type_in, root_in}
+use Rattle.schema.specs.Catalog.{Catalog, type_in, root_in, root_type}
 use Rattle.schema_validation.proofs.Finds.{found-passes}
 use Rattle.merge_field_pairs.specs.OwnFields.{entry_under, metadata_under, type_inside, type_below}
-use Rattle.merge_graph.specs.Definitions.{root_type, type_round}
+use Rattle.merge_graph.specs.Definitions.{type_round}
 use Rattle.events.specs.Node.{Name, Placed}
 use Rattle.events.specs.SchemaView.{named_type, field_literal, root_literal}
 use Rattle.events.specs.Typing.{Typing, at_condition, at_field, at_operation, at_fragment}

@@ -81,7 +81,8 @@ impl CheckedScalar for DefaultScalarValue {
 
     ghost may_answer = { λ c v r. (a : _) × (w : _) × (w.now ≡ v) × InputValueParseFn.post (function_of c) a w r };
 
-    ghost one_answer = { λ c v r s p q. ∥∥₁_elim c.one_answer (SameAnswer-prop r s) (λ f. f p.0 q.0 p.1 q.1 r s (p.2 ∙ sym q.2) p.3 q.3) };
+    ghost one_answer = { λ c v r s p q. ∥∥₁_elim c.one_answer (SameAnswer-prop r s)
+        (λ f. f p.0 q.0 p.1 q.1 r s (p.2 ∙ sym q.2) p.3 q.3) };
 
     fn run_check(
         check: &DefaultCheck,

@@ -24,7 +24,7 @@ pub struct NameMap<'a, T> {
 }
 
 impl<'a, T: Copy> NameMap<'a, T> {
-    ghost use Rattle.std.specs.Prelude.{◌≡◌, ◌↔◌, ◌≤◌, ◌*◌, [], ℕ, min, List, None, Some, IsTrue, OnErr, OnOk, IfOk, length, slice_get, if◌then◌else◌};
+    ghost use Rattle.std.specs.Prelude.{◌≡◌, ◌↔◌, ◌≤◌, ◌*◌, [], ℕ, min, List, None, Some, IsOk, IsTrue, OnErr, OnOk, IfOk, length, slice_get, if◌then◌else◌};
     ghost use Rattle.std.specs.Str.{bytes_eq};
     ghost use Rattle.name_tables.specs.Adding.{or_else, Adds, IsUnchanged};
     ghost use Rattle.name_tables.specs.Looking.{held_by, index_held, is_named, other_index};
@@ -150,11 +150,12 @@ impl<'a, T: Copy> NameMap<'a, T> {
     ///
     /// # Errors
     ///
-    /// Out of memory; the map is unchanged then.
+    /// Out of memory, for a new name alone; the map is unchanged then.
     pub fn insert(&mut self, name: &'a str, value: T) -> Result<Option<usize>, AllocError>
         ensures earlier { IfOk result (λ index. index ≡ index_of self.old name.now) }
         ensures adds { OnOk result (Adds name.entry value self.old self.new) }
         ensures err { OnErr result (IsUnchanged self.old self.new) }
+        ensures succeeds { (index : ℕ) → index_of self.old name.now ≡ Some index → IsOk result }
     {
         if self.is_free(name) {
             self.take_slot(name, value)?;
@@ -174,12 +175,13 @@ impl<'a, T: Copy> NameMap<'a, T> {
     ///
     /// # Errors
     ///
-    /// Out of memory; the map is unchanged then.
+    /// Out of memory, for a new name alone; the map is unchanged then.
     pub fn note(&mut self, name: &'a str, value: T) -> Result<Option<T>, AllocError>
         ensures earlier { IfOk result (λ earlier. earlier ≡ value_of self.old name.now) }
         ensures noted { OnOk result ((other : List ℕ) → value_of self.new other
             ≡ or_else (value_of self.old other) (if bytes_eq name.now other then Some value else None)) }
         ensures err { OnErr result (IsUnchanged self.old self.new) }
+        ensures succeeds { (index : ℕ) → index_of self.old name.now ≡ Some index → IsOk result }
     {
         match self.insert(name, value)? {
             Some(index) => Ok(self.value(index)),

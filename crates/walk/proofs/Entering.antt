@@ -15,7 +15,7 @@ use Rattle.events.specs.Typing.{Typing}
 use Rattle.events.proofs.Occurrences.{Inner, IsInner, inner-document, inner-occurrences}
 use Rattle.walk.specs.Step.{Run}
 use Rattle.walk.specs.Rule.{AllowsFrom, always, exactly, any_value}
-use Rattle.walk.specs.Entering.{entering_step, finding_step, found, relating_step, given, EachGives, keeping_step, found_keeping, kept_findings, kept_to, at_close, closing_step, kept_after, closing, nothing_on_the_way, closing_findings, just, made_at, prepared_step, found_by}
+use Rattle.walk.specs.Entering.{entering_step, finding_step, found, relating_step, given, EachGives, keeping_step, found_keeping, kept_findings, kept_to, kept_after, made_at, prepared_step, found_by}
 use Rattle.walk.proofs.Runs.{Run-append, Run-split}
 
 module _ {S C V : Type 0} (step : DocumentScope S C → Occurrence S C → V → V → List ErrorValue → Type 0) (scope : DocumentScope S C) where
@@ -27,39 +27,6 @@ module _ {S C V : Type 0} (step : DocumentScope S C → Occurrence S C → V →
       let q' : Run (entering_step step scope) (events_of after) c b hs = subst (λ z. Run (entering_step step scope) (events_of after) z b hs) same q in
       let all = Run-append (step scope) (occurrences_of inside) (occurrences_of after) mid c b fs hs (run_at_occurrences inside mid c fs p) (run_at_occurrences after c b hs q') in
       (mid, first, fs ++ hs, s, all, e ∙ ap (λ z. first ++ z) (e'' ∙ ap (λ z. fs ++ z) (e' ∙ ap (λ z. z ++ hs) quiet)))
-
--- where no document is left a closing step does nothing
-quiet : {S V : Type 0} (close : V → V → List ErrorValue → Type 0) (n : Node S) (a b : V) (es : List ErrorValue) → is_document n ≡ false → at_close close n a b es → (b ≡ a) × (es ≡ [])
-quiet close (Node.document doc) a b es e h = cc
-quiet close _ a b es e h = h
-
-module _ {S C V K : Type 0} (kept : V → K) (next : DocumentScope S C → Occurrence S C → K → K) (finds : DocumentScope S C → Occurrence S C → K → List ErrorValue) (close : DocumentScope S C → K → V → List ErrorValue → Type 0) (scope : DocumentScope S C) where
-  abbrev entered : Occurrence S C → V → V → List ErrorValue → Type 0
-  entered o a b es = (kept b ≡ next scope o (kept a)) × (es ≡ finds scope o (kept a))
-
-  abbrev closes : TypedEvent S C → V → V → List ErrorValue → Type 0
-  closes = closing_step kept next finds close scope
-
-  inner_run : (o : Outline S C) (a b : V) (es : List ErrorValue) → Inner o → Run closes (events_of o) a b es → Run entered (occurrences_of o) a b es
-  inner_run empty a b es i r = r
-  inner_run (entry node types inside after) a b es (i, j, k) (mid, first, rest, s, r, e) =
-      let leave : TypedEvent S C = record { side = leaving; node = node; types = types } in
-      let (c, fs, gs, p, (d, none, hs, left, q, e'), e'') = Run-split closes (events_of inside) (leave ∷ events_of after) mid b rest r in
-      let (same, none_left) = quiet (λ x y zs. close scope (kept x) y zs) node c d none i left in
-      let q' : Run closes (events_of after) c b hs = subst (λ z. Run closes (events_of after) z b hs) same q in
-      let all = Run-append entered (occurrences_of inside) (occurrences_of after) mid c b fs hs (inner_run inside mid c fs j p) (inner_run after c b hs k q') in
-      (mid, first, fs ++ hs, s, all, e ∙ ap (λ z. first ++ z) (e'' ∙ ap (λ z. fs ++ z) (e' ∙ ap (λ z. z ++ hs) none_left)))
-
-  -- a run through a document: through its occurrences, and then the end
-  document_run : (t : Typing S C) (doc : List (Definition S)) (a b : V) (es : List ErrorValue) → Run closes (events_of (outline_of_document scope.schema t doc)) a b es
-      → (c : V) × (fs : List ErrorValue) × (late : List ErrorValue) × Run entered (occurrences scope.schema t doc) a c fs × close scope (kept c) b late × (es ≡ fs ++ late)
-  document_run t doc a b es (mid, first, rest, s, r, e) =
-      let inside : Outline S C = each (outline_of_definition scope.schema t) doc in
-      let leave : TypedEvent S C = record { side = leaving; node = Node.document doc; types = t } in
-      let (c, fs, gs, p, (d, late, hs, left, (same, none), e'), e'') = Run-split closes (events_of inside) (leave ∷ []) mid b rest r in
-      let p' : Run entered (occurrences_of inside ++ []) mid c fs = subst (λ z. Run entered z mid c fs) (sym (append-nil (occurrences_of inside))) (inner_run inside mid c fs (inner-document scope.schema t doc) p) in
-      let left' : close scope (kept c) b late = subst (λ z. close scope (kept c) z late) (sym same) left in
-      (c, first ++ fs, late, (mid, first, fs, s, p', refl), left', e ∙ ap (λ z. first ++ z) (e'' ∙ ap (λ z. fs ++ z) (e' ∙ ap (λ z. late ++ z) none ∙ append-nil late)) ∙ sym (append_assoc first fs late))
 
 module _ {O V : Type 0} where
   run_finds : (finds : O → List ErrorValue) (os : List O) (a b : V) (es : List ErrorValue) → Run (λ o c d fs. (d ≡ c) × (fs ≡ finds o)) os a b es → es ≡ flat_map finds os
@@ -82,10 +49,6 @@ module _ {O V : Type 0} where
   run_kept kept next finds [] k a b es h r = ap kept r.0 ∙ h
   run_kept kept next finds (o ∷ os) k a b es h (mid, first, rest, s, r, e) =
       run_kept kept next finds os (next o k) mid b rest (s.0 ∙ ap (next o) h) r
-
-none_found : {O K R : Type 0} (next : O → K → K) (k : K) (os : List O) → found_keeping {R = R} next (λ o k. []) k os ≡ []
-none_found next k [] = refl
-none_found next k (o ∷ os) = none_found next (next o k) os
 
 unmade : {S K : Type 0} (make : List (Definition S) → K) (n : Node S) (k : K) → is_document n ≡ false → made_at make n k ≡ k
 unmade make (Node.document doc) k e = cc
@@ -127,22 +90,6 @@ module _ {S C V : Type 0} where
       let scope = scope_of schema doc in
       let q = run_at_occurrences (λ scope o a b es. (kept b ≡ next scope o (kept a)) × (es ≡ finds scope o (kept a))) scope (outline_of_document schema t doc) start end es r in
       (run_kept kept (next scope) (finds scope) (occurrences schema t doc) k start end es fresh q, keeping_keeps kept next finds k start fresh schema t doc end es r)
-
-  -- a rule that closes reports what was found on the way, and then what the end gives by what was kept
-  pub closing_keeps : {K : Type 0} (kept : V → K) (next : DocumentScope S C → Occurrence S C → K → K) (finds : DocumentScope S C → Occurrence S C → K → List ErrorValue) (close : DocumentScope S C → K → V → List ErrorValue → Type 0) (k : K) → AllowsFrom (closing_step kept next finds close) (λ a. kept a ≡ k) (closing next finds close k)
-  closing_keeps kept next finds close k start fresh schema t doc end es r =
-      let scope = scope_of schema doc in
-      let (c, fs, late, p, q, e) = document_run kept next finds close scope t doc start end es r in
-      let found = run_keeps kept (next scope) (finds scope) (occurrences schema t doc) k start c fs fresh p in
-      let after = run_kept kept (next scope) (finds scope) (occurrences schema t doc) k start c fs fresh p in
-      (late, subst (λ z. close scope z end late) after q, e ∙ ap (λ z. z ++ late) found)
-
-  -- where nothing is found on the way and the end gives one list, it is that list
-  pub closing_keeps_just : {K : Type 0} (kept : V → K) (next : DocumentScope S C → Occurrence S C → K → K) (late : DocumentScope S C → K → List ErrorValue) (k : K) → AllowsFrom (closing_step kept next nothing_on_the_way (just late)) (λ a. kept a ≡ k) (always (exactly (closing_findings next late k)))
-  closing_keeps_just kept next late k start fresh schema t doc end es r =
-      let scope = scope_of schema doc in
-      let (fs, p, e) = closing_keeps kept next nothing_on_the_way (just late) k start fresh schema t doc end es r in
-      permuted _ _ (e ∙ ap (λ z. z ++ fs) (none_found (next scope) k (occurrences schema t doc)) ∙ p)
 
   -- a rule that makes something of the document reports what it finds by it
   pub prepared_keeps : {K : Type 0} (kept : V → K) (make : DocumentScope S C → List (Definition S) → K) (finds : DocumentScope S C → K → Occurrence S C → List ErrorValue) → AllowsFrom (prepared_step kept make finds) any_value (always (exactly (found_by make finds)))

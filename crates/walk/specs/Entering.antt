@@ -1,6 +1,6 @@
 -- Steps that are made where nodes are entered, and the lists that they report.
 use Rattle.std.specs.Prelude.{◌≡◌, List, [], ◌∷◌, ◌++◌}
-use Rattle.std.specs.List.{flat_map}
+use Rattle.std.specs.List.{Contains, flat_map}
 use Rattle.walk.specs.ErrorValue.{ErrorValue}
 use Rattle.walk.specs.ContextState.{DocumentScope}
 use Rattle.language.specs.declared.tree.Definition.{Definition}
@@ -9,12 +9,7 @@ use Rattle.events.specs.Typing.{Typing}
 use Rattle.events.specs.TypedEvent.{Side, entering, leaving}
 use Rattle.events.specs.Occurrence.{Occurrence, occurrences}
 use Rattle.walk.specs.Step.{StepOf}
-use Rattle.walk.specs.Rule.{Allowance, Collection, exactly}
-
--- what is done where the document is left, and nothing where another node is
-abbrev pub at_close : {S V : Type 0} → (V → V → List ErrorValue → Type 0) → Node S → V → V → List ErrorValue → Type 0
-at_close close (document doc) a b es = close a b es
-at_close close _ a b es = (b ≡ a) × (es ≡ [])
+use Rattle.walk.specs.Rule.{Allowance, Collection, Condition, exactly}
 
 -- what is made of the document where it is entered
 abbrev pub made_at : {S K : Type 0} → (List (Definition S) → K) → Node S → K → K
@@ -46,15 +41,6 @@ module _ {S C : Type 0} where
   -- A rule that keeps something, which is replaced at each occurrence, as a list that is pushed on and reset.
   abbrev pub keeping_step : {V K : Type 0} → (V → K) → (DocumentScope S C → Occurrence S C → K → K) → (DocumentScope S C → Occurrence S C → K → List ErrorValue) → StepOf S C V
   keeping_step kept next finds = entering_step (λ scope o a b es. (kept b ≡ next scope o (kept a)) × (es ≡ finds scope o (kept a)))
-
-  -- A rule that keeps something, and reports by it where the document is left, too.
-  abbrev pub closing_side : {V : Type 0} → (Occurrence S C → V → V → List ErrorValue → Type 0) → (V → V → List ErrorValue → Type 0) → Side → Node S → Typing S C → V → V → List ErrorValue → Type 0
-  closing_side step close entering node types a b es = step (record { node = node; types = types }) a b es
-  closing_side step close leaving node types a b es = at_close close node a b es
-
-  abbrev pub closing_step : {V K : Type 0} → (V → K) → (DocumentScope S C → Occurrence S C → K → K) → (DocumentScope S C → Occurrence S C → K → List ErrorValue) → (DocumentScope S C → K → V → List ErrorValue → Type 0) → StepOf S C V
-  closing_step kept next finds close scope event a b es =
-      closing_side (λ o c d fs. (kept d ≡ next scope o (kept c)) × (fs ≡ finds scope o (kept c))) (λ c d fs. close scope (kept c) d fs) event.side event.node event.types a b es
 
   -- A rule that makes something of the document where it is entered, and reads it from then on.
   abbrev pub prepared_step : {V K : Type 0} → (V → K) → (DocumentScope S C → List (Definition S) → K) → (DocumentScope S C → K → Occurrence S C → List ErrorValue) → StepOf S C V
@@ -94,19 +80,15 @@ module _ {S C : Type 0} where
   kept_to kept next finds k end scope t doc es =
       (kept end ≡ kept_after (next scope) k (occurrences scope.schema t doc)) × exactly (kept_findings next finds k) scope t doc es
 
-  -- what is found by what is kept, and then what is given at the end
-  abbrev pub closing : {V K : Type 0} → (DocumentScope S C → Occurrence S C → K → K) → (DocumentScope S C → Occurrence S C → K → List ErrorValue) → (DocumentScope S C → K → V → List ErrorValue → Type 0) → K → V → Allowance S C
-  closing next finds close k end scope t doc es =
-      (late : List ErrorValue) × close scope (kept_after (next scope) k (occurrences scope.schema t doc)) end late × (es ≡ kept_findings next finds k scope t doc ++ late)
-
   -- nothing is found on the way
   abbrev pub nothing_on_the_way : {K : Type 0} → DocumentScope S C → Occurrence S C → K → List ErrorValue
   nothing_on_the_way scope o k = []
 
-  -- exactly what is given at the end, in some order
-  abbrev pub closing_findings : {K : Type 0} → (DocumentScope S C → Occurrence S C → K → K) → (DocumentScope S C → K → List ErrorValue) → K → Collection S C
-  closing_findings next late k scope t doc = late scope (kept_after (next scope) k (occurrences scope.schema t doc))
+  -- each occurrence of the document is as it should be
+  abbrev pub everywhere : (DocumentScope S C → Occurrence S C → Type 0) → Condition S C
+  everywhere IsRight scope t doc = (o : Occurrence S C) → Contains (occurrences scope.schema t doc) o → IsRight scope o
 
-  -- exactly these, whatever the end
-  abbrev pub just : {V K : Type 0} → (DocumentScope S C → K → List ErrorValue) → DocumentScope S C → K → V → List ErrorValue → Type 0
-  just late scope k b es = es ≡ late scope k
+  -- each occurrence is as it should be, by what is made of the document
+  abbrev pub everywhere_by : {K : Type 0} → (DocumentScope S C → List (Definition S) → K) → (DocumentScope S C → K → Occurrence S C → Type 0) → Condition S C
+  everywhere_by make IsRight scope t doc =
+      (o : Occurrence S C) → Contains (occurrences scope.schema t doc) o → IsRight scope (make scope doc) o

@@ -3,9 +3,9 @@ use Rattle.std.specs.Prelude.{◌≡◌, List, [], ◌++◌, IsPermutation}
 use Rattle.walk.specs.declared.multi_visitor.MultiVisitorCons.{MultiVisitorCons}
 use Rattle.walk.specs.declared.multi_visitor.MultiVisitorNil.{MultiVisitorNil}
 use Rattle.walk.specs.ErrorValue.{ErrorValue}
-use Rattle.walk.specs.ContextState.{DocumentScope}
+use Rattle.walk.specs.ContextState.{ContextState, DocumentScope}
 use Rattle.events.specs.TypedEvent.{TypedEvent}
-use Rattle.walk.specs.Step.{StepOf, Run}
+use Rattle.walk.specs.Step.{StepOf, Run, Stepped}
 
 -- first the newer visitor's step, and then the other's
 abbrev pub pair_step : {S C V W : Type 0} → StepOf S C V → StepOf S C W → StepOf S C (MultiVisitorCons V W)
@@ -15,6 +15,10 @@ pair_step newer other scope event a b es =
 -- nothing
 abbrev pub no_step : {S C : Type 0} → StepOf S C MultiVisitorNil
 no_step scope event a b es = (b ≡ a) × (es ≡ [])
+
+-- the other was not called, unless the newer one made its step
+abbrev pub StopsAtFirst : {S C V W : Type 0} → StepOf S C V → TypedEvent S C → MultiVisitorCons V W → MultiVisitorCons V W → ContextState S C → Type 0
+StopsAtFirst {S} {C} newer event a b old = (b.1 ≡ a.1) ⊎ (mid : ContextState S C) × Stepped newer event a.0 b.0 old mid
 
 -- a run of the pair, taken apart: each of the two runs through the same events, and what the pair appended is what the two appended, in some order
 pub record SplitRun {S C V W : Type 0} (newer : StepOf S C V) (other : StepOf S C W) (scope : DocumentScope S C) (events : List (TypedEvent S C)) (a b : MultiVisitorCons V W) (es : List ErrorValue) : Type 0 where

@@ -1,6 +1,8 @@
 -- Rules in a list report what each of them is allowed.
-use Rattle.std.proofs.Common.{◌≡◌, ◌↔◌, List, [], ◌∷◌, ◌++◌, ap, ◌∙◌, refl, sym, subst, IsPermutation}
+use Rattle.std.proofs.Common.{◌≡◌, ◌↔◌, List, [], ◌∷◌, ◌++◌, zero, suc, length, ap, ◌∙◌, refl, sym, subst, arith, IsPermutation}
+use Rattle.std.specs.List.{Contains, flat_map}
 use Rattle.std.proofs.lemmas.List.{nil_from_length}
+use Rattle.std.proofs.lemmas.List.Elements.{Contains-append_right}
 use Rattle.std.proofs.lemmas.List.Sorted.{length_permutation}
 use Rattle.language.specs.declared.tree.Definition.{Definition}
 use Rattle.events.specs.Typing.{Typing}
@@ -8,9 +10,11 @@ use Rattle.walk.specs.declared.multi_visitor.MultiVisitorNil.{MultiVisitorNil}
 use Rattle.walk.specs.ErrorValue.{ErrorValue}
 use Rattle.walk.specs.ContextState.{DocumentScope, scope_of}
 use Rattle.events.specs.TypedEvent.{TypedEvent, typed_events}
+use Rattle.events.specs.Occurrence.{Occurrence, occurrences}
 use Rattle.walk.specs.Step.{StepOf, Run}
 use Rattle.walk.specs.Pair.{pair_step, no_step}
 use Rattle.walk.specs.Rule.{Allowance, AllowsFrom, Collection, Condition, SilentIff, Settled, allows_none, always, anywhere, both_so, exactly, is_empty, nothing, pair_allows, pair_fresh, any_value}
+use Rattle.walk.specs.Entering.{everywhere, everywhere_by, found, found_by}
 use Rattle.walk.specs.PairLaws.{pair_splits}
 
 nothing_reports : {S C : Type 0} (scope : DocumentScope S C) (ms : List (TypedEvent S C)) (a b : MultiVisitorNil) (es : List ErrorValue) → Run (no_step scope) ms a b es → es ≡ []
@@ -59,6 +63,19 @@ pair_silent c d f g h k end scope t doc es (fs, gs, p, q, r) =
       λ n. permuted_none es (subst (λ z. IsPermutation z es) (none_both fs gs (first.1 n.0) (second.1 n.1)) r),
     )
 
+-- what is found in a list is nothing where nothing is found in each of its members
+module _ {O R : Type 0} (finds : O → List R) where
+  pub none_each : (os : List O) → flat_map finds os ≡ [] → (o : O) → Contains os o → finds o ≡ []
+  none_each [] e o (k, within, at) = absurd (omega (arith, within))
+  none_each (p ∷ os) e o (zero, within, at) = subst (λ z. finds z ≡ []) at (left_none (finds p) (flat_map finds os) e)
+  none_each (p ∷ os) e o (suc k, within, at) =
+      none_each os (right_none (finds p) (flat_map finds os) e) o (k, omega (arith, within), at)
+
+  pub none_all : (os : List O) → ((o : O) → Contains os o → finds o ≡ []) → flat_map finds os ≡ []
+  none_all [] h = refl
+  none_all (p ∷ os) h =
+      none_both (finds p) (flat_map finds os) (h p (zero, omega arith, refl)) (none_all os (λ o there. h o (Contains-append_right (p ∷ []) os o there)))
+
 module _ {S C V : Type 0} where
   -- a rule that reports exactly a collection reports nothing where the collection is empty
   pub exactly_silent : (collection : Collection S C) → SilentIff {V = V} (always (exactly collection)) (is_empty collection)
@@ -73,3 +90,27 @@ module _ {S C V : Type 0} where
     λ e. subst (allowance scope t doc) e p,
     λ none. h scope t doc es none p,
   )
+
+  -- a rule that finds nothing at an occurrence if and only if it is as it should be
+  pub everywhere_silent : (finds : DocumentScope S C → Occurrence S C → List ErrorValue) (IsRight : DocumentScope S C → Occurrence S C → Type 0)
+      → ((scope : DocumentScope S C) (o : Occurrence S C) → (finds scope o ≡ []) ↔ IsRight scope o)
+      → SilentIff {V = V} (always (exactly (found finds))) (everywhere IsRight)
+  everywhere_silent finds IsRight at end scope t doc es p =
+      let whole = exactly_silent (found finds) end scope t doc es p in
+      let os = occurrences scope.schema t doc in (
+        λ e o there. (at scope o).0 (none_each (finds scope) os (whole.0 e) o there),
+        λ right. whole.1 (none_all (finds scope) os (λ o there. (at scope o).1 (right o there))),
+      )
+
+  -- the same of a rule that makes something of the document first
+  pub everywhere_by_silent : {K : Type 0} (make : DocumentScope S C → List (Definition S) → K) (finds : DocumentScope S C → K → Occurrence S C → List ErrorValue)
+      (IsRight : DocumentScope S C → K → Occurrence S C → Type 0)
+      → ((scope : DocumentScope S C) (k : K) (o : Occurrence S C) → (finds scope k o ≡ []) ↔ IsRight scope k o)
+      → SilentIff {V = V} (always (exactly (found_by make finds))) (everywhere_by make IsRight)
+  everywhere_by_silent make finds IsRight at end scope t doc es p =
+      let whole = exactly_silent (found_by make finds) end scope t doc es p in
+      let os = occurrences scope.schema t doc in
+      let k = make scope doc in (
+        λ e o there. (at scope k o).0 (none_each (finds scope k) os (whole.0 e) o there),
+        λ right. whole.1 (none_all (finds scope k) os (λ o there. (at scope k o).1 (right o there))),
+      )

@@ -1,6 +1,6 @@
 //! What visitors know and report in a walk.
 
-ghost use Rattle.std.specs.Prelude.{◌≡◌, ◌++◌, ◌∷◌, [], true, false, IsErr, OnOk, OnErr, map, IfOk, IsPermutation, IsSorted};
+ghost use Rattle.std.specs.Prelude.{◌≡◌, ◌++◌, ◌∷◌, [], true, false, IsErr, IsOk, OnOk, OnErr, map, IfOk, IsPermutation, IsSorted};
 ghost use Rattle.std.specs.Option.{option_copied, option_map};
 ghost use Rattle.language.specs.Types.{borrowed_shape};
 ghost use Rattle.walk.specs.Calls.{CalledAt};
@@ -28,8 +28,9 @@ use std::marker::Model;
 
 /// The schema, the names of the document's fragments, the types at the current node, and the errors that were reported.
 ///
-/// A context fails if memory runs out in one of its calls or in a walk over it, or if `fail` is called. From then on each call that
-/// reports, pushes or ends returns an error, and so does each walk.
+/// A context fails if memory runs out in a call that changes it or in a walk over it, or if `fail` is called. From then on each call
+/// that reports, pushes or ends returns an error, and so does each walk. `numbered_names` leaves the context as it is: a rule that it
+/// refuses returns an error, and the walk makes the context fail.
 #[derive(Drop)]
 pub struct ValidatorContextOf<'a, S, C> {
     pub schema: &'a SchemaTypeOf<S, C>,
@@ -54,7 +55,14 @@ impl<'a, S, C> Model for ValidatorContextOf<'a, S, C> {
 
     ghost coded = { Prim.hlevel coded_state };
 
-    ghost view = { λ c. record { allocator = c.alloc; schema = c.schema.now; known = kept_by c.fragment_names; typings = map typing_of c.types.items; errors = c.errors.items; failed = c.failed } };
+    ghost view = { λ c. record {
+      allocator = c.alloc;
+      schema = c.schema.now;
+      known = kept_by c.fragment_names;
+      typings = map typing_of c.types.items;
+      errors = c.errors.items;
+      failed = c.failed;
+    } };
 }
 
 impl<'a, S, C> ValidatorContextOf<'a, S, C> {
@@ -204,14 +212,18 @@ impl<'a, S, C> ValidatorContextOf<'a, S, C> {
     ///
     /// # Errors
     ///
-    /// Out of memory, or the context has failed before. Nothing is added, and the context fails from then on.
+    /// Out of memory, if there are errors to add, or the context has failed before. Nothing is added, and the context fails from then on.
     pub fn append_errors(&mut self, mut errors: Vec<RuleError>) -> Result<(), OutOfMemory>
         ensures ok { OnOk result (self.new ≡ with_errors self.old errors.items) }
         ensures err { OnErr result (self.new ≡ failing self.old) }
         ensures stays { self.old.failed ≡ true → IsErr result }
+        ensures succeeds { self.old.failed ≡ false → errors.items ≡ [] → IsOk result }
     {
         if self.failed {
             return Err(OutOfMemory);
+        }
+        if errors.is_empty() {
+            return Ok(());
         }
         if self.errors.append(&mut errors).is_err() {
             self.failed = true;
@@ -224,15 +236,19 @@ impl<'a, S, C> ValidatorContextOf<'a, S, C> {
     ///
     /// # Errors
     ///
-    /// Out of memory, or the context has failed before.
+    /// Out of memory, if an error was reported, or the context has failed before.
     pub fn into_errors(self) -> Result<Vec<RuleError>, OutOfMemory>
         ensures all { IfOk result (λ errors. IsPermutation self.entry.errors errors.items) }
         ensures sorted { IfOk result (λ errors. IsSorted error_cmp errors.items) }
         ensures stays { self.entry.failed ≡ true → IsErr result }
+        ensures succeeds { self.entry.failed ≡ false → self.entry.errors ≡ [] → IsOk result }
     {
         let mut errors = self.errors;
         if self.failed {
             return Err(OutOfMemory);
+        }
+        if errors.is_empty() {
+            return Ok(errors);
         }
         errors.sort()?;
         Ok(errors)

@@ -3,7 +3,7 @@
 ghost use Rattle.std.specs.Prelude.{◌≡◌, IfOk, IsOk, OnErr};
 ghost use Rattle.walk.specs.ContextState.{typing};
 ghost use Rattle.events.specs.EventValue.{typed_event};
-ghost use Rattle.walk.specs.Pair.{no_step, pair_step};
+ghost use Rattle.walk.specs.Pair.{StopsAtFirst, no_step, pair_step};
 ghost use Rattle.walk.specs.Step.{KeepsPlace, Stepped};
 
 use crate::ValidatorContext;
@@ -97,8 +97,8 @@ impl<'a, S: CheckedScalar> Visitor<'a, S> for MultiVisitorNil {
         event: &Event<'a, S>,
     ) -> Result<(), OutOfMemory>
         ensures always { IsOk result }
-        ensures stepped { IfOk result (λ _. Stepped no_step (typed_event event.now (typing ctx.old)) self.old self.new ctx.old
-            ctx.new) }
+        ensures stepped { IfOk result (λ _. Stepped no_step (typed_event event.now (typing ctx.old))
+            self.old self.new ctx.old ctx.new) }
         ensures err { OnErr result (KeepsPlace ctx.old ctx.new) }
     {
         Ok(())
@@ -111,7 +111,13 @@ impl<'a, S: CheckedScalar, A: Visitor<'a, S>, B: Visitor<'a, S>> Visitor<'a, S>
         &mut self,
         ctx: &mut ValidatorContext<'a, S>,
         event: &Event<'a, S>,
-    ) -> Result<(), OutOfMemory> {
+    ) -> Result<(), OutOfMemory>
+        ensures stepped { IfOk result (λ _. Stepped (pair_step A.step B.step) (typed_event event.now (typing ctx.old))
+            self.old self.new ctx.old ctx.new) }
+        ensures err { OnErr result (KeepsPlace ctx.old ctx.new) }
+        ensures stops { OnErr result (StopsAtFirst A.step (typed_event event.now (typing ctx.old))
+            self.old self.new ctx.old) }
+    {
         self.0.on(ctx, event)?;
         self.1.on(ctx, event)
     }

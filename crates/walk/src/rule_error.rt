@@ -138,7 +138,8 @@ impl Ord for RuleError {
 impl PartialOrd for RuleError {
     ghost partial_cmp = { as_partial_cmp error_cmp };
 
-    ghost laws = { partial_order_from_own_ties (Prim.search (comparing, rules) depth 9) (Prim.search (comparing, rules) depth 9) };
+    ghost laws = { partial_order_from_own_ties
+        (Prim.search (comparing, rules) depth 9) (Prim.search (comparing, rules) depth 9) };
 
     fn partial_cmp(&self, other: &RuleError) -> Option<Ordering> {
         Some(self.cmp(other))

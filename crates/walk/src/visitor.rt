@@ -30,8 +30,8 @@ pub trait Visitor<'a, S: CheckedScalar>: Machine<S, S::Check> {
         ctx: &mut ValidatorContext<'a, S>,
         event: &Event<'a, S>,
     ) -> Result<(), OutOfMemory>
-        ensures stepped { IfOk result (λ _. Stepped Self.step (typed_event event.now (typing ctx.old)) self.old self.new ctx.old
-            ctx.new) }
+        ensures stepped { IfOk result (λ _. Stepped Self.step (typed_event event.now (typing ctx.old))
+            self.old self.new ctx.old ctx.new) }
         ensures err { OnErr result (KeepsPlace ctx.old ctx.new) };
 }
 

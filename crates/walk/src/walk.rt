@@ -25,7 +25,8 @@ fn tell_here<'a, S: CheckedScalar, V: Visitor<'a, S>>(
     ctx: &mut ValidatorContext<'a, S>,
     event: &Event<'a, S>,
 ) -> Result<(), OutOfMemory>
-    ensures stepped { IfOk result (λ _. Stepped V.step (typed_event event.now (typing ctx.old)) v.old v.new ctx.old ctx.new) }
+    ensures stepped { IfOk result (λ _. Stepped V.step (typed_event event.now (typing ctx.old))
+        v.old v.new ctx.old ctx.new) }
     ensures err { OnErr result (KeepsPlace ctx.old ctx.new) }
     ensures failed { OnErr result (ctx.new.failed ≡ true) }
 {
@@ -43,8 +44,8 @@ fn tell_one<'a, S: CheckedScalar, V: Visitor<'a, S>>(
     event: &Event<'a, S>,
     types: TypesOf<'a, S, S::Check>,
 ) -> Result<(), OutOfMemory>
-    ensures stepped { IfOk result (λ _. Stepped V.step (typed_event event.now (typing_of types.entry)) v.old v.new ctx.old
-        ctx.new) }
+    ensures stepped { IfOk result (λ _. Stepped V.step (typed_event event.now (typing_of types.entry))
+        v.old v.new ctx.old ctx.new) }
     ensures err { OnErr result (KeepsPlace ctx.old ctx.new) }
     ensures failed { OnErr result (ctx.new.failed ≡ true) }
     ensures stays { ctx.old.failed ≡ true → IsErr result }

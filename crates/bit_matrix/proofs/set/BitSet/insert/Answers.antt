@@ -1,7 +1,8 @@
-use Rattle.std.proofs.Common.{◌/◌, ◌<◌, not, length, ap, ◌∙◌, arith}
+use Rattle.std.proofs.Common.{◌≡◌, ◌/◌, ◌<◌, true, false, not, length, ap, sym, inl, inr, ◌∙◌, arith}
+use Rattle.std.proofs.lemmas.Bool.{cases_lt}
 use Rattle.std.proofs.lemmas.List.{get_or_read}
 use Rattle.bit_matrix.specs.Set.{has}
-use Rattle.bit_matrix.proofs.Bits.{bit_there, bit_others, bit_new}
+use Rattle.bit_matrix.proofs.Bits.{bit_there, bit_others, bit_new, bit_of_past}
 use Rattle.bit_matrix.proofs.set.BitSet.insert.Goals as goal
 
 pub returns-clause-there : goal.returns-clause-there
@@ -24,3 +25,12 @@ returns-clause-fresh c =
     let word = c.index-word.result.now in
     bit_new words c.args.n word (get_or_read words (c.args.n / 64) word (omega (arith, c.in_ok-grow.ensures.room)) c.index-word.ensures 0)
     ∙ ap not (c.in_ok-grow.ensures.same c.args.n)
+
+pub returns-in_err-grow-clause-succeeds : goal.returns-in_err-grow-clause-succeeds
+unfolding has
+returns-in_err-grow-clause-succeeds c = λ there.
+    let words = c.args.self.now.words.items in
+    elim (cases_lt (c.args.n / 64) (length words)) [
+      | inl below ↦ let refused : false ≡ true = c.in_err-grow.ensures.succeeds (omega (arith, below)) in cc
+      | inr past ↦ let none : true ≡ false = sym there ∙ bit_of_past words c.args.n past in cc
+    ]

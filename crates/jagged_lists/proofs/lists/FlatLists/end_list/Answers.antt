@@ -3,8 +3,8 @@ use Rattle.jagged_lists.specs.Lists.{joined, ranges_from}
 use Rattle.jagged_lists.proofs.Ranges.{joined-more, ranges-more}
 use Rattle.jagged_lists.proofs.lists.FlatLists.end_list.Goals as goal
 
-pub returns : goal.returns
-returns g c = λ ls next h.
+pub returns-clause-ok : goal.returns-clause-ok
+returns-clause-ok g c = λ ls next h.
     let items = c.args.self.now.items.items in
     let all : length items ≡ length (joined ls) + length next = ap length h.items ∙ length-append (joined ls) next in
     let end : c.len-end.result ≡ length (joined ls) + length next = c.len-end.ensures ∙ c.args.self.now.items.ok.0 ∙ all in
