@@ -8,9 +8,9 @@ pub loop-self-preserved : goal.loop-self-preserved
 unfolding marked
 loop-self-preserved c = (
   λ i j. ap (λ (xs : List BitSet). holds xs i j) c.in_ok-push.ensures.items
-    ∙ (holds-push c.loop-self.self.rows.items c.new.result i j (c.new.ensures j) ∙ c.loop-self.invariant.0 i j),
+      ∙ (holds-push c.loop-self.self.rows.items c.new.result i j (c.new.ensures j) ∙ c.loop-self.invariant.0 i j),
   let longer = ap length c.in_ok-push.ensures.items ∙ length-append c.loop-self.self.rows.items (c.new.result ∷ []) in
-  omega (arith, longer, c.loop-self.invariant.1),
+      omega (arith, longer, c.loop-self.invariant.1),
 )
 
 pub returns-in_err-push-clause-same : goal.returns-in_err-push-clause-same
