@@ -1,0 +1,19 @@
+//! GraphQL (October 2021) as a server needs it: schemas and documents are read from their texts, and documents are
+//! validated against a schema.
+//!
+//! [`read_schema`] reads type system definitions, and [`read_document`] reads a document. A [`RootNode`] validates
+//! documents, and [`validate_input_values`] checks the values of their variables. `validation` is re-exported whole,
+//! for rules of one's own and for schemas that are built by hand.
+#![tactic(auto)]
+
+pub use graphql_reader::{
+    Found, NESTING_LIMIT, ReadError, SourceScalar, SyntaxError, SyntaxFault, read_constant,
+    read_document,
+};
+pub use introspection::{IntrospectionError, schema_text};
+pub use sdl_reader::{Defined, SchemaFault, SchemaReadError, read_schema};
+pub use validation;
+pub use validation::{
+    Definition, InputValue, OutOfMemory, RootNode, RuleError, SchemaType, Variables,
+    validate_input_values,
+};
