@@ -36,7 +36,8 @@ impl Report {
         closed: bool,
     ) -> Result<Report, OutOfMemory>
         ensures { IfOk result
-            (λ report. IsReportOn ⟦<DefaultScalarValue as AllRules<'static>>⟧.rules closed schema.now document.now report) }
+            (λ report. IsReportOn ⟦<DefaultScalarValue as AllRules<'static>>⟧.rules
+            closed schema.now document.now report) }
     {
         let mut ctx = ValidatorContext::new(alloc, schema, document)?;
         let compared = visit_root_rules(&mut ctx, document, closed)?;

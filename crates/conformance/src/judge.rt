@@ -43,8 +43,8 @@ fn errors_of(
     document: &[Definition<'_, DefaultScalarValue>],
 ) -> Result<String, Failure>
     ensures { IfOk result
-        (λ text. TellsErrors ⟦<DefaultScalarValue as AllRules<'static>>⟧.rules root.now.introspection_disabled root.now.schema
-        document.now (string_bytes text)) }
+        (λ text. TellsErrors ⟦<DefaultScalarValue as AllRules<'static>>⟧.rules
+        root.now.introspection_disabled root.now.schema document.now (string_bytes text)) }
 {
     let errors = root.validate(alloc, document)?;
     let text = lines_of(alloc, errors.as_slice())?;

@@ -58,8 +58,8 @@ impl<'a> AcrossDocument<'a> {
         ctx: &mut ValidatorContext<'a, S>,
         document: &'a [Definition<'a, S>],
     ) -> Result<(), OutOfMemory>
-        ensures stepped { IfOk result (λ _. Stepped across_step (leaving_document document.now (typing ctx.old)) self.old self.new
-            ctx.old ctx.new) }
+        ensures stepped { IfOk result (λ _. Stepped across_step (leaving_document document.now (typing ctx.old))
+            self.old self.new ctx.old ctx.new) }
         ensures err { OnErr result (KeepsPlace ctx.old ctx.new) }
     {
         let names = ctx.numbered_names(document)?;

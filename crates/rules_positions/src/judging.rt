@@ -59,7 +59,8 @@ pub fn judge<'a, S: CheckedScalar>(
     entry: &VariableEntry<'_, S>,
     found: &TypedUse<'_>,
 ) -> Result<(), OutOfMemory>
-    ensures ok { IfOk result (λ _. Appended (Judged ctx.old.schema.types entry.now (use_value found.now)) ctx.old ctx.new) }
+    ensures ok { IfOk result
+        (λ _. Appended (Judged ctx.old.schema.types entry.now (use_value found.now)) ctx.old ctx.new) }
     ensures err { OnErr result (KeepsPlace ctx.old ctx.new) }
 {
     let below = is_below(ctx.schema, &entry.1, found.expected)?;

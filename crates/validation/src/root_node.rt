@@ -72,8 +72,8 @@ impl<S: CheckedScalar> RootNodeOf<S, S::Check> {
         document: &'a [Definition<'_, S>],
     ) -> Result<Vec<RuleError>, OutOfMemory>
         ensures all { IfOk result (λ errors. (pairs : ℕ)
-            × IsRootReport ⟦<S as AllRules<'a>>⟧.rules self.now.introspection_disabled self.now.schema document.now errors.items
-            pairs) }
+            × IsRootReport ⟦<S as AllRules<'a>>⟧.rules self.now.introspection_disabled self.now.schema document.now
+            errors.items pairs) }
         ensures valid { IfOk result (λ errors. (errors.items ≡ [])
             ↔ IsRootValid ⟦<S as AllRules<'a>>⟧.rules self.now.introspection_disabled self.now.schema document.now) }
         ensures sorted { IfOk result (λ errors. IsSorted error_cmp errors.items) }

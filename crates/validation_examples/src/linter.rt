@@ -47,7 +47,8 @@ pub fn try_spreads_and_operations<'a, 't, S: CheckedScalar>(
     document: &'a [Definition<'t, S>],
 ) -> Result<(), OutOfMemory>
     ensures { OnOk result (IsMadeFor ctx.old document.now
-        → AppendsAllowed (sum_of (exactly (found unknown_fragments) ∷ exactly (found_by has_several anonymous_among) ∷ []))
+        → AppendsAllowed
+        (sum_of (exactly (found unknown_fragments) ∷ exactly (found_by has_several anonymous_among) ∷ []))
         document.now ctx.old ctx.new) }
 {
     rules_append::<S, S::Check, Both>();

@@ -26,10 +26,11 @@ pub fn values_after<'a, 't, S: CheckedScalar>(
     values: &Variables<S>,
 ) -> Result<Option<Vec<RuleError>>, OutOfMemory>
     ensures judged { IfOk result
-        (λ answer. IfSome answer (λ errors. FaultsAfter ⟦<S as AllRules<'a>>⟧.rules S.may_answer S.text S.str_of schema.now document.now
-        values.now errors.items)) }
+        (λ answer. IfSome answer (λ errors. FaultsAfter ⟦<S as AllRules<'a>>⟧.rules S.may_answer S.text S.str_of
+        schema.now document.now values.now errors.items)) }
     ensures nothing { IfOk result
-        (λ answer. IfNone answer (NothingToJudge ⟦<S as AllRules<'a>>⟧.rules S.may_answer S.text S.str_of schema.now document.now)) }
+        (λ answer. IfNone answer (NothingToJudge ⟦<S as AllRules<'a>>⟧.rules S.may_answer S.text S.str_of
+        schema.now document.now)) }
 {
     // The types of the variables of a document without errors are input types.
     clean_documents::<S>();
