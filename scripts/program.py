@@ -4,6 +4,7 @@ A first proof runs `rt all check --jobs N` in the program's own folder. It prove
 no other one, and works on N of them at a time. `rt run` by itself proves one crate after the other. `rt all check` at
 the top proves every crate, and first looks at each program and each crate of tests in turn, which takes many minutes.
 """
+import fcntl
 import os
 import re
 import subprocess
@@ -188,6 +189,17 @@ class Program:
         crates = stands_on(self.crate, named)
         if self.is_built(crates):
             return True
+        # One build at a time: a second call waits for the first, and uses what it has built.
+        with open(TOP / "crates.txt", "rb") as held:
+            try:
+                fcntl.flock(held, fcntl.LOCK_EX | fcntl.LOCK_NB)
+            except BlockingIOError:
+                self.say("waiting for another call, which builds now")
+                fcntl.flock(held, fcntl.LOCK_EX)
+            return self.is_built(crates) or self.build_anew(crates, named)
+
+    def build_anew(self, crates, named):
+        """Proves and builds the program, and returns whether it stands."""
         start = time.time()
         self.binary.unlink(missing_ok=True)
         with tempfile.NamedTemporaryFile(prefix=f"{self.script}-", suffix=".log", delete=False) as log:
