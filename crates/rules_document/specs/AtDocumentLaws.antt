@@ -49,7 +49,7 @@ module _ {S C V : Type 0} where
   pub document_keeps : (gives : Gives S C V) → AllowsFrom (document_step gives) any_value (given_at_end gives)
   document_keeps gives start fresh schema t doc end es r = document_given gives (scope_of schema doc) schema t doc start end es r
 
-map_none : {X : Type 0} (error : X → ErrorValue) (xs : List X) → map error xs ≡ [] → xs ≡ []
+pub map_none : {X : Type 0} (error : X → ErrorValue) (xs : List X) → map error xs ≡ [] → xs ≡ []
 map_none error [] e = refl
 map_none error (x ∷ xs) e = cc
 

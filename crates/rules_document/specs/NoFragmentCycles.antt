@@ -1,11 +1,11 @@
 -- Fragments that lead back to themselves (section 5.5.2.2).
-use Rattle.std.specs.Prelude.{◌≡◌, ℕ, List, [], ◌∷◌, ◌++◌, Some, codes, length, map}
+use Rattle.std.specs.Prelude.{◌≡◌, ◌↔◌, ℕ, List, [], ◌∷◌, ◌++◌, Some, codes, length, map}
 use Rattle.language.specs.declared.tree.Definition.{Definition}
 use Rattle.walk.specs.ContextState.{DocumentScope}
 use Rattle.walk.specs.ErrorValue.{ErrorValue}
 use Rattle.fragment_graph.specs.Spreads.{fragment_spreads}
 use Rattle.fragment_graph.specs.declared.cycles.DocumentCycles.{DocumentCycles}
-use Rattle.fragment_graph.specs.DocumentCycles.{NameAndPlace, FindsCycles, SearchedDocument}
+use Rattle.fragment_graph.specs.DocumentCycles.{NameAndPlace, FindsCycles, HasNoCycle, SearchedDocument}
 use Rattle.rules_document.specs.declared.no_fragment_cycles.NoFragmentCycles.{NoFragmentCycles}
 
 abbrev pub cycle_message : List ℕ → List ℕ
@@ -29,3 +29,8 @@ pub record CycleErrors {S : Type 0} (document : List (Definition S)) (end : NoFr
 
 abbrev pub cycle_errors : {S C : Type 0} → DocumentScope S C → List (Definition S) → NoFragmentCycles → List ErrorValue → Type 0
 cycle_errors scope document end es = CycleErrors document end es
+
+-- there are none if and only if no fragment leads back to itself, whatever the schema
+abbrev pub CyclesAreTold : Type 0 → Type 0
+CyclesAreTold S =
+    (document : List (Definition S)) (end : NoFragmentCycles) (es : List ErrorValue) → CycleErrors document end es → (es ≡ []) ↔ HasNoCycle document

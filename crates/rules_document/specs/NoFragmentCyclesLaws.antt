@@ -4,7 +4,7 @@ use Rattle.language.specs.declared.tree.Definition.{Definition}
 use Rattle.walk.specs.Rule.{SilentIff}
 use Rattle.fragment_graph.specs.DocumentCycles.{NameAndPlace, NamePath, name_step, name_more, IsTrueOf, SomeReported, HasNoCycle, FindsCycles}
 use Rattle.rules_document.specs.AtDocument.{given_at_end}
-use Rattle.rules_document.specs.NoFragmentCycles.{cycle_error, cycle_errors}
+use Rattle.rules_document.specs.NoFragmentCycles.{CyclesAreTold, cycle_error, cycle_errors}
 
 module _ {S : Type 0} (document : List (Definition S)) where
   -- a true report lies on a path back
@@ -26,9 +26,13 @@ module _ {S : Type 0} (document : List (Definition S)) where
   no_error [] h none = refl
   no_error (r ∷ rs) h none = absurd (none r.0 (path_back r (h.real 0 r (omega arith))))
 
--- what may be reported is nothing if and only if no fragment leads back to itself
-pub cycles_silent : {S C : Type 0} → SilentIff (given_at_end {S = S} {C = C} cycle_errors) (λ scope t doc. HasNoCycle doc)
-cycles_silent end scope t doc es h = (
-  λ e. no_cycle doc h.reports h.found (sym h.errors ∙ e),
-  λ none. h.errors ∙ no_error doc h.reports h.found none,
+-- there are no errors if and only if no fragment leads back to itself
+pub cycles_told : {S : Type 0} → CyclesAreTold S
+cycles_told document end es h = (
+  λ e. no_cycle document h.reports h.found (sym h.errors ∙ e),
+  λ none. h.errors ∙ no_error document h.reports h.found none,
 )
+
+-- so of what the rule may report
+pub cycles_silent : {S C : Type 0} → SilentIff (given_at_end {S = S} {C = C} cycle_errors) (λ scope t doc. HasNoCycle doc)
+cycles_silent end scope t doc es h = cycles_told doc end es h

@@ -1,5 +1,5 @@
 -- Fragments that no operation reaches (section 5.5.1.4).
-use Rattle.std.specs.Prelude.{◌≡◌, ◌⊎◌, ◌↔◌, ℕ, List, [], ◌∷◌, ◌++◌, Some, codes, slice_get}
+use Rattle.std.specs.Prelude.{◌≡◌, ◌⊎◌, ◌↔◌, ℕ, List, [], ◌∷◌, ◌++◌, Some, codes, map, slice_get}
 use Rattle.std.specs.List.{Contains}
 use Rattle.language.specs.declared.tree.Definition.{Definition}
 use Rattle.language.specs.declared.tree.Definition.TheVariants as definition
@@ -41,9 +41,17 @@ module _ {S : Type 0} where
   abbrev pub UnusedOf : List (Definition S) → List NameAndSpan → Type 0
   UnusedOf document fs = UnusedAmong document document fs
 
+  -- errors that may be reported of a document
+  abbrev pub UnusedErrors : List (Definition S) → List ErrorValue → Type 0
+  UnusedErrors document es = (fs : List NameAndSpan) × UnusedOf document fs × (es ≡ map unused_error fs)
+
   -- their errors
   abbrev pub unused_errors : {C : Type 0} → Gives S C NoUnusedFragments
   unused_errors scope document end es = lists UnusedOf unused_error scope document end es
+
+-- there are none if and only if no fragment is unused, whatever the schema
+abbrev pub UnusedAreTold : Type 0 → Type 0
+UnusedAreTold S = (document : List (Definition S)) (es : List ErrorValue) → UnusedErrors document es → (es ≡ []) ↔ NoneUnused document
 
 -- a fragment is added where it has no mark and was not met; what is added is met from then on
 pub record AddsFragment (r : ReachedFragments) (old new : MetFragments) (p : NameAndSpan) (fs : List NameAndSpan) : Type 0 where
