@@ -78,13 +78,15 @@ module _ {S C : Type 0} (rules : Rules S C) where
     Two pairs = (es : List ErrorValue) × (end : OverlappingFieldsCanBeMerged) × MergeErrors rules.same mid.schema document end es × (end.compared ≡ pairs) × (new ≡ with_errors mid es)
 
     -- neither reported anything before the second stage
-    pub after_two : AppendsAllowed rules.first_stage.may_report document old mid → (mid.errors ≡ old.errors) ↔ Meets rules.first_stage.find_nothing old document → has_some mid.errors ≡ false → (pairs : ℕ) → Two pairs
+    pub after_two : IsCleanWhere rules.first_stage.find_nothing → AppendsAllowed rules.first_stage.may_report document old mid → (mid.errors ≡ old.errors) ↔ Meets rules.first_stage.find_nothing old document → has_some mid.errors ≡ false → (pairs : ℕ) → Two pairs
         → AppendsReported rules old new document pairs
-    after_two (fs, allowed, e) silent quiet pairs (es, end, told, counted, e') =
+    after_two clean (fs, allowed, e) silent quiet pairs (es, end, told, counted, e') =
         let none_now : mid.errors ≡ [] = is_none mid.errors quiet in
         let none_before : old.errors ≡ [] = left_none old.errors fs (sym (ap (λ w. w.errors) e) ∙ none_now) in
         let here : MergeErrors rules.same old.schema document end es = subst (λ z. MergeErrors rules.same z document end es) (ap (λ w. w.schema) e) told in
-        let reported = of_stage_two none_before (silent.0 (none_now ∙ sym none_before)) here in (
+        let found = silent.0 (none_now ∙ sym none_before) in
+        let c = clean old.schema (typing old) document found in
+        let reported = of_stage_two none_before found here (here.all c.no_cycle (tidy_where_clean old.schema (typing old) document c)) in (
           es,
           subst (λ n. Reported rules old.errors (scope_of old.schema document) (typing old) document es n) counted reported,
           e' ∙ ap (λ w. with_errors w es) e ∙ ap (λ zs. record old { errors = zs ++ es }) (sym (ap (λ w. w.errors) e) ∙ none_now ∙ sym none_before),
@@ -96,7 +98,7 @@ module _ {S C : Type 0} (rules : Rules S C) where
     none_iff before es pairs empty (of_stage_one allowed silent some) =
         let nothing : es ≡ [] → ⊥ = λ e. some (ap (λ zs. before ++ zs) e ∙ append-nil before ∙ empty) in
         (λ e. absurd (nothing e), λ v. absurd (nothing (silent.1 v.stage_one)))
-    none_iff before es pairs empty (of_stage_two {end = end} none_before found told) =
+    none_iff before es pairs empty (of_stage_two {end = end} none_before found told all) =
         let c = clean schema t document found in
         let judged = merges_iff rules.same schema document end es c.no_cycle (tidy_where_clean schema t document c) told in
         (λ e. record { stage_one = found; merges = judged.0 e }, λ v. judged.1 v.merges)
@@ -121,7 +123,7 @@ merge_permuted E schema document end fs gs es m none_else p =
 pub few_pairs : {S C : Type 0} (rules : Rules S C) (before : List ErrorValue) (scope : DocumentScope S C) (t : Typing S C) (document : List (Definition S)) (es : List ErrorValue) (pairs : ℕ)
     → Reported rules before scope t document es pairs → pairs ≤ fragment_count document * (fragment_count document - 1)
 few_pairs rules before scope t document es pairs (of_stage_one allowed silent some) = omega arith
-few_pairs rules before scope t document es pairs (of_stage_two none_before clean told) = told.few
+few_pairs rules before scope t document es pairs (of_stage_two none_before clean told all) = told.few
 
 module _ {S C : Type 0} (rules : Rules S C) (old new : ContextState S C) (document : List (Definition S)) where
   -- a context that held no error holds none if and only if the document is valid
