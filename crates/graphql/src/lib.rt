@@ -3,7 +3,8 @@
 //!
 //! [`read_schema`] reads type system definitions, and [`read_document`] reads a document. A [`RootNode`] validates
 //! documents, and [`validate_input_values`] checks the values of their variables. `validation` is re-exported whole,
-//! for rules of one's own and for schemas that are built by hand.
+//! for rules of one's own and for schemas that are built by hand. `merge_field_laws` and `variable_values_laws` say more
+//! of merging and of values, for proofs of one's own.
 #![tactic(auto)]
 
 pub use graphql_reader::{
@@ -11,9 +12,11 @@ pub use graphql_reader::{
     read_document,
 };
 pub use introspection::{IntrospectionError, schema_text};
+pub use merge_field_laws;
 pub use sdl_reader::{Defined, SchemaFault, SchemaReadError, read_schema};
 pub use validation;
 pub use validation::{
     Definition, InputValue, OutOfMemory, RootNode, RuleError, SchemaType, Variables,
     validate_input_values,
 };
+pub use variable_values_laws;

@@ -1,7 +1,8 @@
 //! Validation of documents against schemas (GraphQL, October 2021, section 5): the call that tries every rule, and the names of the
 //! crates below under juniper's paths.
 //!
-//! A user needs this crate alone. It re-exports the crates below whole, too, for their other names.
+//! It re-exports the crates below that its users name, too, with their laws. What stands above it, and the readers of
+//! texts, are re-exported by `graphql`.
 #![tactic(auto)]
 
 pub mod ast;
@@ -20,12 +21,15 @@ pub use language::tree::{Definition, Document, Operation, OperationType, Selecti
 pub use language::types::{BorrowedType, Type, TypeModifier};
 pub use language::value::{DefaultScalarValue, InputValue, Variables};
 pub use literals::validate_literal_value;
+pub use merge_walk_laws;
 pub use meta;
 pub use meta::check::CheckedScalar;
+pub use rules_document;
 pub use rules_first_stage::laws;
 pub use schema;
 pub use schema::error::SchemaError;
 pub use schema::model::SchemaType;
+pub use variable_values;
 pub use variable_values::{has_input_types, validate_input_values};
 pub use walk;
 pub use walk::{
