@@ -16,7 +16,7 @@ loop-definition-preserved g c =
     let d = c.definition-item.result in
     let before = resolved_lists numbers (take i document) in
     subst (λ ls. Holds ls [] c.end_list.new.self) (sym (next_lists (resolved_spreads numbers) document i d c.definition-item.is c.loop-definition-test.true))
-    (c.in_ok-end_list.ensures before (resolved_spreads numbers d) (holds_more before [] (resolved_spreads numbers d) c.loop-definition.found _ c.loop-definition.invariant c.in_ok-add_operation.ensures refl refl))
+    (c.in_ok-end_list.ensures.ok before (resolved_spreads numbers d) (holds_more before [] (resolved_spreads numbers d) c.loop-definition.found _ c.loop-definition.invariant c.in_ok-add_operation.ensures refl refl))
 
 whole : goal.returns-clause-lists
 whole g c =
