@@ -1,4 +1,7 @@
 pub mod LoneAnonymousOperation
+pub mod LoneAnonymousOperationLaws
 pub mod UniqueOperationNames
 pub mod UniqueVariableNames
+pub mod UniqueVariableNamesLaws
 pub mod VariablesAreInputTypes
+pub mod VariablesAreInputTypesLaws

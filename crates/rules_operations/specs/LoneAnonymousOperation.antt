@@ -1,5 +1,5 @@
 -- Operations without a name that are not alone (section 5.2.2.1).
-use Rattle.std.specs.Prelude.{Bool, ℕ, List, [], ◌∷◌, Option, Some, None, nat_lt, length, if◌then◌else◌, codes}
+use Rattle.std.specs.Prelude.{◌≡◌, Bool, true, ℕ, List, [], ◌∷◌, Option, Some, None, is_some, nat_lt, length, if◌then◌else◌, codes}
 use Rattle.std.specs.List.{flat_map}
 use Rattle.language.specs.declared.tree.Definition.{Definition}
 use Rattle.language.specs.declared.tree.Definition.TheVariants as definition
@@ -42,3 +42,12 @@ anonymous_at _ = []
 -- at an operation: where there are several, it is reported if it has no name
 abbrev pub anonymous_among : {S C : Type 0} → DocumentScope S C → Bool → Occurrence S C → List ErrorValue
 anonymous_among scope several o = if several then anonymous_at o.node else []
+
+-- at a node: an operation has a name
+abbrev pub HasName : {S : Type 0} → Node S → Type 0
+HasName (operation_definition o) = is_some o.item.name ≡ true
+HasName _ = Unit {0}
+
+-- where there are several operations, each has a name
+abbrev pub HasNameAmong : {S C : Type 0} → DocumentScope S C → Bool → Occurrence S C → Type 0
+HasNameAmong scope several o = several ≡ true → HasName o.node

@@ -1,5 +1,6 @@
 -- Later variables of a name (section 5.8.1).
-use Rattle.std.specs.Prelude.{ℕ, List, [], ◌++◌, Option, Some, None, map, codes}
+use Rattle.std.specs.Prelude.{◌≡◌, ℕ, List, [], ◌++◌, true, Option, Some, None, map, codes}
+use Rattle.language.specs.ValuesEqual.{are_distinct}
 use Rattle.language.specs.declared.tree.VariableDefinitions.{VariableDefinitions}
 use Rattle.walk.specs.ContextState.{DocumentScope}
 use Rattle.walk.specs.ErrorValue.{ErrorValue}
@@ -24,3 +25,13 @@ repeated_in_operation _ = []
 -- at an operation: each variable whose name stands earlier in its list
 abbrev pub repeated_variables : {S C : Type 0} → DocumentScope S C → Occurrence S C → List ErrorValue
 repeated_variables scope o = repeated_in_operation o.node
+
+-- no two of a list of variables, if there is one, have the same name
+abbrev pub AreDistinctVariables : {S : Type 0} → Option (Placed (VariableDefinitions S)) → Type 0
+AreDistinctVariables None = Unit {0}
+AreDistinctVariables (Some definitions) = are_distinct (map (λ v. v.0.item.now) definitions.item.items.items) ≡ true
+
+-- at a node: no two variables of an operation have the same name
+abbrev pub HasDistinctVariables : {S : Type 0} → Node S → Type 0
+HasDistinctVariables (operation_definition o) = AreDistinctVariables o.item.variable_definitions
+HasDistinctVariables _ = Unit {0}

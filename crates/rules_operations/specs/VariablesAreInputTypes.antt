@@ -1,5 +1,6 @@
 -- Variables of types that no input has (section 5.8.2).
-use Rattle.std.specs.Prelude.{ℕ, List, [], ◌∷◌, ◌++◌, Option, Some, None, if◌then◌else◌, codes}
+use Rattle.std.specs.Prelude.{◌≡◌, ℕ, List, [], ◌∷◌, ◌++◌, true, Option, Some, None, if◌then◌else◌, codes}
+use Rattle.std.specs.Option.{option_map_or}
 use Rattle.language.specs.Types.{TypeShape, printed, shape}
 use Rattle.meta.specs.Kinds.{is_input_meta}
 use Rattle.meta.specs.declared.kinds.MetaTypeOf.{MetaTypeOf}
@@ -32,3 +33,8 @@ module _ {S C : Type 0} where
   -- at a definition of a variable: it is reported if its type is no input type
   abbrev pub non_input_variables : DocumentScope S C → Occurrence S C → List ErrorValue
   non_input_variables scope o = non_input_at scope.schema o.node
+
+  -- at a node: the innermost type of a variable is an input type, if the schema has a type of its name
+  abbrev pub HasInputType : Catalog S C → Node S → Type 0
+  HasInputType schema (variable_definition v) = option_map_or is_input_meta (type_in (shape v.1.var_type.item).name schema) true ≡ true
+  HasInputType schema _ = Unit {0}

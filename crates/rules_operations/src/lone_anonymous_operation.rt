@@ -1,11 +1,12 @@
 //! An operation without a name is the only operation of its document (GraphQL, October 2021, section 5.2.2.1).
 
 ghost use Rattle.std.specs.Prelude.{◌≡◌, length};
-ghost use Rattle.walk.specs.Entering.{prepared_step, found_by};
-ghost use Rattle.walk.specs.Rule.{always, any_value, exactly, is_empty};
-ghost use Rattle.walk.specs.RuleLaws.{exactly_silent};
+ghost use Rattle.walk.specs.Entering.{everywhere_by, found_by, prepared_step};
+ghost use Rattle.walk.specs.Rule.{always, any_value, exactly};
+ghost use Rattle.walk.specs.RuleLaws.{everywhere_by_silent};
 ghost use Rattle.walk.proofs.Entering.{prepared_keeps};
-ghost use Rattle.rules_operations.specs.LoneAnonymousOperation.{operations, has_several, anonymous_among};
+ghost use Rattle.rules_operations.specs.LoneAnonymousOperation.{operations, has_several, anonymous_among, HasNameAmong};
+ghost use Rattle.rules_operations.specs.LoneAnonymousOperationLaws.{none_anonymous};
 
 use language::error::OutOfMemory;
 use language::tree::Definition;
@@ -41,11 +42,11 @@ impl<S, C> Rule<S, C> for LoneAnonymousOperation {
 }
 
 impl<S, C> Criterion<S, C> for LoneAnonymousOperation {
-    ghost finds_nothing = { is_empty (found_by has_several anonymous_among) };
+    ghost finds_nothing = { everywhere_by has_several HasNameAmong };
 }
 
 impl<S, C> SettledRule<S, C> for LoneAnonymousOperation {
-    ghost silent = { exactly_silent (found_by has_several anonymous_among) };
+    ghost silent = { everywhere_by_silent has_several anonymous_among HasNameAmong none_anonymous };
 }
 
 impl<'a, S: CheckedScalar> Visitor<'a, S> for LoneAnonymousOperation {

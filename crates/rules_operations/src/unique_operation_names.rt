@@ -1,10 +1,10 @@
 //! No two operations of a document have the same name (GraphQL, October 2021, section 5.2.1.1).
 
 ghost use Rattle.std.specs.Prelude.{◌≡◌, IfOk, string_bytes};
-ghost use Rattle.walk.specs.Rule.{always, exactly, is_empty};
-ghost use Rattle.walk.specs.RuleLaws.{exactly_silent};
-ghost use Rattle.rules_support.specs.Noting.{noting_step, repeated, NothingNoted};
+ghost use Rattle.walk.specs.Rule.{always, exactly};
+ghost use Rattle.rules_support.specs.Noting.{noting_step, repeated, HasDistinctNames, NothingNoted};
 ghost use Rattle.rules_support.specs.NotingLaws.{noting_keeps};
+ghost use Rattle.rules_support.specs.RepeatsLaws.{repeated_silent};
 ghost use Rattle.rules_support.specs.FirstPlaces.{places_of};
 ghost use Rattle.rules_operations.specs.UniqueOperationNames.{operation_name, repeated_operation_message};
 
@@ -46,11 +46,11 @@ impl<'a, S, C> Rule<S, C> for UniqueOperationNames<'a> {
 }
 
 impl<'a, S, C> Criterion<S, C> for UniqueOperationNames<'a> {
-    ghost finds_nothing = { is_empty (repeated repeated_operation_message operation_name) };
+    ghost finds_nothing = { HasDistinctNames operation_name };
 }
 
 impl<'a, S, C> SettledRule<S, C> for UniqueOperationNames<'a> {
-    ghost silent = { exactly_silent (repeated repeated_operation_message operation_name) };
+    ghost silent = { repeated_silent repeated_operation_message operation_name };
 }
 
 impl<'a, S: CheckedScalar> Visitor<'a, S> for UniqueOperationNames<'a> {

@@ -2,12 +2,13 @@
 
 ghost use Rattle.std.specs.Prelude.{◌≡◌, OnOk, OnErr};
 ghost use Rattle.walk.specs.ContextState.{with_errors};
-ghost use Rattle.walk.specs.Entering.{finding_step, found};
-ghost use Rattle.walk.specs.Rule.{always, any_value, exactly, is_empty};
-ghost use Rattle.walk.specs.RuleLaws.{exactly_silent};
+ghost use Rattle.walk.specs.Entering.{everywhere, finding_step, found};
+ghost use Rattle.walk.specs.Rule.{always, any_value, exactly};
+ghost use Rattle.walk.specs.RuleLaws.{everywhere_silent};
 ghost use Rattle.walk.specs.Step.{KeepsPlace};
 ghost use Rattle.walk.proofs.Entering.{finding_keeps};
-ghost use Rattle.rules_operations.specs.UniqueVariableNames.{repeated_among, repeated_variables};
+ghost use Rattle.rules_operations.specs.UniqueVariableNames.{repeated_among, repeated_variables, HasDistinctVariables};
+ghost use Rattle.rules_operations.specs.UniqueVariableNamesLaws.{none_repeated};
 
 use language::error::OutOfMemory;
 use language::position::Spanning;
@@ -50,11 +51,11 @@ impl<'a, S, C> Rule<S, C> for UniqueVariableNames<'a> {
 }
 
 impl<'a, S, C> Criterion<S, C> for UniqueVariableNames<'a> {
-    ghost finds_nothing = { is_empty (found repeated_variables) };
+    ghost finds_nothing = { everywhere (λ scope o. HasDistinctVariables o.node) };
 }
 
 impl<'a, S, C> SettledRule<S, C> for UniqueVariableNames<'a> {
-    ghost silent = { exactly_silent (found repeated_variables) };
+    ghost silent = { everywhere_silent repeated_variables (λ scope o. HasDistinctVariables o.node) none_repeated };
 }
 
 impl<'a, S: CheckedScalar> Visitor<'a, S> for UniqueVariableNames<'a> {

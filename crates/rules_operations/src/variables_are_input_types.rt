@@ -4,12 +4,13 @@ ghost use Rattle.std.specs.Prelude.{◌≡◌, IfOk, OnOk, OnErr, option_copied,
 ghost use Rattle.language.specs.Types.{shape};
 ghost use Rattle.schema.specs.Catalog.{type_in};
 ghost use Rattle.walk.specs.ContextState.{with_errors};
-ghost use Rattle.walk.specs.Entering.{finding_step, found};
-ghost use Rattle.walk.specs.Rule.{always, any_value, exactly, is_empty};
-ghost use Rattle.walk.specs.RuleLaws.{exactly_silent};
+ghost use Rattle.walk.specs.Entering.{everywhere, finding_step, found};
+ghost use Rattle.walk.specs.Rule.{always, any_value, exactly};
+ghost use Rattle.walk.specs.RuleLaws.{everywhere_silent};
 ghost use Rattle.walk.specs.Step.{KeepsPlace};
 ghost use Rattle.walk.proofs.Entering.{finding_keeps};
-ghost use Rattle.rules_operations.specs.VariablesAreInputTypes.{non_input, non_input_message, non_input_variables};
+ghost use Rattle.rules_operations.specs.VariablesAreInputTypes.{non_input, non_input_message, non_input_variables, HasInputType};
+ghost use Rattle.rules_operations.specs.VariablesAreInputTypesLaws.{none_non_input};
 
 use language::error::OutOfMemory;
 use language::position::Spanning;
@@ -52,11 +53,12 @@ impl<S, C> Rule<S, C> for UniqueVariableNames {
 }
 
 impl<S, C> Criterion<S, C> for UniqueVariableNames {
-    ghost finds_nothing = { is_empty (found non_input_variables) };
+    ghost finds_nothing = { everywhere (λ scope o. HasInputType scope.schema o.node) };
 }
 
 impl<S, C> SettledRule<S, C> for UniqueVariableNames {
-    ghost silent = { exactly_silent (found non_input_variables) };
+    ghost silent = { everywhere_silent non_input_variables
+        (λ scope o. HasInputType scope.schema o.node) none_non_input };
 }
 
 impl<'a, S: CheckedScalar> Visitor<'a, S> for UniqueVariableNames {

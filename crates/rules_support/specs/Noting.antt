@@ -1,12 +1,13 @@
 -- A rule that notes names where they are met, and reports those that it met before.
-use Rattle.std.specs.Prelude.{◌≡◌, ℕ, List, [], ◌∷◌, Option, None, Some, if◌then◌else◌}
+use Rattle.std.specs.Prelude.{◌≡◌, ℕ, List, [], ◌∷◌, Option, None, Some, true, map, if◌then◌else◌}
 use Rattle.std.specs.List.{flat_map}
 use Rattle.std.specs.Str.{bytes_eq}
+use Rattle.language.specs.ValuesEqual.{are_distinct}
 use Rattle.walk.specs.ErrorValue.{ErrorValue}
 use Rattle.events.specs.Node.{Node}
 use Rattle.events.specs.Occurrence.{Occurrence, occurrences}
 use Rattle.walk.specs.Step.{StepOf}
-use Rattle.walk.specs.Rule.{Collection}
+use Rattle.walk.specs.Rule.{Collection, Condition}
 use Rattle.walk.specs.Entering.{keeping_step}
 pub use Rattle.std.specs.Option.{option_to_list as to_list}
 pub use Rattle.name_tables.specs.Adding.{or_else}
@@ -35,9 +36,17 @@ module _ {S C : Type 0} where
   noting_step places message name =
       keeping_step places (λ scope o. noted_if (name o.node)) (λ scope o. repeat_if message (name o.node))
 
-  -- what is reported of a document: of the names at its nodes, in their order, each that stands earlier
+  -- the names at the nodes of a document, in their order
+  abbrev pub names_at : (Node S → Option Named) → List (Occurrence S C) → List Named
+  names_at name os = flat_map (λ (o : Occurrence S C). to_list (name o.node)) os
+
+  -- what is reported of a document: of the names at its nodes each that stands earlier
   abbrev pub repeated : (List ℕ → List ℕ) → (Node S → Option Named) → Collection S C
-  repeated message name scope t doc = repeats message (flat_map (λ (o : Occurrence S C). to_list (name o.node)) (occurrences scope.schema t doc))
+  repeated message name scope t doc = repeats message (names_at name (occurrences scope.schema t doc))
+
+  -- no two of the names at the nodes of a document are the same
+  abbrev pub HasDistinctNames : (Node S → Option Named) → Condition S C
+  HasDistinctNames name scope t doc = are_distinct (map (λ n. n.0) (names_at name (occurrences scope.schema t doc))) ≡ true
 
 abbrev pub NothingNoted : {V : Type 0} → (V → Places) → V → Type 0
 NothingNoted places a = places a ≡ nothing_noted
