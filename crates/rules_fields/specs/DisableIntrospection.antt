@@ -1,5 +1,5 @@
 -- Fields that ask for the schema itself (section 4.1).
-use Rattle.std.specs.Prelude.{ℕ, List, [], ◌∷◌, ◌++◌, Bool, ◌||◌, if◌then◌else◌, codes}
+use Rattle.std.specs.Prelude.{◌≡◌, ℕ, List, [], ◌∷◌, ◌++◌, Bool, false, ◌||◌, if◌then◌else◌, codes}
 use Rattle.std.specs.Str.{bytes_eq}
 use Rattle.walk.specs.ContextState.{DocumentScope}
 use Rattle.walk.specs.ErrorValue.{ErrorValue}
@@ -26,3 +26,8 @@ introspection_at _ = []
 -- at a field: its name, if it is `__schema` or `__type`
 abbrev pub introspection_fields : {S C : Type 0} → DocumentScope S C → Occurrence S C → List ErrorValue
 introspection_fields scope o = introspection_at o.node
+
+-- at a node: a field does not ask for the schema
+abbrev pub AsksNoSchema : {S : Type 0} → Node S → Type 0
+AsksNoSchema (field f) = is_introspection f.item.name.item.now ≡ false
+AsksNoSchema _ = Unit {0}

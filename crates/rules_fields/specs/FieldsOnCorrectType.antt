@@ -1,7 +1,7 @@
 -- Fields that the type around them does not have (sections 5.3.1 and 5.2.3.1).
-use Rattle.std.specs.Prelude.{ℕ, List, [], ◌∷◌, ◌++◌, Bool, true, false, ◌||◌, ◌&&◌, Option, Some, None, is_some, if◌then◌else◌, codes}
-use Rattle.std.specs.List.{flat_map}
-use Rattle.std.specs.Option.{unwrap_or}
+use Rattle.std.specs.Prelude.{◌≡◌, ℕ, List, [], ◌∷◌, ◌++◌, Bool, true, false, ◌||◌, ◌&&◌, Option, Some, None, is_some, if◌then◌else◌, codes}
+use Rattle.std.specs.List.{Contains, flat_map}
+use Rattle.std.specs.Option.{option_map_or, unwrap_or}
 use Rattle.std.specs.Str.{bytes_eq}
 use Rattle.language.specs.declared.tree.OperationType.{OperationType}
 use Rattle.language.specs.declared.tree.OperationType.TheVariants as kind
@@ -9,12 +9,13 @@ use Rattle.language.specs.declared.tree.Field.{Field}
 use Rattle.language.specs.declared.tree.InlineFragment.{InlineFragment}
 use Rattle.language.specs.declared.tree.Selection.{Selection, out-Selection}
 use Rattle.language.specs.declared.tree.Selection.TheOpen as opened
+use Rattle.language.specs.declared.tree.Selection.TheVariants as selection
 use Rattle.meta.specs.declared.kinds.MetaTypeOf.{MetaTypeOf}
 use Rattle.meta.specs.declared.kinds.MetaTypeOf.TheVariants as m
 use Rattle.meta.specs.Kinds.{name_of_meta, field_named}
 use Rattle.walk.specs.ContextState.{DocumentScope}
 use Rattle.walk.specs.ErrorValue.{ErrorValue}
-use Rattle.events.specs.Node.{Node, Name, field, operation_definition}
+use Rattle.events.specs.Node.{Node, Name, Placed, field, operation_definition}
 use Rattle.events.specs.Occurrence.{Occurrence}
 
 abbrev pub unknown_field_message : List ℕ → List ℕ → List ℕ
@@ -70,3 +71,15 @@ module _ {S C : Type 0} where
   -- at a field: its name, if the type around it is known and doesn't have it; at a subscription: each `__typename` of its own set
   abbrev pub fields_of_wrong_type : DocumentScope S C → Occurrence S C → List ErrorValue
   fields_of_wrong_type scope o = wrong_type_at o.types.parent o.node
+
+-- no member of a subscription's own set is the field `__typename`
+abbrev pub HasNoRootTypename : {S : Type 0} → OperationType → List (Selection S) → Type 0
+HasNoRootTypename {S} kind.Subscription set = (f : Placed (Field S)) → Contains set (selection.Field f) → is_typename f.item.name.item.now ≡ false
+HasNoRootTypename _ set = Unit {0}
+
+module _ {S C : Type 0} where
+  -- at a node: the type around a field has it, if that type is known; and no subscription asks for `__typename` itself
+  abbrev pub HasRightFields : Option (MetaTypeOf S C) → Node S → Type 0
+  HasRightFields parent (field f) = option_map_or (λ t. has_field t f.item.name.item.now) parent true ≡ true
+  HasRightFields parent (operation_definition o) = HasNoRootTypename o.item.operation_type o.item.selection_set.items
+  HasRightFields parent _ = Unit {0}

@@ -1,5 +1,5 @@
 -- Fields with a selection set that may have none, and fields without one that need one (section 5.3.3).
-use Rattle.std.specs.Prelude.{ℕ, List, [], ◌∷◌, ◌++◌, Bool, true, false, Option, Some, is_some, codes}
+use Rattle.std.specs.Prelude.{◌≡◌, not, ℕ, List, [], ◌∷◌, ◌++◌, Bool, true, false, Option, Some, is_some, codes}
 use Rattle.language.specs.Types.{TypeShape, printed}
 use Rattle.language.specs.declared.tree.Field.{Field}
 use Rattle.meta.specs.declared.kinds.MetaTypeOf.{MetaTypeOf}
@@ -36,3 +36,8 @@ module _ {S C : Type 0} where
   -- at a field: the field, if its type is known and its selection set does not suit the type
   abbrev pub wrong_sets : DocumentScope S C → Occurrence S C → List ErrorValue
   wrong_sets scope o = wrong_set_at o.types.current o.types.literal o.node
+
+  -- at a node: a field whose type is known has a selection set if and only if the type is no leaf
+  abbrev pub HasRightSet : Node S → Option (MetaTypeOf S C) → Option TypeShape → Type 0
+  HasRightSet (field f) (Some t) (Some written) = is_some f.item.selection_set ≡ not (is_leaf_meta t)
+  HasRightSet _ _ _ = Unit {0}

@@ -1,11 +1,12 @@
 //! No field asks for the schema itself (GraphQL, October 2021, section 4.2): a rule for services that do not show their schema.
 
 ghost use Rattle.std.specs.Prelude.{◌≡◌, IfOk, string_bytes};
-ghost use Rattle.walk.specs.Entering.{finding_step, found};
-ghost use Rattle.walk.specs.Rule.{always, any_value, exactly, is_empty};
-ghost use Rattle.walk.specs.RuleLaws.{exactly_silent};
+ghost use Rattle.walk.specs.Entering.{everywhere, finding_step, found};
+ghost use Rattle.walk.specs.Rule.{always, any_value, exactly};
+ghost use Rattle.walk.specs.RuleLaws.{everywhere_silent};
 ghost use Rattle.walk.proofs.Entering.{finding_keeps};
-ghost use Rattle.rules_fields.specs.DisableIntrospection.{introspection_message, introspection_fields};
+ghost use Rattle.rules_fields.specs.DisableIntrospection.{introspection_message, introspection_fields, AsksNoSchema};
+ghost use Rattle.rules_fields.specs.DisableIntrospectionLaws.{none_introspection};
 
 use language::error::OutOfMemory;
 use meta::check::CheckedScalar;
@@ -41,11 +42,11 @@ impl<S, C> Rule<S, C> for DisableIntrospection {
 }
 
 impl<S, C> Criterion<S, C> for DisableIntrospection {
-    ghost finds_nothing = { is_empty (found introspection_fields) };
+    ghost finds_nothing = { everywhere (λ scope o. AsksNoSchema o.node) };
 }
 
 impl<S, C> SettledRule<S, C> for DisableIntrospection {
-    ghost silent = { exactly_silent (found introspection_fields) };
+    ghost silent = { everywhere_silent introspection_fields (λ scope o. AsksNoSchema o.node) none_introspection };
 }
 
 impl<'a, S: CheckedScalar> Visitor<'a, S> for DisableIntrospection {

@@ -3,13 +3,14 @@
 
 ghost use Rattle.std.specs.Prelude.{◌≡◌, IfOk, OnOk, OnErr, string_bytes};
 ghost use Rattle.walk.specs.ContextState.{typing, with_errors};
-ghost use Rattle.walk.specs.Entering.{finding_step, found};
-ghost use Rattle.walk.specs.Rule.{always, any_value, exactly, is_empty};
-ghost use Rattle.walk.specs.RuleLaws.{exactly_silent};
+ghost use Rattle.walk.specs.Entering.{everywhere, finding_step, found};
+ghost use Rattle.walk.specs.Rule.{always, any_value, exactly};
+ghost use Rattle.walk.specs.RuleLaws.{everywhere_silent};
 ghost use Rattle.walk.specs.Step.{KeepsPlace};
 ghost use Rattle.walk.proofs.Entering.{finding_keeps};
 ghost use Rattle.std.specs.List.{flat_map};
-ghost use Rattle.rules_fields.specs.FieldsOnCorrectType.{has_field, is_union_meta, root_typename, root_typenames, unknown_field, unknown_field_message, fields_of_wrong_type};
+ghost use Rattle.rules_fields.specs.FieldsOnCorrectType.{has_field, is_union_meta, root_typename, root_typenames, unknown_field, unknown_field_message, fields_of_wrong_type, HasRightFields};
+ghost use Rattle.rules_fields.specs.FieldsOnCorrectTypeLaws.{none_of_wrong_type};
 
 use language::error::OutOfMemory;
 use language::position::Spanning;
@@ -50,11 +51,12 @@ impl<S, C> Rule<S, C> for FieldsOnCorrectType {
 }
 
 impl<S, C> Criterion<S, C> for FieldsOnCorrectType {
-    ghost finds_nothing = { is_empty (found fields_of_wrong_type) };
+    ghost finds_nothing = { everywhere (λ scope o. HasRightFields o.types.parent o.node) };
 }
 
 impl<S, C> SettledRule<S, C> for FieldsOnCorrectType {
-    ghost silent = { exactly_silent (found fields_of_wrong_type) };
+    ghost silent = { everywhere_silent fields_of_wrong_type
+        (λ scope o. HasRightFields o.types.parent o.node) none_of_wrong_type };
 }
 
 impl<'a, S: CheckedScalar> Visitor<'a, S> for FieldsOnCorrectType {

@@ -3,12 +3,13 @@
 ghost use Rattle.std.specs.Prelude.{◌≡◌, IfOk, OnOk, OnErr, is_some, string_bytes};
 ghost use Rattle.language.specs.Types.{borrowed_shape, printed};
 ghost use Rattle.walk.specs.ContextState.{typing, with_errors};
-ghost use Rattle.walk.specs.Entering.{finding_step, found};
-ghost use Rattle.walk.specs.Rule.{always, any_value, exactly, is_empty};
-ghost use Rattle.walk.specs.RuleLaws.{exactly_silent};
+ghost use Rattle.walk.specs.Entering.{everywhere, finding_step, found};
+ghost use Rattle.walk.specs.Rule.{always, any_value, exactly};
+ghost use Rattle.walk.specs.RuleLaws.{everywhere_silent};
 ghost use Rattle.walk.specs.Step.{KeepsPlace};
 ghost use Rattle.walk.proofs.Entering.{finding_keeps};
-ghost use Rattle.rules_fields.specs.ScalarLeafs.{wrong_set, wrong_set_of, wrong_sets, no_subfields_message, subfields_needed_message};
+ghost use Rattle.rules_fields.specs.ScalarLeafs.{wrong_set, wrong_set_of, wrong_sets, no_subfields_message, subfields_needed_message, HasRightSet};
+ghost use Rattle.rules_fields.specs.ScalarLeafsLaws.{none_wrong_set};
 
 use language::error::OutOfMemory;
 use language::position::Spanning;
@@ -47,11 +48,12 @@ impl<S, C> Rule<S, C> for ScalarLeafs {
 }
 
 impl<S, C> Criterion<S, C> for ScalarLeafs {
-    ghost finds_nothing = { is_empty (found wrong_sets) };
+    ghost finds_nothing = { everywhere (λ scope o. HasRightSet o.node o.types.current o.types.literal) };
 }
 
 impl<S, C> SettledRule<S, C> for ScalarLeafs {
-    ghost silent = { exactly_silent (found wrong_sets) };
+    ghost silent = { everywhere_silent wrong_sets
+        (λ scope o. HasRightSet o.node o.types.current o.types.literal) none_wrong_set };
 }
 
 impl<'a, S: CheckedScalar> Visitor<'a, S> for ScalarLeafs {
