@@ -1,5 +1,6 @@
 -- Fragments on types that have no fields (section 5.5.1.3).
-use Rattle.std.specs.Prelude.{ℕ, List, [], ◌∷◌, ◌++◌, Option, Some, None, if◌then◌else◌, codes}
+use Rattle.std.specs.Prelude.{◌≡◌, true, ℕ, List, [], ◌∷◌, ◌++◌, Option, Some, None, if◌then◌else◌, codes}
+use Rattle.std.specs.Option.{option_map_or}
 use Rattle.meta.specs.Kinds.{is_composite_meta}
 use Rattle.meta.specs.declared.kinds.MetaTypeOf.{MetaTypeOf}
 use Rattle.schema.specs.Catalog.{Catalog, type_in}
@@ -34,3 +35,18 @@ module _ {S C : Type 0} where
   -- at a fragment and at an inline fragment: its condition, if it is a type without fields
   abbrev pub fragments_on_other_types : DocumentScope S C → Occurrence S C → List ErrorValue
   fragments_on_other_types scope o = on_other_type_at scope.schema o.node
+
+  -- the type of the name, if the schema has one, is composite
+  abbrev pub IsComposite : Catalog S C → List ℕ → Type 0
+  IsComposite schema name = option_map_or is_composite_meta (type_in name schema) true ≡ true
+
+  -- a type condition, if there is one
+  abbrev pub IsCompositeCondition : Catalog S C → Option Name → Type 0
+  IsCompositeCondition schema None = Unit {0}
+  IsCompositeCondition schema (Some condition) = IsComposite schema condition.item.now
+
+  -- at a node: the condition of a fragment
+  abbrev pub IsOnComposite : Catalog S C → Node S → Type 0
+  IsOnComposite schema (fragment_definition f) = IsComposite schema f.item.type_condition.item.now
+  IsOnComposite schema (inline_fragment i) = IsCompositeCondition schema i.item.type_condition
+  IsOnComposite schema _ = Unit {0}

@@ -1,5 +1,5 @@
 -- Spreads of names that no fragment of the document has (section 5.5.2.1).
-use Rattle.std.specs.Prelude.{ℕ, List, [], ◌∷◌, ◌++◌, if◌then◌else◌, codes}
+use Rattle.std.specs.Prelude.{◌≡◌, true, ℕ, List, [], ◌∷◌, ◌++◌, if◌then◌else◌, codes}
 use Rattle.walk.specs.ContextState.{DocumentScope}
 use Rattle.walk.specs.ErrorValue.{ErrorValue}
 use Rattle.walk.specs.Names.{is_among}
@@ -22,3 +22,8 @@ unknown_spread known _ = []
 -- at a spread: its name, if no fragment has it
 abbrev pub unknown_fragments : {S C : Type 0} → DocumentScope S C → Occurrence S C → List ErrorValue
 unknown_fragments scope o = unknown_spread scope.known o.node
+
+-- at a node: the name of a spread is that of a fragment
+abbrev pub SpreadsKnown : {S : Type 0} → List (List ℕ) → Node S → Type 0
+SpreadsKnown known (fragment_spread s) = is_among known s.item.name.item.now ≡ true
+SpreadsKnown known _ = Unit {0}

@@ -1,5 +1,5 @@
 -- Names of types that a schema does not list (section 5.5.1.2).
-use Rattle.std.specs.Prelude.{ℕ, List, [], ◌∷◌, ◌++◌, Option, Some, None, is_some, if◌then◌else◌, codes}
+use Rattle.std.specs.Prelude.{◌≡◌, true, ℕ, List, [], ◌∷◌, ◌++◌, Option, Some, None, is_some, if◌then◌else◌, codes}
 use Rattle.language.specs.Types.{shape}
 use Rattle.language.specs.declared.position.SourcePosition.{SourcePosition}
 use Rattle.schema.specs.Catalog.{Catalog, type_in}
@@ -31,3 +31,19 @@ module _ {S C : Type 0} where
   -- at a fragment and an inline fragment its type condition, at a definition of a variable the innermost name of the type
   abbrev pub unknown_types : DocumentScope S C → Occurrence S C → List ErrorValue
   unknown_types scope o = unknown_type_at scope.schema o.node
+
+  -- the schema has a type of the name
+  abbrev pub IsKnown : Catalog S C → List ℕ → Type 0
+  IsKnown schema name = is_some (type_in name schema) ≡ true
+
+  -- a type condition, if there is one
+  abbrev pub IsKnownCondition : Catalog S C → Option Name → Type 0
+  IsKnownCondition schema None = Unit {0}
+  IsKnownCondition schema (Some name) = IsKnown schema name.item.now
+
+  -- at a node: the condition of a fragment, and the innermost name of a variable's type
+  abbrev pub NamesKnown : Catalog S C → Node S → Type 0
+  NamesKnown schema (fragment_definition f) = IsKnown schema f.item.type_condition.item.now
+  NamesKnown schema (inline_fragment i) = IsKnownCondition schema i.item.type_condition
+  NamesKnown schema (variable_definition v) = IsKnown schema (shape v.1.var_type.item).name
+  NamesKnown schema _ = Unit {0}

@@ -1,6 +1,10 @@
 pub mod Conditions
 pub mod FragmentsOnCompositeTypes
+pub mod FragmentsOnCompositeTypesLaws
 pub mod KnownFragmentNames
+pub mod KnownFragmentNamesLaws
 pub mod KnownTypeNames
+pub mod KnownTypeNamesLaws
 pub mod PossibleFragmentSpreads
+pub mod PossibleFragmentSpreadsLaws
 pub mod UniqueFragmentNames

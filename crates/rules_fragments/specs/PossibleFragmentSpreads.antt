@@ -1,5 +1,5 @@
 -- Spreads of fragments where no object of their type is possible (section 5.5.2.3).
-use Rattle.std.specs.Prelude.{ℕ, List, [], ◌∷◌, ◌++◌, Bool, false, ◌||◌, Option, Some, None, option_and_then, if◌then◌else◌, map, string_bytes, codes}
+use Rattle.std.specs.Prelude.{◌≡◌, true, ℕ, List, [], ◌∷◌, ◌++◌, Bool, false, ◌||◌, Option, Some, None, option_and_then, if◌then◌else◌, map, string_bytes, codes}
 use Rattle.std.specs.Option.{option_map_or, unwrap_or}
 use Rattle.std.specs.Str.{bytes_eq}
 use Rattle.language.specs.declared.position.SourcePosition.{SourcePosition}
@@ -85,3 +85,14 @@ module _ {S C : Type 0} where
   -- at a spread and at an inline fragment with a condition: it may not stand in the selection set around it
   abbrev pub impossible_spreads : DocumentScope S C → TypesByName S C → Occurrence S C → List ErrorValue
   impossible_spreads scope types o = impossible_at scope.schema types o.types.parent o.node
+
+  -- a fragment of the second type may stand where the first is around it, if both are known
+  abbrev pub IsPossible : Catalog S C → Option (MetaTypeOf S C) → Option (MetaTypeOf S C) → Type 0
+  IsPossible schema (Some parent) (Some t) = may_stand schema parent t ≡ true
+  IsPossible schema _ _ = Unit {0}
+
+  -- at a node: the fragment of a spread, and an inline fragment
+  abbrev pub IsPossibleAt : Catalog S C → TypesByName S C → Option (MetaTypeOf S C) → Node S → Type 0
+  IsPossibleAt schema types parent (fragment_spread s) = IsPossible schema parent (types s.item.name.item.now)
+  IsPossibleAt schema types parent (inline_fragment i) = IsPossible schema parent (inline_type schema i.item)
+  IsPossibleAt schema types parent _ = Unit {0}

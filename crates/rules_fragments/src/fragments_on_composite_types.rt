@@ -2,12 +2,13 @@
 
 ghost use Rattle.std.specs.Prelude.{◌≡◌, IfOk, OnOk, OnErr, Some, option_map, string_bytes};
 ghost use Rattle.walk.specs.ContextState.{with_errors};
-ghost use Rattle.walk.specs.Entering.{finding_step, found};
-ghost use Rattle.walk.specs.Rule.{always, any_value, exactly, is_empty};
-ghost use Rattle.walk.specs.RuleLaws.{exactly_silent};
+ghost use Rattle.walk.specs.Entering.{everywhere, finding_step, found};
+ghost use Rattle.walk.specs.Rule.{always, any_value, exactly};
+ghost use Rattle.walk.specs.RuleLaws.{everywhere_silent};
 ghost use Rattle.walk.specs.Step.{KeepsPlace};
 ghost use Rattle.walk.proofs.Entering.{finding_keeps};
-ghost use Rattle.rules_fragments.specs.FragmentsOnCompositeTypes.{fragments_on_other_types, not_composite_message, on_other_type};
+ghost use Rattle.rules_fragments.specs.FragmentsOnCompositeTypes.{fragments_on_other_types, not_composite_message, on_other_type, IsOnComposite};
+ghost use Rattle.rules_fragments.specs.FragmentsOnCompositeTypesLaws.{none_on_other_type};
 
 use language::error::OutOfMemory;
 use language::position::Spanning;
@@ -44,11 +45,12 @@ impl<S, C> Rule<S, C> for FragmentsOnCompositeTypes {
 }
 
 impl<S, C> Criterion<S, C> for FragmentsOnCompositeTypes {
-    ghost finds_nothing = { is_empty (found fragments_on_other_types) };
+    ghost finds_nothing = { everywhere (λ scope o. IsOnComposite scope.schema o.node) };
 }
 
 impl<S, C> SettledRule<S, C> for FragmentsOnCompositeTypes {
-    ghost silent = { exactly_silent (found fragments_on_other_types) };
+    ghost silent = { everywhere_silent fragments_on_other_types
+        (λ scope o. IsOnComposite scope.schema o.node) none_on_other_type };
 }
 
 impl<'a, S: CheckedScalar> Visitor<'a, S> for FragmentsOnCompositeTypes {

@@ -1,11 +1,12 @@
 //! Each spread names a fragment of the document (GraphQL, October 2021, section 5.5.2.1).
 
 ghost use Rattle.std.specs.Prelude.{◌≡◌, IfOk, string_bytes};
-ghost use Rattle.walk.specs.Entering.{finding_step, found};
-ghost use Rattle.walk.specs.Rule.{always, any_value, exactly, is_empty};
-ghost use Rattle.walk.specs.RuleLaws.{exactly_silent};
+ghost use Rattle.walk.specs.Entering.{everywhere, finding_step, found};
+ghost use Rattle.walk.specs.Rule.{always, any_value, exactly};
+ghost use Rattle.walk.specs.RuleLaws.{everywhere_silent};
 ghost use Rattle.walk.proofs.Entering.{finding_keeps};
-ghost use Rattle.rules_fragments.specs.KnownFragmentNames.{unknown_fragment_message, unknown_fragments};
+ghost use Rattle.rules_fragments.specs.KnownFragmentNames.{unknown_fragment_message, unknown_fragments, SpreadsKnown};
+ghost use Rattle.rules_fragments.specs.KnownFragmentNamesLaws.{none_unknown};
 
 use language::error::OutOfMemory;
 use meta::check::CheckedScalar;
@@ -40,11 +41,11 @@ impl<S, C> Rule<S, C> for KnownFragmentNames {
 }
 
 impl<S, C> Criterion<S, C> for KnownFragmentNames {
-    ghost finds_nothing = { is_empty (found unknown_fragments) };
+    ghost finds_nothing = { everywhere (λ scope o. SpreadsKnown scope.known o.node) };
 }
 
 impl<S, C> SettledRule<S, C> for KnownFragmentNames {
-    ghost silent = { exactly_silent (found unknown_fragments) };
+    ghost silent = { everywhere_silent unknown_fragments (λ scope o. SpreadsKnown scope.known o.node) none_unknown };
 }
 
 impl<'a, S: CheckedScalar> Visitor<'a, S> for KnownFragmentNames {

@@ -2,12 +2,13 @@
 
 ghost use Rattle.std.specs.Prelude.{◌≡◌, IfOk, OnOk, OnErr, string_bytes};
 ghost use Rattle.walk.specs.ContextState.{with_errors};
-ghost use Rattle.walk.specs.Entering.{finding_step, found};
-ghost use Rattle.walk.specs.Rule.{always, any_value, exactly, is_empty};
-ghost use Rattle.walk.specs.RuleLaws.{exactly_silent};
+ghost use Rattle.walk.specs.Entering.{everywhere, finding_step, found};
+ghost use Rattle.walk.specs.Rule.{always, any_value, exactly};
+ghost use Rattle.walk.specs.RuleLaws.{everywhere_silent};
 ghost use Rattle.walk.specs.Step.{KeepsPlace};
 ghost use Rattle.walk.proofs.Entering.{finding_keeps};
-ghost use Rattle.rules_fragments.specs.KnownTypeNames.{unknown_type, unknown_type_message, unknown_types};
+ghost use Rattle.rules_fragments.specs.KnownTypeNames.{unknown_type, unknown_type_message, unknown_types, NamesKnown};
+ghost use Rattle.rules_fragments.specs.KnownTypeNamesLaws.{none_unknown};
 
 use language::error::OutOfMemory;
 use language::position::SourcePosition;
@@ -43,11 +44,11 @@ impl<S, C> Rule<S, C> for KnownTypeNames {
 }
 
 impl<S, C> Criterion<S, C> for KnownTypeNames {
-    ghost finds_nothing = { is_empty (found unknown_types) };
+    ghost finds_nothing = { everywhere (λ scope o. NamesKnown scope.schema o.node) };
 }
 
 impl<S, C> SettledRule<S, C> for KnownTypeNames {
-    ghost silent = { exactly_silent (found unknown_types) };
+    ghost silent = { everywhere_silent unknown_types (λ scope o. NamesKnown scope.schema o.node) none_unknown };
 }
 
 impl<'a, S: CheckedScalar> Visitor<'a, S> for KnownTypeNames {

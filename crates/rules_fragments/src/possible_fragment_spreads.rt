@@ -4,13 +4,14 @@ ghost use Rattle.std.specs.Prelude.{◌≡◌, IfOk, OnOk, OnErr, map, option_co
 ghost use Rattle.meta.specs.Kinds.{name_of_meta};
 ghost use Rattle.schema.specs.Possible.{is_among};
 ghost use Rattle.walk.specs.ContextState.{typing, with_errors};
-ghost use Rattle.walk.specs.Entering.{prepared_step, found_by};
-ghost use Rattle.walk.specs.Rule.{always, any_value, exactly, is_empty};
-ghost use Rattle.walk.specs.RuleLaws.{exactly_silent};
+ghost use Rattle.walk.specs.Entering.{everywhere_by, found_by, prepared_step};
+ghost use Rattle.walk.specs.Rule.{always, any_value, exactly};
+ghost use Rattle.walk.specs.RuleLaws.{everywhere_by_silent};
 ghost use Rattle.walk.specs.Step.{KeepsPlace};
 ghost use Rattle.walk.proofs.Entering.{prepared_keeps};
 ghost use Rattle.rules_fragments.specs.Conditions.{conditions_of};
-ghost use Rattle.rules_fragments.specs.PossibleFragmentSpreads.{conditions, impossible_spreads, impossible, impossible_message, impossible_words, inline_type, is_interface_below, may_stand};
+ghost use Rattle.rules_fragments.specs.PossibleFragmentSpreads.{conditions, impossible_spreads, impossible, impossible_message, impossible_words, inline_type, is_interface_below, may_stand, IsPossibleAt};
+ghost use Rattle.rules_fragments.specs.PossibleFragmentSpreadsLaws.{none_impossible};
 
 use crate::conditions::Conditions;
 use language::error::OutOfMemory;
@@ -59,11 +60,13 @@ impl<'a, S: CheckedScalar> Rule<S, S::Check> for PossibleFragmentSpreads<'a, S> 
 }
 
 impl<'a, S: CheckedScalar> Criterion<S, S::Check> for PossibleFragmentSpreads<'a, S> {
-    ghost finds_nothing = { is_empty (found_by conditions impossible_spreads) };
+    ghost finds_nothing = { everywhere_by conditions
+        (λ scope types o. IsPossibleAt scope.schema types o.types.parent o.node) };
 }
 
 impl<'a, S: CheckedScalar> SettledRule<S, S::Check> for PossibleFragmentSpreads<'a, S> {
-    ghost silent = { exactly_silent (found_by conditions impossible_spreads) };
+    ghost silent = { everywhere_by_silent conditions impossible_spreads
+        (λ scope types o. IsPossibleAt scope.schema types o.types.parent o.node) none_impossible };
 }
 
 impl<'a, S: CheckedScalar> Visitor<'a, S> for PossibleFragmentSpreads<'a, S> {

@@ -1,10 +1,10 @@
 //! No two fragments of a document have the same name (GraphQL, October 2021, section 5.5.1.1).
 
 ghost use Rattle.std.specs.Prelude.{◌≡◌, IfOk, string_bytes};
-ghost use Rattle.walk.specs.Rule.{always, exactly, is_empty};
-ghost use Rattle.walk.specs.RuleLaws.{exactly_silent};
-ghost use Rattle.rules_support.specs.Noting.{noting_step, repeated, NothingNoted};
+ghost use Rattle.walk.specs.Rule.{always, exactly};
+ghost use Rattle.rules_support.specs.Noting.{noting_step, repeated, HasDistinctNames, NothingNoted};
 ghost use Rattle.rules_support.specs.NotingLaws.{noting_keeps};
+ghost use Rattle.rules_support.specs.RepeatsLaws.{repeated_silent};
 ghost use Rattle.rules_support.specs.FirstPlaces.{places_of};
 ghost use Rattle.rules_fragments.specs.UniqueFragmentNames.{fragment_name, repeated_fragment_message};
 
@@ -46,11 +46,11 @@ impl<'a, S, C> Rule<S, C> for UniqueFragmentNames<'a> {
 }
 
 impl<'a, S, C> Criterion<S, C> for UniqueFragmentNames<'a> {
-    ghost finds_nothing = { is_empty (repeated repeated_fragment_message fragment_name) };
+    ghost finds_nothing = { HasDistinctNames fragment_name };
 }
 
 impl<'a, S, C> SettledRule<S, C> for UniqueFragmentNames<'a> {
-    ghost silent = { exactly_silent (repeated repeated_fragment_message fragment_name) };
+    ghost silent = { repeated_silent repeated_fragment_message fragment_name };
 }
 
 impl<'a, S: CheckedScalar> Visitor<'a, S> for UniqueFragmentNames<'a> {
