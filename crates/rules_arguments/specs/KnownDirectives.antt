@@ -1,8 +1,8 @@
 -- Directives that the schema does not define, or that are not allowed where they stand (sections 5.7.1 and 5.7.2).
-use Rattle.std.specs.Prelude.{ℕ, List, [], ◌∷◌, ◌++◌, Bool, Option, Some, None, if◌then◌else◌, codes}
+use Rattle.std.specs.Prelude.{◌≡◌, ℕ, List, [], ◌∷◌, ◌++◌, Bool, Option, Some, None, if◌then◌else◌, codes}
 use Rattle.std.specs.declared.alloc.Global.{Global}
 use Rattle.std.specs.declared.vec.Vec.{Vec}
-use Rattle.std.specs.List.{flat_map, list_any}
+use Rattle.std.specs.List.{Contains, flat_map, list_any}
 use Rattle.std.specs.Str.{bytes_eq}
 use Rattle.language.specs.declared.tree.Directive.{Directive}
 use Rattle.language.specs.declared.tree.OperationType.{OperationType}
@@ -67,3 +67,22 @@ module _ {S C : Type 0} where
   -- at each node that may have directives: those that are not known, and those that are not allowed there
   abbrev pub unsuitable_directives : DocumentScope S C → Occurrence S C → List ErrorValue
   unsuitable_directives scope o = unsuitable_at scope.schema o.node
+
+  -- the directive is known, and may stand at the place
+  abbrev pub IsSuitable : Catalog S C → DirectiveLocation → Placed (Directive S) → Type 0
+  IsSuitable schema place d = (known : DirectiveType S) × (directive_in d.item.name.item.now schema ≡ Some known) × Contains known.locations.items place
+
+  -- each directive of a list, if there is one
+  abbrev pub AreSuitable : Catalog S C → DirectiveLocation → Option (Vec (Placed (Directive S)) Global) → Type 0
+  AreSuitable schema place None = Unit {0}
+  AreSuitable schema place (Some ds) = (d : Placed (Directive S)) → Contains ds.items d → IsSuitable schema place d
+
+  -- at a node: its directives, at the place that the node is
+  abbrev pub HasSuitable : Catalog S C → Node S → Type 0
+  HasSuitable schema (operation_definition o) = AreSuitable schema (operation_place o.item.operation_type) o.item.directives
+  HasSuitable schema (fragment_definition f) = AreSuitable schema l.FragmentDefinition f.item.directives
+  HasSuitable schema (variable_definition d) = AreSuitable schema l.VariableDefinition d.1.directives
+  HasSuitable schema (field f) = AreSuitable schema l.Field f.item.directives
+  HasSuitable schema (fragment_spread s) = AreSuitable schema l.FragmentSpread s.item.directives
+  HasSuitable schema (inline_fragment i) = AreSuitable schema l.InlineFragment i.item.directives
+  HasSuitable schema _ = Unit {0}

@@ -1,6 +1,10 @@
 pub mod Bearers
 pub mod KnownArgumentNames
 pub mod KnownDirectives
+pub mod KnownDirectivesLaws
 pub mod ProvidedNonNullArguments
+pub mod ProvidedNonNullArgumentsLaws
 pub mod UniqueArgumentNames
+pub mod UniqueArgumentNamesLaws
 pub mod UniqueInputFieldNames
+pub mod UniqueInputFieldNamesLaws

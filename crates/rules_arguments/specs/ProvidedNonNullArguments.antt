@@ -1,6 +1,6 @@
 -- Required arguments that are not given (section 5.4.2.1).
-use Rattle.std.specs.Prelude.{ℕ, List, [], ◌∷◌, ◌++◌, Bool, false, ◌&&◌, not, Option, Some, None, is_some, is_none, if◌then◌else◌, codes, string_bytes}
-use Rattle.std.specs.List.{flat_map}
+use Rattle.std.specs.Prelude.{◌≡◌, true, ℕ, List, [], ◌∷◌, ◌++◌, Bool, false, ◌&&◌, not, Option, Some, None, is_some, is_none, if◌then◌else◌, codes, string_bytes}
+use Rattle.std.specs.List.{Contains, flat_map}
 use Rattle.language.specs.Pairs.{first_of_name}
 use Rattle.language.specs.Types.{shape, is_never_null, printed}
 use Rattle.language.specs.declared.position.SourcePosition.{SourcePosition}
@@ -62,6 +62,11 @@ module _ {S : Type 0} where
   is_required (bearer.Field name parent) a = required_on_field a
   is_required (bearer.Directive name) a = required_on_directive a
 
+  -- each required argument is given, where a list of the known ones is known
+  abbrev pub AreGiven : (Argument S → Bool) → Option (List (Argument S)) → Option (Placed (Arguments S)) → Type 0
+  AreGiven required None written = Unit {0}
+  AreGiven required (Some known) written = (a : Argument S) → Contains known a → required a ≡ true → is_given written (string_bytes a.name) ≡ true
+
 module _ {S C : Type 0} where
   -- the missing arguments of a field
   abbrev pub missing_on_field : Option (MetaTypeOf S C) → Placed (Field S) → List ErrorValue
@@ -82,3 +87,9 @@ module _ {S C : Type 0} where
   -- at a field and at a directive: each required argument that is not given
   abbrev pub missing_arguments : DocumentScope S C → Occurrence S C → List ErrorValue
   missing_arguments scope o = missing_at scope.schema o.types.parent o.node
+
+  -- at a node: the required arguments of a field, and of a directive
+  abbrev pub HasRequired : Catalog S C → Option (MetaTypeOf S C) → Node S → Type 0
+  HasRequired schema parent (field f) = AreGiven required_on_field (field_arguments parent f.item.name.item.now) f.item.arguments
+  HasRequired schema parent (directive d) = AreGiven required_on_directive (directive_arguments schema d.item.name.item.now) d.item.arguments
+  HasRequired schema parent _ = Unit {0}

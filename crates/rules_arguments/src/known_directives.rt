@@ -4,12 +4,13 @@ ghost use Rattle.std.specs.Prelude.{◌≡◌, IfOk, OnOk, OnErr, string_bytes};
 ghost use Rattle.std.specs.List.{flat_map};
 ghost use Rattle.schema_validation.specs.Locations.{location_words};
 ghost use Rattle.walk.specs.ContextState.{with_errors};
-ghost use Rattle.walk.specs.Entering.{finding_step, found};
-ghost use Rattle.walk.specs.Rule.{always, any_value, exactly, is_empty};
-ghost use Rattle.walk.specs.RuleLaws.{exactly_silent};
+ghost use Rattle.walk.specs.Entering.{everywhere, finding_step, found};
+ghost use Rattle.walk.specs.Rule.{always, any_value, exactly};
+ghost use Rattle.walk.specs.RuleLaws.{everywhere_silent};
 ghost use Rattle.walk.specs.Step.{KeepsPlace};
 ghost use Rattle.walk.proofs.Entering.{finding_keeps};
-ghost use Rattle.rules_arguments.specs.KnownDirectives.{is_listed, is_one_place, misplaced_message, operation_place, unknown_directive_message, unsuitable, unsuitable_among, unsuitable_directives};
+ghost use Rattle.rules_arguments.specs.KnownDirectives.{is_listed, is_one_place, misplaced_message, operation_place, unknown_directive_message, unsuitable, unsuitable_among, unsuitable_directives, HasSuitable};
+ghost use Rattle.rules_arguments.specs.KnownDirectivesLaws.{none_unsuitable};
 
 use language::error::OutOfMemory;
 use language::position::Spanning;
@@ -48,11 +49,12 @@ impl<S, C> Rule<S, C> for KnownDirectives {
 }
 
 impl<S, C> Criterion<S, C> for KnownDirectives {
-    ghost finds_nothing = { is_empty (found unsuitable_directives) };
+    ghost finds_nothing = { everywhere (λ scope o. HasSuitable scope.schema o.node) };
 }
 
 impl<S, C> SettledRule<S, C> for KnownDirectives {
-    ghost silent = { exactly_silent (found unsuitable_directives) };
+    ghost silent = { everywhere_silent unsuitable_directives
+        (λ scope o. HasSuitable scope.schema o.node) none_unsuitable };
 }
 
 impl<'a, S: CheckedScalar> Visitor<'a, S> for KnownDirectives {

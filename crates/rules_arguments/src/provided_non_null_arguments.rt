@@ -4,12 +4,13 @@ ghost use Rattle.std.specs.Prelude.{◌≡◌, IfOk, OnOk, OnErr, option_copied,
 ghost use Rattle.std.specs.List.{flat_map};
 ghost use Rattle.language.specs.Types.{is_never_null, printed, shape};
 ghost use Rattle.walk.specs.ContextState.{typing, with_errors};
-ghost use Rattle.walk.specs.Entering.{finding_step, found};
-ghost use Rattle.walk.specs.Rule.{always, any_value, exactly, is_empty};
-ghost use Rattle.walk.specs.RuleLaws.{exactly_silent};
+ghost use Rattle.walk.specs.Entering.{everywhere, finding_step, found};
+ghost use Rattle.walk.specs.Rule.{always, any_value, exactly};
+ghost use Rattle.walk.specs.RuleLaws.{everywhere_silent};
 ghost use Rattle.walk.specs.Step.{KeepsPlace};
 ghost use Rattle.walk.proofs.Entering.{finding_keeps};
-ghost use Rattle.rules_arguments.specs.ProvidedNonNullArguments.{is_given, is_required, missing_argument, missing_where_known, missing_message, missing_on_field, missing_on_directive, missing_arguments, words_before};
+ghost use Rattle.rules_arguments.specs.ProvidedNonNullArguments.{is_given, is_required, missing_argument, missing_where_known, missing_message, missing_on_field, missing_on_directive, missing_arguments, words_before, HasRequired};
+ghost use Rattle.rules_arguments.specs.ProvidedNonNullArgumentsLaws.{none_missing};
 
 use crate::bearers::{Bearer, arguments_of_directive, arguments_of_field, name_of_known};
 use language::error::OutOfMemory;
@@ -52,11 +53,12 @@ impl<S, C> Rule<S, C> for ProvidedNonNullArguments {
 }
 
 impl<S, C> Criterion<S, C> for ProvidedNonNullArguments {
-    ghost finds_nothing = { is_empty (found missing_arguments) };
+    ghost finds_nothing = { everywhere (λ scope o. HasRequired scope.schema o.types.parent o.node) };
 }
 
 impl<S, C> SettledRule<S, C> for ProvidedNonNullArguments {
-    ghost silent = { exactly_silent (found missing_arguments) };
+    ghost silent = { everywhere_silent missing_arguments
+        (λ scope o. HasRequired scope.schema o.types.parent o.node) none_missing };
 }
 
 impl<'a, S: CheckedScalar> Visitor<'a, S> for ProvidedNonNullArguments {

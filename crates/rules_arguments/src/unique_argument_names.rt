@@ -2,12 +2,13 @@
 
 ghost use Rattle.std.specs.Prelude.{◌≡◌, OnOk, OnErr};
 ghost use Rattle.walk.specs.ContextState.{with_errors};
-ghost use Rattle.walk.specs.Entering.{finding_step, found};
-ghost use Rattle.walk.specs.Rule.{always, any_value, exactly, is_empty};
-ghost use Rattle.walk.specs.RuleLaws.{exactly_silent};
+ghost use Rattle.walk.specs.Entering.{everywhere, finding_step, found};
+ghost use Rattle.walk.specs.Rule.{always, any_value, exactly};
+ghost use Rattle.walk.specs.RuleLaws.{everywhere_silent};
 ghost use Rattle.walk.specs.Step.{KeepsPlace};
 ghost use Rattle.walk.proofs.Entering.{finding_keeps};
-ghost use Rattle.rules_arguments.specs.UniqueArgumentNames.{repeated_arguments, repeated_in};
+ghost use Rattle.rules_arguments.specs.UniqueArgumentNames.{repeated_arguments, repeated_in, HasDistinctArguments};
+ghost use Rattle.rules_arguments.specs.UniqueArgumentNamesLaws.{none_repeated};
 
 use language::error::OutOfMemory;
 use language::position::Spanning;
@@ -45,11 +46,11 @@ impl<S, C> Rule<S, C> for UniqueArgumentNames {
 }
 
 impl<S, C> Criterion<S, C> for UniqueArgumentNames {
-    ghost finds_nothing = { is_empty (found repeated_arguments) };
+    ghost finds_nothing = { everywhere (λ scope o. HasDistinctArguments o.node) };
 }
 
 impl<S, C> SettledRule<S, C> for UniqueArgumentNames {
-    ghost silent = { exactly_silent (found repeated_arguments) };
+    ghost silent = { everywhere_silent repeated_arguments (λ scope o. HasDistinctArguments o.node) none_repeated };
 }
 
 impl<'a, S: CheckedScalar> Visitor<'a, S> for UniqueArgumentNames {

@@ -1,10 +1,11 @@
 //! No two fields of an input object have the same name (GraphQL, October 2021, section 5.6.3).
 
-ghost use Rattle.walk.specs.Entering.{finding_step, found};
-ghost use Rattle.walk.specs.Rule.{always, any_value, exactly, is_empty};
-ghost use Rattle.walk.specs.RuleLaws.{exactly_silent};
+ghost use Rattle.walk.specs.Entering.{everywhere, finding_step, found};
+ghost use Rattle.walk.specs.Rule.{always, any_value, exactly};
+ghost use Rattle.walk.specs.RuleLaws.{everywhere_silent};
 ghost use Rattle.walk.proofs.Entering.{finding_keeps};
-ghost use Rattle.rules_arguments.specs.UniqueInputFieldNames.{repeated_keys};
+ghost use Rattle.rules_arguments.specs.UniqueInputFieldNames.{repeated_keys, HasDistinctKeys};
+ghost use Rattle.rules_arguments.specs.UniqueInputFieldNamesLaws.{none_repeated};
 
 use language::error::OutOfMemory;
 use meta::check::CheckedScalar;
@@ -40,11 +41,11 @@ impl<S, C> Rule<S, C> for UniqueInputFieldNames {
 }
 
 impl<S, C> Criterion<S, C> for UniqueInputFieldNames {
-    ghost finds_nothing = { is_empty (found repeated_keys) };
+    ghost finds_nothing = { everywhere (λ scope o. HasDistinctKeys o.node) };
 }
 
 impl<S, C> SettledRule<S, C> for UniqueInputFieldNames {
-    ghost silent = { exactly_silent (found repeated_keys) };
+    ghost silent = { everywhere_silent repeated_keys (λ scope o. HasDistinctKeys o.node) none_repeated };
 }
 
 impl<'a, S: CheckedScalar> Visitor<'a, S> for UniqueInputFieldNames {
