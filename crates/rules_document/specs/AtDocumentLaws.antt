@@ -59,8 +59,3 @@ module _ {S C V X : Type 0} (P : List (Definition S) → List X → Type 0) (err
       → SilentIff {S = S} {C = C} {V = V} (given_at_end (lists P error)) (λ scope t doc. N doc)
   lists_silent N none end scope t doc es (found, holds, is) =
       let h = none doc found holds in (λ e. h.0 (map_none error found (sym is ∙ e)), λ n. is ∙ ap (map error) (h.1 n))
-
-  -- so it does where it may find nothing, if it finds nothing else there
-  pub settled_lists_silent : ((doc : List (Definition S)) (found : List X) → P doc [] → P doc found → found ≡ [])
-      → SilentIff {S = S} {C = C} {V = V} (given_at_end (lists P error)) (λ scope t doc. P doc [])
-  settled_lists_silent settled = lists_silent (λ doc. P doc []) (λ doc found holds. (λ e. subst (P doc) e holds, λ none. settled doc found none holds))

@@ -10,3 +10,5 @@ pub mod NoUnusedFragmentsLaws
 pub mod NoUnusedVariables
 pub mod NoUnusedVariablesLaws
 pub mod ScopeOrder
+pub mod UsedVariables
+pub mod UsedVariablesLaws

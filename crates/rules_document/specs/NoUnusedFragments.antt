@@ -3,6 +3,8 @@ use Rattle.std.specs.Prelude.{◌≡◌, ◌⊎◌, ◌↔◌, ℕ, List, [], �
 use Rattle.std.specs.List.{Contains}
 use Rattle.language.specs.declared.tree.Definition.{Definition}
 use Rattle.language.specs.declared.tree.Definition.TheVariants as definition
+use Rattle.language.specs.Position.{Placed}
+use Rattle.language.specs.declared.tree.Fragment.{Fragment}
 use Rattle.walk.specs.ErrorValue.{ErrorValue}
 use Rattle.fragment_reach.specs.Reach.{IsReached}
 use Rattle.fragment_reach.specs.ReachedFragments.{IsNameMarked}
@@ -30,7 +32,7 @@ module _ {S : Type 0} where
 
   -- there is no fragment that no operation reaches
   abbrev pub NoneUnused : List (Definition S) → Type 0
-  NoneUnused document = (p : NameAndSpan) → Stands document p → (IsReached document p.0 → ⊥) → ⊥
+  NoneUnused document = (f : Placed (Fragment S)) → Contains document (definition.Fragment f) → ¬ (¬ (IsReached document f.item.name.item.now))
 
   -- of the fragments among these definitions, each name and span that no operation of the document reaches, once
   pub record UnusedAmong (document definitions : List (Definition S)) (fs : List NameAndSpan) : Type 0 where

@@ -1,6 +1,6 @@
 //! Each variable that an operation uses is defined by the operation (GraphQL, October 2021, section 5.8.3).
 
-ghost use Rattle.std.specs.Prelude.{◌≡◌, [], List, Some, IfOk, OnOk, OnErr, map, option_map, string_bytes};
+ghost use Rattle.std.specs.Prelude.{◌≡◌, List, Some, IfOk, OnOk, OnErr, map, option_map, string_bytes};
 ghost use Rattle.walk.specs.ContextState.{with_errors};
 ghost use Rattle.walk.specs.Rule.{any_value};
 ghost use Rattle.walk.specs.Step.{KeepsPlace};
@@ -10,6 +10,7 @@ ghost use Rattle.rules_document.specs.AtDocument.{document_step, given_at_end};
 ghost use Rattle.rules_document.specs.AtDocumentLaws.{document_keeps};
 ghost use Rattle.rules_document.specs.NoUndefinedVariablesLaws.{undefineds_silent};
 ghost use Rattle.rules_document.specs.NoUndefinedVariables.{undefined_error, undefined_errors, undefined_message};
+ghost use Rattle.rules_document.specs.UsedVariables.{AllDefined};
 
 use language::error::OutOfMemory;
 use language::tree::Document;
@@ -55,7 +56,7 @@ impl<'a, S, C> Rule<S, C> for NoUndefinedVariables<'a> {
 }
 
 impl<'a, S, C> Criterion<S, C> for NoUndefinedVariables<'a> {
-    ghost finds_nothing = { λ scope t doc. UndefinedVariables doc [] };
+    ghost finds_nothing = { λ scope t doc. AllDefined doc };
 }
 
 impl<'a, S, C> SettledRule<S, C> for NoUndefinedVariables<'a> {
