@@ -1,3 +1,4 @@
+pub mod AllowedPositions
 pub mod DefinedVariables
 pub mod FirstVariables
 pub mod Recording

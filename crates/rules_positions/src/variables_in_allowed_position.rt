@@ -3,15 +3,15 @@
 ghost use Rattle.std.specs.Prelude.{◌≡◌, [], ℕ, List, Option, IfOk, OnErr, OnOk, map, option_map};
 ghost use Rattle.language.specs.Types.{borrowed_shape};
 ghost use Rattle.walk.specs.Entering.{EachGives};
-ghost use Rattle.walk.specs.Rule.{allows_none, always, Appended};
-ghost use Rattle.walk.specs.RuleLaws.{settled_silent};
+ghost use Rattle.walk.specs.Rule.{always, Appended};
 ghost use Rattle.walk.specs.Step.{KeepsPlace};
 ghost use Rattle.fragment_reach.specs.Reach.{operation};
 ghost use Rattle.operation_scopes.specs.Index.{IsIndexOf, operation_names};
 ghost use Rattle.operation_scopes.specs.Places.{places_of};
 ghost use Rattle.operation_scopes.specs.Searches.{IsReady};
 ghost use Rattle.rules_positions.specs.FirstVariables.{kept_first};
-ghost use Rattle.rules_positions.specs.VariablesInAllowedPositionLaws.{positions_keep, positions_settled};
+ghost use Rattle.rules_positions.specs.VariablesInAllowedPositionLaws.{positions_keep, positions_silent};
+ghost use Rattle.rules_positions.specs.AllowedPositions.{AllAllowed};
 ghost use Rattle.rules_positions.specs.Recording.{recording_step};
 ghost use Rattle.rules_positions.specs.TypedUses.{next_uses, use_value, use_values, with_use_if_expected};
 ghost use Rattle.rules_positions.specs.VariablesInAllowedPosition.{given_by_uses, misplaced_variables, recorded_uses, uses_in, DocumentGives, JudgedIfDefined, OperationsGive, UsesGive};
@@ -84,11 +84,11 @@ impl<'a, S, C> Rule<S, C> for VariableInAllowedPosition<'a> {
 }
 
 impl<'a, S, C> Criterion<S, C> for VariableInAllowedPosition<'a> {
-    ghost finds_nothing = { allows_none misplaced_variables };
+    ghost finds_nothing = { AllAllowed };
 }
 
 impl<'a, S, C> SettledRule<S, C> for VariableInAllowedPosition<'a> {
-    ghost silent = { settled_silent misplaced_variables positions_settled };
+    ghost silent = { positions_silent };
 }
 
 impl<'a, S: CheckedScalar> Visitor<'a, S> for VariableInAllowedPosition<'a> {
