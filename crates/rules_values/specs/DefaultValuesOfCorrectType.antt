@@ -8,6 +8,7 @@ use Rattle.events.specs.Node.{Node, Placed, variable_definition}
 use Rattle.events.specs.Occurrence.{Occurrence}
 use Rattle.walk.specs.ContextState.{DocumentScope}
 use Rattle.walk.specs.ErrorValue.{ErrorValue}
+use Rattle.rules_values.specs.Conforms.{ConformsTo}
 use Rattle.rules_values.specs.Faults.{error_at, reported}
 
 abbrev pub needless_default_message : List ℕ → List ℕ → List ℕ
@@ -37,3 +38,14 @@ module _ {S C : Type 0} (may : Answers (InputValue S) C) (shown : InputValue S �
   -- at the definition of a variable: its type is never null and it has a default value, or its default value has a fault
   abbrev pub wrong_defaults : DocumentScope S C → Occurrence S C → List ErrorValue → Type 0
   wrong_defaults scope o es = wrong_default scope.schema o.node es
+
+module _ {S C : Type 0} (may : Answers (InputValue S) C) where
+  -- a default value, if there is one, has a type that may be null, and conforms to it
+  abbrev pub IsRightDefault : Catalog S C → TypeShape → Option (Placed (InputValue S)) → Type 0
+  IsRightDefault schema t None = Unit {0}
+  IsRightDefault schema t (Some value) = (is_never_null t ≡ false) × ConformsTo schema may t value.item
+
+  -- at a node: that of a variable
+  abbrev pub HasRightDefault : Catalog S C → Node S → Type 0
+  HasRightDefault schema (variable_definition d) = IsRightDefault schema (shape d.1.var_type.item) d.1.default_value
+  HasRightDefault schema _ = Unit {0}

@@ -1,6 +1,9 @@
 pub mod ArgumentsOfCorrectType
 pub mod ArgumentsOfCorrectTypeLaws
+pub mod Conforms
+pub mod ConformsLaws
 pub mod DefaultValuesOfCorrectType
 pub mod DefaultValuesOfCorrectTypeLaws
 pub mod Faults
 pub mod FaultsLaws
+pub mod GivenLaws

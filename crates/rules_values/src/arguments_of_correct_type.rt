@@ -3,13 +3,13 @@
 ghost use Rattle.std.specs.Prelude.{◌≡◌, IfOk, OnOk, OnErr, string_bytes};
 ghost use Rattle.language.specs.ValuesPrinted.{printed_value};
 ghost use Rattle.walk.specs.ContextState.{typing};
-ghost use Rattle.walk.specs.Entering.{relating_step, given};
-ghost use Rattle.walk.specs.Rule.{allows_none, always, any_value, Appended};
-ghost use Rattle.walk.specs.RuleLaws.{settled_silent};
+ghost use Rattle.walk.specs.Entering.{everywhere, given, relating_step};
+ghost use Rattle.walk.specs.Rule.{always, any_value, Appended};
 ghost use Rattle.walk.specs.Step.{KeepsPlace};
 ghost use Rattle.walk.proofs.Entering.{relating_keeps};
-ghost use Rattle.rules_values.specs.ArgumentsOfCorrectTypeLaws.{arguments_settled};
-ghost use Rattle.rules_values.specs.ArgumentsOfCorrectType.{wrong_argument_message, wrong_arguments};
+ghost use Rattle.rules_values.specs.ArgumentsOfCorrectTypeLaws.{arguments_right};
+ghost use Rattle.rules_values.specs.GivenLaws.{given_silent};
+ghost use Rattle.rules_values.specs.ArgumentsOfCorrectType.{HasRightValue, wrong_argument_message, wrong_arguments};
 ghost use Rattle.rules_values.specs.Faults.{reported};
 
 use crate::faults::fault_at;
@@ -51,11 +51,13 @@ impl<S: CheckedScalar> Rule<S, S::Check> for ArgumentsOfCorrectType {
 }
 
 impl<S: CheckedScalar> Criterion<S, S::Check> for ArgumentsOfCorrectType {
-    ghost finds_nothing = { allows_none (given (wrong_arguments S.may_answer (printed_value S.text S.str_of))) };
+    ghost finds_nothing = { everywhere (λ scope o. HasRightValue S.may_answer scope.schema o.node o.types.input) };
 }
 
 impl<S: CheckedScalar> SettledRule<S, S::Check> for ArgumentsOfCorrectType {
-    ghost silent = { settled_silent (given (wrong_arguments S.may_answer (printed_value S.text S.str_of))) (arguments_settled S.may_answer (printed_value S.text S.str_of) S.one_answer) };
+    ghost silent = { given_silent (wrong_arguments S.may_answer (printed_value S.text S.str_of))
+        (λ scope o. HasRightValue S.may_answer scope.schema o.node o.types.input)
+        (arguments_right S.may_answer (printed_value S.text S.str_of) S.one_answer) };
 }
 
 impl<'a, S: CheckedScalar> Visitor<'a, S> for ArgumentsOfCorrectType {

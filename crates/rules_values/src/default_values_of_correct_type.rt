@@ -4,13 +4,13 @@
 ghost use Rattle.std.specs.Prelude.{◌≡◌, IfOk, OnOk, OnErr, string_bytes};
 ghost use Rattle.language.specs.Types.{is_never_null, printed, shape};
 ghost use Rattle.language.specs.ValuesPrinted.{printed_value};
-ghost use Rattle.walk.specs.Entering.{relating_step, given};
-ghost use Rattle.walk.specs.Rule.{allows_none, always, any_value, Appended};
-ghost use Rattle.walk.specs.RuleLaws.{settled_silent};
+ghost use Rattle.walk.specs.Entering.{everywhere, given, relating_step};
+ghost use Rattle.walk.specs.Rule.{always, any_value, Appended};
 ghost use Rattle.walk.specs.Step.{KeepsPlace};
 ghost use Rattle.walk.proofs.Entering.{relating_keeps};
-ghost use Rattle.rules_values.specs.DefaultValuesOfCorrectTypeLaws.{defaults_settled};
-ghost use Rattle.rules_values.specs.DefaultValuesOfCorrectType.{default_of, needless_default_message, wrong_default_message, wrong_defaults};
+ghost use Rattle.rules_values.specs.DefaultValuesOfCorrectTypeLaws.{defaults_right};
+ghost use Rattle.rules_values.specs.GivenLaws.{given_silent};
+ghost use Rattle.rules_values.specs.DefaultValuesOfCorrectType.{HasRightDefault, default_of, needless_default_message, wrong_default_message, wrong_defaults};
 
 use crate::faults::fault_at;
 use language::error::OutOfMemory;
@@ -52,11 +52,13 @@ impl<S: CheckedScalar> Rule<S, S::Check> for DefaultValuesOfCorrectType {
 }
 
 impl<S: CheckedScalar> Criterion<S, S::Check> for DefaultValuesOfCorrectType {
-    ghost finds_nothing = { allows_none (given (wrong_defaults S.may_answer (printed_value S.text S.str_of))) };
+    ghost finds_nothing = { everywhere (λ scope o. HasRightDefault S.may_answer scope.schema o.node) };
 }
 
 impl<S: CheckedScalar> SettledRule<S, S::Check> for DefaultValuesOfCorrectType {
-    ghost silent = { settled_silent (given (wrong_defaults S.may_answer (printed_value S.text S.str_of))) (defaults_settled S.may_answer (printed_value S.text S.str_of) S.one_answer) };
+    ghost silent = { given_silent (wrong_defaults S.may_answer (printed_value S.text S.str_of))
+        (λ scope o. HasRightDefault S.may_answer scope.schema o.node)
+        (defaults_right S.may_answer (printed_value S.text S.str_of) S.one_answer) };
 }
 
 impl<'a, S: CheckedScalar> Visitor<'a, S> for DefaultValuesOfCorrectType {
