@@ -1,15 +1,9 @@
 -- Names of which none stands again.
-use Rattle.std.proofs.Common.{◌≡◌, ℕ, List, [], ◌∷◌, ◌++◌, Option, None, Some, Bool, true, false, cond, not, ◌&&◌, ◌||◌, map, refl, ap, sym, ◌∙◌}
+use Rattle.std.proofs.Common.{◌≡◌, ℕ, List, [], ◌∷◌, ◌++◌, Bool, true, false, not, ◌&&◌, ◌||◌, refl, ap, sym, ◌∙◌}
 use Rattle.std.specs.List.{list_any}
 use Rattle.std.specs.Str.{bytes_eq}
 use Rattle.std.proofs.lemmas.Bool.{and_parts, true≢false}
-use Rattle.language.specs.Each.{Each}
 use Rattle.language.specs.ValuesEqual.{are_distinct}
-use Rattle.language.specs.declared.position.SourcePosition.{SourcePosition}
-use Rattle.rules_support.specs.Names.{Named}
-use Rattle.rules_support.specs.Noting.{or_else}
-use Rattle.rules_support.specs.NotingLaws.{first_place-more}
-use Rattle.rules_support.specs.Repeats.{first_place, repeat_at, repeats, repeats_after}
 
 pub left_none : {X : Type 0} (xs ys : List X) → xs ++ ys ≡ [] → xs ≡ []
 left_none [] ys e = refl
@@ -18,36 +12,6 @@ left_none (x ∷ xs) ys e = absurd cc
 pub right_none : {X : Type 0} (xs ys : List X) → xs ++ ys ≡ [] → ys ≡ []
 right_none [] ys e = e
 right_none (x ∷ xs) ys e = absurd cc
-
-no_repeat : (message : List ℕ → List ℕ) (o : Option SourcePosition) (n : Named) → repeat_at message o n ≡ [] → o ≡ None
-no_repeat message None n e = refl
-no_repeat message (Some p) n e = absurd cc
-
-both_none : {T : Type 0} (o : Option T) (b : Bool) (x : T) → or_else o (cond b (Some x) None) ≡ None → (o ≡ None) × (b ≡ false)
-both_none (Some y) b x e = absurd cc
-both_none None true x e = absurd cc
-both_none None false x e = (refl, refl)
-
--- a name with a place before a list none of whose names it is
-others : (earlier : List Named) (n : Named) (rest : List Named) → Each (λ m. first_place (earlier ++ n ∷ []) m.0 ≡ None) rest → Each (λ m. first_place earlier m.0 ≡ None) rest × (list_any (bytes_eq n.0) (map (λ m. m.0) rest) ≡ false)
-others earlier n [] h = (tt, refl)
-others earlier n (m ∷ rest) (h, hs) =
-    let first = both_none (first_place earlier m.0) (bytes_eq n.0 m.0) n.1 (first_place-more earlier n m.0 ∙ h) in
-    let (these, none) = others earlier n rest hs in
-    ((first.0, these), ap (λ b. b || list_any (bytes_eq n.0) (map (λ k. k.0) rest)) first.1 ∙ none)
-
-distinct_after : (message : List ℕ → List ℕ) (earlier rest : List Named) → repeats_after message earlier rest ≡ [] → Each (λ m. first_place earlier m.0 ≡ None) rest × (are_distinct (map (λ m. m.0) rest) ≡ true)
-distinct_after message earlier [] e = (tt, refl)
-distinct_after message earlier (n ∷ rest) e =
-    let here = repeat_at message (first_place earlier n.0) n in
-    let later = repeats_after message (earlier ++ n ∷ []) rest in
-    let (noted, distinct) = distinct_after message (earlier ++ n ∷ []) rest (right_none here later e) in
-    let (these, none) = others earlier n rest noted in
-    ((no_repeat message (first_place earlier n.0) n (left_none here later e), these), ap (λ b. not b && are_distinct (map (λ m. m.0) rest)) none ∙ distinct)
-
--- where no name is reported that stands again, the names are distinct
-pub distinct_names : (message : List ℕ → List ℕ) (names : List Named) → repeats message names ≡ [] → are_distinct (map (λ n. n.0) names) ≡ true
-distinct_names message names e = (distinct_after message [] names e).1
 
 -- The one list is the other with more between.
 pub data Within {X : Type 0} : List X → List X → Type 0 where

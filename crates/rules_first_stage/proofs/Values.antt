@@ -34,8 +34,8 @@ use Rattle.events.proofs.SelectionOutlines.{of_field, of_spread, of_inline}
 use Rattle.walk.specs.ErrorValue.{ErrorValue}
 use Rattle.rules_arguments.specs.UniqueInputFieldNames.{repeated_in_object, repeated_key_message}
 use Rattle.rules_first_stage.specs.CleanStage.{arguments_of, keys_of, listed_arguments}
-use Rattle.rules_support.specs.Names.{key_name}
-use Rattle.rules_first_stage.proofs.Distinct.{distinct_names, left_none, right_none}
+use Rattle.rules_support.specs.RepeatsLaws.{none_repeat_of}
+use Rattle.rules_first_stage.proofs.Distinct.{left_none, right_none}
 
 both_true : (b c : Bool) → b ≡ true → c ≡ true → (b && c) ≡ true
 both_true b c e f = ap (λ z. z && c) e ∙ f
@@ -57,8 +57,8 @@ unique_variable : (S : Type 0) (s : String Global) → has_unique_keys {S = S} (
 unique_variable S s = ap has_unique_keys (sym (v.rolls-Variable s)) ∙ fold-roll-InputValue S Bool unique_step (opened.Variable s)
 
 module _ {S : Type 0} where
-  pub distinct_keys : (w : Placed (List (ObjectEntry S))) → repeated_in_object (node.object_value w) ≡ [] → are_distinct (keys_of w.item) ≡ true
-  distinct_keys w e = ap are_distinct (sym (map-map (λ n. n.0) key_name w.item)) ∙ distinct_names repeated_key_message (map key_name w.item) e
+  distinct_keys : (w : Placed (List (ObjectEntry S))) → repeated_in_object (node.object_value w) ≡ [] → are_distinct (keys_of w.item) ≡ true
+  distinct_keys w e = (none_repeat_of repeated_key_message w.item).0 e
 
   unique_scalar : (s : S) → has_unique_keys (v.Scalar s) ≡ true
   unique_scalar s = ap has_unique_keys (sym (v.rolls-Scalar s)) ∙ fold-roll-InputValue S Bool unique_step (opened.Scalar s)

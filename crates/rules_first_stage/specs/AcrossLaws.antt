@@ -3,12 +3,10 @@ use Rattle.std.proofs.Common.{List, [], ◌∷◌, ap}
 use Rattle.events.specs.TypedEvent.{typed_events}
 use Rattle.walk.specs.ContextState.{scope_of}
 use Rattle.walk.specs.Pair.{no_step}
-use Rattle.walk.specs.Rule.{AllowsFrom, SilentIff, allows_none, always, anywhere, any_value, both_so, nothing}
-use Rattle.walk.specs.RuleLaws.{nil_keeps, nil_silent, pair_keeps, pair_silent, settled_silent}
+use Rattle.walk.specs.Rule.{AllowsFrom, SilentIff, always, anywhere, any_value, both_so, nothing}
+use Rattle.walk.specs.RuleLaws.{nil_keeps, nil_silent, pair_keeps, pair_silent}
 use Rattle.walk.specs.Step.{Run}
 use Rattle.fragment_graph.specs.DocumentCycles.{HasNoCycle}
-use Rattle.variable_usages.specs.Undefined.{UndefinedVariables}
-use Rattle.variable_usages.specs.Unused.{UnusedVariables}
 use Rattle.rules_document.specs.NoFragmentCyclesLaws.{cycles_silent}
 use Rattle.rules_document.specs.NoUnusedFragmentsLaws.{unused_silent}
 use Rattle.rules_document.specs.NoUndefinedVariablesLaws.{undefineds_silent}
@@ -19,7 +17,9 @@ use Rattle.rules_document.specs.NoFragmentCycles.{cycle_errors}
 use Rattle.rules_document.specs.NoUndefinedVariables.{undefined_errors}
 use Rattle.rules_document.specs.NoUnusedFragments.{NoneUnused, unused_errors}
 use Rattle.rules_document.specs.NoUnusedVariables.{unused_variable_errors}
-use Rattle.rules_positions.specs.VariablesInAllowedPositionLaws.{positions_keep, positions_settled}
+use Rattle.rules_document.specs.UsedVariables.{AllDefined, AllUsed}
+use Rattle.rules_positions.specs.AllowedPositions.{AllAllowed}
+use Rattle.rules_positions.specs.VariablesInAllowedPositionLaws.{positions_keep, positions_silent}
 use Rattle.rules_positions.specs.VariablesInAllowedPosition.{misplaced_variables}
 use Rattle.rules_first_stage.specs.Across.{across_allows, across_fresh, across_step, any_four, any_one, any_three, any_two, last_allows, last_four_allow, last_four_step, last_step, last_three_allow, last_three_step, last_two_allow, last_two_step, list_allows, list_fresh, list_step, none_recorded, positions_step, rule_list}
 
@@ -52,11 +52,11 @@ across_keeps start fresh schema t doc end es r =
 
 -- and it is nothing where each of them finds nothing
 pub across_silent : {S C : Type 0}
-    → SilentIff (across_allows {S = S} {C = C}) (both_so (allows_none misplaced_variables) (both_so (λ scope t doc. UnusedVariables doc []) (both_so (λ scope t doc. NoneUnused doc) (both_so (λ scope t doc. UndefinedVariables doc []) (both_so (λ scope t doc. HasNoCycle doc) anywhere)))))
+    → SilentIff (across_allows {S = S} {C = C}) (both_so AllAllowed (both_so (λ scope t doc. AllUsed doc) (both_so (λ scope t doc. NoneUnused doc) (both_so (λ scope t doc. AllDefined doc) (both_so (λ scope t doc. HasNoCycle doc) anywhere)))))
 across_silent end =
-    pair_silent (always misplaced_variables) last_four_allow (allows_none misplaced_variables) _ (settled_silent misplaced_variables positions_settled)
-    (pair_silent (given_at_end unused_variable_errors) last_three_allow (λ scope t doc. UnusedVariables doc []) _ unused_variables_silent
+    pair_silent (always misplaced_variables) last_four_allow AllAllowed _ positions_silent
+    (pair_silent (given_at_end unused_variable_errors) last_three_allow (λ scope t doc. AllUsed doc) _ unused_variables_silent
     (pair_silent (given_at_end unused_errors) last_two_allow (λ scope t doc. NoneUnused doc) _ unused_silent
-    (pair_silent (given_at_end undefined_errors) last_allows (λ scope t doc. UndefinedVariables doc []) _ undefineds_silent
+    (pair_silent (given_at_end undefined_errors) last_allows (λ scope t doc. AllDefined doc) _ undefineds_silent
     (pair_silent (given_at_end cycle_errors) (always nothing) (λ scope t doc. HasNoCycle doc) anywhere cycles_silent nil_silent))))
     (rule_list end)

@@ -6,9 +6,11 @@ use Rattle.language.specs.declared.tree.Definition.{Definition}
 use Rattle.schema.specs.Catalog.{Catalog}
 use Rattle.events.specs.Typing.{Typing, untyped}
 use Rattle.walk.specs.ContextState.{DocumentScope, scope_of}
-use Rattle.walk.specs.Entering.{found}
+use Rattle.walk.specs.Entering.{everywhere}
+use Rattle.walk.specs.RuleLaws.{everywhere_silent}
 use Rattle.walk.specs.ErrorValue.{ErrorValue}
-use Rattle.rules_fields.specs.DisableIntrospection.{introspection_fields}
+use Rattle.rules_fields.specs.DisableIntrospection.{introspection_fields, AsksNoSchema}
+use Rattle.rules_fields.specs.DisableIntrospectionLaws.{none_introspection}
 use Rattle.rules_first_stage.specs.CleanStage.{IsCleanWhere}
 use Rattle.rules_first_stage.proofs.Distinct.{left_none, right_none}
 use Rattle.validation.specs.RootRules.{IsRootReport, IsRootValid, introspection}
@@ -17,8 +19,10 @@ use Rattle.validation.proofs.Stages.{none_iff, permuted_none}
 
 -- no field is asked for that is disabled
 asked_none : {S C : Type 0} (disabled : Bool) (scope : DocumentScope S C) (t : Typing S C) (doc : List (Definition S)) (es : List ErrorValue) → introspection disabled scope t doc es
-    → (es ≡ []) ↔ (disabled ≡ true → found introspection_fields scope t doc ≡ [])
-asked_none true scope t doc es p = (λ e h. permuted_none _ (IsPermutation-sym _ _ (subst (λ z. IsPermutation (found introspection_fields scope t doc) z) e p)), λ h. permuted_none _ (subst (λ z. IsPermutation z es) (h refl) p))
+    → (es ≡ []) ↔ (disabled ≡ true → everywhere (λ known o. AsksNoSchema o.node) scope t doc)
+asked_none true scope t doc es p =
+    let law = everywhere_silent {V = Unit {0}} introspection_fields (λ known o. AsksNoSchema o.node) none_introspection tt scope t doc es p in
+    (λ e h. law.0 e, λ h. law.1 (h refl))
 asked_none false scope t doc es p = (λ e h. absurd (true≢false (sym h)), λ h. p)
 
 module _ {S C : Type 0} (rules : Rules S C) (schema : Catalog S C) (document : List (Definition S)) where

@@ -4,10 +4,10 @@ use Rattle.language.specs.declared.tree.Definition.{Definition}
 use Rattle.schema.specs.Catalog.{Catalog}
 use Rattle.events.specs.Typing.{Typing, untyped}
 use Rattle.walk.specs.ContextState.{ContextState, DocumentScope, scope_of, typing, with_errors}
-use Rattle.walk.specs.Entering.{found}
+use Rattle.walk.specs.Entering.{everywhere, found}
 use Rattle.walk.specs.ErrorValue.{ErrorValue}
 use Rattle.walk.specs.Rule.{Allowance, exactly, nothing}
-use Rattle.rules_fields.specs.DisableIntrospection.{introspection_fields}
+use Rattle.rules_fields.specs.DisableIntrospection.{introspection_fields, AsksNoSchema}
 use Rattle.validation.specs.Stages.{IsValid, Reported, Rules}
 
 module _ {S C : Type 0} where
@@ -39,4 +39,5 @@ module _ {S C : Type 0} (rules : Rules S C) where
   -- the document is valid, and where introspection is disabled no field asks for the schema
   abbrev pub IsRootValid : Bool → Catalog S C → List (Definition S) → Type 0
   IsRootValid disabled schema document =
-      IsValid rules (scope_of schema document) untyped document × (disabled ≡ true → found introspection_fields (scope_of schema document) untyped document ≡ [])
+      let scope = scope_of schema document in
+      IsValid rules scope untyped document × (disabled ≡ true → everywhere (λ known o. AsksNoSchema o.node) scope untyped document)
