@@ -206,6 +206,20 @@ pub const RULES: &[Row] = &[
         0,
         "compared 0\n",
     ),
+    // A directive twice at one node.
+    (
+        "pets",
+        "{ dog { name @skip(if: true) @skip(if: false) } }",
+        1,
+        "Directive \"skip\" may be used only once here. At 0:13, 0:29\ncompared 0\n",
+    ),
+    // A directive at two nodes.
+    (
+        "pets",
+        "{ dog @skip(if: true) { name @skip(if: true) } }",
+        0,
+        "compared 0\n",
+    ),
     // Two fragments of a name.
     (
         "pets",

@@ -3,4 +3,5 @@ pub mod KnownArgumentNames
 pub mod KnownDirectives
 pub mod ProvidedNonNullArguments
 pub mod UniqueArgumentNames
+pub mod UniqueDirectiveNames
 pub mod UniqueInputFieldNames
