@@ -74,6 +74,9 @@ pub within_wrap : (x : TypeModifier) (t : TypeShape) → wrapped_by x t ≡ with
 within_wrap x t = sym (within_of (wrapped_by x t)) ∙ ap (λ ms. within ms t.name) (reverse-append t.modifiers (x ∷ []))
 
 -- ---- lengths of lists of one
+lengths_more : (x : TypeModifier) (t : TypeShape) → lengths_of_one (reverse (wrapped_by x t).modifiers) ≡ lengths_of_one (x ∷ reverse t.modifiers)
+lengths_more x t = ap lengths_of_one (reverse-append t.modifiers (x ∷ []))
+
 module _ {S : Type 0} where
   is_out : (value : InputValue S) (x : v.InputValue-F S (InputValue S)) → value ≡ roll-InputValue S x → out-InputValue S value ≡ x
   is_out value x e = ap (out-InputValue S) e ∙ out-roll-InputValue S x
@@ -109,9 +112,6 @@ module _ {S : Type 0} where
   -- a plain name asks for none
   pub lengths_plain : (value : InputValue S) (t : TypeShape) → outermost t.modifiers ≡ None → lengths_of value t ≡ []
   lengths_plain value t o = lengths_plain_at (out-InputValue S value) t (no_modifier t.modifiers o)
-
-  lengths_more : (x : TypeModifier) (t : TypeShape) → lengths_of_one (reverse (wrapped_by x t).modifiers) ≡ lengths_of_one (x ∷ reverse t.modifiers)
-  lengths_more x t = ap lengths_of_one (reverse-append t.modifiers (x ∷ []))
 
   lengths_non_null_at : (x : v.InputValue-F S (InputValue S)) (t : TypeShape) → lengths_at x (wrapped_by m.NonNull t) ≡ lengths_at x t
   lengths_non_null_at v.Null t = refl

@@ -63,7 +63,7 @@ returns-in-List-clause-row g t c = λ schema fs j.
     let list = m.List c.in-Some-List.size in
     let is : c.in-Some-List.field-0.now ≡ list = cc in
     let some : outermost at.modifiers ≡ Some list = sym c.modifier.ensures ∙ ap option_copied c.in-Some-List.is ∙ ap (λ x. Some x) is in
-    all_others schema may text str_of c.args.value.now at fs (lengths_list c.args.value.now at (is_listed c.args.value.now c.in-List.items c.in-List.is))
+    all_others schema may text str_of c.args.value.now at fs (lengths_list c.args.value.now at (is_listed c.args.value.now c.in-List.field-0 c.in-List.is))
     (moved schema may text str_of c.args.value.now at (wrapped_by list (inner_of at)) fs (unwrapped at list some)
     (items_row schema may text str_of c.args.value.now c.in-Some-List.size (inner_of at) fs
     (subst (λ u. SaysItems schema may text str_of (list_items c.args.value.now) u c.in-Some-List.size fs) c.borrow_inner-in-List.ensures j)))
