@@ -192,6 +192,34 @@ pub const RULES: &[Row] = &[
         1,
         "Field \"multipleReqs\" argument \"req2\" of type \"Int!\" is required but not provided. At 0:20\ncompared 0\n",
     ),
+    // An argument of a field that has none.
+    (
+        "pets",
+        "{ dog { nickname(x: 1) } }",
+        1,
+        "Unknown argument \"x\" on field \"nickname\" of type \"Dog\". At 0:17\ncompared 0\n",
+    ),
+    // An argument of a field that its type does not have.
+    (
+        "pets",
+        "{ catOrDog { __typename(x: 1) } }",
+        0,
+        "compared 0\n",
+    ),
+    // A directive twice at one node.
+    (
+        "pets",
+        "{ dog { name @skip(if: true) @skip(if: false) } }",
+        1,
+        "Directive \"skip\" may be used only once here. At 0:13, 0:29\ncompared 0\n",
+    ),
+    // A directive at two nodes.
+    (
+        "pets",
+        "{ dog @skip(if: true) { name @skip(if: true) } }",
+        0,
+        "compared 0\n",
+    ),
     // Two fragments of a name.
     (
         "pets",
@@ -337,16 +365,26 @@ pub const TEXTS: &[Row] = &[
         "check: syntax at 0:12\n",
     ),
     // The greatest number.
-    ("pets", "{ dog(x: 2147483647) { name } }", 0, "compared 0\n"),
+    (
+        "pets",
+        "{ dog(x: 2147483647) { name } }",
+        1,
+        "Unknown argument \"x\" on field \"dog\" of type \"QueryRoot\". At 0:6\ncompared 0\n",
+    ),
     // The smallest number.
     (
         "pets",
         "{ dog(x: -2147483648) { name } }",
-        0,
-        "compared 0\n",
+        1,
+        "Unknown argument \"x\" on field \"dog\" of type \"QueryRoot\". At 0:6\ncompared 0\n",
     ),
     // Minus zero.
-    ("pets", "{ dog(x: -0) { name } }", 0, "compared 0\n"),
+    (
+        "pets",
+        "{ dog(x: -0) { name } }",
+        1,
+        "Unknown argument \"x\" on field \"dog\" of type \"QueryRoot\". At 0:6\ncompared 0\n",
+    ),
 ];
 
 /// Parts that are missing, or too many.
@@ -423,15 +461,15 @@ pub const STRINGS: &[Row] = &[
     (
         "pets",
         "{ dog(x: [\"\" \"\"]) { name } }",
-        0,
-        "compared 0\n",
+        1,
+        "Unknown argument \"x\" on field \"dog\" of type \"QueryRoot\". At 0:6\ncompared 0\n",
     ),
     // Two strings side by side.
     (
         "pets",
         "{ dog(x: [\"a\"\"b\"]) { name } }",
-        0,
-        "compared 0\n",
+        1,
+        "Unknown argument \"x\" on field \"dog\" of type \"QueryRoot\". At 0:6\ncompared 0\n",
     ),
     // A byte past ASCII.
     ("pets", "{ dog \u{e9} }", 2, "check: syntax at 0:6\n"),
@@ -491,7 +529,7 @@ pub const NAMES: &[Row] = &[
         "pets",
         "{ on true null fragment query dog(on: on, true: fragment) { name } }",
         1,
-        "Unknown field \"on\" on type \"QueryRoot\". At 0:2\nUnknown field \"true\" on type \"QueryRoot\". At 0:5\nUnknown field \"null\" on type \"QueryRoot\". At 0:10\nUnknown field \"fragment\" on type \"QueryRoot\". At 0:15\nUnknown field \"query\" on type \"QueryRoot\". At 0:24\ncompared 0\n",
+        "Unknown field \"on\" on type \"QueryRoot\". At 0:2\nUnknown field \"true\" on type \"QueryRoot\". At 0:5\nUnknown field \"null\" on type \"QueryRoot\". At 0:10\nUnknown field \"fragment\" on type \"QueryRoot\". At 0:15\nUnknown field \"query\" on type \"QueryRoot\". At 0:24\nUnknown argument \"on\" on field \"dog\" of type \"QueryRoot\". At 0:34\nUnknown argument \"true\" on field \"dog\" of type \"QueryRoot\". At 0:42\ncompared 0\n",
     ),
     // A type condition named on.
     (

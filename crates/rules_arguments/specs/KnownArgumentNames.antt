@@ -1,6 +1,7 @@
 -- Arguments that their field or their directive does not define (section 5.4.1).
 use Rattle.std.specs.Prelude.{ℕ, List, [], ◌∷◌, ◌++◌, Bool, Option, Some, None, is_some, find, if◌then◌else◌, codes, string_bytes}
 use Rattle.std.specs.List.{flat_map}
+use Rattle.std.specs.Option.{option_map, option_map_or}
 use Rattle.std.specs.Str.{bytes_eq}
 use Rattle.language.specs.declared.tree.Arguments.{Arguments}
 use Rattle.language.specs.declared.tree.Directive.{Directive}
@@ -12,7 +13,7 @@ use Rattle.walk.specs.ContextState.{DocumentScope}
 use Rattle.walk.specs.ErrorValue.{ErrorValue}
 use Rattle.events.specs.Node.{Node, Name, Placed, ArgumentEntry, field, directive}
 use Rattle.events.specs.Occurrence.{Occurrence}
-use Rattle.events.specs.SchemaView.{field_arguments, directive_arguments}
+use Rattle.events.specs.SchemaView.{field_of, directive_arguments}
 use Rattle.rules_arguments.specs.Bearers.{name_of_known}
 use Rattle.rules_arguments.specs.declared.bearers.Bearer.{Bearer}
 use Rattle.rules_arguments.specs.declared.bearers.Bearer.TheVariants as bearer
@@ -53,10 +54,14 @@ module _ {S : Type 0} where
   unknown_where_known message (Some known) written = unknown_among message known written
 
 module _ {S C : Type 0} where
-  -- of a field whose type is known, each argument that the field does not define
+  -- the arguments of a field that the type has; without a list of them it has none
+  abbrev pub known_on_field : Option (MetaTypeOf S C) → List ℕ → Option (List (Argument S))
+  known_on_field parent name = option_map (λ f. option_map_or (λ v. v.items) f.arguments []) (field_of parent name)
+
+  -- of a field that the type has, each argument that the field does not define
   abbrev pub unknown_on_field : Option (MetaTypeOf S C) → Field S → List ErrorValue
   unknown_on_field parent f =
-      unknown_where_known (unknown_on_field_message f.name.item.now (name_of_known parent)) (field_arguments parent f.name.item.now) f.arguments
+      unknown_where_known (unknown_on_field_message f.name.item.now (name_of_known parent)) (known_on_field parent f.name.item.now) f.arguments
 
   -- of a directive that is known, each argument that is none of its own
   abbrev pub unknown_on_directive : Catalog S C → Directive S → List ErrorValue

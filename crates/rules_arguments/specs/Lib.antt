@@ -6,5 +6,6 @@ pub mod ProvidedNonNullArguments
 pub mod ProvidedNonNullArgumentsLaws
 pub mod UniqueArgumentNames
 pub mod UniqueArgumentNamesLaws
+pub mod UniqueDirectiveNames
 pub mod UniqueInputFieldNames
 pub mod UniqueInputFieldNamesLaws

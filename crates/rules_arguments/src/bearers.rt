@@ -1,11 +1,9 @@
-//! What has arguments, fields and directives, and the arguments that the schema defines for it.
+//! What has arguments: fields and directives.
 
 ghost use Rattle.std.specs.Prelude.{◌≡◌, option_copied};
-ghost use Rattle.events.specs.SchemaView.{directive_arguments, field_arguments};
 ghost use Rattle.rules_arguments.specs.Bearers.{name_of_known};
 
-use meta::{Argument, MetaTypeOf};
-use schema::model::SchemaTypeOf;
+use meta::MetaTypeOf;
 
 /// A field or a directive, as messages name it.
 #[derive(Clone, Copy)]
@@ -14,32 +12,6 @@ pub(crate) enum Bearer<'a> {
     Field(&'a str, &'a str),
     /// A directive of this name.
     Directive(&'a str),
-}
-
-/// The arguments of the first field of the name, where the type is known and the field has a list of them.
-pub(crate) fn arguments_of_field<'a, S, C>(
-    parent: Option<&'a MetaTypeOf<S, C>>,
-    name: &str,
-) -> Option<&'a [Argument<S>]>
-    ensures { option_copied result ≡ field_arguments (option_copied parent.entry) name.now }
-{
-    match &parent?.field_by_name(name)?.arguments {
-        Some(arguments) => Some(arguments.as_slice()),
-        None => None,
-    }
-}
-
-/// The arguments of the directive of the name, where it is known.
-pub(crate) fn arguments_of_directive<'a, S, C>(
-    schema: &'a SchemaTypeOf<S, C>,
-    name: &str,
-) -> Option<&'a [Argument<S>]>
-    ensures { option_copied result ≡ directive_arguments schema.now name.now }
-{
-    match schema.directive_by_name(name) {
-        Some(directive) => Some(directive.arguments.as_slice()),
-        None => None,
-    }
 }
 
 /// The name of a type, where it is known.

@@ -8,14 +8,15 @@ ghost use Rattle.walk.specs.Rule.{always, any_value, exactly, is_empty};
 ghost use Rattle.walk.specs.RuleLaws.{exactly_silent};
 ghost use Rattle.walk.specs.Step.{KeepsPlace};
 ghost use Rattle.walk.proofs.Entering.{finding_keeps};
-ghost use Rattle.rules_arguments.specs.KnownArgumentNames.{is_known, unknown_message, unknown_name, unknown_argument, unknown_arguments, unknown_where_known, unknown_on_field, unknown_on_directive};
+ghost use Rattle.rules_arguments.specs.KnownArgumentNames.{is_known, known_on_field, unknown_message, unknown_name, unknown_argument, unknown_arguments, unknown_where_known, unknown_on_field, unknown_on_directive};
 
-use crate::bearers::{Bearer, arguments_of_directive, arguments_of_field, name_of_known};
+use crate::bearers::{Bearer, name_of_known};
+use events::arguments_of_directive;
 use language::error::OutOfMemory;
 use language::position::Spanning;
 use language::tree::{Arguments, Directive, Field};
 use language::value::InputValue;
-use meta::Argument;
+use meta::{Argument, MetaTypeOf};
 use meta::check::CheckedScalar;
 use meta::named::first_named;
 use rules_support::texts::between;
@@ -24,7 +25,7 @@ use walk::{Criterion, Event, Fresh, Machine, Rule, SettledRule, ValidatorContext
 
 /// Reports each argument that its field or its directive does not define, at the argument's name.
 ///
-/// It reports nothing of an unknown field or directive, nor of a field without a list of arguments.
+/// It reports nothing of an unknown field or directive. A field without a list of arguments defines none.
 #[derive(Drop)]
 pub struct KnownArgumentNames {
     alloc: Global,
@@ -87,8 +88,21 @@ fn report_on_field<'a, S: CheckedScalar>(
     let parent = ctx.parent_type();
     let name = field.name.item;
     let bearer = Bearer::Field(name, name_of_known(parent));
-    let known = arguments_of_field(parent, name);
+    let known = known_on_field(parent, name);
     report(alloc, ctx, bearer, known, &field.arguments)
+}
+
+// The arguments of the parent type's first field of the name, where there is such a field: none where it has no list of them.
+fn known_on_field<'a, S, C>(
+    parent: Option<&'a MetaTypeOf<S, C>>,
+    name: &str,
+) -> Option<&'a [Argument<S>]>
+    ensures { option_copied result ≡ known_on_field (option_copied parent.entry) name.now }
+{
+    match &parent?.field_by_name(name)?.arguments {
+        Some(arguments) => Some(arguments.as_slice()),
+        None => Some(&[]),
+    }
 }
 
 // Reports the unknown arguments of a directive.

@@ -12,7 +12,8 @@ ghost use Rattle.walk.proofs.Entering.{finding_keeps};
 ghost use Rattle.rules_arguments.specs.ProvidedNonNullArguments.{is_given, is_required, missing_argument, missing_where_known, missing_message, missing_on_field, missing_on_directive, missing_arguments, words_before, HasRequired};
 ghost use Rattle.rules_arguments.specs.ProvidedNonNullArgumentsLaws.{none_missing};
 
-use crate::bearers::{Bearer, arguments_of_directive, arguments_of_field, name_of_known};
+use crate::bearers::{Bearer, name_of_known};
+use events::{arguments_of_directive, arguments_of_field};
 use language::error::OutOfMemory;
 use language::position::{SourcePosition, Spanning};
 use language::tree::{Arguments, Directive, Field};

@@ -17,10 +17,11 @@ use rules_arguments::known_argument_names::KnownArgumentNames;
 use rules_arguments::known_directives::KnownDirectives;
 use rules_arguments::provided_non_null_arguments::ProvidedNonNullArguments;
 use rules_arguments::unique_argument_names::UniqueArgumentNames;
+use rules_arguments::unique_directive_names::UniqueDirectiveNames;
 use rules_arguments::unique_input_field_names::UniqueInputFieldNames;
 use rules_arguments::{
     known_argument_names, known_directives, provided_non_null_arguments, unique_argument_names,
-    unique_input_field_names,
+    unique_directive_names, unique_input_field_names,
 };
 use rules_fields::fields_on_correct_type::FieldsOnCorrectType;
 use rules_fields::scalar_leafs::ScalarLeafs;
@@ -70,15 +71,18 @@ type OfFields = MultiVisitorCons<
 >;
 
 // On arguments, keys of objects and directives (5.4, 5.6.3 and 5.7).
-type OfArguments = MultiVisitorCons<
-    UniqueInputFieldNames,
+type OfArguments<'a> = MultiVisitorCons<
+    UniqueDirectiveNames<'a>,
     MultiVisitorCons<
-        UniqueArgumentNames,
+        UniqueInputFieldNames,
         MultiVisitorCons<
-            ProvidedNonNullArguments,
+            UniqueArgumentNames,
             MultiVisitorCons<
-                KnownDirectives,
-                MultiVisitorCons<KnownArgumentNames, MultiVisitorNil>,
+                ProvidedNonNullArguments,
+                MultiVisitorCons<
+                    KnownDirectives,
+                    MultiVisitorCons<KnownArgumentNames, MultiVisitorNil>,
+                >,
             >,
         >,
     >,
@@ -108,7 +112,7 @@ type Groups<'a> = MultiVisitorCons<
     MultiVisitorCons<
         OfFragments<'a>,
         MultiVisitorCons<
-            OfArguments,
+            OfArguments<'a>,
             MultiVisitorCons<OfFields, MultiVisitorCons<OfOperations<'a>, MultiVisitorNil>>,
         >,
     >,
@@ -155,8 +159,8 @@ fn of_fields(alloc: Global) -> OfFields
 }
 
 // The rules on arguments, keys of objects and directives.
-fn of_arguments(alloc: Global) -> OfArguments
-    ensures { ⟦<OfArguments as Fresh>⟧.fresh result }
+fn of_arguments<'a>(alloc: Global) -> OfArguments<'a>
+    ensures { ⟦<OfArguments<'a> as Fresh>⟧.fresh result }
 {
     MultiVisitorNil
         .with_rule(known_argument_names::factory(alloc))
@@ -164,6 +168,7 @@ fn of_arguments(alloc: Global) -> OfArguments
         .with_rule(provided_non_null_arguments::factory(alloc))
         .with_rule(unique_argument_names::factory(alloc))
         .with_rule(unique_input_field_names::factory(alloc))
+        .with_rule(unique_directive_names::factory(alloc))
 }
 
 // The rules on fragments and on the names of types.

@@ -18,7 +18,7 @@ use language::tree::Definition;
 use meta::check::CheckedScalar;
 pub use rules_arguments::{
     known_argument_names, known_directives, provided_non_null_arguments, unique_argument_names,
-    unique_input_field_names,
+    unique_directive_names, unique_input_field_names,
 };
 pub use rules_document::{
     no_fragment_cycles, no_undefined_variables, no_unused_fragments, no_unused_variables,

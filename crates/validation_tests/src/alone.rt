@@ -6,7 +6,7 @@ use std::alloc::Global;
 use validation::ast::Definition;
 use validation::rules::{
     default_values_of_correct_type, disable_introspection, known_directives,
-    variables_are_input_types,
+    unique_directive_names, variables_are_input_types,
 };
 use validation::{DefaultScalarValue, OutOfMemory, SchemaType};
 use validation_examples::told::told_by_one;
@@ -18,10 +18,11 @@ enum Alone {
     VariablesAreInputTypes,
     DisableIntrospection,
     DefaultValuesOfCorrectType,
+    UniqueDirectiveNames,
 }
 
 /// A rule, a text, and what the rule says of it.
-const ROWS: [(Alone, &str, &str); 5] = [
+const ROWS: [(Alone, &str, &str); 6] = [
     (
         Alone::KnownDirectives,
         "query ($a: Int @skip(if: true)) { dog { name @deprecated(reason: \"x\") @nope } }",
@@ -46,6 +47,11 @@ const ROWS: [(Alone, &str, &str); 5] = [
         Alone::DefaultValuesOfCorrectType,
         "query ($a: [Int] = [1, \"x\"]) { dog { name } }",
         "Invalid default value for argument \"a\", expected type \"[Int]\", reason: Invalid value \"\"x\"\" for type \"Int\". At 0:19\n",
+    ),
+    (
+        Alone::UniqueDirectiveNames,
+        "query @skip @nope @skip @nope @skip { dog { ...F @include ...F } } fragment F on Dog { name }",
+        "Directive \"skip\" may be used only once here. At 0:6, 0:18\nDirective \"skip\" may be used only once here. At 0:6, 0:30\n",
     ),
 ];
 
@@ -80,6 +86,14 @@ fn told<'a>(
                 alloc,
                 schema,
                 default_values_of_correct_type::factory(alloc),
+                document,
+            )
+        }
+        Alone::UniqueDirectiveNames => {
+            told_by_one(
+                alloc,
+                schema,
+                unique_directive_names::factory(alloc),
                 document,
             )
         }

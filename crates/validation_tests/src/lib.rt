@@ -1,5 +1,5 @@
-//! What `validation` reports for texts: the rows, rules that are tried alone, root nodes, values against types with sizes, and documents
-//! that are made to hurt.
+//! What `validation` reports for texts: the rows, rules that are tried alone, a directive of the schema's own, root nodes, values
+//! against types with sizes, and documents that are made to hurt.
 #![tactic(auto)]
 
 #[cfg(test)]
@@ -10,6 +10,8 @@ mod judged;
 mod looked;
 #[cfg(test)]
 mod pets;
+#[cfg(test)]
+mod repeatable;
 #[cfg(test)]
 mod roots;
 #[cfg(test)]

@@ -87,10 +87,10 @@ module _ {S C : Type 0} (schema : Catalog S C) (may : Answers (InputValue S) C) 
   of_one : (value : InputValue S) (x : v.InputValue-F S (InputValue S)) (size : Option ℕ) (ms : List TypeModifier) (name : List ℕ) → value ≡ roll-InputValue S x → (value ≡ variant.Null → ⊥) → items_layer x ≡ None
       → OfLevel schema may text str_of x value (m.List size ∷ ms) name [] → OfLevel schema may text str_of x value ms name []
   of_one value v.Null size ms name e n l j = absurd (n (e ∙ variant.rolls-Null))
-  of_one value (v.Scalar s) size ms name e n l j = j
-  of_one value (v.Enum s) size ms name e n l j = j
-  of_one value (v.Variable s) size ms name e n l j = j
-  of_one value (v.Object s) size ms name e n l j = j
+  of_one value (v.Scalar s) size ms name e n l (gs, j, is) = subst (OfLevel schema may text str_of (v.Scalar s) value ms name) (back_none (wrong_length size 1) gs is) j
+  of_one value (v.Enum s) size ms name e n l (gs, j, is) = subst (OfLevel schema may text str_of (v.Enum s) value ms name) (back_none (wrong_length size 1) gs is) j
+  of_one value (v.Variable s) size ms name e n l (gs, j, is) = subst (OfLevel schema may text str_of (v.Variable s) value ms name) (back_none (wrong_length size 1) gs is) j
+  of_one value (v.Object s) size ms name e n l (gs, j, is) = subst (OfLevel schema may text str_of (v.Object s) value ms name) (back_none (wrong_length size 1) gs is) j
   of_one value (v.List s) size ms name e n l j = cc
 
   of_non_null : (value : InputValue S) (x : v.InputValue-F S (InputValue S)) (ms : List TypeModifier) (name : List ℕ) → OfLevel schema may text str_of x value (m.NonNull ∷ ms) name [] → OfLevel schema may text str_of x value ms name []

@@ -123,10 +123,14 @@ module _ {S C : Type 0} (schema : Catalog S C) (may : Answers (InputValue S) C) 
       ∙ ap (λ z. wrong_length size (length xs.items) ++ z)
       (one_in_turn gives 0 xs.items (each_of (λ (x : Spanning (InputValue S) Span). OneAt x.item) (λ x. (j : ℕ) → One (gives j x)) (λ x k j. one_below (element j) (within ms name) x.item k) xs.items h) hs hs' t t')
       ∙ sym e'
-  one_of (v.Scalar s) value (t ∷ ms) name h fs gs p q = one_of (v.Scalar s) value ms name h fs gs p q
-  one_of (v.Enum s) value (t ∷ ms) name h fs gs p q = one_of (v.Enum s) value ms name h fs gs p q
-  one_of (v.Variable s) value (t ∷ ms) name h fs gs p q = one_of (v.Variable s) value ms name h fs gs p q
-  one_of (v.Object s) value (t ∷ ms) name h fs gs p q = one_of (v.Object s) value ms name h fs gs p q
+  one_of (v.Scalar s) value (m.NonNull ∷ ms) name h fs gs p q = one_of (v.Scalar s) value ms name h fs gs p q
+  one_of (v.Enum s) value (m.NonNull ∷ ms) name h fs gs p q = one_of (v.Enum s) value ms name h fs gs p q
+  one_of (v.Variable s) value (m.NonNull ∷ ms) name h fs gs p q = one_of (v.Variable s) value ms name h fs gs p q
+  one_of (v.Object s) value (m.NonNull ∷ ms) name h fs gs p q = one_of (v.Object s) value ms name h fs gs p q
+  one_of (v.Scalar s) value (m.List size ∷ ms) name h fs gs (hs, p, d) (hs', q, e) = d ∙ ap (λ z. wrong_length size 1 ++ z) (one_of (v.Scalar s) value ms name h hs hs' p q) ∙ sym e
+  one_of (v.Enum s) value (m.List size ∷ ms) name h fs gs (hs, p, d) (hs', q, e) = d ∙ ap (λ z. wrong_length size 1 ++ z) (one_of (v.Enum s) value ms name h hs hs' p q) ∙ sym e
+  one_of (v.Variable s) value (m.List size ∷ ms) name h fs gs (hs, p, d) (hs', q, e) = d ∙ ap (λ z. wrong_length size 1 ++ z) (one_of (v.Variable s) value ms name h hs hs' p q) ∙ sym e
+  one_of (v.Object s) value (m.List size ∷ ms) name h fs gs (hs, p, d) (hs', q, e) = d ∙ ap (λ z. wrong_length size 1 ++ z) (one_of (v.Object s) value ms name h hs hs' p q) ∙ sym e
 
   one_at : (value : InputValue S) (x : v.InputValue-F S (InputValue S)) → value ≡ roll-InputValue S x → OneInside x → OneAt value
   one_at value x e h t fs gs p q =

@@ -4,8 +4,8 @@ use Rattle.meta.specs.Kinds.{is_input_meta}
 use Rattle.variable_values.specs.declared.rows.Row.{Row}
 use Rattle.variable_values.specs.declared.rows.Row.TheVariants as r
 use Rattle.variable_values.specs.Inputs.{is_input_in}
-use Rattle.std.proofs.Common.{◌≡◌, false, ℕ, ◌-◌, ◌+◌, ◌<◌, List, [], ◌∷◌, ◌++◌, Option, Some, None, true, length, take, get_or, reverse, refl, ap, sym, ◌∙◌, subst, arith}
-use Rattle.std.specs.Prelude.{Vec, slice_get}
+use Rattle.std.proofs.Common.{◌≡◌, false, ℕ, ◌-◌, ◌+◌, ◌<◌, List, [], ◌∷◌, ◌++◌, Option, Some, None, true, length, take, get_or, reverse, append_assoc, refl, ap, sym, ◌∙◌, subst, arith}
+use Rattle.std.specs.Prelude.{Vec, is_some, slice_get}
 use Rattle.std.specs.declared.alloc.Global.{Global}
 use Rattle.language.specs.declared.position.Span.{Span}
 use Rattle.language.specs.declared.position.Spanning.{Spanning}
@@ -24,7 +24,7 @@ use Rattle.meta.specs.Answers.{Answers}
 use Rattle.meta.specs.declared.kinds.MetaTypeOf.{MetaTypeOf}
 use Rattle.schema.specs.Catalog.{Catalog, type_in}
 use Rattle.variable_values.specs.Faults.{Fault, Faults, Of, OfMeta, OfNamed, here, judge_of, within, wrong_length}
-use Rattle.variable_values.specs.Rows.{ByMeta, ByName, HasName, IsKnownRow, OfItems, SaysItems}
+use Rattle.variable_values.specs.Rows.{ByMeta, ByName, HasName, IsKnownRow, OfItems, Others, SaysItems, lengths_at, lengths_of, lengths_of_one}
 use Rattle.variable_values.specs.Texts.{null_text}
 use Rattle.variable_values.proofs.Unfold.{faults-roll}
 
@@ -73,6 +73,94 @@ within_of t = ap (λ (ms : List TypeModifier). let r : TypeShape = record { name
 pub within_wrap : (x : TypeModifier) (t : TypeShape) → wrapped_by x t ≡ within (x ∷ reverse t.modifiers) t.name
 within_wrap x t = sym (within_of (wrapped_by x t)) ∙ ap (λ ms. within ms t.name) (reverse-append t.modifiers (x ∷ []))
 
+-- ---- lengths of lists of one
+lengths_more : (x : TypeModifier) (t : TypeShape) → lengths_of_one (reverse (wrapped_by x t).modifiers) ≡ lengths_of_one (x ∷ reverse t.modifiers)
+lengths_more x t = ap lengths_of_one (reverse-append t.modifiers (x ∷ []))
+
+module _ {S : Type 0} where
+  is_out : (value : InputValue S) (x : v.InputValue-F S (InputValue S)) → value ≡ roll-InputValue S x → out-InputValue S value ≡ x
+  is_out value x e = ap (out-InputValue S) e ∙ out-roll-InputValue S x
+
+  -- null has none
+  pub lengths_null : (value : InputValue S) (t : TypeShape) → value ≡ variant.Null → lengths_of value t ≡ []
+  lengths_null value t n = ap (λ x. lengths_at x t) (is_out value v.Null (n ∙ sym variant.rolls-Null))
+
+  lengths_items : (x : v.InputValue-F S (InputValue S)) (t : TypeShape) → is_some (items_layer x) ≡ true → lengths_at x t ≡ []
+  lengths_items (v.List xs) t l = refl
+  lengths_items v.Null t l = refl
+  lengths_items (v.Scalar s) t l = cc
+  lengths_items (v.Enum s) t l = cc
+  lengths_items (v.Variable s) t l = cc
+  lengths_items (v.Object s) t l = cc
+
+  -- a list has items
+  pub is_listed : (value : InputValue S) (xs : Vec (Spanning (InputValue S) Span) Global) → value ≡ variant.List xs → is_some (list_items value) ≡ true
+  is_listed value xs e = ap (λ x. is_some (items_layer x)) (is_out value (v.List xs) (e ∙ sym (variant.rolls-List xs)))
+
+  -- nor has a list
+  pub lengths_list : (value : InputValue S) (t : TypeShape) → is_some (list_items value) ≡ true → lengths_of value t ≡ []
+  lengths_list value t l = lengths_items (out-InputValue S value) t l
+
+  lengths_plain_at : (x : v.InputValue-F S (InputValue S)) (t : TypeShape) → t.modifiers ≡ [] → lengths_at x t ≡ []
+  lengths_plain_at v.Null t e = refl
+  lengths_plain_at (v.List xs) t e = refl
+  lengths_plain_at (v.Scalar s) t e = ap (λ ms. lengths_of_one (reverse ms)) e
+  lengths_plain_at (v.Enum s) t e = ap (λ ms. lengths_of_one (reverse ms)) e
+  lengths_plain_at (v.Variable s) t e = ap (λ ms. lengths_of_one (reverse ms)) e
+  lengths_plain_at (v.Object s) t e = ap (λ ms. lengths_of_one (reverse ms)) e
+
+  -- a plain name asks for none
+  pub lengths_plain : (value : InputValue S) (t : TypeShape) → outermost t.modifiers ≡ None → lengths_of value t ≡ []
+  lengths_plain value t o = lengths_plain_at (out-InputValue S value) t (no_modifier t.modifiers o)
+
+  lengths_non_null_at : (x : v.InputValue-F S (InputValue S)) (t : TypeShape) → lengths_at x (wrapped_by m.NonNull t) ≡ lengths_at x t
+  lengths_non_null_at v.Null t = refl
+  lengths_non_null_at (v.List xs) t = refl
+  lengths_non_null_at (v.Scalar s) t = lengths_more m.NonNull t
+  lengths_non_null_at (v.Enum s) t = lengths_more m.NonNull t
+  lengths_non_null_at (v.Variable s) t = lengths_more m.NonNull t
+  lengths_non_null_at (v.Object s) t = lengths_more m.NonNull t
+
+  -- a non-null asks for none of its own
+  pub lengths_non_null : (value : InputValue S) (t : TypeShape) → lengths_of value (wrapped_by m.NonNull t) ≡ lengths_of value t
+  lengths_non_null value t = lengths_non_null_at (out-InputValue S value) t
+
+  lengths_single_at : (value : InputValue S) (x : v.InputValue-F S (InputValue S)) (size : Option ℕ) (t : TypeShape) → value ≡ roll-InputValue S x → (value ≡ variant.Null → ⊥) → items_layer x ≡ None
+      → lengths_at x (wrapped_by (m.List size) t) ≡ wrong_length size 1 ++ lengths_at x t
+  lengths_single_at value v.Null size t e n l = absurd (n (e ∙ variant.rolls-Null))
+  lengths_single_at value (v.List xs) size t e n l = cc
+  lengths_single_at value (v.Scalar s) size t e n l = lengths_more (m.List size) t
+  lengths_single_at value (v.Enum s) size t e n l = lengths_more (m.List size) t
+  lengths_single_at value (v.Variable s) size t e n l = lengths_more (m.List size) t
+  lengths_single_at value (v.Object s) size t e n l = lengths_more (m.List size) t
+
+  -- a list asks for its own
+  pub lengths_single : (value : InputValue S) (size : Option ℕ) (t : TypeShape) → (value ≡ variant.Null → ⊥) → list_items value ≡ None
+      → lengths_of value (wrapped_by (m.List size) t) ≡ wrong_length size 1 ++ lengths_of value t
+  lengths_single value size t n l = lengths_single_at value (out-InputValue S value) size t (sym (roll-out-InputValue S value)) n l
+
+  not_null_list : (value : InputValue S) (x : v.InputValue-F S (InputValue S)) (t : TypeShape) → value ≡ roll-InputValue S x → (value ≡ variant.Null → ⊥)
+      → ((xs : Vec (Spanning (InputValue S) Span) Global) → value ≡ variant.List xs → ⊥) → lengths_at x t ≡ lengths_of_one (reverse t.modifiers)
+  not_null_list value v.Null t e n l = absurd (n (e ∙ variant.rolls-Null))
+  not_null_list value (v.List xs) t e n l = absurd (l xs (e ∙ variant.rolls-List xs))
+  not_null_list value (v.Scalar s) t e n l = refl
+  not_null_list value (v.Enum s) t e n l = refl
+  not_null_list value (v.Variable s) t e n l = refl
+  not_null_list value (v.Object s) t e n l = refl
+
+  -- any other value has those of its type
+  pub lengths_other : (value : InputValue S) (t : TypeShape) → (value ≡ variant.Null → ⊥) → ((xs : Vec (Spanning (InputValue S) Span) Global) → value ≡ variant.List xs → ⊥)
+      → lengths_of value t ≡ lengths_of_one (reverse t.modifiers)
+  lengths_other value t n l = not_null_list value (out-InputValue S value) t (sym (roll-out-InputValue S value)) n l
+
+-- the lengths of a type by its outermost modifier
+pub lengths_none : (t : TypeShape) → outermost t.modifiers ≡ None → lengths_of_one (reverse t.modifiers) ≡ []
+lengths_none t o = ap (λ ms. lengths_of_one (reverse ms)) (no_modifier t.modifiers o)
+
+pub lengths_outer : (t u : TypeShape) (x : TypeModifier) → outermost t.modifiers ≡ Some x → u ≡ inner_of t → lengths_of_one (reverse t.modifiers) ≡ lengths_of_one (x ∷ reverse u.modifiers)
+lengths_outer t u x o e =
+    ap (λ (w : TypeShape). lengths_of_one (reverse w.modifiers)) (unwrapped t x o) ∙ ap lengths_of_one (reverse-append (inner_of t).modifiers (x ∷ [])) ∙ ap (λ (w : TypeShape). lengths_of_one (x ∷ reverse w.modifiers)) (sym e)
+
 module _ {S C : Type 0} (schema : Catalog S C) (may : Answers (InputValue S) C) (text : S → List ℕ) (str_of : S → Option (List ℕ)) where
   abbrev pub OfLevel : v.InputValue-F S (InputValue S) → InputValue S → List TypeModifier → List ℕ → List Fault → Type 0
   OfLevel = Of schema may text str_of (λ y. y) (judge_of schema may text str_of)
@@ -117,16 +205,16 @@ module _ {S C : Type 0} (schema : Catalog S C) (may : Answers (InputValue S) C) 
 
   -- one value, where the type is a list
   through_row : (value : InputValue S) (x : v.InputValue-F S (InputValue S)) (size : Option ℕ) (t : TypeShape) (fs : List Fault) → value ≡ roll-InputValue S x → (value ≡ variant.Null → ⊥) → items_layer x ≡ None
-      → Faults schema may text str_of value t fs → Faults schema may text str_of value (wrapped_by (m.List size) t) fs
+      → Faults schema may text str_of value t fs → Faults schema may text str_of value (wrapped_by (m.List size) t) (wrong_length size 1 ++ fs)
   through_row value v.Null size t fs e n l j = absurd (n (e ∙ variant.rolls-Null))
-  through_row value (v.Scalar s) size t fs e n l j = transport (sym (at_wrap value (v.Scalar s) (m.List size) t fs e)) (transport (at_roll value (v.Scalar s) t fs e) j)
-  through_row value (v.Enum s) size t fs e n l j = transport (sym (at_wrap value (v.Enum s) (m.List size) t fs e)) (transport (at_roll value (v.Enum s) t fs e) j)
-  through_row value (v.Variable s) size t fs e n l j = transport (sym (at_wrap value (v.Variable s) (m.List size) t fs e)) (transport (at_roll value (v.Variable s) t fs e) j)
-  through_row value (v.Object s) size t fs e n l j = transport (sym (at_wrap value (v.Object s) (m.List size) t fs e)) (transport (at_roll value (v.Object s) t fs e) j)
+  through_row value (v.Scalar s) size t fs e n l j = transport (sym (at_wrap value (v.Scalar s) (m.List size) t (wrong_length size 1 ++ fs) e)) (fs, transport (at_roll value (v.Scalar s) t fs e) j, refl)
+  through_row value (v.Enum s) size t fs e n l j = transport (sym (at_wrap value (v.Enum s) (m.List size) t (wrong_length size 1 ++ fs) e)) (fs, transport (at_roll value (v.Enum s) t fs e) j, refl)
+  through_row value (v.Variable s) size t fs e n l j = transport (sym (at_wrap value (v.Variable s) (m.List size) t (wrong_length size 1 ++ fs) e)) (fs, transport (at_roll value (v.Variable s) t fs e) j, refl)
+  through_row value (v.Object s) size t fs e n l j = transport (sym (at_wrap value (v.Object s) (m.List size) t (wrong_length size 1 ++ fs) e)) (fs, transport (at_roll value (v.Object s) t fs e) j, refl)
   through_row value (v.List s) size t fs e n l j = cc
 
   pub single_row : (value : InputValue S) (size : Option ℕ) (t : TypeShape) (fs : List Fault) → (value ≡ variant.Null → ⊥) → list_items value ≡ None
-      → Faults schema may text str_of value t fs → Faults schema may text str_of value (wrapped_by (m.List size) t) fs
+      → Faults schema may text str_of value t fs → Faults schema may text str_of value (wrapped_by (m.List size) t) (wrong_length size 1 ++ fs)
   single_row value size t fs n l j = through_row value (out-InputValue S value) size t fs (is_roll value (out-InputValue S value) refl) n l j
 
   -- a list
@@ -154,6 +242,29 @@ module _ {S C : Type 0} (schema : Catalog S C) (may : Answers (InputValue S) C) 
   -- the same at a type that is such a one
   pub moved : (value : InputValue S) (u t : TypeShape) (fs : List Fault) → u ≡ t → Faults schema may text str_of value t fs → Faults schema may text str_of value u fs
   moved value u t fs e j = transport (ap (λ z. Faults schema may text str_of value z fs) (sym e)) j
+
+  -- ---- the faults of a value that are not those of the length
+  -- where there is none of the length, those are all
+  pub all_others : (value : InputValue S) (t : TypeShape) (fs : List Fault) → lengths_of value t ≡ [] → Faults schema may text str_of value t fs → Others schema may text str_of value t fs
+  all_others value t fs e j = subst (λ ls. Faults schema may text str_of value t (ls ++ fs)) (sym e) j
+
+  pub others_non_null : (value : InputValue S) (t : TypeShape) (fs : List Fault) → (value ≡ variant.Null → ⊥) → Others schema may text str_of value t fs → Others schema may text str_of value (wrapped_by m.NonNull t) fs
+  others_non_null value t fs n j =
+      subst (λ ls. Faults schema may text str_of value (wrapped_by m.NonNull t) (ls ++ fs)) (sym (lengths_non_null value t)) (non_null_row value t (lengths_of value t ++ fs) n j)
+
+  pub others_single : (value : InputValue S) (size : Option ℕ) (t : TypeShape) (fs : List Fault) → (value ≡ variant.Null → ⊥) → list_items value ≡ None
+      → Others schema may text str_of value t fs → Others schema may text str_of value (wrapped_by (m.List size) t) fs
+  others_single value size t fs n l j =
+      subst (Faults schema may text str_of value (wrapped_by (m.List size) t))
+      (sym (append_assoc (wrong_length size 1) (lengths_of value t) fs) ∙ ap (λ ls. ls ++ fs) (sym (lengths_single value size t n l)))
+      (single_row value size t (lengths_of value t ++ fs) n l j)
+
+  pub moved_others : (value : InputValue S) (u t : TypeShape) (fs : List Fault) → u ≡ t → Others schema may text str_of value t fs → Others schema may text str_of value u fs
+  moved_others value u t fs e j = transport (ap (λ z. Others schema may text str_of value z fs) (sym e)) j
+
+  -- those of the length, and the others
+  pub with_others : (value : InputValue S) (t : TypeShape) (fs gs : List Fault) → fs ≡ lengths_of value t → Others schema may text str_of value t gs → Faults schema may text str_of value t (fs ++ gs)
+  with_others value t fs gs e j = subst (λ ls. Faults schema may text str_of value t (ls ++ gs)) (sym e) j
 
   -- ---- a value by a name
   out_null : (value : InputValue S) → value ≡ variant.Null → out-InputValue S value ≡ v.Null

@@ -160,6 +160,10 @@ module _ {S C : Type 0} (schema : Catalog S C) (may : Answers (InputValue S) C) 
     named-natural (v.List s) value (Some meta) fs = meta-natural (v.List s) value meta fs
     named-natural (v.Object s) value (Some meta) fs = meta-natural (v.Object s) value meta fs
 
+    -- of one value for a list, by its faults against the type of items
+    abbrev OfOne : Option ℕ → (List Fault → Type 0) → List Fault → Type 0
+    OfOne size inner fs = (gs : List Fault) × inner gs × (fs ≡ wrong_length size 1 ++ gs)
+
     natural : (x : v.InputValue-F S X) (value : InputValue S) (ms : List TypeModifier) (name : List ℕ) (fs : List Fault)
         → Of schema may text str_of value_of below x value ms name fs ≡ Of schema may text str_of same judge (opened x) value ms name fs
     natural x value [] name fs = named-natural x value (type_in name schema) fs
@@ -171,10 +175,14 @@ module _ {S C : Type 0} (schema : Catalog S C) (may : Answers (InputValue S) C) 
         (fun_ext
         (in_turn-map item_of (λ i x. Inside schema may text str_of value_of below (element i) (within ms name) x.item) (λ i x. Inside schema may text str_of same judge (element i) (within ms name) x.item) (λ i x rs. refl) 0 xs.items))
         ∙ ap (λ n. (gs : List Fault) × InTurn (λ i x. Inside schema may text str_of same judge (element i) (within ms name) x.item) 0 (map item_of xs.items) gs × (fs ≡ wrong_length size n ++ gs)) (sym (length-map xs.items item_of))
-    natural (v.Scalar s) value (t ∷ ms) name fs = natural (v.Scalar s) value ms name fs
-    natural (v.Enum s) value (t ∷ ms) name fs = natural (v.Enum s) value ms name fs
-    natural (v.Variable s) value (t ∷ ms) name fs = natural (v.Variable s) value ms name fs
-    natural (v.Object s) value (t ∷ ms) name fs = natural (v.Object s) value ms name fs
+    natural (v.Scalar s) value (m.NonNull ∷ ms) name fs = natural (v.Scalar s) value ms name fs
+    natural (v.Enum s) value (m.NonNull ∷ ms) name fs = natural (v.Enum s) value ms name fs
+    natural (v.Variable s) value (m.NonNull ∷ ms) name fs = natural (v.Variable s) value ms name fs
+    natural (v.Object s) value (m.NonNull ∷ ms) name fs = natural (v.Object s) value ms name fs
+    natural (v.Scalar s) value (m.List size ∷ ms) name fs = ap (λ (inner : List Fault → Type 0). OfOne size inner fs) (fun_ext (natural (v.Scalar s) value ms name))
+    natural (v.Enum s) value (m.List size ∷ ms) name fs = ap (λ (inner : List Fault → Type 0). OfOne size inner fs) (fun_ext (natural (v.Enum s) value ms name))
+    natural (v.Variable s) value (m.List size ∷ ms) name fs = ap (λ (inner : List Fault → Type 0). OfOne size inner fs) (fun_ext (natural (v.Variable s) value ms name))
+    natural (v.Object s) value (m.List size ∷ ms) name fs = ap (λ (inner : List Fault → Type 0). OfOne size inner fs) (fun_ext (natural (v.Object s) value ms name))
 
   step-natural : (X : Type 0) (value_of : X → InputValue S) (judge : InputValue S → Judge S) (x : v.InputValue-F S X)
       → judge_step schema may text str_of X value_of (λ p. judge (value_of p)) x ≡ judge_step schema may text str_of (InputValue S) (λ y. y) judge (map-InputValue S X (InputValue S) value_of x)

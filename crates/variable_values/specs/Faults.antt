@@ -133,7 +133,8 @@ module _ {S C : Type 0} (schema : Catalog S C) (may : Answers (InputValue S) C) 
     Of v.Null value (m.List size ∷ ms) name fs = fs ≡ []
     Of (v.List xs) value (m.List size ∷ ms) name fs =
         (gs : List Fault) × InTurn (λ i x. Inside (element i) (within ms name) x.item) 0 xs.items gs × (fs ≡ wrong_length size (length xs.items) ++ gs)
-    Of x value (_ ∷ ms) name fs = Of x value ms name fs
+    Of x value (m.NonNull ∷ ms) name fs = Of x value ms name fs
+    Of x value (m.List size ∷ ms) name fs = (gs : List Fault) × Of x value ms name gs × (fs ≡ wrong_length size 1 ++ gs)
 
   abbrev pub judge_step : (X : Type 0) → (X → InputValue S) → (X → Judge S) → v.InputValue-F S X → Judge S
   judge_step X value_of judge x value t fs = Of value_of judge x value (reverse t.modifiers) t.name fs

@@ -1,8 +1,11 @@
 -- The rows of a value and a type, when its modifiers are taken off.
-use Rattle.std.specs.Prelude.{◌≡◌, ⊤, ℕ, List, [], ◌∷◌, ◌++◌, length, map, is_some, Option, Some, None, true}
+use Rattle.std.specs.Prelude.{◌≡◌, ⊤, ℕ, List, [], ◌∷◌, ◌++◌, length, map, is_some, Option, Some, None, reverse, true}
 use Rattle.language.specs.declared.position.Span.{Span}
 use Rattle.language.specs.declared.position.Spanning.{Spanning}
+use Rattle.language.specs.declared.types.TypeModifier.{TypeModifier}
+use Rattle.language.specs.declared.types.TypeModifier.TheVariants as m
 use Rattle.language.specs.declared.value.InputValue.{InputValue, out-InputValue}
+use Rattle.language.specs.declared.value.InputValue.TheOpen as v
 use Rattle.language.specs.Types.{TypeShape, borrowed_shape, printed}
 use Rattle.language.specs.Values.{Entry, list_items}
 use Rattle.meta.specs.Answers.{Answers, Accepts, RefusesWith}
@@ -35,6 +38,22 @@ IsKnownRow schema (r.Named name) = is_input_in schema name.now ≡ true
 abbrev pub IsListRow : {S : Type 0} → InputValue S → Row → Type 0
 IsListRow value (r.Items inner size) = is_some (list_items value) ≡ true
 IsListRow value _ = ⊤
+
+-- of one value that stands for lists, by the modifiers round its type, outermost first: each length that isn't 1
+abbrev pub lengths_of_one : List TypeModifier → List Fault
+lengths_of_one [] = []
+lengths_of_one (m.NonNull ∷ ms) = lengths_of_one ms
+lengths_of_one (m.List size ∷ ms) = wrong_length size 1 ++ lengths_of_one ms
+
+-- null and a list stand for themselves
+abbrev pub lengths_at : {S : Type 0} → v.InputValue-F S (InputValue S) → TypeShape → List Fault
+lengths_at v.Null t = []
+lengths_at (v.List xs) t = []
+lengths_at x t = lengths_of_one (reverse t.modifiers)
+
+-- the length faults of a value that stands for lists of one
+abbrev pub lengths_of : {S : Type 0} → InputValue S → TypeShape → List Fault
+lengths_of {S} value t = lengths_at (out-InputValue S value) t
 
 -- what a check has answered: that it accepts, or why it refuses
 abbrev pub Answered : {S C : Type 0} → Answers (InputValue S) C → C → InputValue S → Option (List ℕ) → Type 0
@@ -83,6 +102,10 @@ module _ {S C : Type 0} (schema : Catalog S C) (may : Answers (InputValue S) C) 
   Says value (r.Items inner size) fs = SaysItems (list_items value) (borrowed_shape inner) size fs
   Says value (r.Named name) fs = ByName value (type_in name.now schema) fs
 
-  -- faults that the row says are the value's
+  -- the value's other faults, behind those of the length
+  abbrev pub Others : InputValue S → TypeShape → List Fault → Type 0
+  Others value t fs = Faults schema may text str_of value t (lengths_of value t ++ fs)
+
+  -- what the row says is that
   abbrev pub IsRowOf : InputValue S → TypeShape → Row → List Fault → Type 0
-  IsRowOf value t row fs = Says value row fs → Faults schema may text str_of value t fs
+  IsRowOf value t row fs = Says value row fs → Others value t fs

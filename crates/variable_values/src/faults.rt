@@ -1,5 +1,5 @@
 //! The faults of a value against a type.
-ghost use Rattle.std.specs.Prelude.{◌≡◌, [], IfOk, List, OnOk, Some, map, option_copied, option_map, string_bytes, true};
+ghost use Rattle.std.specs.Prelude.{◌≡◌, [], IfOk, List, OnOk, Some, map, option_copied, option_map, reverse, string_bytes, true};
 ghost use Rattle.schema.specs.Possible.{is_among};
 ghost use Rattle.language.specs.declared.value.InputValue.{out-InputValue};
 ghost use Rattle.language.specs.Types.{borrowed_shape, shape};
@@ -11,7 +11,7 @@ ghost use Rattle.meta.specs.Kinds.{is_input_meta};
 ghost use Rattle.variable_values.specs.Faults.{Checked, Faults, absent, accepted_faults, enum_faults, name_in, wrong_length};
 ghost use Rattle.variable_values.specs.Inputs.{is_input_in};
 ghost use Rattle.variable_values.specs.Places.{AddsAt};
-ghost use Rattle.variable_values.specs.Rows.{Answered, ByMeta, ByName, IsIn, OfField, OfFields, OfItems, OfWhole};
+ghost use Rattle.variable_values.specs.Rows.{Answered, ByMeta, ByName, IsIn, OfField, OfFields, OfItems, OfWhole, Others, lengths_of, lengths_of_one};
 ghost use Rattle.variable_values.specs.Texts.{input_text, scalar_text};
 
 use crate::entries::{last_places, place_of};
@@ -26,7 +26,7 @@ use crate::texts::{
 use language::error::{CheckError, OutOfMemory};
 use language::position::Spanning;
 use language::scalar::ScalarValue;
-use language::types::BorrowedType;
+use language::types::{BorrowedType, TypeModifier};
 use language::value::InputValue;
 use meta::arguments::Argument;
 use meta::check::CheckedScalar;
@@ -59,6 +59,25 @@ pub fn add_faults<'p, S: CheckedScalar>(
     requires { is_input_in schema.now (borrowed_shape expected).name ≡ true }
     ensures { OnOk result
         (AddsAt (Faults schema.now S.may_answer S.text S.str_of value.now (borrowed_shape expected.entry))
+        place.now messages.old messages.new) }
+{
+    add_lengths_of_one(alloc, value, expected, place, messages)?;
+    add_other_faults(alloc, schema, value, expected, place, messages)
+}
+
+// Reports each fault of a value against a type, except those of a value that stands for lists of one.
+#[cycle(faults)]
+fn add_other_faults<'p, S: CheckedScalar>(
+    alloc: Global,
+    schema: &'p SchemaType<S>,
+    value: &InputValue<S>,
+    expected: BorrowedType<'p>,
+    place: &'p Place<'p>,
+    messages: &mut Vec<String>,
+) -> Result<(), OutOfMemory>
+    requires { is_input_in schema.now (borrowed_shape expected).name ≡ true }
+    ensures { OnOk result
+        (AddsAt (Others schema.now S.may_answer S.text S.str_of value.now (borrowed_shape expected.entry))
         place.now messages.old messages.new) }
 {
     match known_row(schema, expected, value) {
@@ -262,6 +281,43 @@ fn add_absence(
         add(null_message(alloc, place, expected)?, messages)
     } else {
         Ok(())
+    }
+}
+
+// Reports each length other than 1 that a type expects, where the value stands for lists of one.
+fn add_lengths_of_one<S>(
+    alloc: Global,
+    value: &InputValue<S>,
+    expected: BorrowedType<'_>,
+    place: &Place<'_>,
+    messages: &mut Vec<String>,
+) -> Result<(), OutOfMemory>
+    ensures { OnOk result (AddsAt (λ fs. fs ≡ lengths_of value.now (borrowed_shape expected.entry))
+        place.now messages.old messages.new) }
+{
+    match value {
+        InputValue::Null | InputValue::List(_) => Ok(()),
+        _ => add_lengths(alloc, expected, place, messages),
+    }
+}
+
+// Reports each length other than 1 that a type expects, outermost first.
+fn add_lengths(
+    alloc: Global,
+    expected: BorrowedType<'_>,
+    place: &Place<'_>,
+    messages: &mut Vec<String>,
+) -> Result<(), OutOfMemory>
+    ensures { OnOk result (AddsAt (λ fs. fs ≡ lengths_of_one (reverse (borrowed_shape expected.entry).modifiers))
+        place.now messages.old messages.new) }
+{
+    match expected.modifier() {
+        None => Ok(()),
+        Some(TypeModifier::NonNull) => add_lengths(alloc, expected.borrow_inner(), place, messages),
+        Some(TypeModifier::List(size)) => {
+            add_length_fault(alloc, *size, 1, place, messages)?;
+            add_lengths(alloc, expected.borrow_inner(), place, messages)
+        }
     }
 }
 

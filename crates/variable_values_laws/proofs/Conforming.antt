@@ -182,11 +182,20 @@ module _ {S C : Type 0} (schema : Catalog S C) (may : Answers (InputValue S) C) 
   rewrap : (value : InputValue S) (x : TypeModifier) (ms : List TypeModifier) (name : List ℕ) → Conforms schema may str_of (Some value) (wrapped_by x (within ms name)) → Conforms schema may str_of (Some value) (within (x ∷ ms) name)
   rewrap value x ms name h = subst (Conforms schema may str_of (Some value)) (within_more x ms name) h
 
-  -- one modifier more round a type, for a value that is neither null nor a list
-  one_more : (value : InputValue S) (x : v.InputValue-F S (InputValue S)) (t : TypeModifier) (ms : List TypeModifier) (name : List ℕ) → value ≡ roll-InputValue S x → is_null_level x ≡ false → items_layer x ≡ None
-      → Conforms schema may str_of (Some value) (within ms name) → Conforms schema may str_of (Some value) (within (t ∷ ms) name)
-  one_more value x m.NonNull ms name is n l h = rewrap value m.NonNull ms name (non_null value (within ms name) (not_null value x is n) h)
-  one_more value x (m.List size) ms name is n l h = rewrap value (m.List size) ms name (single value size (within ms name) (not_null value x is n) (ap items_layer (opened value x is) ∙ l) h)
+  -- a non-null round a type, for a value that isn't null
+  non_null_more : (value : InputValue S) (x : v.InputValue-F S (InputValue S)) (ms : List TypeModifier) (name : List ℕ) → value ≡ roll-InputValue S x → is_null_level x ≡ false
+      → Conforms schema may str_of (Some value) (within ms name) → Conforms schema may str_of (Some value) (within (m.NonNull ∷ ms) name)
+  non_null_more value x ms name is n h = rewrap value m.NonNull ms name (non_null value (within ms name) (not_null value x is n) h)
+
+  -- a list round it, for a value that isn't a list either
+  list_more : (value : InputValue S) (x : v.InputValue-F S (InputValue S)) (size : Option ℕ) (ms : List TypeModifier) (name : List ℕ) → value ≡ roll-InputValue S x → is_null_level x ≡ false → items_layer x ≡ None
+      → [] ≡ wrong_length size 1 → Conforms schema may str_of (Some value) (within ms name) → Conforms schema may str_of (Some value) (within (m.List size ∷ ms) name)
+  list_more value x size ms name is n l none h =
+      rewrap value (m.List size) ms name (single value size (within ms name) (not_null value x is n) (ap items_layer (opened value x is) ∙ l) (λ k. has_length size 1 k none) h)
+
+  none_level : (value : InputValue S) (x : v.InputValue-F S (InputValue S)) (size : Option ℕ) (ms : List TypeModifier) (name : List ℕ) (gs : List Fault) → [] ≡ wrong_length size 1 ++ gs
+      → OfLevel schema may text str_of x value ms name gs → OfLevel schema may text str_of x value ms name []
+  none_level value x size ms name gs e j = subst (OfLevel schema may text str_of x value ms name) (sym (back_none (wrong_length size 1) gs e)) j
 
   conform_level : (value : InputValue S) (x : v.InputValue-F S (InputValue S)) (ms : List TypeModifier) (name : List ℕ) → value ≡ roll-InputValue S x → Inside x → OfLevel schema may text str_of x value ms name []
       → Conforms schema may str_of (Some value) (within ms name)
@@ -195,10 +204,18 @@ module _ {S C : Type 0} (schema : Catalog S C) (may : Answers (InputValue S) C) 
   conform_level value v.Null (m.List size ∷ ms) name is h j = null_as value (within (m.List size ∷ ms) name) (is ∙ variant.rolls-Null) (list_nullable size ms name)
   conform_level value (v.List xs) (m.NonNull ∷ ms) name is h j = rewrap value m.NonNull ms name (non_null value (within ms name) (not_null value (v.List xs) is refl) (conform_level value (v.List xs) ms name is h j))
   conform_level value (v.List xs) (m.List size ∷ ms) name is h (gs, turns, e) = rewrap value (m.List size) ms name (conform_list value xs.items size (within ms name) (ap items_layer (opened value (v.List xs) is)) h gs turns e)
-  conform_level value (v.Scalar s) (t ∷ ms) name is h j = one_more value (v.Scalar s) t ms name is refl refl (conform_level value (v.Scalar s) ms name is h j)
-  conform_level value (v.Enum s) (t ∷ ms) name is h j = one_more value (v.Enum s) t ms name is refl refl (conform_level value (v.Enum s) ms name is h j)
-  conform_level value (v.Variable s) (t ∷ ms) name is h j = one_more value (v.Variable s) t ms name is refl refl (conform_level value (v.Variable s) ms name is h j)
-  conform_level value (v.Object s) (t ∷ ms) name is h j = one_more value (v.Object s) t ms name is refl refl (conform_level value (v.Object s) ms name is h j)
+  conform_level value (v.Scalar s) (m.NonNull ∷ ms) name is h j = non_null_more value (v.Scalar s) ms name is refl (conform_level value (v.Scalar s) ms name is h j)
+  conform_level value (v.Enum s) (m.NonNull ∷ ms) name is h j = non_null_more value (v.Enum s) ms name is refl (conform_level value (v.Enum s) ms name is h j)
+  conform_level value (v.Variable s) (m.NonNull ∷ ms) name is h j = non_null_more value (v.Variable s) ms name is refl (conform_level value (v.Variable s) ms name is h j)
+  conform_level value (v.Object s) (m.NonNull ∷ ms) name is h j = non_null_more value (v.Object s) ms name is refl (conform_level value (v.Object s) ms name is h j)
+  conform_level value (v.Scalar s) (m.List size ∷ ms) name is h (gs, j, e) =
+      list_more value (v.Scalar s) size ms name is refl refl (front_none (wrong_length size 1) gs e) (conform_level value (v.Scalar s) ms name is h (none_level value (v.Scalar s) size ms name gs e j))
+  conform_level value (v.Enum s) (m.List size ∷ ms) name is h (gs, j, e) =
+      list_more value (v.Enum s) size ms name is refl refl (front_none (wrong_length size 1) gs e) (conform_level value (v.Enum s) ms name is h (none_level value (v.Enum s) size ms name gs e j))
+  conform_level value (v.Variable s) (m.List size ∷ ms) name is h (gs, j, e) =
+      list_more value (v.Variable s) size ms name is refl refl (front_none (wrong_length size 1) gs e) (conform_level value (v.Variable s) ms name is h (none_level value (v.Variable s) size ms name gs e j))
+  conform_level value (v.Object s) (m.List size ∷ ms) name is h (gs, j, e) =
+      list_more value (v.Object s) size ms name is refl refl (front_none (wrong_length size 1) gs e) (conform_level value (v.Object s) ms name is h (none_level value (v.Object s) size ms name gs e j))
 
   conform_at : (value : InputValue S) (x : v.InputValue-F S (InputValue S)) → value ≡ roll-InputValue S x → Inside x → ConformsAt value
   conform_at value x is h t j =

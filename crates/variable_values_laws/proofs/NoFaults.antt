@@ -110,7 +110,8 @@ module _ {S C : Type 0} (schema : Catalog S C) (may : Answers (InputValue S) C) 
   no_fault (null t n) = of_null t (outermost t.modifiers) refl n
   no_fault (non_null value t n h) = non_null_row schema may text str_of value t [] n (no_fault h)
   no_fault (list value size t xs is len each) = of_list value size t xs (sym is) len (λ x c. no_fault (each x c))
-  no_fault (single value size t n l h) = single_row schema may text str_of value size t [] n l (no_fault h)
+  no_fault (single value size t n l one h) =
+      subst (Faults schema may text str_of value (wrapped_by (m.List size) t)) (ap (λ z. z ++ []) (right_length size 1 one)) (single_row schema may text str_of value size t [] n l (no_fault h))
   no_fault (scalar value name s e l o a) = of_name value name (k.Scalar s) e (of_scalar value (out-InputValue S value) s l o a)
   no_fault (enum_value s name e is c) = of_name (variant.Enum s) name (k.Enum e) is (of_enum s e c)
   no_fault (enum_string s n name e is str c) = of_name (variant.Scalar s) name (k.Enum e) is (of_string s n e str c)

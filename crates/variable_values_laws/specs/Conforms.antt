@@ -23,9 +23,13 @@ use Rattle.variable_values.specs.Inputs.{definitions_of}
 use Rattle.variable_values.specs.Keys.{field_names, keys_of}
 use Rattle.variable_values.specs.Messages.{Values}
 
--- a list has the length that its type asks for, if it asks for one
+-- the length is the one that a type of lists asks for, if it asks for one
+abbrev pub IsLength : ℕ → Option ℕ → Type 0
+IsLength found size = (n : ℕ) → size ≡ Some n → found ≡ n
+
+-- a list has that length
 abbrev pub HasLength : {A : Type 0} → List A → Option ℕ → Type 0
-HasLength xs size = (n : ℕ) → size ≡ Some n → length xs ≡ n
+HasLength xs size = IsLength (length xs) size
 
 -- the names of an enum's values
 abbrev pub value_names : {C : Type 0} → EnumMetaOf C → List (List ℕ)
@@ -43,8 +47,9 @@ module _ {S C : Type 0} (schema : Catalog S C) (may : Answers (InputValue S) C) 
     -- a list of the right length, where each item conforms to the type of items
     list : (value : InputValue S) (size : Option ℕ) (t : TypeShape) (xs : List (Spanning (InputValue S) Span))
         → list_items value ≡ Some xs → HasLength xs size → ((x : Spanning (InputValue S) Span) → Contains xs x → Conforms (Some x.item) t) → Conforms (Some value) (list_of size t)
-    -- one value for a list, where it conforms to the type of items, whatever the length that is asked for
-    single : (value : InputValue S) (size : Option ℕ) (t : TypeShape) → ¬ (value ≡ variant.Null) → list_items value ≡ None → Conforms (Some value) t → Conforms (Some value) (list_of size t)
+    -- one value for a list, where one is the length that is asked for, if any is, and the value conforms to the type of items
+    single : (value : InputValue S) (size : Option ℕ) (t : TypeShape)
+        → ¬ (value ≡ variant.Null) → list_items value ≡ None → IsLength 1 size → Conforms (Some value) t → Conforms (Some value) (list_of size t)
     -- what the check of a scalar accepts, but for lists and objects
     scalar : (value : InputValue S) (name : List ℕ) (s : ScalarMetaOf C) → type_in name schema ≡ Some (k.Scalar s)
         → list_items value ≡ None → object_entries value ≡ None → Accepts may (scalar_check s) value → Conforms (Some value) (nullable_named name)

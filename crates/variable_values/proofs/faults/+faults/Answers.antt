@@ -14,31 +14,46 @@ use Rattle.variable_values.specs.Entries.{IsPlaceOf, place_in}
 use Rattle.variable_values.specs.Keys.{field_names, keys_of, unknown_keys}
 use Rattle.variable_values.specs.Messages.{printed_step, texts_of, told_after}
 use Rattle.variable_values.specs.Places.{before}
-use Rattle.variable_values.specs.Rows.{Below, ByMeta, ByName, OfField, OfItems, OfWhole}
+use Rattle.variable_values.specs.Rows.{Below, ByMeta, ByName, OfField, OfItems, OfWhole, Others, lengths_of}
 use Rattle.variable_values.specs.Texts.{no_object_text, null_text}
 use Rattle.variable_values.proofs.InTurns.{done_all, done_more}
 use Rattle.variable_values.proofs.ObjectLaws.{by_no_object, by_object, field_none, field_some, whole_none, whole_some}
 use Rattle.variable_values.proofs.PlaceLaws.{before-Element, before-Field}
-use Rattle.variable_values.proofs.RowLaws.{by_meta, null_by_name, says_list}
+use Rattle.variable_values.proofs.RowLaws.{by_meta, null_by_name, says_list, with_others}
 use Rattle.variable_values.proofs.Told.{adds-as, adds-both, adds-none, adds-one, adds-under, as_many, fewer, none-told, told-more}
 use Rattle.variable_values.proofs.faults.+faults.Goals as goal
 
-pub add_faults-returns-in-Nothing : goal.add_faults-returns-in-Nothing
-add_faults-returns-in-Nothing g t c =
-    adds-none (Faults c.args.schema.now g.S.CheckedScalar.may_answer g.S.ScalarValue.text g.S.ScalarValue.str_of c.args.value.now (borrowed_shape c.args.expected)) (before c.args.place.now) _
+pub add_faults-returns : goal.add_faults-returns
+add_faults-returns g t c =
+    let schema = c.args.schema.now in
+    let may = g.S.CheckedScalar.may_answer in
+    let text = g.S.ScalarValue.text in
+    let str_of = g.S.ScalarValue.str_of in
+    let value = c.args.value.now in
+    let expected = borrowed_shape c.args.expected in
+    on_ok_weaker c.add_other_faults.result
+    (λ a.
+    adds-both (λ fs. fs ≡ lengths_of value expected) (Others schema may text str_of value expected) (Faults schema may text str_of value expected) (before c.args.place.now) _ _ _
+    (with_others schema may text str_of value expected)
+    c.in_ok-add_lengths_of_one.ensures a)
+    c.add_other_faults.ensures
+
+pub add_other_faults-returns-in-Nothing : goal.add_other_faults-returns-in-Nothing
+add_other_faults-returns-in-Nothing g t c =
+    adds-none (Others c.args.schema.now g.S.CheckedScalar.may_answer g.S.ScalarValue.text g.S.ScalarValue.str_of c.args.value.now (borrowed_shape c.args.expected)) (before c.args.place.now) _
     (c.in-Nothing.ensures.row [] refl)
 
-pub add_faults-returns-in_ok-null_message-in-Null : goal.add_faults-returns-in_ok-null_message-in-Null
-add_faults-returns-in_ok-null_message-in-Null g t c =
+pub add_other_faults-returns-in_ok-null_message-in-Null : goal.add_other_faults-returns-in_ok-null_message-in-Null
+add_other_faults-returns-in_ok-null_message-in-Null g t c =
     let f = here (null_text (printed (borrowed_shape c.in-Null.at))) in
     on_ok_weaker c.add.result
     (λ e.
-    adds-one (Faults c.args.schema.now g.S.CheckedScalar.may_answer g.S.ScalarValue.text g.S.ScalarValue.str_of c.args.value.now (borrowed_shape c.args.expected)) (before c.args.place.now) _ _ f
+    adds-one (Others c.args.schema.now g.S.CheckedScalar.may_answer g.S.ScalarValue.text g.S.ScalarValue.str_of c.args.value.now (borrowed_shape c.args.expected)) (before c.args.place.now) _ _ f
     (c.in-Null.ensures.row (f ∷ []) refl) (e ∙ ap (λ m. texts_of c.args.messages.now ++ m ∷ []) c.in_ok-null_message-in-Null.ensures))
     c.add.ensures
 
-pub add_faults-returns-in_ok-add_length_fault-in-List : goal.add_faults-returns-in_ok-add_length_fault-in-List
-add_faults-returns-in_ok-add_length_fault-in-List g t c =
+pub add_other_faults-returns-in_ok-add_length_fault-in-List : goal.add_other_faults-returns-in_ok-add_length_fault-in-List
+add_other_faults-returns-in_ok-add_length_fault-in-List g t c =
     let schema = c.args.schema.now in
     let may = g.S.CheckedScalar.may_answer in
     let text = g.S.ScalarValue.text in
@@ -48,13 +63,13 @@ add_faults-returns-in_ok-add_length_fault-in-List g t c =
     let long : c.len.result ≡ length c.in-List.items.items = let ok = c.in-List.items.ok.0 in let len = c.len.ensures in omega (arith, ok, len) in
     on_ok_weaker c.add_faults_of_items.result
     (λ a.
-    adds-both (λ fs. fs ≡ wrong_length c.in-Items.size c.len.result) (OfItems schema may text str_of inner c.as_slice.result.now) (Faults schema may text str_of value (borrowed_shape c.args.expected)) (before c.args.place.now) _ _ _
+    adds-both (λ fs. fs ≡ wrong_length c.in-Items.size c.len.result) (OfItems schema may text str_of inner c.as_slice.result.now) (Others schema may text str_of value (borrowed_shape c.args.expected)) (before c.args.place.now) _ _ _
     (λ fs gs e h. c.in-Items.ensures.row (fs ++ gs) (says_list schema may text str_of value c.in-List.items c.len.result c.as_slice.result.now inner c.in-Items.size fs gs c.in-List.is long c.as_slice.ensures.value e h))
     c.in_ok-add_length_fault-in-List.ensures a)
     c.add_faults_of_items.ensures
 
-pub add_faults-returns-in-Named : goal.add_faults-returns-in-Named
-add_faults-returns-in-Named g t c =
+pub add_other_faults-returns-in-Named : goal.add_other_faults-returns-in-Named
+add_other_faults-returns-in-Named g t c =
     let schema = c.args.schema.now in
     let may = g.S.CheckedScalar.may_answer in
     let text = g.S.ScalarValue.text in
@@ -62,7 +77,7 @@ add_faults-returns-in-Named g t c =
     let value = c.args.value.now in
     let meta = c.input_type-meta.result.now in
     on_ok_weaker c.add_faults_of_named.result
-    (adds-as (ByName schema may text str_of value (Some meta)) (Faults schema may text str_of value (borrowed_shape c.args.expected)) (before c.args.place.now) _ _
+    (adds-as (ByName schema may text str_of value (Some meta)) (Others schema may text str_of value (borrowed_shape c.args.expected)) (before c.args.place.now) _ _
     (λ fs h. c.in-Named.ensures.row fs (subst (λ o. ByName schema may text str_of value o fs) (sym c.input_type-meta.ensures.named) h)))
     c.add_faults_of_named.ensures
 

@@ -1,0 +1,59 @@
+-- Later directives of a name, where the name may stand once (section 5.7.3).
+use Rattle.std.specs.Prelude.{ℕ, List, [], ◌∷◌, ◌++◌, Bool, false, not, Option, Some, None, if◌then◌else◌, codes}
+use Rattle.std.specs.declared.alloc.Global.{Global}
+use Rattle.std.specs.declared.vec.Vec.{Vec}
+use Rattle.std.specs.List.{flat_map}
+use Rattle.language.specs.declared.tree.Directive.{Directive}
+use Rattle.schema.specs.Catalog.{Catalog, directive_in}
+use Rattle.schema_validation.specs.declared.directives.DirectiveType.{DirectiveType}
+use Rattle.walk.specs.ContextState.{DocumentScope}
+use Rattle.walk.specs.ErrorValue.{ErrorValue}
+use Rattle.events.specs.Node.{Node, Placed, operation_definition, fragment_definition, variable_definition, field, fragment_spread, inline_fragment}
+use Rattle.events.specs.Occurrence.{Occurrence}
+use Rattle.rules_support.specs.Names.{Named}
+use Rattle.rules_support.specs.Repeats.{repeats}
+use Rattle.rules_arguments.specs.declared.unique_directive_names.Whole.{Whole}
+
+abbrev pub repeated_directive_message : List ℕ → List ℕ
+repeated_directive_message name = (codes "Directive \"" ++ name) ++ codes "\" may be used only once here"
+
+-- the name of a directive, with the place where the whole directive starts
+abbrev pub whole_name : Whole → Named
+whole_name w = (w.name.now, w.start)
+
+-- it is known, and isn't repeatable
+abbrev pub is_once_by : {S : Type 0} → Option (DirectiveType S) → Bool
+is_once_by None = false
+is_once_by (Some known) = not known.is_repeatable
+
+module _ {S C : Type 0} where
+  -- by what the schema says of it
+  abbrev pub is_once : Catalog S C → Placed (Directive S) → Bool
+  is_once schema d = is_once_by (directive_in d.item.name.item.now schema)
+
+  -- such a directive, by its name
+  abbrev pub once_here : Catalog S C → Placed (Directive S) → List Named
+  once_here schema d = if is_once schema d then (d.item.name.item.now, d.span.start) ∷ [] else []
+
+  -- those of a list
+  abbrev pub once_among : Catalog S C → List (Placed (Directive S)) → List Named
+  once_among schema ds = flat_map (once_here schema) ds
+
+  -- those whose name stands earlier among them, if there is a list
+  abbrev pub repeated_in : Catalog S C → Option (Vec (Placed (Directive S)) Global) → List ErrorValue
+  repeated_in schema None = []
+  repeated_in schema (Some ds) = repeats repeated_directive_message (once_among schema ds.items)
+
+  -- at a node: its directives
+  abbrev pub repeated_at : Catalog S C → Node S → List ErrorValue
+  repeated_at schema (operation_definition o) = repeated_in schema o.item.directives
+  repeated_at schema (fragment_definition f) = repeated_in schema f.item.directives
+  repeated_at schema (variable_definition d) = repeated_in schema d.1.directives
+  repeated_at schema (field f) = repeated_in schema f.item.directives
+  repeated_at schema (fragment_spread s) = repeated_in schema s.item.directives
+  repeated_at schema (inline_fragment i) = repeated_in schema i.item.directives
+  repeated_at schema _ = []
+
+  -- at each node that may have directives: each that may stand once and stands earlier in the node's list
+  abbrev pub repeated_directives : DocumentScope S C → Occurrence S C → List ErrorValue
+  repeated_directives scope o = repeated_at scope.schema o.node
