@@ -1,6 +1,6 @@
 -- Arguments that their field or their directive does not define (section 5.4.1).
-use Rattle.std.specs.Prelude.{ℕ, List, [], ◌∷◌, ◌++◌, Bool, Option, Some, None, is_some, find, if◌then◌else◌, codes, string_bytes}
-use Rattle.std.specs.List.{flat_map}
+use Rattle.std.specs.Prelude.{◌≡◌, ℕ, List, [], ◌∷◌, ◌++◌, Bool, true, Option, Some, None, is_some, find, if◌then◌else◌, codes, string_bytes}
+use Rattle.std.specs.List.{Contains, flat_map}
 use Rattle.std.specs.Option.{option_map, option_map_or}
 use Rattle.std.specs.Str.{bytes_eq}
 use Rattle.language.specs.declared.tree.Arguments.{Arguments}
@@ -53,6 +53,11 @@ module _ {S : Type 0} where
   unknown_where_known message None written = []
   unknown_where_known message (Some known) written = unknown_among message known written
 
+  -- each argument that is written is one of these, where a list of them is known
+  abbrev pub AreKnown : Option (List (Argument S)) → Option (Placed (Arguments S)) → Type 0
+  AreKnown (Some known) (Some written) = (a : ArgumentEntry S) → Contains written.item.items.items a → is_known known a.0.item.now ≡ true
+  AreKnown _ _ = Unit {0}
+
 module _ {S C : Type 0} where
   -- the arguments of a field that the type has; without a list of them it has none
   abbrev pub known_on_field : Option (MetaTypeOf S C) → List ℕ → Option (List (Argument S))
@@ -77,3 +82,9 @@ module _ {S C : Type 0} where
   -- at a field and at a directive: each argument that it does not define
   abbrev pub unknown_arguments : DocumentScope S C → Occurrence S C → List ErrorValue
   unknown_arguments scope o = unknown_at scope.schema o.types.parent o.node
+
+  -- at a node: the arguments of a field, and of a directive
+  abbrev pub HasKnown : Catalog S C → Option (MetaTypeOf S C) → Node S → Type 0
+  HasKnown schema parent (field f) = AreKnown (known_on_field parent f.item.name.item.now) f.item.arguments
+  HasKnown schema parent (directive d) = AreKnown (directive_arguments schema d.item.name.item.now) d.item.arguments
+  HasKnown schema parent _ = Unit {0}

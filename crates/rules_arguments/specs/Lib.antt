@@ -1,5 +1,6 @@
 pub mod Bearers
 pub mod KnownArgumentNames
+pub mod KnownArgumentNamesLaws
 pub mod KnownDirectives
 pub mod KnownDirectivesLaws
 pub mod ProvidedNonNullArguments
@@ -7,5 +8,6 @@ pub mod ProvidedNonNullArgumentsLaws
 pub mod UniqueArgumentNames
 pub mod UniqueArgumentNamesLaws
 pub mod UniqueDirectiveNames
+pub mod UniqueDirectiveNamesLaws
 pub mod UniqueInputFieldNames
 pub mod UniqueInputFieldNamesLaws

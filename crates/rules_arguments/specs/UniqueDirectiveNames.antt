@@ -1,8 +1,9 @@
 -- Later directives of a name, where the name may stand once (section 5.7.3).
-use Rattle.std.specs.Prelude.{ℕ, List, [], ◌∷◌, ◌++◌, Bool, false, not, Option, Some, None, if◌then◌else◌, codes}
+use Rattle.std.specs.Prelude.{◌≡◌, ℕ, List, [], ◌∷◌, ◌++◌, Bool, true, false, not, Option, Some, None, if◌then◌else◌, codes, map}
 use Rattle.std.specs.declared.alloc.Global.{Global}
 use Rattle.std.specs.declared.vec.Vec.{Vec}
-use Rattle.std.specs.List.{flat_map}
+use Rattle.std.specs.List.{filter, flat_map}
+use Rattle.language.specs.ValuesEqual.{are_distinct}
 use Rattle.language.specs.declared.tree.Directive.{Directive}
 use Rattle.schema.specs.Catalog.{Catalog, directive_in}
 use Rattle.schema_validation.specs.declared.directives.DirectiveType.{DirectiveType}
@@ -26,6 +27,16 @@ abbrev pub is_once_by : {S : Type 0} → Option (DirectiveType S) → Bool
 is_once_by None = false
 is_once_by (Some known) = not known.is_repeatable
 
+-- the directives of a node, where it may have some
+abbrev pub directives_at : {S : Type 0} → Node S → Option (Vec (Placed (Directive S)) Global)
+directives_at (operation_definition o) = o.item.directives
+directives_at (fragment_definition f) = f.item.directives
+directives_at (variable_definition d) = d.1.directives
+directives_at (field f) = f.item.directives
+directives_at (fragment_spread s) = s.item.directives
+directives_at (inline_fragment i) = i.item.directives
+directives_at _ = None
+
 module _ {S C : Type 0} where
   -- by what the schema says of it
   abbrev pub is_once : Catalog S C → Placed (Directive S) → Bool
@@ -44,16 +55,15 @@ module _ {S C : Type 0} where
   repeated_in schema None = []
   repeated_in schema (Some ds) = repeats repeated_directive_message (once_among schema ds.items)
 
-  -- at a node: its directives
-  abbrev pub repeated_at : Catalog S C → Node S → List ErrorValue
-  repeated_at schema (operation_definition o) = repeated_in schema o.item.directives
-  repeated_at schema (fragment_definition f) = repeated_in schema f.item.directives
-  repeated_at schema (variable_definition d) = repeated_in schema d.1.directives
-  repeated_at schema (field f) = repeated_in schema f.item.directives
-  repeated_at schema (fragment_spread s) = repeated_in schema s.item.directives
-  repeated_at schema (inline_fragment i) = repeated_in schema i.item.directives
-  repeated_at schema _ = []
-
   -- at each node that may have directives: each that may stand once and stands earlier in the node's list
   abbrev pub repeated_directives : DocumentScope S C → Occurrence S C → List ErrorValue
-  repeated_directives scope o = repeated_at scope.schema o.node
+  repeated_directives scope o = repeated_in scope.schema (directives_at o.node)
+
+  -- the names of those of a list that may stand once
+  abbrev pub once_names : Catalog S C → List (Placed (Directive S)) → List (List ℕ)
+  once_names schema ds = map (λ d. d.item.name.item.now) (filter (is_once schema) ds)
+
+  -- no two of them are the same, if there is a list
+  abbrev pub AreDistinctDirectives : Catalog S C → Option (Vec (Placed (Directive S)) Global) → Type 0
+  AreDistinctDirectives schema None = Unit {0}
+  AreDistinctDirectives schema (Some ds) = are_distinct (once_names schema ds.items) ≡ true

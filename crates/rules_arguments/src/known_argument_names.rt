@@ -3,12 +3,13 @@
 ghost use Rattle.std.specs.Prelude.{◌≡◌, IfOk, OnOk, OnErr, option_copied, string_bytes};
 ghost use Rattle.std.specs.List.{flat_map};
 ghost use Rattle.walk.specs.ContextState.{typing, with_errors};
-ghost use Rattle.walk.specs.Entering.{finding_step, found};
-ghost use Rattle.walk.specs.Rule.{always, any_value, exactly, is_empty};
-ghost use Rattle.walk.specs.RuleLaws.{exactly_silent};
+ghost use Rattle.walk.specs.Entering.{everywhere, finding_step, found};
+ghost use Rattle.walk.specs.Rule.{always, any_value, exactly};
+ghost use Rattle.walk.specs.RuleLaws.{everywhere_silent};
 ghost use Rattle.walk.specs.Step.{KeepsPlace};
 ghost use Rattle.walk.proofs.Entering.{finding_keeps};
-ghost use Rattle.rules_arguments.specs.KnownArgumentNames.{is_known, known_on_field, unknown_message, unknown_name, unknown_argument, unknown_arguments, unknown_where_known, unknown_on_field, unknown_on_directive};
+ghost use Rattle.rules_arguments.specs.KnownArgumentNames.{is_known, known_on_field, unknown_message, unknown_name, unknown_argument, unknown_arguments, unknown_where_known, unknown_on_field, unknown_on_directive, HasKnown};
+ghost use Rattle.rules_arguments.specs.KnownArgumentNamesLaws.{none_unknown};
 
 use crate::bearers::{Bearer, name_of_known};
 use events::arguments_of_directive;
@@ -16,9 +17,9 @@ use language::error::OutOfMemory;
 use language::position::Spanning;
 use language::tree::{Arguments, Directive, Field};
 use language::value::InputValue;
-use meta::{Argument, MetaTypeOf};
 use meta::check::CheckedScalar;
 use meta::named::first_named;
+use meta::{Argument, MetaTypeOf};
 use rules_support::texts::between;
 use std::alloc::{AllocError, Global};
 use walk::{Criterion, Event, Fresh, Machine, Rule, SettledRule, ValidatorContext, Visitor};
@@ -53,11 +54,12 @@ impl<S, C> Rule<S, C> for KnownArgumentNames {
 }
 
 impl<S, C> Criterion<S, C> for KnownArgumentNames {
-    ghost finds_nothing = { is_empty (found unknown_arguments) };
+    ghost finds_nothing = { everywhere (λ scope o. HasKnown scope.schema o.types.parent o.node) };
 }
 
 impl<S, C> SettledRule<S, C> for KnownArgumentNames {
-    ghost silent = { exactly_silent (found unknown_arguments) };
+    ghost silent = { everywhere_silent unknown_arguments
+        (λ scope o. HasKnown scope.schema o.types.parent o.node) none_unknown };
 }
 
 impl<'a, S: CheckedScalar> Visitor<'a, S> for KnownArgumentNames {

@@ -3,13 +3,14 @@
 
 ghost use Rattle.std.specs.Prelude.{◌≡◌, IfOk, OnOk, OnErr, map};
 ghost use Rattle.walk.specs.ContextState.{with_errors};
-ghost use Rattle.walk.specs.Entering.{finding_step, found};
-ghost use Rattle.walk.specs.Rule.{always, any_value, exactly, is_empty};
-ghost use Rattle.walk.specs.RuleLaws.{exactly_silent};
+ghost use Rattle.walk.specs.Entering.{everywhere, finding_step, found};
+ghost use Rattle.walk.specs.Rule.{always, any_value, exactly};
+ghost use Rattle.walk.specs.RuleLaws.{everywhere_silent};
 ghost use Rattle.walk.specs.Step.{KeepsPlace};
 ghost use Rattle.walk.proofs.Entering.{finding_keeps};
 ghost use Rattle.rules_support.specs.Repeats.{repeats};
-ghost use Rattle.rules_arguments.specs.UniqueDirectiveNames.{is_once, once_among, repeated_directive_message, repeated_directives, repeated_in, whole_name};
+ghost use Rattle.rules_arguments.specs.UniqueDirectiveNames.{is_once, once_among, repeated_directive_message, repeated_directives, repeated_in, whole_name, directives_at, AreDistinctDirectives};
+ghost use Rattle.rules_arguments.specs.UniqueDirectiveNamesLaws.{none_repeated};
 
 use language::error::OutOfMemory;
 use language::position::{SourcePosition, Spanning};
@@ -56,11 +57,12 @@ impl<'a, S, C> Rule<S, C> for UniqueDirectiveNames<'a> {
 }
 
 impl<'a, S, C> Criterion<S, C> for UniqueDirectiveNames<'a> {
-    ghost finds_nothing = { is_empty (found repeated_directives) };
+    ghost finds_nothing = { everywhere (λ scope o. AreDistinctDirectives scope.schema (directives_at o.node)) };
 }
 
 impl<'a, S, C> SettledRule<S, C> for UniqueDirectiveNames<'a> {
-    ghost silent = { exactly_silent (found repeated_directives) };
+    ghost silent = { everywhere_silent repeated_directives
+        (λ scope o. AreDistinctDirectives scope.schema (directives_at o.node)) none_repeated };
 }
 
 impl<'a, S: CheckedScalar> Visitor<'a, S> for UniqueDirectiveNames<'a> {
