@@ -1,5 +1,7 @@
-use Rattle.std.proofs.Common.{◌<◌, ◌≡◌, ◌∙◌, ap, length, sym, arith}
-use Rattle.walk.specs.ContextState.{with_errors}
+use Rattle.std.proofs.Common.{◌<◌, ◌≡◌, ◌∙◌, List, ap, length, sym, arith}
+use Rattle.std.proofs.lemmas.Result.{on_ok_weaker}
+use Rattle.walk.specs.ContextState.{ContextState, with_errors}
+use Rattle.rules_support.specs.Names.{Named}
 use Rattle.rules_support.specs.Repeats.{repeats}
 use Rattle.rules_support.proofs.Reported.{reports_none}
 use Rattle.rules_arguments.specs.UniqueDirectiveNames.{repeated_directive_message}
@@ -12,4 +14,6 @@ returns-then-len-lt2-clause-ok g c =
     reports_none c.args.ctx.now ∙ ap (with_errors c.args.ctx.now) (sym (few_repeat c.args.ctx.now.schema repeated_directive_message c.args.directives.now.items few))
 
 pub returns-clause-ok : goal.returns-clause-ok
-returns-clause-ok g c = ?
+returns-clause-ok g c =
+    let told : List Named → ContextState _ _ = λ names. with_errors c.args.ctx.now (repeats repeated_directive_message names) in
+    on_ok_weaker c.report_repeats.result (λ e. e ∙ ap told c.in_ok-once.ensures) c.report_repeats.ensures.ok
