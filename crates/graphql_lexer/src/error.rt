@@ -37,7 +37,7 @@ impl fmt::Display for Found<'_> {
 pub enum SyntaxFault<'a> {
     /// What was expected there, and what was found.
     Unexpected(&'static str, Found<'a>),
-    /// Selection sets, or lists and objects of a value, nest deeper than this limit allows.
+    /// Selection sets, lists and objects of a value, or list types nest deeper than this limit allows.
     TooDeep(usize),
 }
 

@@ -1,9 +1,9 @@
 //! Parses GraphQL (October 2021, sections 2 and 3): executable documents and type system documents, from text to
 //! trees.
 //!
-//! Positions are those of `graphql_lexer`: 0-based index, line and column, in bytes. Selection sets, and lists and
-//! objects of a value, may nest [`NESTING_LIMIT`] levels deep. Proved of every call: it is safe and returns, whatever
-//! the text. That the tree is that of the text is only tested.
+//! Positions are those of `graphql_lexer`: 0-based index, line and column, in bytes. Selection sets, lists and objects
+//! of a value, and list types may nest [`NESTING_LIMIT`] levels deep. Proved of every call: it is safe and returns,
+//! whatever the text. That the tree is that of the text is only tested.
 #![tactic(auto)]
 
 mod definitions;

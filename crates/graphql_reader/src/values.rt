@@ -10,7 +10,7 @@ use language::value::InputValue;
 use sdl_scalars::scalar::SourceScalar;
 use std::alloc::Global;
 
-/// How many levels deep selection sets, and lists and objects of a value, may nest.
+/// How many levels deep selection sets, lists and objects of a value, and list types may nest.
 pub const NESTING_LIMIT: usize = 500;
 
 type Value = InputValue<SourceScalar>;

@@ -587,7 +587,7 @@ pub const NO_DOCUMENTS_4: &[Row] = &[
     ("{\r\n a\r b\n ? }", "10 3:1 expected a token, found '?'"),
 ];
 
-/// Selection sets, lists and objects at the limit of levels, and past it.
+/// Selection sets, lists, objects and list types at the limit of levels, and past it.
 pub const NESTED_DOCUMENTS: &[Row] = &[
     ("499*{ ... |1*{ a }|499*}", "1"),
     (
@@ -626,5 +626,13 @@ pub const NESTED_DOCUMENTS: &[Row] = &[
         "1*{ a(x: |100000*{k: ",
         "2007 0:2007 nested more than 500 levels deep",
     ),
-    ("1*query ($a: |100000*[|1*T|100000*]|1*) { a }", "1"),
+    ("1*query ($a: |500*[|1*T|500*]!|1*) { a }", "1"),
+    (
+        "1*query ($a: |501*[|1*T|501*]|1*) { a }",
+        "511 0:511 nested more than 500 levels deep",
+    ),
+    (
+        "1*query ($a: |100000*[|1*T|100000*]|1*) { a }",
+        "511 0:511 nested more than 500 levels deep",
+    ),
 ];

@@ -934,7 +934,7 @@ pub const NO_TYPE_SYSTEMS_5: &[Row] = &[
     ),
 ];
 
-/// Lists and objects at the limit of levels, and past it; types have no limit.
+/// Lists, objects and list types at the limit of levels, and past it.
 pub const NESTED_TYPE_SYSTEMS: &[Row] = &[
     ("1*input I { a: T = |500*[|500*]|1* }", "1"),
     (
@@ -946,5 +946,13 @@ pub const NESTED_TYPE_SYSTEMS: &[Row] = &[
         "1*scalar S @d(x: |501*{k: |1*1|501*}|1*)",
         "2015 0:2015 nested more than 500 levels deep",
     ),
-    ("1*type T { a: |10000*[|1*T|10000*!]|1* }", "1"),
+    ("1*type T { a: |500*[|1*T|500*!]|1* }", "1"),
+    (
+        "1*type T { a: |501*[|1*T|501*!]|1* }",
+        "512 0:512 nested more than 500 levels deep",
+    ),
+    (
+        "1*input I { a: |501*[|1*T|501*]|1* }",
+        "513 0:513 nested more than 500 levels deep",
+    ),
 ];

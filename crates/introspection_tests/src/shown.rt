@@ -8,7 +8,7 @@ use sdl_reader::{SourceScalar, read_schema};
 use sdl_scalars::check::SourceCheck;
 use std::alloc::{AllocError, Global};
 
-type SourceSchema = SchemaTypeOf<SourceScalar, SourceCheck>;
+pub type SourceSchema = SchemaTypeOf<SourceScalar, SourceCheck>;
 
 type SourceMeta = MetaTypeOf<SourceScalar, SourceCheck>;
 

@@ -269,7 +269,7 @@ fn input_object_of<'a>(
         }
     }
     let name = defined.name.item;
-    let mut meta = InputObjectMetaOf::with_check(alloc, name, fields, SourceCheck::Any)?;
+    let mut meta = InputObjectMetaOf::with_check(alloc, name, fields, SourceCheck::Object)?;
     meta.description = copied(alloc, &defined.description)?;
     Ok(meta.into_meta())
 }

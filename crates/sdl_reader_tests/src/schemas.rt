@@ -200,10 +200,12 @@ fn takes_values(rt: HostRuntime) {
         ("Size", false),
         ("Date", true),
         ("Dog", false),
+        ("Taste", false),
     ] {
         assert_eq!(rt; takes(&schema, name, &number), wanted);
     }
     let huge = InputValue::Enum(String::from_str(rt.alloc(), "HUGE").expect(&rt, "memory"));
     assert_eq!(rt; takes(&schema, "Size", &huge), true);
     assert_eq!(rt; takes(&schema, "String", &huge), false);
+    assert_eq!(rt; takes(&schema, "Taste", &huge), false);
 }

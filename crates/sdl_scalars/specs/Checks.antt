@@ -44,11 +44,12 @@ Layer = o.InputValue-F SourceScalar (InputValue SourceScalar)
 abbrev pub AcceptsLayer : SourceCheck → Layer → Type 0
 AcceptsLayer c.Any v = ⊤
 AcceptsLayer (c.Enum names) (o.Enum name) = HasName names.items (string_bytes name)
+AcceptsLayer c.Object (o.Object entries) = ⊤
 AcceptsLayer check (o.Scalar x) = AcceptsScalar check x
 AcceptsLayer _ _ = ⊥
 
 -- By section 3.5: an integer of 32 bits; a finite double; a string; a Boolean; a string or an integer of any size.
--- An enum has its values. A custom scalar and an input object accept every value.
+-- An enum has its values. An input object accepts every object, and a custom scalar every value.
 abbrev pub Accepts : SourceCheck → InputValue SourceScalar → Type 0
 Accepts check v = AcceptsLayer check (out-InputValue SourceScalar v)
 
@@ -60,6 +61,7 @@ refusal c.String = codes "not a string"
 refusal c.Boolean = codes "not a truth value"
 refusal c.Id = codes "not a string or an integer"
 refusal (c.Enum names) = codes "not a value of the enum"
+refusal c.Object = codes "not an object"
 refusal c.Any = []
 
 -- It accepts these values and refuses all others with that text, or runs out of memory for the text.

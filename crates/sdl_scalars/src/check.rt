@@ -1,5 +1,5 @@
 //! The checks of the scalars, enums and input objects that a schema's text defines (GraphQL, October 2021, sections
-//! 3.5 and 3.9).
+//! 3.5, 3.9 and 3.10).
 ghost use Rattle.std.specs.Prelude.{◌≡◌, ◌↔◌, IsTrue, string_bytes};
 ghost use Rattle.std.specs.List.{list_any};
 ghost use Rattle.std.specs.Str.{bytes_eq};
@@ -27,7 +27,9 @@ pub enum SourceCheck {
     Id,
     /// One of these names (section 3.9).
     Enum(Vec<String>),
-    /// Every value: a custom scalar, or an input object, whose fields are checked elsewhere.
+    /// An object: an input object, whose fields are checked elsewhere (section 3.10).
+    Object,
+    /// Every value: a custom scalar.
     Any,
 }
 
@@ -82,6 +84,7 @@ pub fn accepts(check: &SourceCheck, value: &InputValue<SourceScalar>) -> bool
         (SourceCheck::Enum(names), InputValue::Enum(name)) => {
             has_name(names.as_slice(), name.as_str())
         }
+        (SourceCheck::Object, InputValue::Object(_)) => true,
         (_, InputValue::Scalar(scalar)) => accepts_scalar(check, scalar),
         _ => false,
     }
@@ -98,6 +101,7 @@ fn refusal(check: &SourceCheck) -> &'static str
         SourceCheck::Boolean => "not a truth value",
         SourceCheck::Id => "not a string or an integer",
         SourceCheck::Enum(_) => "not a value of the enum",
+        SourceCheck::Object => "not an object",
         SourceCheck::Any => "",
     }
 }
