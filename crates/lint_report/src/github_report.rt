@@ -40,7 +40,8 @@ fn write_faults(text: &mut String, faults: &[Fault]) -> Result<(), AllocError>
 }
 
 fn write_issues(text: &mut String, sources: &[Source], issues: &[Issue]) -> Result<(), AllocError>
-    ensures { OnOk result (string_bytes text.new ≡ string_bytes text.old ++ flat_map (issue_command sources.now) issues.now) }
+    ensures { OnOk result
+        (string_bytes text.new ≡ string_bytes text.old ++ flat_map (issue_command sources.now) issues.now) }
 {
     for issue in issues {
         write_issue(text, sources, issue)?;

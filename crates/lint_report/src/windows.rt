@@ -17,7 +17,8 @@ const BEHIND: usize = 40;
 ///
 /// Out of memory; `text` may be partly written.
 pub fn write_window(text: &mut String, before: &str, rest: &str) -> Result<(), AllocError>
-    ensures { OnOk result (string_bytes text.new ≡ string_bytes text.old ++ window (chars before.now) (chars rest.now)) }
+    ensures { OnOk result
+        (string_bytes text.new ≡ string_bytes text.old ++ window (chars before.now) (chars rest.now)) }
 {
     let (shown, left) = last_within(before, BEFORE);
     text.push_str(shown)?;
