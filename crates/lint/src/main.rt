@@ -1,10 +1,16 @@
 //! The program `lint`: validates files of GraphQL queries against a schema.
 #![tactic(auto)]
 
+use lint_app::failure::Failure;
 use lint_app::machine;
+use lint_app::program::tell_failure;
 use std::process::ExitCode;
 
 fn main(rt: HostRuntime) -> ExitCode {
-    let status = machine::run(&rt, &mut rt.stdout(), &mut rt.stderr());
+    let (mut output, mut errors) = (rt.stdout(), rt.stderr());
+    let status = match machine::words(&rt) {
+        Ok(words) => machine::run(&rt, words.as_slice(), &mut output, &mut errors),
+        Err(error) => tell_failure(Failure::from(error), &mut errors),
+    };
     ExitCode::from(status)
 }

@@ -1,3 +1,4 @@
+pub mod Ended
 pub mod Rules
 pub mod Tasks
 pub mod Told

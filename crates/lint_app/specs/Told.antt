@@ -59,6 +59,10 @@ pub record AddsIf (is_document : Bool) (P : List Issue → Type 0) (old new : Li
 abbrev pub Files : Type 0
 Files = List ℕ → Option (List ℕ)
 
+-- where none are known
+abbrev pub unknown_files : Files
+unknown_files path = None
+
 -- a file has this name and these bytes
 abbrev pub HasText : List ℕ → List ℕ → Source → Type 0
 HasText path bytes source = (string_bytes source.path ≡ path) × (string_bytes source.text ≡ bytes)

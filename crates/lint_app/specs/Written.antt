@@ -1,4 +1,4 @@
--- What is written of documents, and which words ask for help.
+-- What is written of documents, and which words ask for help or the version.
 use Rattle.std.specs.Prelude.{◌≡◌, ◌||◌, Bool, true, ℕ, List, Option, String, codes, if◌then◌else◌, nat_eq, string_bytes}
 use Rattle.std.specs.declared.alloc.Global.{Global}
 use Rattle.std.specs.Io.KnownBytes.{Appends}
@@ -13,12 +13,13 @@ use Rattle.sdl_scalars.specs.declared.check.SourceCheck.{SourceCheck}
 use Rattle.sdl_scalars.specs.declared.scalar.SourceScalar.{SourceScalar}
 use Rattle.validation.specs.Stages.{Rules}
 
--- a word that is answered with help: `--help`, and one that begins with `-h`
-abbrev pub begins_help : List ℕ → Bool
-begins_help word = bytes_eq word (codes "--help") || starts_with nat_eq word (codes "-h")
+-- a word that is answered with help or the version: `--help`, `--version`, and one that begins with `-h` or `-V`
+abbrev pub begins_request : List ℕ → Bool
+begins_request word =
+    bytes_eq word (codes "--help") || bytes_eq word (codes "--version") || starts_with nat_eq word (codes "-h") || starts_with nat_eq word (codes "-V")
 
-abbrev pub asks_for_help : List (String Global) → Bool
-asks_for_help = list_any (λ word. begins_help (string_bytes word))
+abbrev pub asks_for_text : List (String Global) → Bool
+asks_for_text = list_any (λ word. begins_request (string_bytes word))
 
 -- By what is known of all rules.
 module _ (rules : Rules SourceScalar SourceCheck) where

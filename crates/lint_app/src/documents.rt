@@ -4,12 +4,12 @@ ghost use Rattle.std.specs.Option.{option_copied};
 ghost use Rattle.lint_app.specs.Told.{Adds, AddsIf, AreToldAs, HasKnownTypes, IsErrorFree, TellsDocument, TellsEach, TellsFaultsAt, TellsFaultsIn, TellsFiles, TellsRead, TellsTogether};
 
 use crate::failure::Failure;
-use crate::files::joined_of;
+use crate::files::{add_fault, joined_of};
 use crate::rules::LintRules;
 use graphql_reader::{ReadError, SourceScalar, read_document};
+use lint_report::faults::Fault;
 use lint_report::issues::Issue;
 use lint_report::sources::{Joined, Place, Source};
-use lint_report::text_report::write_fault;
 use std::alloc::Global;
 use validation::laws::clean_documents;
 use validation::{Definition, OutOfMemory, RootNode, RuleError, Variables, validate_input_values};
@@ -40,7 +40,7 @@ impl Judge<'_> {
     /// # Errors
     ///
     /// Out of memory.
-    pub fn each(&self, alloc: Global, faults: &mut String) -> Result<Report, Failure>
+    pub fn each(&self, alloc: Global, faults: &mut Vec<Fault>) -> Result<Report, Failure>
         ensures { IfOk result
             (TellsEach ⟦<SourceScalar as LintRules>⟧.rules self.now.root.now (option_copied self.now.values)
             self.now.sources.now) }
@@ -62,7 +62,7 @@ impl Judge<'_> {
         file: usize,
         source: &Source,
         issues: &mut Vec<Issue>,
-        faults: &mut String,
+        faults: &mut Vec<Fault>,
     ) -> Result<bool, Failure>
         ensures { IfOk result
             (λ is_document. AddsIf is_document
@@ -80,7 +80,7 @@ impl Judge<'_> {
     /// # Errors
     ///
     /// Out of memory.
-    pub fn together(&self, alloc: Global, faults: &mut String) -> Result<Report, Failure>
+    pub fn together(&self, alloc: Global, faults: &mut Vec<Fault>) -> Result<Report, Failure>
         ensures { IfOk result
             (TellsTogether ⟦<SourceScalar as LintRules>⟧.rules self.now.root.now (option_copied self.now.values)
             self.now.sources.now) }
@@ -100,7 +100,7 @@ impl Judge<'_> {
     }
 
     // Whether each of several files is a document by itself, so that no token reaches from one into the next.
-    fn are_documents(&self, alloc: Global, faults: &mut String) -> Result<bool, Failure> {
+    fn are_documents(&self, alloc: Global, faults: &mut Vec<Fault>) -> Result<bool, Failure> {
         let mut are_all = true;
         if self.sources.len() > 1 {
             for (file, source) in self.sources.iter().enumerate() {
@@ -117,13 +117,19 @@ impl Judge<'_> {
         alloc: Global,
         file: usize,
         source: &Source,
-        faults: &mut String,
+        faults: &mut Vec<Fault>,
     ) -> Result<bool, Failure> {
         match read_document(alloc, source.text.as_str()) {
             Ok(_) => Ok(true),
             Err(ReadError::Syntax(error)) => {
                 let position = error.position;
-                write_fault(faults, self.sources, Place { file, position }, &error)?;
+                add_fault(
+                    alloc,
+                    self.sources,
+                    Place { file, position },
+                    &error,
+                    faults,
+                )?;
                 Ok(false)
             }
             Err(ReadError::OutOfMemory) => Err(Failure::OutOfMemory),
@@ -137,7 +143,7 @@ impl Judge<'_> {
         joined: &Joined,
         file: usize,
         issues: &mut Vec<Issue>,
-        faults: &mut String,
+        faults: &mut Vec<Fault>,
     ) -> Result<bool, Failure>
         ensures { IfOk result
             (λ is_document. AddsIf is_document
@@ -151,7 +157,7 @@ impl Judge<'_> {
             }
             Err(ReadError::Syntax(error)) => {
                 let place = joined.place_of(error.position);
-                write_fault(faults, self.sources, place, &error)?;
+                add_fault(alloc, self.sources, place, &error, faults)?;
                 Ok(false)
             }
             Err(ReadError::OutOfMemory) => Err(Failure::OutOfMemory),

@@ -6,8 +6,10 @@ use validation::OutOfMemory;
 /// Why the program ends early.
 #[derive(Clone, Copy, Debug)]
 pub enum Failure {
-    /// Files or arguments are at fault, which has been reported.
+    /// Files are at fault, which has been told.
     Told,
+    /// The standard input is named more than once.
+    InputTwice,
     /// Out of memory.
     OutOfMemory,
     /// A read or a write failed.
@@ -18,6 +20,7 @@ impl fmt::Display for Failure {
     fn fmt<W: fmt::Write>(&self, f: &mut fmt::Formatter<W>) -> fmt::Result {
         f.write_str(match self {
             Failure::Told => "invalid input",
+            Failure::InputTwice => "the standard input can be named only once",
             Failure::OutOfMemory => "out of memory",
             Failure::InputOutput => "input or output failed",
         })

@@ -4,11 +4,12 @@ ghost use Rattle.std.specs.Option.{option_to_list};
 ghost use Rattle.lint_app.specs.Told.{AreReadOf, HasText, IsFileOf, IsJoined};
 
 use crate::failure::Failure;
-use lint_report::sources::{Joined, Source};
+use lint_report::faults::Fault;
+use lint_report::sources::{Joined, Place, Source};
 use lint_report::text_places::position_at;
-use lint_report::text_report::write_place;
 use std::alloc::Global;
-use std::{io, str};
+use std::{fmt, io, str};
+use validation::OutOfMemory;
 
 /// Where files come from.
 pub trait Inputs {
@@ -35,7 +36,7 @@ pub fn read_sources<I: Inputs>(
     alloc: Global,
     inputs: &I,
     paths: &[&str],
-    faults: &mut String,
+    faults: &mut Vec<Fault>,
 ) -> Result<Vec<Source>, Failure>
     ensures { IfOk result (λ sources. AreReadOf (I.file inputs.now) paths.now sources.items) }
 {
@@ -56,19 +57,36 @@ fn add_read(sources: &mut Vec<Source>, read: Option<Source>) -> Result<(), Failu
     Ok(())
 }
 
+/// The file at this path. Why it can't be read goes to `faults`.
+///
+/// # Errors
+///
+/// The file can't be read, which has been told, or out of memory.
+pub fn read_file<I: Inputs>(
+    alloc: Global,
+    inputs: &I,
+    path: &str,
+    faults: &mut Vec<Fault>,
+) -> Result<Source, Failure> {
+    match read_source(alloc, inputs, path, faults)? {
+        Some(source) => Ok(source),
+        None => Err(Failure::Told),
+    }
+}
+
 // The file at this path, if it can be read.
 fn read_source<I: Inputs>(
     alloc: Global,
     inputs: &I,
     path: &str,
-    faults: &mut String,
+    faults: &mut Vec<Fault>,
 ) -> Result<Option<Source>, Failure>
     ensures { IfOk result (λ read. IfSome read (IsFileOf (I.file inputs.now) path.now)) }
 {
     match inputs.read(alloc, path) {
         Ok(bytes) => source_of(alloc, path, bytes.as_slice(), faults),
         Err(error) => {
-            writeln!(faults, "{path}: error: {error}")?;
+            faults.push(Fault::new(alloc, path, "", None, &error)?)?;
             Ok(None)
         }
     }
@@ -78,7 +96,7 @@ fn source_of(
     alloc: Global,
     path: &str,
     bytes: &[u8],
-    faults: &mut String,
+    faults: &mut Vec<Fault>,
 ) -> Result<Option<Source>, Failure>
     ensures { IfOk result (λ read. IfSome read (HasText path.now bytes.now)) }
 {
@@ -88,11 +106,75 @@ fn source_of(
             text: String::from_str(alloc, text)?,
         })),
         Err(error) => {
-            write_place(faults, path, position_at(bytes, error.valid_up_to()))?;
-            faults.push_str("error: not valid UTF-8\n")?;
+            faults.push(encoding_fault(alloc, path, bytes, error.valid_up_to())?)?;
             Ok(None)
         }
     }
+}
+
+// That a file is not UTF-8. Its text is known up to there.
+fn encoding_fault(
+    alloc: Global,
+    path: &str,
+    bytes: &[u8],
+    valid: usize,
+) -> Result<Fault, OutOfMemory> {
+    let text = str::from_utf8(bytes.get(..valid).unwrap_or(bytes)).unwrap_or("");
+    let position = position_at(bytes, valid);
+    Fault::new(alloc, path, text, Some(position), &"not valid UTF-8")
+}
+
+/// Adds a fault at a place of one of several files.
+///
+/// # Errors
+///
+/// Out of memory.
+pub fn add_fault<M: fmt::Display>(
+    alloc: Global,
+    sources: &[Source],
+    place: Place,
+    message: &M,
+    faults: &mut Vec<Fault>,
+) -> Result<(), OutOfMemory> {
+    faults.push(Fault::at(alloc, sources, place, message)?)?;
+    Ok(())
+}
+
+/// The same, and returns that it was told, or out of memory.
+pub fn told_fault<M: fmt::Display>(
+    alloc: Global,
+    sources: &[Source],
+    place: Place,
+    message: &M,
+    faults: &mut Vec<Fault>,
+) -> Failure {
+    match add_fault(alloc, sources, place, message, faults) {
+        Ok(()) => Failure::Told,
+        Err(OutOfMemory) => Failure::OutOfMemory,
+    }
+}
+
+/// Adds a fault of a file as a whole, and returns that it was told, or out of memory.
+pub fn told_file_fault<M: fmt::Display>(
+    alloc: Global,
+    path: &str,
+    message: &M,
+    faults: &mut Vec<Fault>,
+) -> Failure {
+    match add_file_fault(alloc, path, message, faults) {
+        Ok(()) => Failure::Told,
+        Err(OutOfMemory) => Failure::OutOfMemory,
+    }
+}
+
+fn add_file_fault<M: fmt::Display>(
+    alloc: Global,
+    path: &str,
+    message: &M,
+    faults: &mut Vec<Fault>,
+) -> Result<(), OutOfMemory> {
+    faults.push(Fault::new(alloc, path, "", None, message)?)?;
+    Ok(())
 }
 
 /// All files as one text.

@@ -1,11 +1,12 @@
 //! The work of the program `lint`, over any source of files and any two writers: it validates files of GraphQL
 //! queries against a schema.
 //!
-//! Proved: a run that ends with 0 or 1 wrote exactly this report to the output, as text or as JSON, and nothing else.
-//! It has an issue for each error that `RootNode::validate` reports of the trees that were read. A document without
-//! errors has an issue for each fault of given values instead. Issues are in order, with their positions mapped back
-//! to the files. The files and options are those of the command line, by the contract of `lint_args`. That the trees
-//! and the schema are those of the texts is only tested.
+//! Proved: a run that ends with 0 or 1 wrote exactly this report to the output, in the form that was asked for, and
+//! nothing else. It has an issue for each error that `RootNode::validate` reports of the trees that were read. A
+//! document without errors has an issue for each fault of given values instead. Issues are in order, with their
+//! positions mapped back to the files. The files and options are those of the command line, by the contract of
+//! `lint_args`. A run that ends with 2 has a reason, and wrote at most a beginning of such a report or of faults. That
+//! the trees and the schema are those of the texts is only tested.
 #![tactic(auto)]
 
 pub mod documents;
@@ -16,3 +17,4 @@ pub mod program;
 pub mod rules;
 pub mod schemas;
 pub mod values;
+pub mod writing;

@@ -1,12 +1,13 @@
 //! The program's work, over any source of files and any writers.
-ghost use Rattle.std.specs.Prelude.{◌≡◌, ◌≤◌, ◌⊎◌, IfOk, OnOk, Some, string_bytes, true, false, if◌then◌else◌};
+ghost use Rattle.std.specs.Prelude.{◌≡◌, ◌==◌, ◌≤◌, ◌<◌, ◌⊎◌, ◌&&◌, ⊤, [], IfOk, Some, length, string_bytes, true, false, if◌then◌else◌, vec_len};
 ghost use Rattle.std.specs.Io.KnownBytes.{Appends};
 ghost use Rattle.std.specs.Option.{option_copied};
 ghost use Rattle.clap.specs.Values.{kind_of};
-ghost use Rattle.lint_args.specs.Asks.{WantsHelp, word_texts};
+ghost use Rattle.lint_args.specs.Asks.{IsRequest, WantsText, word_texts};
+ghost use Rattle.lint_app.specs.Ended.{Ends, EndsEarly, EndsTask, IsFaultReport, IsShown, WritesPart, WritesSome};
 ghost use Rattle.lint_app.specs.Told.{GivenValues, IsReport};
 ghost use Rattle.lint_app.specs.Tasks.{IsTextOf, IsToldOf, TellsBy, TellsQueries, TellsTask};
-ghost use Rattle.lint_app.specs.Written.{WritesAsked, WritesTask, asks_for_help, begins_help};
+ghost use Rattle.lint_app.specs.Written.{WritesAsked, WritesTask, asks_for_text, begins_request};
 
 use crate::documents::{Judge, Report};
 use crate::failure::Failure;
@@ -14,21 +15,26 @@ use crate::files::{Inputs, read_sources};
 use crate::rules::LintRules;
 use crate::schemas::read_root;
 use crate::values::values_of_file;
+use crate::writing::write_text;
 use clap::Error;
 use clap::error::ErrorKind;
 use graphql_reader::SourceScalar;
-use lint_args::task::Task;
+use lint_args::task::{Form, Task};
+use lint_report::faults::Fault;
+use lint_report::github_report::github_report;
 use lint_report::json_report::json_report;
 use lint_report::sources::Source;
-use lint_report::text_report::text_report;
+use lint_report::text_report::{faults_text, text_report};
 use std::alloc::Global;
-use std::io::{self, Write};
+use std::io::Write;
 use validation::{OutOfMemory, RootNode, Variables};
 
 /// The report, as it is written to the output.
 #[derive(Drop)]
 struct Told {
     text: String,
+    /// The faults, unless the report has them.
+    faults: String,
     /// Whether it has errors.
     has_errors: bool,
     /// Whether all files could be judged.
@@ -37,11 +43,12 @@ struct Told {
 
 /// Does what the command line asks for, and returns the exit status. The first word is the program's own name.
 ///
-/// - 0: no document has an error, or help was asked for;
+/// - 0: no document has an error, or help or the version was asked for;
 /// - 1: a document has an error;
 /// - 2: the arguments, a file or the schema are invalid, a read or a write failed, or out of memory.
 ///
-/// The report goes to `output`, in one piece. Why a document could not be judged goes to `errors`.
+/// The report goes to `output`. Why the status is 2 goes to `errors`, but faults of files are in the report, unless it
+/// is a text.
 pub fn run<I: Inputs, W: Write, E: Write>(
     alloc: Global,
     words: &[String],
@@ -50,55 +57,88 @@ pub fn run<I: Inputs, W: Write, E: Write>(
     errors: &mut E,
 ) -> u8
     ensures status { result ≤ 2 }
-    ensures told { asks_for_help words.now ≡ false → result ≤ 1
+    ensures told { asks_for_text words.now ≡ false → result ≤ 1
         → WritesAsked ⟦<SourceScalar as LintRules>⟧.rules words.now (I.file inputs.now) (W.contents output.old)
         (W.contents output.new) result }
     ensures answered { result ≤ 1
-        → WantsHelp (word_texts words.now) ⊎ WritesAsked ⟦<SourceScalar as LintRules>⟧.rules words.now
+        → WantsText (word_texts words.now) ⊎ WritesAsked ⟦<SourceScalar as LintRules>⟧.rules words.now
         (I.file inputs.now) (W.contents output.old) (W.contents output.new) result }
     ensures quiet { result ≤ 1 → errors.new ≡ errors.old }
+    ensures ended { result ≡ 2
+        → Ends ⟦<SourceScalar as LintRules>⟧.rules words.now (I.file inputs.now) (W.contents output.old)
+        (W.contents output.new) }
 {
     match Task::of(alloc, words) {
         Ok(task) => run_task(alloc, &task, inputs, output, errors),
-        Err(error) => show(&error, asks_for_help(words), output, errors),
+        Err(error) => show(alloc, &error, asks_for_text(words), output, errors),
     }
 }
 
-// Whether a word asks for help.
-fn asks_for_help(words: &[String]) -> bool
-    ensures { result ≡ asks_for_help words.now }
+// Whether a word asks for help or the version.
+fn asks_for_text(words: &[String]) -> bool
+    ensures { result ≡ asks_for_text words.now }
 {
-    words.iter().any(|word| begins_help(word.as_str()))
+    words.iter().any(|word| begins_request(word.as_str()))
 }
 
-fn begins_help(word: &str) -> bool
-    ensures { result ≡ begins_help word.now }
+fn begins_request(word: &str) -> bool
+    ensures { result ≡ begins_request word.now }
 {
-    word == "--help" || word.as_bytes().starts_with(b"-h")
+    let bytes = word.as_bytes();
+    word == "--help" || word == "--version" || bytes.starts_with(b"-h") || bytes.starts_with(b"-V")
 }
 
-// Help, or what is wrong with the arguments.
-fn show<W: Write, E: Write>(error: &Error, is_asked: bool, output: &mut W, errors: &mut E) -> u8
+// Help or the version, or what is wrong with the arguments.
+fn show<W: Write, E: Write>(
+    alloc: Global,
+    error: &Error,
+    is_asked: bool,
+    output: &mut W,
+    errors: &mut E,
+) -> u8
     ensures status { result ≤ 2 }
     ensures asked { result ≤ 1 → is_asked ≡ true }
-    ensures help { result ≤ 1 → kind_of error.now ≡ ErrorKind.DisplayHelp }
+    ensures text { result ≤ 1 → IsRequest (kind_of error.now) }
     ensures quiet { result ≤ 1 → errors.new ≡ errors.old }
+    ensures ended { result ≡ 2
+        → WritesSome (λ text. IsShown (kind_of error.now) text) (W.contents output.old) (W.contents output.new) }
 {
-    if error.kind() != ErrorKind::DisplayHelp || !is_asked {
-        // If this write fails, only the status says so.
-        let _ = write!(errors, "{error}");
-        return 2;
+    if !is_asked {
+        return refuse(error, errors);
     }
-    if show_help(error, output).is_ok() {
-        0
-    } else {
-        2
+    if !is_request(error.kind()) {
+        return refuse(error, errors);
+    }
+    match write_request(alloc, error, output) {
+        Ok(()) => 0,
+        Err(failure) => tell_failure(failure, errors),
     }
 }
 
-fn show_help<W: Write>(help: &Error, output: &mut W) -> io::Result<()> {
-    write!(output, "{help}")?;
-    output.flush()?;
+// Writes what is wrong with the arguments. Returns the exit status 2.
+fn refuse<E: Write>(error: &Error, errors: &mut E) -> u8
+    ensures { result ≡ 2 }
+{
+    // If this write fails, only the status says so.
+    let _ = write!(errors, "{error}");
+    2
+}
+
+fn is_request(kind: ErrorKind) -> bool
+    ensures { result ≡ true → IsRequest kind }
+{
+    match kind {
+        ErrorKind::DisplayHelp => true,
+        ErrorKind::DisplayVersion => true,
+        _ => false,
+    }
+}
+
+fn write_request<W: Write>(alloc: Global, request: &Error, output: &mut W) -> Result<(), Failure>
+    ensures { WritesSome (λ _. ⊤) (W.contents output.old) (W.contents output.new) }
+{
+    let text = format!(in alloc; "{request}")?;
+    write_text(output, text.as_str())?;
     Ok(())
 }
 
@@ -115,30 +155,60 @@ pub fn run_task<I: Inputs, W: Write, E: Write>(
         → WritesTask ⟦<SourceScalar as LintRules>⟧.rules (I.file inputs.now) task.now (W.contents output.old)
         (W.contents output.new) result }
     ensures quiet { result ≤ 1 → errors.new ≡ errors.old }
+    ensures ended { result ≡ 2
+        → WritesSome (EndsTask ⟦<SourceScalar as LintRules>⟧.rules (I.file inputs.now) task.now)
+        (W.contents output.old) (W.contents output.new) }
 {
-    let mut faults = String::new(alloc);
+    if task.inputs() > 1 {
+        return tell_failure(Failure::InputTwice, errors);
+    }
+    judge_task(alloc, task, inputs, output, errors)
+}
+
+fn judge_task<I: Inputs, W: Write, E: Write>(
+    alloc: Global,
+    task: &Task<'_>,
+    inputs: &I,
+    output: &mut W,
+    errors: &mut E,
+) -> u8
+    ensures status { result ≤ 2 }
+    ensures told { result ≤ 1
+        → WritesTask ⟦<SourceScalar as LintRules>⟧.rules (I.file inputs.now) task.now (W.contents output.old)
+        (W.contents output.new) result }
+    ensures quiet { result ≤ 1 → errors.new ≡ errors.old }
+    ensures ended { result ≡ 2
+        → WritesSome (EndsTask ⟦<SourceScalar as LintRules>⟧.rules (I.file inputs.now) task.now)
+        (W.contents output.old) (W.contents output.new) }
+{
+    let mut faults = Vec::new(alloc);
     match judge_all(alloc, task, inputs, &mut faults) {
-        Ok(told) => tell(&told, faults.as_str(), output, errors),
-        Err(failure) => tell_failure(failure, faults.as_str(), errors),
+        Ok(told) => tell(&told, output, errors),
+        Err(failure) => tell_early(alloc, task.form, failure, faults.as_slice(), output, errors),
     }
 }
 
-// Writes the report, and before it the faults for which a file could not be judged. With such faults the status is 2.
-fn tell<W: Write, E: Write>(told: &Told, faults: &str, output: &mut W, errors: &mut E) -> u8
+// Writes the report, and before it the faults for which a file could not be judged, unless the report has them. With
+// such faults the status is 2.
+fn tell<W: Write, E: Write>(told: &Told, output: &mut W, errors: &mut E) -> u8
     ensures status { result ≤ 2 }
     ensures whole { result ≤ 1 → told.now.is_whole ≡ true }
     ensures value { result ≤ 1 → result ≡ (if told.now.has_errors then 1 else 0) }
     ensures written { result ≤ 1
         → Appends (W.contents output.old) (W.contents output.new) (string_bytes told.now.text) }
     ensures quiet { result ≤ 1 → errors.new ≡ errors.old }
+    ensures part { WritesPart (string_bytes told.now.text) (W.contents output.old) (W.contents output.new) }
 {
-    if faults.is_empty() {
+    if told.is_whole {
         return write_told(told, output, errors);
     }
-    if write_text(errors, faults).is_ok() {
-        write_told(told, output, errors);
+    match write_text(errors, told.faults.as_str()) {
+        Ok(()) => {
+            write_told(told, output, errors);
+            2
+        }
+        Err(_) => 2,
     }
-    2
 }
 
 fn write_told<W: Write, E: Write>(told: &Told, output: &mut W, errors: &mut E) -> u8
@@ -148,10 +218,11 @@ fn write_told<W: Write, E: Write>(told: &Told, output: &mut W, errors: &mut E) -
     ensures written { result ≤ 1
         → Appends (W.contents output.old) (W.contents output.new) (string_bytes told.now.text) }
     ensures quiet { result ≤ 1 → errors.new ≡ errors.old }
+    ensures part { WritesPart (string_bytes told.now.text) (W.contents output.old) (W.contents output.new) }
 {
     match write_text(output, told.text.as_str()) {
         Ok(()) => status_of(told),
-        Err(error) => tell_failure(Failure::from(error), "", errors),
+        Err(error) => tell_failure(Failure::from(error), errors),
     }
 }
 
@@ -167,23 +238,79 @@ fn status_of(told: &Told) -> u8
     }
 }
 
-/// Writes faults, and then a failure that they don't report. Returns the exit status 2.
-pub fn tell_failure<E: Write>(failure: Failure, faults: &str, errors: &mut E) -> u8
-    ensures { result ≡ 2 }
+// Writes the faults for which no file could be judged, and else why the program ends early. Returns the exit status 2.
+fn tell_early<W: Write, E: Write>(
+    alloc: Global,
+    form: Form,
+    failure: Failure,
+    faults: &[Fault],
+    output: &mut W,
+    errors: &mut E,
+) -> u8
+    ensures status { result ≡ 2 }
+    ensures ended { WritesSome (EndsEarly form faults.now) (W.contents output.old) (W.contents output.new) }
 {
-    // If these writes fail, only the status says so.
-    if write_text(errors, faults).is_ok() && !matches!(failure, Failure::Told) {
-        let _ = writeln!(errors, "lint: error: {failure}");
+    if faults.is_empty() {
+        return tell_failure(failure, errors);
     }
-    2
+    match write_faults(alloc, form, faults, output, errors) {
+        Ok(()) => tell_rest(failure, errors),
+        Err(failure) => tell_failure(failure, errors),
+    }
 }
 
-fn write_text<W: Write>(output: &mut W, text: &str) -> io::Result<()>
-    ensures { OnOk result (Appends (W.contents output.old) (W.contents output.new) text.now) }
+// Writes a failure, unless it was told. Returns the exit status 2.
+fn tell_rest<E: Write>(failure: Failure, errors: &mut E) -> u8
+    ensures { result ≡ 2 }
 {
-    output.write_all(text.as_bytes())?;
-    output.flush()?;
+    if matches!(failure, Failure::Told) {
+        return 2;
+    }
+    tell_failure(failure, errors)
+}
+
+fn write_faults<W: Write, E: Write>(
+    alloc: Global,
+    form: Form,
+    faults: &[Fault],
+    output: &mut W,
+    errors: &mut E,
+) -> Result<(), Failure>
+    ensures { WritesSome (IsFaultReport form faults.now) (W.contents output.old) (W.contents output.new) }
+{
+    let text = fault_report(alloc, form, faults)?;
+    write_text(output, text.as_str())?;
+    let text = faults_for_errors(alloc, form, faults)?;
+    write_text(errors, text.as_str())?;
     Ok(())
+}
+
+// What the output has of faults for which no file could be judged.
+fn fault_report(alloc: Global, form: Form, faults: &[Fault]) -> Result<String, OutOfMemory>
+    ensures { IfOk result (λ text. IsFaultReport form faults.now (string_bytes text)) }
+{
+    match form {
+        Form::Text => Ok(String::new(alloc)),
+        Form::Json => json_report(alloc, faults, &[], &[]),
+        Form::Github => github_report(alloc, faults, &[], &[]),
+    }
+}
+
+// What the errors have of faults.
+fn faults_for_errors(alloc: Global, form: Form, faults: &[Fault]) -> Result<String, OutOfMemory> {
+    match form {
+        Form::Text => faults_text(alloc, faults),
+        Form::Json | Form::Github => Ok(String::new(alloc)),
+    }
+}
+
+/// Writes why the program ends early. Returns the exit status 2.
+pub fn tell_failure<E: Write>(failure: Failure, errors: &mut E) -> u8
+    ensures { result ≡ 2 }
+{
+    // If this write fails, only the status says so.
+    let _ = writeln!(errors, "lint: error: {failure}");
+    2
 }
 
 // Reads the schema, the values and the queries, and judges these.
@@ -191,14 +318,10 @@ fn judge_all<I: Inputs>(
     alloc: Global,
     task: &Task<'_>,
     inputs: &I,
-    faults: &mut String,
+    faults: &mut Vec<Fault>,
 ) -> Result<Told, Failure>
     ensures { IfOk result (TellsTask ⟦<SourceScalar as LintRules>⟧.rules (I.file inputs.now) task.now) }
 {
-    if task.inputs() > 1 {
-        faults.push_str("lint: error: the standard input can be named only once\n")?;
-        return Err(Failure::Told);
-    }
     let root = read_root(alloc, task, inputs, faults)?;
     judge_by(alloc, task, inputs, &root, faults)
 }
@@ -209,7 +332,7 @@ fn judge_by<I: Inputs>(
     task: &Task<'_>,
     inputs: &I,
     root: &RootNode<SourceScalar>,
-    faults: &mut String,
+    faults: &mut Vec<Fault>,
 ) -> Result<Told, Failure>
     ensures { IfOk result (TellsBy ⟦<SourceScalar as LintRules>⟧.rules (I.file inputs.now) task.now root.now) }
 {
@@ -225,7 +348,7 @@ fn judge_with<I: Inputs>(
     inputs: &I,
     root: &RootNode<SourceScalar>,
     path: &str,
-    faults: &mut String,
+    faults: &mut Vec<Fault>,
 ) -> Result<Told, Failure>
     ensures { IfOk result (λ told. (values : GivenValues)
         × TellsQueries ⟦<SourceScalar as LintRules>⟧.rules (I.file inputs.now) task.now root.now (Some values) told) }
@@ -240,7 +363,7 @@ fn judge_queries<I: Inputs>(
     inputs: &I,
     root: &RootNode<SourceScalar>,
     values: Option<&Variables<SourceScalar>>,
-    faults: &mut String,
+    faults: &mut Vec<Fault>,
 ) -> Result<Told, Failure>
     ensures { IfOk result (TellsQueries ⟦<SourceScalar as LintRules>⟧.rules (I.file inputs.now) task.now root.now
         (option_copied values.entry)) }
@@ -253,7 +376,7 @@ fn judge_queries<I: Inputs>(
         sources,
     };
     let report = report_of(alloc, task, &judge, faults)?;
-    let told = told_of(alloc, task, sources, &report)?;
+    let told = told_of(alloc, task, faults.as_slice(), sources, &report)?;
     Ok(told)
 }
 
@@ -262,7 +385,7 @@ fn report_of(
     alloc: Global,
     task: &Task<'_>,
     judge: &Judge<'_>,
-    faults: &mut String,
+    faults: &mut Vec<Fault>,
 ) -> Result<Report, Failure>
     ensures { IfOk result (IsReport ⟦<SourceScalar as LintRules>⟧.rules task.now.is_together judge.now.root.now
         (option_copied judge.now.values) judge.now.sources.now) }
@@ -281,33 +404,43 @@ fn report_of(
 fn told_of(
     alloc: Global,
     task: &Task<'_>,
+    faults: &[Fault],
     sources: &[Source],
     report: &Report,
-) -> Result<Told, Failure>
-    ensures { IfOk result (IsToldOf task.now sources.now report.now) }
+) -> Result<Told, OutOfMemory>
+    ensures { IfOk result (IsToldOf task.now faults.now sources.now report.now) }
 {
-    let text = text_of(alloc, task, sources, report)?;
+    let text = text_of(alloc, task, faults, sources, report)?;
+    let shown = faults_for_errors(alloc, task.form, faults)?;
     Ok(Told {
         text,
+        faults: shown,
         has_errors: !report.issues.is_empty(),
-        is_whole: report.judged == task.queries.len(),
+        is_whole: is_whole(task, faults, report),
     })
+}
+
+// Whether there is no fault, and all files were judged.
+fn is_whole(task: &Task<'_>, faults: &[Fault], report: &Report) -> bool
+    ensures { result ≡ ((length faults.now == 0) && (report.now.judged == vec_len task.now.queries)) }
+{
+    faults.is_empty() && report.judged == task.queries.len()
 }
 
 fn text_of(
     alloc: Global,
     task: &Task<'_>,
+    faults: &[Fault],
     sources: &[Source],
     report: &Report,
 ) -> Result<String, OutOfMemory>
-    ensures { IfOk result (λ text. IsTextOf task.now sources.now report.now (string_bytes text)) }
+    ensures { IfOk result (λ text. IsTextOf task.now faults.now sources.now report.now (string_bytes text)) }
 {
     let issues = report.issues.as_slice();
-    if task.is_json {
-        let text = json_report(alloc, sources, issues)?;
-        return Ok(text);
-    }
     let unjudged = task.queries.len().saturating_sub(report.judged);
-    let text = text_report(alloc, sources, issues, report.judged, unjudged)?;
-    Ok(text)
+    match task.form {
+        Form::Text => text_report(alloc, sources, issues, report.judged, unjudged),
+        Form::Json => json_report(alloc, faults, sources, issues),
+        Form::Github => github_report(alloc, faults, sources, issues),
+    }
 }

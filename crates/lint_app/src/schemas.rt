@@ -2,16 +2,16 @@
 ghost use Rattle.std.specs.Prelude.{◌≡◌, IfOk};
 
 use crate::failure::Failure;
-use crate::files::{Inputs, joined_of, read_sources};
+use crate::files::{Inputs, add_fault, joined_of, read_sources, told_fault, told_file_fault};
 use graphql_reader::{ReadError, SourceScalar, read_type_system};
 use introspection::{IntrospectionError, schema_text};
 use lint_args::task::Task;
+use lint_report::faults::Fault;
 use lint_report::json_text::{JsonError, check_syntax, is_object_text, without_mark};
 use lint_report::sources::{Joined, Place, Source};
-use lint_report::text_report::write_fault;
 use sdl_reader::{SchemaReadError, read_schema};
 use std::alloc::Global;
-use validation::{RootNode, SchemaType};
+use validation::{OutOfMemory, RootNode, SchemaType};
 
 /// The schema of a task, with introspection disabled if the task says so. Its faults go to `faults`.
 ///
@@ -22,12 +22,12 @@ pub fn read_root<I: Inputs>(
     alloc: Global,
     task: &Task<'_>,
     inputs: &I,
-    faults: &mut String,
+    faults: &mut Vec<Fault>,
 ) -> Result<RootNode<SourceScalar>, Failure>
     ensures { IfOk result (λ root. root.introspection_disabled ≡ task.now.is_closed) }
 {
     let sources = read_sources(alloc, inputs, task.schemas.as_slice(), faults)?;
-    if sources.len() < task.schemas.len() {
+    if !faults.is_empty() {
         return Err(Failure::Told);
     }
     let schema = schema_of(alloc, sources.as_slice(), faults)?;
@@ -42,7 +42,7 @@ pub fn read_root<I: Inputs>(
 fn schema_of(
     alloc: Global,
     sources: &[Source],
-    faults: &mut String,
+    faults: &mut Vec<Fault>,
 ) -> Result<SchemaType<SourceScalar>, Failure> {
     match sources {
         [source] if is_object_text(source.text.as_str()) => {
@@ -62,30 +62,29 @@ fn text_of_result(
     alloc: Global,
     sources: &[Source],
     source: &Source,
-    faults: &mut String,
+    faults: &mut Vec<Fault>,
 ) -> Result<String, Failure> {
     match check_syntax(alloc, source.text.as_str()) {
         Ok(()) => {}
-        Err(error) => return Err(tell_json(sources, error, faults)),
+        Err(error) => return Err(told_json(alloc, sources, error, faults)),
     }
     match schema_text(alloc, without_mark(source.text.as_str())) {
         Ok(text) => Ok(text),
         Err(IntrospectionError::OutOfMemory) => Err(Failure::OutOfMemory),
-        Err(error) => {
-            writeln!(faults, "{}: error: {error}", source.path)?;
-            Err(Failure::Told)
-        }
+        Err(error) => Err(told_file_fault(alloc, source.path.as_str(), &error, faults)),
     }
 }
 
-/// Reports why the first file is not the JSON that is expected, and returns that it was reported, or out of memory.
-pub fn tell_json(sources: &[Source], error: JsonError, faults: &mut String) -> Failure {
-    let Some(position) = error.position() else {
-        return Failure::OutOfMemory;
-    };
-    match write_fault(faults, sources, Place { file: 0, position }, &error) {
-        Ok(()) => Failure::Told,
-        Err(_) => Failure::OutOfMemory,
+/// Tells why the first file is not the JSON that is expected, and returns that it was told, or out of memory.
+pub fn told_json(
+    alloc: Global,
+    sources: &[Source],
+    error: JsonError,
+    faults: &mut Vec<Fault>,
+) -> Failure {
+    match error.position() {
+        Some(position) => told_fault(alloc, sources, Place { file: 0, position }, &error, faults),
+        None => Failure::OutOfMemory,
     }
 }
 
@@ -94,81 +93,74 @@ fn schema_of_result(
     alloc: Global,
     source: &Source,
     text: &str,
-    faults: &mut String,
+    faults: &mut Vec<Fault>,
 ) -> Result<SchemaType<SourceScalar>, Failure> {
     match read_schema(alloc, text) {
         Ok(schema) => Ok(schema),
         Err(SchemaReadError::OutOfMemory) => Err(Failure::OutOfMemory),
-        Err(error) => {
-            writeln!(faults, "{}: error: {error}", source.path)?;
-            Err(Failure::Told)
-        }
+        Err(error) => Err(told_file_fault(alloc, source.path.as_str(), &error, faults)),
     }
 }
 
 fn schema_of_files(
     alloc: Global,
     sources: &[Source],
-    faults: &mut String,
+    faults: &mut Vec<Fault>,
 ) -> Result<SchemaType<SourceScalar>, Failure> {
     let joined = joined_of(alloc, sources)?;
     match read_schema(alloc, joined.text()) {
         Ok(schema) => Ok(schema),
-        Err(error) => Err(tell_schema(sources, &joined, &error, faults)),
+        Err(error) => Err(told_schema(alloc, sources, &joined, &error, faults)),
     }
 }
 
-// Reports a fault of the definitions, and returns that it was reported, or out of memory.
-fn tell_schema(
+// Tells a fault of the definitions, and returns that it was told, or out of memory.
+fn told_schema(
+    alloc: Global,
     sources: &[Source],
     joined: &Joined,
     error: &SchemaReadError<'_>,
-    faults: &mut String,
+    faults: &mut Vec<Fault>,
 ) -> Failure {
     let position = match error {
         SchemaReadError::Syntax(error) => error.position,
         SchemaReadError::Fault(position, _) => *position,
         SchemaReadError::OutOfMemory => return Failure::OutOfMemory,
     };
-    match write_fault(faults, sources, joined.place_of(position), error) {
-        Ok(()) => Failure::Told,
-        Err(_) => Failure::OutOfMemory,
-    }
+    told_fault(alloc, sources, joined.place_of(position), error, faults)
 }
 
 // Each of several files must be definitions by itself, so that no token reaches from one into the next.
-fn check_each(alloc: Global, sources: &[Source], faults: &mut String) -> Result<(), Failure> {
-    let mut is_clean = true;
+fn check_each(alloc: Global, sources: &[Source], faults: &mut Vec<Fault>) -> Result<(), Failure> {
     for (file, source) in sources.iter().enumerate() {
-        if !check_file(alloc, sources, file, source, faults)? {
-            is_clean = false;
-        }
+        check_file(alloc, sources, file, source, faults)?;
     }
-    if is_clean { Ok(()) } else { Err(Failure::Told) }
+    if faults.is_empty() {
+        Ok(())
+    } else {
+        Err(Failure::Told)
+    }
 }
 
+// Adds the fault of a file, if it has one.
 fn check_file(
     alloc: Global,
     sources: &[Source],
     file: usize,
     source: &Source,
-    faults: &mut String,
-) -> Result<bool, Failure> {
+    faults: &mut Vec<Fault>,
+) -> Result<(), OutOfMemory> {
     if is_object_text(source.text.as_str()) {
-        let path = source.path.as_str();
-        writeln!(
-            faults,
-            "{path}: error: an introspection result can't be combined with other schema files"
-        )?;
-        return Ok(false);
+        let message = "an introspection result can't be combined with other schema files";
+        faults.push(Fault::new(alloc, source.path.as_str(), "", None, &message)?)?;
+        return Ok(());
     }
     match read_type_system(alloc, source.text.as_str()) {
-        Ok(_) => Ok(true),
+        Ok(_) => Ok(()),
         Err(ReadError::Syntax(error)) => {
             let position = error.position;
-            write_fault(faults, sources, Place { file, position }, &error)?;
-            Ok(false)
+            add_fault(alloc, sources, Place { file, position }, &error, faults)
         }
-        Err(ReadError::OutOfMemory) => Err(Failure::OutOfMemory),
+        Err(ReadError::OutOfMemory) => Err(OutOfMemory),
     }
 }

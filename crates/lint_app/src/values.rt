@@ -1,11 +1,12 @@
 //! Reads values of variables from a file.
 use crate::failure::Failure;
-use crate::files::{Inputs, read_sources};
-use crate::schemas::tell_json;
+use crate::files::{Inputs, read_file};
+use crate::schemas::told_json;
 use graphql_reader::SourceScalar;
-use lint_report::sources::Source;
+use lint_report::faults::Fault;
 use lint_report::variables::read_variables;
 use std::alloc::Global;
+use std::slice;
 use validation::Variables;
 
 /// The values in the file at this path. Its faults go to `faults`.
@@ -17,23 +18,11 @@ pub fn values_of_file<I: Inputs>(
     alloc: Global,
     inputs: &I,
     path: &str,
-    faults: &mut String,
+    faults: &mut Vec<Fault>,
 ) -> Result<Variables<SourceScalar>, Failure> {
-    let sources = read_sources(alloc, inputs, [path].as_slice(), faults)?;
-    match sources.as_slice() {
-        [source] => values_of(alloc, source, sources.as_slice(), faults),
-        _ => Err(Failure::Told),
-    }
-}
-
-fn values_of(
-    alloc: Global,
-    source: &Source,
-    sources: &[Source],
-    faults: &mut String,
-) -> Result<Variables<SourceScalar>, Failure> {
+    let source = read_file(alloc, inputs, path, faults)?;
     match read_variables(alloc, source.text.as_str()) {
         Ok(values) => Ok(values),
-        Err(error) => Err(tell_json(sources, error, faults)),
+        Err(error) => Err(told_json(alloc, slice::from_ref(&source), error, faults)),
     }
 }

@@ -33,6 +33,41 @@ far.graphql:6:12: error: Unknown field \"first\" on type \"String\"
 9 errors in 2 of 2 files
 ";
 
+// A file that can't be read, one that is no document, and one with an error.
+const FAULTS_JSON: &str = "[
+  {
+    \"path\": \"absent.graphql\",
+    \"message\": \"entity not found\",
+    \"locations\": []
+  },
+  {
+    \"path\": \"empty.graphql\",
+    \"message\": \"expected an operation or a fragment, found the end of the text\",
+    \"locations\": [
+      {
+        \"line\": 2,
+        \"column\": 1
+      }
+    ]
+  },
+  {
+    \"path\": \"bad.graphql\",
+    \"message\": \"Unknown field \\\"nme\\\" on type \\\"Item\\\"\",
+    \"locations\": [
+      {
+        \"line\": 3,
+        \"column\": 3
+      }
+    ]
+  }
+]
+";
+
+const FAULTS_GITHUB: &str = "::error file=absent.graphql::entity not found
+::error file=empty.graphql,line=2,col=1::expected an operation or a fragment, found the end of the text
+::error file=bad.graphql,line=3,col=3::Unknown field \"nme\" on type \"Item\"
+";
+
 // Arguments, the exit status, the output, and the errors.
 const RUNS: &[(&str, u8, &str, &str)] = &[
     (
@@ -107,6 +142,50 @@ const RUNS: &[(&str, u8, &str, &str)] = &[
         "bad.graphql:3:3: error: Unknown field \"nme\" on type \"Item\"\n\t\tnme\n\t\t^\n1 error in 1 of 1 file, 1 file not checked\n",
         "absent.graphql: error: entity not found\n",
     ),
+    (
+        "--schema shop.graphql --schema item.graphql --format json empty.graphql bad.graphql absent.graphql",
+        2,
+        FAULTS_JSON,
+        "",
+    ),
+    (
+        "--schema shop.graphql --schema item.graphql --format github empty.graphql bad.graphql absent.graphql",
+        2,
+        FAULTS_GITHUB,
+        "",
+    ),
+    (
+        "--schema shop.graphql --schema item.graphql --format github bad.graphql",
+        1,
+        "::error file=bad.graphql,line=3,col=3::Unknown field \"nme\" on type \"Item\"\n",
+        "",
+    ),
+    (
+        "--schema shop.graphql --schema item.graphql --format github good.graphql",
+        0,
+        "",
+        "",
+    ),
+    (
+        "--schema absent.graphql --format github good.graphql",
+        2,
+        "::error file=absent.graphql::entity not found\n",
+        "",
+    ),
+    (
+        "--schema absent.graphql good.graphql",
+        2,
+        "",
+        "absent.graphql: error: entity not found\n",
+    ),
+    (
+        "--schema shop.graphql --schema item.graphql --schema item.graphql bad.graphql good.graphql bad.graphql",
+        1,
+        "bad.graphql:3:3: error: Unknown field \"nme\" on type \"Item\"\n\t\tnme\n\t\t^\n1 error in 1 of 2 files\n",
+        "",
+    ),
+    ("--version", 0, "lint 0.1.0\n", ""),
+    ("-V", 0, "lint 0.1.0\n", ""),
 ];
 
 // Arguments and exit statuses: errors whose texts are tested elsewhere, and faults.
@@ -146,7 +225,7 @@ fn runs(rt: HostRuntime) {
     }
 }
 
-/// A run that ends with 0 or 1 writes nothing to the errors, and one that ends with 2 writes why.
+/// A run that ends with 0 or 1 writes nothing to the errors, and one that ends with 2 and tells in text writes why.
 #[test]
 fn statuses(rt: HostRuntime) {
     for (line, status) in STATUSES {

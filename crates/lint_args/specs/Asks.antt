@@ -1,7 +1,8 @@
 -- Which task the command line asks for.
-use Rattle.std.specs.Prelude.{◌≡◌, ◌+◌, ◌⊎◌, ℕ, [], Bool, false, List, String, codes, cond, count_by, map, option_map, string_bytes, unwrap_or}
+use Rattle.std.specs.Prelude.{◌≡◌, ◌+◌, ◌⊎◌, ℕ, [], ◌∷◌, ◌++◌, Bool, false, List, String, codes, cond, count_by, filter, if◌then◌else◌, map, not, option_map, string_bytes, unwrap_or}
 use Rattle.std.specs.declared.alloc.Global.{Global}
 use Rattle.std.specs.Borrow.{Bor}
+use Rattle.std.specs.List.{list_any}
 use Rattle.std.specs.Option.{option_map_or}
 use Rattle.std.specs.Str.{bytes_eq}
 use Rattle.clap.specs.Faults.{fault_of}
@@ -11,27 +12,45 @@ use Rattle.clap.specs.Values.{kind_of}
 use Rattle.clap.specs.Walk.{Row, Text, all_of, first_of, texts}
 use Rattle.clap.specs.declared.error.Error.{Error}
 use Rattle.clap.specs.declared.error.kind.ErrorKind.{ErrorKind}
-use Rattle.clap.specs.declared.error.kind.ErrorKind.TheVariants.{DisplayHelp, OutOfMemory}
+use Rattle.clap.specs.declared.error.kind.ErrorKind.TheVariants.{DisplayHelp, DisplayVersion, OutOfMemory}
 use Rattle.lint_args.specs.CommandLine.{HasForms, lint}
+use Rattle.lint_args.specs.declared.task.Form.{Form}
+use Rattle.lint_args.specs.declared.task.Form.TheVariants as form
 use Rattle.lint_args.specs.declared.task.Task.{Task}
 
 abbrev pub word_texts : List (String Global) → List Text
 word_texts = map string_bytes
 
--- the values of an argument that names files; none where it is not used
+-- a text behind others, unless it is among them
+abbrev pub added_once : List Text → Text → List Text
+added_once known text = if list_any (bytes_eq text) known then known else known ++ text ∷ []
+
+-- each text once, at its first place
+abbrev pub distinct : List Text → List Text
+distinct [] = []
+distinct (text ∷ texts) = text ∷ filter (λ other. not (bytes_eq other text)) (distinct texts)
+
+-- the values of an argument that names files, each once; none where it is not used
 abbrev pub files_of : Text → List Row → List Text
-files_of id rows = unwrap_or (all_of id rows) []
+files_of id rows = distinct (unwrap_or (all_of id rows) [])
 
 -- an argument has this value; a flag has the value `true` where it is used
 abbrev pub is_value : Text → Text → List Row → Bool
 is_value id value rows = option_map_or (λ v. bytes_eq v value) (first_of id rows) false
+
+-- how errors are printed
+abbrev pub form_of : List Row → Form
+form_of rows =
+    if is_value (codes "format") (codes "json") rows then form.Json
+    else if is_value (codes "format") (codes "github") rows then form.Github
+    else form.Text
 
 -- the task has what was found for each argument
 pub record IsOfRows (rows : List Row) (task : Task) : Type 0 where
   pub schemas : texts task.schemas.items ≡ files_of (codes "schema") rows
   pub queries : texts task.queries.items ≡ files_of (codes "query") rows
   pub variables : option_map (λ path. path.now) task.variables ≡ first_of (codes "variables") rows
-  pub json : task.is_json ≡ is_value (codes "format") (codes "json") rows
+  pub form : task.form ≡ form_of rows
   pub closed : task.is_closed ≡ is_value (codes "closed") (codes "true") rows
   pub together : task.is_together ≡ is_value (codes "together") (codes "true") rows
 
@@ -56,12 +75,16 @@ pub record AsksFor (words : List Text) (task : Task) : Type 0 where
   pub accepted : fault_of (lint forms) words ≡ []
   pub matched : IsOfRows (matches_of (lint forms) words) task
 
--- the words have an error of this kind; asking for help counts as one
+-- the words have an error of this kind; asking for help or the version counts as one
 abbrev pub HasFault : List Text → ErrorKind → Type 0
 HasFault words kind = (forms : Bor (List (Bor Text))) × HasForms forms × IsAmong kind (fault_of (lint forms) words)
 
-abbrev pub WantsHelp : List Text → Type 0
-WantsHelp words = HasFault words DisplayHelp
+-- a text is asked for: help or the version
+abbrev pub IsRequest : ErrorKind → Type 0
+IsRequest kind = (kind ≡ DisplayHelp) ⊎ (kind ≡ DisplayVersion)
+
+abbrev pub WantsText : List Text → Type 0
+WantsText words = HasFault words DisplayHelp ⊎ HasFault words DisplayVersion
 
 -- the words have an error of this kind, or out of memory
 abbrev pub IsRefusal : List Text → Error → Type 0

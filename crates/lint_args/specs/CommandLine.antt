@@ -3,7 +3,7 @@ use Rattle.std.specs.Prelude.{◌≡◌, ◌∷◌, [], true, List, Some, codes}
 use Rattle.std.specs.Borrow.{Bor}
 use Rattle.clap.specs.Lexer.{usize_max}
 use Rattle.clap.specs.Walk.{Rule, Text, texts}
-use Rattle.clap.specs.Simple.{App, app_of, new_app, new_rule, with_rule}
+use Rattle.clap.specs.Simple.{App, app_of, new_app, new_rule, on_top, with_rule}
 use Rattle.clap.specs.declared.builder.action.ArgAction.TheVariants.{Append, SetTrue}
 use Rattle.clap.specs.declared.builder.command.Command.{Command}
 use Rattle.clap.specs.declared.builder.value_parser.ValueParser.TheVariants.{Names}
@@ -28,7 +28,7 @@ format_rule forms = record (new_rule (codes "format")) {
 
 -- the known forms
 abbrev pub HasForms : Bor (List (Bor Text)) → Type 0
-HasForms forms = texts forms.now ≡ codes "text" ∷ codes "json" ∷ []
+HasForms forms = texts forms.now ≡ codes "text" ∷ codes "json" ∷ codes "github" ∷ []
 
 -- `--no-introspection`
 abbrev pub closed_rule : Rule
@@ -51,10 +51,14 @@ query_rule = record (new_rule (codes "query")) {
   required = true;
 }
 
+-- the program has a version, which `--version` and `-V` ask for
+abbrev pub versioned : App
+versioned = on_top (λ shape. record shape { has_version = true }) (new_app (codes "lint"))
+
 -- all of them
 abbrev pub lint : Bor (List (Bor Text)) → App
 lint forms =
-    with_rule (with_rule (with_rule (with_rule (with_rule (with_rule (new_app (codes "lint"))
+    with_rule (with_rule (with_rule (with_rule (with_rule (with_rule versioned
     schema_rule) (format_rule forms)) closed_rule) variables_rule) together_rule) query_rule
 
 -- a command has them

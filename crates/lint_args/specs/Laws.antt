@@ -4,7 +4,8 @@ use Rattle.std.specs.List.{list_all}
 use Rattle.std.specs.Str.{bytes_eq}
 use Rattle.clap.specs.Lexer.{is_long_word, is_short_word}
 use Rattle.clap.specs.Walk.{Text, texts}
-use Rattle.lint_args.specs.Asks.{AsksFor}
+use Rattle.lint_args.specs.Asks.{AsksFor, distinct}
+use Rattle.lint_args.specs.declared.task.Form.TheVariants as form
 use Rattle.lint_args.specs.declared.task.Task.{Task}
 
 abbrev pub sample_words : List Text
@@ -18,7 +19,7 @@ pub record IsSampleTask (task : Task) : Type 0 where
   pub schemas : texts task.schemas.items ≡ codes "types.graphql" ∷ codes "more.graphql" ∷ []
   pub queries : texts task.queries.items ≡ codes "first.graphql" ∷ codes "second.graphql" ∷ codes "--third" ∷ []
   pub variables : option_map (λ path. path.now) task.variables ≡ Some (codes "values.json")
-  pub json : task.is_json ≡ true
+  pub form : task.form ≡ form.Json
   pub closed : task.is_closed ≡ true
   pub together : task.is_together ≡ false
 
@@ -29,12 +30,12 @@ KnowsSample = (task : Task) → AsksFor sample_words task → IsSampleTask task
 abbrev pub is_name : Text → Bool
 is_name word = not (bytes_eq word (codes "--")) && (not (is_long_word word) && not (is_short_word word))
 
--- these files, and every option at its default
+-- these files, each once, and every option at its default
 pub record IsPlainTask (schema : Text) (files : List Text) (task : Task) : Type 0 where
   pub schemas : texts task.schemas.items ≡ schema ∷ []
-  pub queries : texts task.queries.items ≡ files
+  pub queries : texts task.queries.items ≡ distinct files
   pub variables : option_map (λ path. path.now) task.variables ≡ None
-  pub json : task.is_json ≡ false
+  pub form : task.form ≡ form.Text
   pub closed : task.is_closed ≡ false
   pub together : task.is_together ≡ false
 

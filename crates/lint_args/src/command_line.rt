@@ -6,17 +6,21 @@ ghost use Rattle.lint_args.specs.CommandLine.{HasForms, IsLint, closed_rule, for
 use clap::{Arg, ArgAction, Command};
 use std::alloc::{AllocError, Global};
 
-static FORMATS: [&str; 2] = ["text", "json"];
+static FORMATS: [&str; 3] = ["text", "json", "github"];
+
+const VERSION: &str = "0.1.0";
 
 const ABOUT: &str = "Validates GraphQL queries (October 2021) against a schema.";
 
-const AFTER: &str = "A file may be - for the standard input, which can be named once.
-Lines and columns count from 1, columns in bytes. In a file of variables a string may also be an enum value,
+const AFTER: &str =
+    "A file may be - for the standard input, which can be named once. A file that is named twice is judged once.
+Lines and columns count from 1, columns in characters. In a file of variables a string may also be an enum value,
 and a number without fraction and exponent is an integer.
-With --together and --format json an error has only those locations that are in the file of its first one.
+With --together, JSON has only those locations of an error that are in the file of its first one.
 
 Exit status: 0 for no errors, 1 for errors, 2 for invalid arguments, a file that can't be read, a syntax error,
-an invalid schema, or out of memory. What ends with 2 is reported on the standard error.";
+an invalid schema, or out of memory. What ends with 2 is reported on the standard error. With --format json or github,
+faults of files are in the report instead.";
 
 /// The command line of the program.
 ///
@@ -27,6 +31,7 @@ pub fn command_line<'w>(alloc: Global) -> Result<Command<'w>, AllocError>
     ensures { IfOk result IsLint }
 {
     Command::new(alloc, "lint")
+        .version(VERSION)
         .about(ABOUT)
         .after_help(AFTER)
         .arg(schema_argument(alloc))?

@@ -1,8 +1,10 @@
 //! What the command line asks for.
-ghost use Rattle.std.specs.Prelude.{◌≡◌, ◌+◌, ◌-◌, ◌^◌, IfErr, IfOk, cond, min};
+ghost use Rattle.std.specs.Prelude.{◌≡◌, ◌+◌, ◌-◌, ◌^◌, IfErr, IfOk, OnOk, cond, min};
+ghost use Rattle.std.specs.List.{list_any};
+ghost use Rattle.std.specs.Str.{bytes_eq};
 ghost use Rattle.clap.specs.Walk.{texts};
 ghost use Rattle.clap.specs.Words.{found_of, rows_of};
-ghost use Rattle.lint_args.specs.Asks.{AsksFor, IsRefusal, files_of, input_count, inputs_among, is_input, is_value, word_texts};
+ghost use Rattle.lint_args.specs.Asks.{AsksFor, IsRefusal, added_once, distinct, files_of, form_of, input_count, inputs_among, is_input, is_value, word_texts};
 
 use crate::command_line::command_line;
 use clap::{ArgMatches, Error};
@@ -11,17 +13,28 @@ use std::alloc::{AllocError, Global};
 /// The path of the standard input.
 pub const INPUT: &str = "-";
 
+/// How errors are printed.
+#[derive(Clone, Copy, Debug, PartialEq, Eq)]
+pub enum Form {
+    /// With the line of each place.
+    Text,
+    /// As a list of objects.
+    Json,
+    /// As commands of a workflow of GitHub's.
+    Github,
+}
+
 /// What the command line asks for.
 #[derive(Drop)]
 pub struct Task<'w> {
-    /// The files of the schema.
+    /// The files of the schema, each once.
     pub schemas: Vec<&'w str>,
-    /// The files of queries, which are validated.
+    /// The files of queries, which are validated, each once.
     pub queries: Vec<&'w str>,
     /// The file of values of variables, if there is one.
     pub variables: Option<&'w str>,
-    /// Whether errors are printed as JSON.
-    pub is_json: bool,
+    /// How errors are printed.
+    pub form: Form,
     /// Whether introspection is an error.
     pub is_closed: bool,
     /// Whether all files of queries are one document.
@@ -43,7 +56,7 @@ impl<'w> Task<'w> {
             schemas: files_of(alloc, &matches, "schema")?,
             queries: files_of(alloc, &matches, "query")?,
             variables: matches.get_str("variables"),
-            is_json: is_value(&matches, "format", "json"),
+            form: form_of(&matches),
             is_closed: is_value(&matches, "closed", "true"),
             is_together: is_value(&matches, "together", "true"),
         })
@@ -62,7 +75,7 @@ impl<'w> Task<'w> {
     }
 }
 
-// The files that an argument names.
+// The files that an argument names, each once.
 fn files_of<'w>(
     alloc: Global,
     matches: &ArgMatches<'w>,
@@ -70,9 +83,48 @@ fn files_of<'w>(
 ) -> Result<Vec<&'w str>, AllocError>
     ensures { IfOk result (λ files. texts files.items ≡ files_of id.now (rows_of (found_of matches.now))) }
 {
+    distinct(alloc, matches.get_strs(id).unwrap_or(&[]))
+}
+
+// Each of some paths once.
+fn distinct<'w>(alloc: Global, paths: &[&'w str]) -> Result<Vec<&'w str>, AllocError>
+    ensures { IfOk result (λ files. texts files.items ≡ distinct (texts paths.now)) }
+{
     let mut files = Vec::new(alloc);
-    files.extend_from_slice(matches.get_strs(id).unwrap_or(&[]))?;
+    for path in paths {
+        add_once(&mut files, *path)?;
+    }
     Ok(files)
+}
+
+// Adds a path, unless it is there.
+fn add_once<'w>(files: &mut Vec<&'w str>, path: &'w str) -> Result<(), AllocError>
+    ensures { OnOk result (texts files.new.items ≡ added_once (texts files.old.items) path.now) }
+{
+    if is_among(files.as_slice(), path) {
+        return Ok(());
+    }
+    files.push(path)?;
+    Ok(())
+}
+
+fn is_among(files: &[&str], path: &str) -> bool
+    ensures { result ≡ list_any (λ file. bytes_eq path.now file.now) files.now }
+{
+    files.iter().any(|file| path == *file)
+}
+
+// The form that is asked for.
+fn form_of(matches: &ArgMatches<'_>) -> Form
+    ensures { result ≡ form_of (rows_of (found_of matches.now)) }
+{
+    if is_value(matches, "format", "json") {
+        Form::Json
+    } else if is_value(matches, "format", "github") {
+        Form::Github
+    } else {
+        Form::Text
+    }
 }
 
 // Whether an argument has this value. A flag that is set has the value `true`.

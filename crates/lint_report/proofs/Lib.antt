@@ -1,4 +1,5 @@
-pub mod Json
+pub mod Columns
+pub mod InARow
 pub mod LineEnds
 pub mod ShownLines
 pub mod Starts

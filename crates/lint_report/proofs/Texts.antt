@@ -1,8 +1,7 @@
 -- Texts that are added to a text.
-use Rattle.std.proofs.Common.{◌≡◌, ◌∙◌, ◌+◌, ◌<◌, ◌≤◌, ℕ, List, [], ◌∷◌, ◌++◌, Option, Some, None, IfSome, append_assoc, append-nil, ap, codes, get_or, length, refl, subst, sym, take}
+use Rattle.std.proofs.Common.{◌≡◌, ◌∙◌, ◌+◌, ◌<◌, ◌≤◌, ℕ, List, [], ◌∷◌, ◌++◌, append_assoc, append-nil, ap, codes, get_or, length, refl, subst, sym, take}
 use Rattle.std.proofs.lemmas.List.{take_all, take_more}
 use Rattle.std.proofs.lemmas.List.Folds.{concat-append}
-use Rattle.std.specs.Fmt.{AppendsText, option_append}
 use Rattle.std.specs.List.{AllZip, concat}
 use Rattle.lint_report.specs.declared.issues.Issue.{Issue}
 use Rattle.lint_report.specs.declared.sources.Place.{Place}
@@ -32,6 +31,14 @@ texts_more P items i item d start old new within is so_far more = record {
   };
 }
 
+-- the texts of all items were written
+pub all_texts : {X : Type 0} (P : X → List ℕ → Type 0) (items : List X) (n : ℕ) (text : List ℕ) → length items ≤ n → Adds (AreTexts P (take n items)) [] text → AreTexts P items text
+all_texts P items n text all so_far = record {
+  texts = so_far.holds.texts;
+  each = subst (λ l. AllZip P l so_far.holds.texts) (take_all n items all) so_far.holds.each;
+  text_is = so_far.new_is ∙ so_far.holds.text_is;
+}
+
 -- three texts in a row
 pub three_added : (old one two new a b c : List ℕ) → one ≡ old ++ a → two ≡ one ++ b → new ≡ two ++ c → new ≡ old ++ (a ++ b ++ c)
 three_added old one two new a b c first second third = third ∙ ap (λ t. t ++ c) (second ∙ ap (λ t. t ++ b) first ∙ append_assoc old a b) ∙ append_assoc old (a ++ b) c
@@ -41,9 +48,8 @@ pub four_added : (old one two new a b c d : List ℕ) → one ≡ old ++ a → t
 four_added old one two new a b c d first second third = three_added old one two new a (b ++ c) d first second third ∙ ap (λ t. old ++ (t ++ d)) (sym (append_assoc a b c))
 
 -- an error is its place, its message and the line of the place
-pub error_added : (sources : List Source) (place : Place) (said : Option (List ℕ)) (old one two new : List ℕ) → one ≡ old ++ told_place sources place → AppendsText one two (option_append (Some (codes "error: ")) (option_append said (Some (10 ∷ [])))) → Adds (ShowsLine sources place) two new → IfSome said (λ message. Adds (IsErrorText sources place message) old new)
-error_added sources place None old one two new placed told shown = tt
-error_added sources place (Some message) old one two new placed told shown = record {
+pub error_added : (sources : List Source) (place : Place) (message : List ℕ) (old one two new : List ℕ) → one ≡ old ++ told_place sources place → two ≡ one ++ (codes "error: " ++ line message) → Adds (ShowsLine sources place) two new → Adds (IsErrorText sources place message) old new
+error_added sources place message old one two new placed told shown = record {
   added = told_place sources place ++ codes "error: " ++ line message ++ shown.added;
   new_is = four_added old one two new (told_place sources place) (codes "error: ") (line message) shown.added placed told shown.new_is;
   holds = record { below = shown.added; shows = shown.holds; text_is = refl };

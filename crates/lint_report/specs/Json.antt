@@ -3,12 +3,11 @@ use Rattle.std.specs.Prelude.{◌==◌, ℕ, List, [], ◌∷◌, ◌++◌, code
 use Rattle.std.specs.Fmt.{decimal}
 use Rattle.json.specs.Layout.{pretty}
 use Rattle.json.specs.Token.{Token, begin_array, begin_object, end_array, end_object, key, number, string}
-use Rattle.language.specs.declared.position.SourcePosition.{SourcePosition}
-use Rattle.language.specs.Position.{line_of, column_of}
+use Rattle.lint_report.specs.declared.faults.Fault.{Fault}
 use Rattle.lint_report.specs.declared.issues.Issue.{Issue}
 use Rattle.lint_report.specs.declared.sources.Place.{Place}
 use Rattle.lint_report.specs.declared.sources.Source.{Source}
-use Rattle.lint_report.specs.Texts.{from_one, line, path_in}
+use Rattle.lint_report.specs.Texts.{line, path_in, told_column, told_line}
 
 -- a member with a text, and one with a number
 abbrev pub text_member : List ℕ → List ℕ → List Token
@@ -17,31 +16,36 @@ text_member name text = key name ∷ string text ∷ []
 abbrev pub number_member : List ℕ → ℕ → List Token
 number_member name value = key name ∷ number (decimal value) ∷ []
 
--- `{ line, column }`, counted from 1
-abbrev pub location_tokens : SourcePosition → List Token
-location_tokens p =
-    begin_object ∷ number_member (codes "line") (from_one (line_of p))
-    ++ number_member (codes "column") (from_one (column_of p)) ++ end_object ∷ []
+-- `{ line, column }` of a place
+abbrev pub location_tokens : List Source → Place → List Token
+location_tokens sources place =
+    begin_object ∷ number_member (codes "line") (told_line place)
+    ++ number_member (codes "column") (told_column sources place) ++ end_object ∷ []
 
 -- a place, if it is in the file
-abbrev pub told_locations : ℕ → Place → List Token
-told_locations file place = if place.file == file then location_tokens place.position else []
+abbrev pub told_locations : List Source → ℕ → Place → List Token
+told_locations sources file place = if place.file == file then location_tokens sources place else []
 
 -- the places in the file, as a list
-abbrev pub locations_tokens : ℕ → List Place → List Token
-locations_tokens file places = begin_array ∷ flat_map (told_locations file) places ++ end_array ∷ []
+abbrev pub locations_tokens : List Source → ℕ → List Place → List Token
+locations_tokens sources file places = begin_array ∷ flat_map (told_locations sources file) places ++ end_array ∷ []
 
 -- `{ path, message, locations }`
 abbrev pub issue_tokens : List Source → Issue → List Token
 issue_tokens sources issue =
     begin_object ∷ text_member (codes "path") (path_in sources issue.file)
     ++ text_member (codes "message") (string_bytes issue.message)
-    ++ key (codes "locations") ∷ locations_tokens issue.file issue.places.items ++ end_object ∷ []
+    ++ key (codes "locations") ∷ locations_tokens sources issue.file issue.places.items ++ end_object ∷ []
 
--- the errors in order, as a list
-abbrev pub report_tokens : List Source → List Issue → List Token
-report_tokens sources issues = begin_array ∷ flat_map (issue_tokens sources) issues ++ end_array ∷ []
+-- a fault is an issue of its own file alone
+abbrev pub fault_tokens : Fault → List Token
+fault_tokens fault = issue_tokens (fault.source ∷ []) fault.issue
+
+-- the faults and then the errors, each in order, as a list
+abbrev pub report_tokens : List Fault → List Source → List Issue → List Token
+report_tokens faults sources issues =
+    begin_array ∷ flat_map fault_tokens faults ++ flat_map (issue_tokens sources) issues ++ end_array ∷ []
 
 -- the text: a line for each item and member, indented by two spaces for each bracket
-abbrev pub json_text : List Source → List Issue → List ℕ
-json_text sources issues = line (pretty (report_tokens sources issues))
+abbrev pub json_text : List Fault → List Source → List Issue → List ℕ
+json_text faults sources issues = line (pretty (report_tokens faults sources issues))

@@ -1,7 +1,7 @@
 -- The line of a position, and what comes before the position in it.
-use Rattle.std.specs.Prelude.{◌≡◌, ◌==◌, ◌-◌, ◌&&◌, ℕ, Bool, not, List, [], map, drop, reverse, take, take_while, if◌then◌else◌}
+use Rattle.std.specs.Prelude.{◌≡◌, ◌==◌, ◌-◌, ◌||◌, ◌&&◌, ℕ, Bool, not, List, [], count_by, drop, nat_le, nat_lt, reverse, take, take_while}
 use Rattle.std.specs.List.{prefix_len}
-use Rattle.std.specs.Str.{IsCharBoundary, chars}
+use Rattle.std.specs.Str.{IsCharBoundary}
 use Rattle.language.specs.declared.position.SourcePosition.{SourcePosition}
 use Rattle.language.specs.Position.{index_of, column_of}
 
@@ -22,15 +22,19 @@ pub record IsLineFrom (text : List ℕ) (start : ℕ) (line : List ℕ) : Type 0
 abbrev pub IsLineOf : List ℕ → SourcePosition → List ℕ → Type 0
 IsLineOf text p line = IsLineFrom text (index_of p - column_of p) line
 
--- what comes before a column of a line; all of it if no character begins there
-pub record IsBefore (line : List ℕ) (column : ℕ) (before : List ℕ) : Type 0 where
-  pub begun : IsCharBoundary line column → before ≡ take column line
-  pub all : ¬ (IsCharBoundary line column) → before ≡ line
+-- what comes before a column of a line, and the rest; nothing is left if no character begins there
+pub record IsSplitAt (line : List ℕ) (column : ℕ) (before rest : List ℕ) : Type 0 where
+  pub begun : IsCharBoundary line column → (before ≡ take column line) × (rest ≡ drop column line)
+  pub all : ¬ (IsCharBoundary line column) → (before ≡ line) × (rest ≡ [])
 
--- what comes below a character before the mark: a tab below a tab, else a space
-abbrev pub blank_for : ℕ → ℕ
-blank_for character = if character == 9 then 9 else 32
+-- a character begins with any byte but those from 0x80 to 0xBF (RFC 3629)
+abbrev pub begins_character : ℕ → Bool
+begins_character byte = nat_lt byte 0x80 || nat_le 0xC0 byte
 
--- what comes below a text
-abbrev pub blanks : List ℕ → List ℕ
-blanks text = map blank_for (chars text)
+-- what a line has before a position
+abbrev pub before_place : List ℕ → SourcePosition → List ℕ
+before_place text p = take (column_of p) (drop (index_of p - column_of p) text)
+
+-- how many characters that are
+abbrev pub characters_before : List ℕ → SourcePosition → ℕ
+characters_before text p = count_by begins_character (before_place text p)

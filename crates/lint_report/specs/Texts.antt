@@ -1,15 +1,16 @@
 -- Errors as text.
-use Rattle.std.specs.Prelude.{◌≡◌, ◌==◌, ◌+◌, ◌-◌, ◌^◌, ℕ, List, [], ◌∷◌, ◌++◌, codes, length, min, slice_get, string_bytes, if◌then◌else◌}
+use Rattle.std.specs.Prelude.{◌≡◌, ◌==◌, ◌+◌, ◌-◌, ◌^◌, ℕ, List, [], ◌∷◌, ◌++◌, chars, codes, length, min, slice_get, string_bytes, if◌then◌else◌}
 use Rattle.std.specs.Fmt.{decimal}
 use Rattle.std.specs.List.{AllZip, concat}
 use Rattle.std.specs.Option.{option_map_or}
-use Rattle.language.specs.declared.position.SourcePosition.{SourcePosition}
 use Rattle.language.specs.Position.{line_of, column_of}
+use Rattle.lint_report.specs.declared.faults.Fault.{Fault}
 use Rattle.lint_report.specs.declared.issues.Issue.{Issue}
 use Rattle.lint_report.specs.declared.sources.Place.{Place}
 use Rattle.lint_report.specs.declared.sources.Source.{Source}
 use Rattle.lint_report.specs.Issues.{file_count}
-use Rattle.lint_report.specs.ShownLines.{IsLineOf, IsBefore, blanks}
+use Rattle.lint_report.specs.ShownLines.{IsLineOf, IsSplitAt, characters_before}
+use Rattle.lint_report.specs.Windows.{window}
 
 -- a text and the end of its line
 abbrev pub line : List ℕ → List ℕ
@@ -26,21 +27,26 @@ path_in sources file = option_map_or (λ s. string_bytes s.path) (slice_get sour
 abbrev pub text_in : List Source → ℕ → List ℕ
 text_in sources file = option_map_or (λ s. string_bytes s.text) (slice_get sources file) []
 
+-- line and column of a place, counted from 1, the column in characters
+abbrev pub told_line : Place → ℕ
+told_line place = from_one (line_of place.position)
+
+abbrev pub told_column : List Source → Place → ℕ
+told_column sources place = from_one (characters_before (text_in sources place.file) place.position)
+
 -- what comes before a message: `path:line:column: `
-abbrev pub place_text : List ℕ → SourcePosition → List ℕ
-place_text path p =
-    path ++ codes ":" ++ decimal (from_one (line_of p)) ++ codes ":" ++ decimal (from_one (column_of p)) ++ codes ": "
-
 abbrev pub told_place : List Source → Place → List ℕ
-told_place sources place = place_text (path_in sources place.file) place.position
+told_place sources place =
+    path_in sources place.file ++ codes ":" ++ decimal (told_line place) ++ codes ":" ++ decimal (told_column sources place) ++ codes ": "
 
--- the line of a place, and below it spaces up to the place and a mark
+-- a window of the line of a place, and a mark below the place
 pub record ShowsLine (sources : List Source) (place : Place) (text : List ℕ) : Type 0 where
   pub shown : List ℕ
   pub before : List ℕ
+  pub rest : List ℕ
   pub is_line : IsLineOf (text_in sources place.file) place.position shown
-  pub is_before : IsBefore shown (column_of place.position) before
-  pub text_is : text ≡ line shown ++ line (blanks before ++ codes "^")
+  pub is_split : IsSplitAt shown (column_of place.position) before rest
+  pub text_is : text ≡ window (chars before) (chars rest)
 
 -- an error at a place: the place, the message, and the line of the place
 pub record IsErrorText (sources : List Source) (place : Place) (message : List ℕ) (text : List ℕ) : Type 0 where
@@ -120,3 +126,10 @@ pub record IsTextReport (sources : List Source) (issues : List Issue) (judged un
   pub texts : List (List ℕ)
   pub each : AllZip (IsIssueText sources) issues texts
   pub text_is : text ≡ concat texts ++ last_line (length issues) (file_count issues) judged unjudged
+
+-- why files could not be judged: an error for each, which has the fault's file alone
+abbrev pub IsFaultText : Fault → List ℕ → Type 0
+IsFaultText fault text = IsIssueText (fault.source ∷ []) fault.issue text
+
+abbrev pub AreFaultTexts : List Fault → List ℕ → Type 0
+AreFaultTexts faults text = AreTexts IsFaultText faults text

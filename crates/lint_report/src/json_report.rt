@@ -1,59 +1,86 @@
-//! Errors as JSON: in the form of a response (GraphQL, October 2021, section 7.1.2), each with the path of its file.
-ghost use Rattle.std.specs.Prelude.{◌≡◌, ◌++◌, IfOk, OnOk, string_bytes};
+//! Errors as JSON: a list of `{ path, message, locations }`, where `path` is the path of a file. It is not the form in
+//! which a server answers, whose `path` is a list of keys.
+ghost use Rattle.std.specs.Prelude.{◌≡◌, ◌++◌, IfOk, OnOk, flat_map, string_bytes};
 ghost use Rattle.json.specs.Layout.{pretty};
-ghost use Rattle.lint_report.specs.Json.{issue_tokens, json_text, location_tokens, locations_tokens, number_member, report_tokens, text_member, told_locations};
+ghost use Rattle.lint_report.specs.Json.{fault_tokens, issue_tokens, json_text, location_tokens, locations_tokens, number_member, report_tokens, text_member, told_locations};
 
+use crate::faults::Fault;
 use crate::issues::Issue;
 use crate::sources::{Place, Source};
-use crate::text_report::path_of;
+use crate::text_report::{path_of, told_column, told_line};
 use json::{Pretty, Token};
 use language::error::OutOfMemory;
-use language::position::SourcePosition;
 use std::alloc::{AllocError, Global};
+use std::slice;
 
-/// The errors in order, as a list of objects with `path`, `message` and `locations`. An error with places in several
-/// files has only those in the file of its first place. Lines and columns count from 1, columns in bytes.
+/// The faults and then the errors, each in order, as a list of objects with `path`, `message` and `locations`. An error
+/// with places in several files has only those in the file of its first place. Lines and columns count from 1, columns
+/// in characters.
 ///
 /// # Errors
 ///
 /// Out of memory.
 pub fn json_report(
     alloc: Global,
+    faults: &[Fault],
     sources: &[Source],
     issues: &[Issue],
 ) -> Result<String, OutOfMemory>
-    ensures { IfOk result (λ s. string_bytes s ≡ json_text sources.now issues.now) }
+    ensures { IfOk result (λ s. string_bytes s ≡ json_text faults.now sources.now issues.now) }
 {
     let mut out = Pretty::new(alloc);
-    write_report(alloc, &mut out, sources, issues)?;
-    let mut text = text_of(out)?;
+    write_report(alloc, &mut out, faults, sources, issues)?;
+    let mut text = text_of(out);
     text.push('\n')?;
     Ok(text)
 }
 
-// The whole text, which is valid UTF-8, as each token is.
-fn text_of(out: Pretty) -> Result<String, OutOfMemory>
-    ensures { IfOk result (λ s. string_bytes s ≡ pretty out) }
+// The whole text, which is valid UTF-8.
+fn text_of(out: Pretty) -> String
+    ensures { string_bytes result ≡ pretty out }
 {
     match String::from_utf8(out.into_inner()) {
-        Ok(text) => Ok(text),
-        Err(_) => Err(OutOfMemory),
+        Ok(text) => text,
+        Err(_) => unreachable!(),
     }
 }
 
 fn write_report(
     alloc: Global,
     out: &mut Pretty,
+    faults: &[Fault],
     sources: &[Source],
     issues: &[Issue],
-) -> Result<(), OutOfMemory>
-    ensures { OnOk result (out.new ≡ out.old ++ report_tokens sources.now issues.now) }
+) -> Result<(), AllocError>
+    ensures { OnOk result (out.new ≡ out.old ++ report_tokens faults.now sources.now issues.now) }
 {
     out.token(Token::BeginArray)?;
+    write_faults(alloc, out, faults)?;
+    write_issues(alloc, out, sources, issues)?;
+    out.token(Token::EndArray)?;
+    Ok(())
+}
+
+fn write_faults(alloc: Global, out: &mut Pretty, faults: &[Fault]) -> Result<(), AllocError>
+    ensures { OnOk result (out.new ≡ out.old ++ flat_map fault_tokens faults.now) }
+{
+    for fault in faults {
+        write_issue(alloc, out, slice::from_ref(&fault.source), &fault.issue)?;
+    }
+    Ok(())
+}
+
+fn write_issues(
+    alloc: Global,
+    out: &mut Pretty,
+    sources: &[Source],
+    issues: &[Issue],
+) -> Result<(), AllocError>
+    ensures { OnOk result (out.new ≡ out.old ++ flat_map (issue_tokens sources.now) issues.now) }
+{
     for issue in issues {
         write_issue(alloc, out, sources, issue)?;
     }
-    out.token(Token::EndArray)?;
     Ok(())
 }
 
@@ -62,14 +89,14 @@ fn write_issue(
     out: &mut Pretty,
     sources: &[Source],
     issue: &Issue,
-) -> Result<(), OutOfMemory>
+) -> Result<(), AllocError>
     ensures { OnOk result (out.new ≡ out.old ++ issue_tokens sources.now issue.now) }
 {
     out.token(Token::BeginObject)?;
     write_text(out, "path", path_of(sources, issue.file))?;
     write_text(out, "message", issue.message.as_str())?;
     out.token(Token::Key("locations"))?;
-    write_locations(alloc, out, issue)?;
+    write_locations(alloc, out, sources, issue)?;
     out.token(Token::EndObject)?;
     Ok(())
 }
@@ -82,12 +109,17 @@ fn write_text(out: &mut Pretty, name: &str, text: &str) -> Result<(), AllocError
 }
 
 // The places in the error's own file.
-fn write_locations(alloc: Global, out: &mut Pretty, issue: &Issue) -> Result<(), OutOfMemory>
-    ensures { OnOk result (out.new ≡ out.old ++ locations_tokens issue.now.file issue.now.places.items) }
+fn write_locations(
+    alloc: Global,
+    out: &mut Pretty,
+    sources: &[Source],
+    issue: &Issue,
+) -> Result<(), AllocError>
+    ensures { OnOk result (out.new ≡ out.old ++ locations_tokens sources.now issue.now.file issue.now.places.items) }
 {
     out.token(Token::BeginArray)?;
     for place in issue.places.as_slice() {
-        write_place(alloc, out, issue.file, *place)?;
+        write_place(alloc, out, sources, issue.file, *place)?;
     }
     out.token(Token::EndArray)?;
     Ok(())
@@ -97,28 +129,30 @@ fn write_locations(alloc: Global, out: &mut Pretty, issue: &Issue) -> Result<(),
 fn write_place(
     alloc: Global,
     out: &mut Pretty,
+    sources: &[Source],
     file: usize,
     place: Place,
-) -> Result<(), OutOfMemory>
-    ensures { OnOk result (out.new ≡ out.old ++ told_locations file place) }
+) -> Result<(), AllocError>
+    ensures { OnOk result (out.new ≡ out.old ++ told_locations sources.now file place) }
 {
-    if place.file == file {
-        write_location(alloc, out, place.position)?;
+    if place.file != file {
+        return Ok(());
     }
-    Ok(())
+    write_location(alloc, out, sources, place)
 }
 
-// Line and column, counted from 1 (section 7.1.2).
+// Line and column, counted from 1.
 fn write_location(
     alloc: Global,
     out: &mut Pretty,
-    position: SourcePosition,
-) -> Result<(), OutOfMemory>
-    ensures { OnOk result (out.new ≡ out.old ++ location_tokens position) }
+    sources: &[Source],
+    place: Place,
+) -> Result<(), AllocError>
+    ensures { OnOk result (out.new ≡ out.old ++ location_tokens sources.now place) }
 {
     out.token(Token::BeginObject)?;
-    write_number(alloc, out, "line", position.line().saturating_add(1))?;
-    write_number(alloc, out, "column", position.column().saturating_add(1))?;
+    write_number(alloc, out, "line", told_line(place))?;
+    write_number(alloc, out, "column", told_column(sources, place))?;
     out.token(Token::EndObject)?;
     Ok(())
 }

@@ -1,10 +1,10 @@
 //! Positions and lines of a text. A line ends with a line feed, a carriage return, or both in this order (section
 //! 2.1.3).
-ghost use Rattle.std.specs.Prelude.{◌≡◌, ◌+◌, ◌≤◌, if◌then◌else◌, [], ◌∷◌, ◌++◌, length, take, take_while};
+ghost use Rattle.std.specs.Prelude.{◌≡◌, ◌+◌, ◌≤◌, if◌then◌else◌, [], ◌∷◌, ◌++◌, count_by, length, take, take_while};
 ghost use Rattle.std.specs.List.{prefix_len};
 ghost use Rattle.language.specs.Position as position;
 ghost use Rattle.lint_report.specs.Lines.{line_ends, more_ends};
-ghost use Rattle.lint_report.specs.ShownLines.{IsLineOf, column_after, is_in_line};
+ghost use Rattle.lint_report.specs.ShownLines.{IsLineOf, before_place, begins_character, characters_before, column_after, is_in_line};
 
 use language::position::SourcePosition;
 
@@ -60,6 +60,31 @@ fn more_ended(byte: u8, after_return: bool) -> usize
         b'\n' if !after_return => 1,
         _ => 0,
     }
+}
+
+/// The number of characters that a line has before a position.
+pub fn characters_before(text: &str, position: SourcePosition) -> usize
+    ensures { result ≡ characters_before text.now position }
+{
+    before_place(text.as_bytes(), position)
+        .iter()
+        .filter(|byte| begins_character(**byte))
+        .count()
+}
+
+// What a line has before a position, whose column counts bytes.
+fn before_place(text: &[u8], position: SourcePosition) -> &[u8]
+    ensures { result.now ≡ before_place text.now position }
+{
+    let start = position.index().saturating_sub(position.column());
+    let line = text.get(start..).unwrap_or(&[]);
+    line.get(..position.column()).unwrap_or(line)
+}
+
+fn begins_character(byte: u8) -> bool
+    ensures { result ≡ begins_character byte }
+{
+    !(0x80..0xC0).contains(&byte)
 }
 
 /// The line of a position, without its line terminator.

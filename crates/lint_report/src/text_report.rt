@@ -1,15 +1,16 @@
-//! Errors as text: each with its place, its line and a mark below the place.
-ghost use Rattle.std.specs.Prelude.{◌≡◌, ◌++◌, IfOk, IfSome, OnOk, Some, string_bytes};
-ghost use Rattle.lint_report.specs.ShownLines.{IsBefore, blanks};
-ghost use Rattle.lint_report.specs.Texts.{Adds, AreNotes, IsErrorText, IsIssueText, IsNoteText, IsTextReport, ShowsLine, count_text, counts_text, last_line, path_in, place_text, summary_text, text_in, unjudged_text};
+//! Errors as text: each with its place, a window of its line, and a mark below the place.
+ghost use Rattle.std.specs.Prelude.{◌≡◌, ◌++◌, IfOk, OnOk, Some, string_bytes};
+ghost use Rattle.lint_report.specs.ShownLines.{IsSplitAt};
+ghost use Rattle.lint_report.specs.Texts.{Adds, AreFaultTexts, AreNotes, IsErrorText, IsIssueText, IsNoteText, IsTextReport, ShowsLine, count_text, counts_text, last_line, path_in, summary_text, text_in, told_column, told_line, told_place, unjudged_text};
 
+use crate::faults::Fault;
 use crate::issues::{Issue, files_of};
 use crate::sources::{Place, Source};
-use crate::text_places::line_of;
+use crate::text_places::{characters_before, line_of};
+use crate::windows::write_window;
 use language::error::OutOfMemory;
-use language::position::SourcePosition;
-use std::alloc::Global;
-use std::fmt;
+use std::alloc::{AllocError, Global};
+use std::{fmt, slice};
 
 // A count in words: `no errors`, `1 error`, `2 errors`.
 #[derive(Clone, Copy, Debug)]
@@ -63,9 +64,24 @@ pub fn text_report(
     Ok(text)
 }
 
-/// Appends an error: `path:line:column: error: message`, and below it the line of that place with a mark below the
-/// place. Each further place is a note in the same form. An error without a place has its path alone. Line and column
-/// count from 1, the column in bytes.
+/// Why files could not be judged: an error for each, in order.
+///
+/// # Errors
+///
+/// Out of memory.
+pub fn faults_text(alloc: Global, faults: &[Fault]) -> Result<String, OutOfMemory>
+    ensures { IfOk result (λ s. AreFaultTexts faults.now (string_bytes s)) }
+{
+    let mut text = String::new(alloc);
+    for fault in faults {
+        write_issue(&mut text, slice::from_ref(&fault.source), &fault.issue)?;
+    }
+    Ok(text)
+}
+
+/// Appends an error: `path:line:column: error: message`, and below it a window of the line of that place with a mark
+/// below the place. Each further place is a note in the same form. An error without a place has its path alone.
+/// Line and column count from 1, the column in characters.
 ///
 /// # Errors
 ///
@@ -78,26 +94,21 @@ pub fn write_issue(text: &mut String, sources: &[Source], issue: &Issue) -> Resu
         writeln!(text, "{path}: error: {}", issue.message)?;
         return Ok(());
     };
-    write_fault(text, sources, *first, &issue.message)?;
+    write_error(text, sources, *first, issue.message.as_str())?;
     write_notes(text, sources, others)
 }
 
-/// Appends an error with one place.
-///
-/// # Errors
-///
-/// Out of memory; `text` may be partly written.
-pub fn write_fault<M: fmt::Display>(
+// An error at its first place.
+fn write_error(
     text: &mut String,
     sources: &[Source],
     place: Place,
-    message: &M,
+    message: &str,
 ) -> Result<(), OutOfMemory>
     ensures { OnOk result
-        (IfSome (M.output message.now)
-        (λ said. Adds (IsErrorText sources.now place said) (string_bytes text.old) (string_bytes text.new))) }
+        (Adds (IsErrorText sources.now place message.now) (string_bytes text.old) (string_bytes text.new)) }
 {
-    write_place(text, path_of(sources, place.file), place.position)?;
+    write_place(text, sources, place)?;
     writeln!(text, "error: {message}")?;
     write_line(text, sources, place)
 }
@@ -115,27 +126,32 @@ fn write_notes(text: &mut String, sources: &[Source], places: &[Place]) -> Resul
 fn write_note(text: &mut String, sources: &[Source], place: Place) -> Result<(), OutOfMemory>
     ensures { OnOk result (Adds (IsNoteText sources.now place) (string_bytes text.old) (string_bytes text.new)) }
 {
-    write_place(text, path_of(sources, place.file), place.position)?;
+    write_place(text, sources, place)?;
     text.push_str("note: also here\n")?;
     write_line(text, sources, place)
 }
 
-/// Appends what comes before a message: `path:line:column: `, counted from 1.
-///
-/// # Errors
-///
-/// Out of memory; `text` may be partly written.
-pub fn write_place(
-    text: &mut String,
-    path: &str,
-    position: SourcePosition,
-) -> Result<(), OutOfMemory>
-    ensures { OnOk result (string_bytes text.new ≡ string_bytes text.old ++ place_text path.now position) }
+// What comes before a message: `path:line:column: `.
+fn write_place(text: &mut String, sources: &[Source], place: Place) -> Result<(), AllocError>
+    ensures { OnOk result (string_bytes text.new ≡ string_bytes text.old ++ told_place sources.now place) }
 {
-    let line = position.line().saturating_add(1);
-    let column = position.column().saturating_add(1);
-    write!(text, "{path}:{line}:{column}: ")?;
-    Ok(())
+    let path = path_of(sources, place.file);
+    let (line, column) = (told_line(place), told_column(sources, place));
+    write!(text, "{path}:{line}:{column}: ")
+}
+
+/// The line of a place, counted from 1.
+pub fn told_line(place: Place) -> usize
+    ensures { result ≡ told_line place }
+{
+    place.position.line().saturating_add(1)
+}
+
+/// The column of a place, counted from 1 in characters.
+pub fn told_column(sources: &[Source], place: Place) -> usize
+    ensures { result ≡ told_column sources.now place }
+{
+    characters_before(text_of(sources, place.file), place.position).saturating_add(1)
 }
 
 /// The path of a file, or an empty one if there is no such file.
@@ -148,8 +164,8 @@ pub fn path_of(sources: &[Source], file: usize) -> &str
     }
 }
 
-// The text of a file.
-fn text_of(sources: &[Source], file: usize) -> &str
+/// The text of a file, or an empty one if there is no such file.
+pub fn text_of(sources: &[Source], file: usize) -> &str
     ensures { result.now ≡ text_in sources.now file }
 {
     match sources.get(file) {
@@ -158,36 +174,25 @@ fn text_of(sources: &[Source], file: usize) -> &str
     }
 }
 
-// The line of a place, and a mark below the place.
+// A window of the line of a place, and a mark below the place.
 fn write_line(text: &mut String, sources: &[Source], place: Place) -> Result<(), OutOfMemory>
     ensures { OnOk result (Adds (ShowsLine sources.now place) (string_bytes text.old) (string_bytes text.new)) }
 {
     let line = line_of(text_of(sources, place.file), place.position);
-    writeln!(text, "{line}")?;
-    write_blanks(text, before_column(line, place.position.column()))?;
-    text.push_str("^\n")?;
+    let (before, rest) = split_at(line, place.position.column());
+    write_window(text, before, rest)?;
     Ok(())
 }
 
-// The part of a line before a column.
-fn before_column(line: &str, column: usize) -> &str
-    ensures { IsBefore line.now column result.now }
+// The part of a line before a column, and the rest.
+fn split_at(line: &str, column: usize) -> (&str, &str)
+    ensures { IsSplitAt line.now column result.0.now result.1.now }
 {
     if line.is_char_boundary(column) {
-        &line[..column]
+        (&line[..column], &line[column..])
     } else {
-        line
+        (line, "")
     }
-}
-
-// A space for each character and a tab for a tab, so that what follows lines up.
-fn write_blanks(text: &mut String, before: &str) -> Result<(), OutOfMemory>
-    ensures { OnOk result (string_bytes text.new ≡ string_bytes text.old ++ blanks before.now) }
-{
-    for character in before.chars() {
-        text.push(if character == '\t' { '\t' } else { ' ' })?;
-    }
-    Ok(())
 }
 
 // `3 errors in 2 of 5 files`, and `no errors in 5 files`.

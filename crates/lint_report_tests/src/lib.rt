@@ -1,4 +1,5 @@
-//! Tests of the crate `lint_report`: positions of joined texts, errors as text and as JSON, and values of variables from JSON.
+//! Tests of the crate `lint_report`: positions of joined texts, errors in each form, windows of lines, and values of
+//! variables from JSON.
 #![tactic(auto)]
 
 #[cfg(test)]
@@ -7,3 +8,5 @@ mod places;
 mod reports;
 #[cfg(test)]
 mod values;
+#[cfg(test)]
+mod windows;

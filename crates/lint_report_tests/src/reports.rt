@@ -1,11 +1,13 @@
-//! Errors as text and as JSON.
+//! Errors as text, as JSON and for GitHub.
 use language::error::OutOfMemory;
 use language::position::SourcePosition;
+use lint_report::faults::Fault;
+use lint_report::github_report::github_report;
 use lint_report::issues::Issue;
 use lint_report::json_report::json_report;
 use lint_report::sources::{Joined, Source};
 use lint_report::text_places::position_at;
-use lint_report::text_report::text_report;
+use lint_report::text_report::{faults_text, text_report};
 use std::alloc::Global;
 
 const FILES: &[(&str, &str)] = &[
@@ -19,13 +21,46 @@ const ERRORS: &[(&str, &[usize])] = &[("One \"place\"", &[9]), ("Two", &[31, 0])
 const TEXT: &str = "a.graphql:2:8: error: One \"place\"
 \tdog { nme }
 \t      ^
-b.graphql:1:14: error: Two
+b.graphql:1:13: error: Two
 { a(x: \"\u{e9}\") b }
             ^
 a.graphql:1:1: note: also here
 {
 ^
 b.graphql: error: None
+";
+
+// A fault with a place, and one of a file as a whole, as text.
+const FAULTS_TEXT: &str = "c: 1,2.graphql:2:3: error: 50% of\r\n\u{e9} is bad
+\u{e9}\tb
+ \t^
+d.graphql: error: entity not found
+";
+
+const FAULTS_JSON: &str = "[
+  {
+    \"path\": \"c: 1,2.graphql\",
+    \"message\": \"50% of\\r\\n\u{e9} is bad\",
+    \"locations\": [
+      {
+        \"line\": 2,
+        \"column\": 3
+      }
+    ]
+  },
+  {
+    \"path\": \"d.graphql\",
+    \"message\": \"entity not found\",
+    \"locations\": []
+  }
+]
+";
+
+const GITHUB: &str = "::error file=c%3A 1%2C2.graphql,line=2,col=3::50%25 of%0D%0A\u{e9} is bad
+::error file=d.graphql::entity not found
+::error file=a.graphql,line=2,col=8::One \"place\"
+::error file=b.graphql,line=1,col=13::Two
+::error file=b.graphql::None
 ";
 
 const JSON: &str = "[
@@ -45,7 +80,7 @@ const JSON: &str = "[
     \"locations\": [
       {
         \"line\": 1,
-        \"column\": 14
+        \"column\": 13
       }
     ]
   },
@@ -107,16 +142,54 @@ fn issues(alloc: Global, joined: &Joined) -> Result<Vec<Issue>, OutOfMemory> {
     Ok(issues)
 }
 
+// The place stands behind two characters and three bytes of its line.
+fn faults(alloc: Global) -> Result<Vec<Fault>, OutOfMemory> {
+    let text = "{\n\u{e9}\tb";
+    let place = position_at(text.as_bytes(), 5);
+    let mut faults = Vec::new(alloc);
+    let message = "50% of\r\n\u{e9} is bad";
+    faults.push(Fault::new(alloc, "c: 1,2.graphql", text, Some(place), &message)?)?;
+    faults.push(Fault::new(alloc, "d.graphql", "", None, &"entity not found")?)?;
+    Ok(faults)
+}
+
 #[test]
 fn json(rt: HostRuntime) {
     let alloc = rt.alloc();
     let sources = sources(alloc).expect(&rt, "memory");
     let joined = joined(alloc).expect(&rt, "memory");
     let issues = issues(alloc, &joined).expect(&rt, "memory");
-    let told = json_report(alloc, sources.as_slice(), issues.as_slice()).expect(&rt, "memory");
+    let told = json_report(alloc, &[], sources.as_slice(), issues.as_slice()).expect(&rt, "memory");
     assert_eq!(rt; told.as_str(), JSON);
-    let none = json_report(alloc, sources.as_slice(), &[]).expect(&rt, "memory");
+    let none = json_report(alloc, &[], sources.as_slice(), &[]).expect(&rt, "memory");
     assert_eq!(rt; none.as_str(), "[]\n");
+}
+
+#[test]
+fn faults_are_told(rt: HostRuntime) {
+    let alloc = rt.alloc();
+    let faults = faults(alloc).expect(&rt, "memory");
+    let text = faults_text(alloc, faults.as_slice()).expect(&rt, "memory");
+    assert_eq!(rt; text.as_str(), FAULTS_TEXT);
+    let json = json_report(alloc, faults.as_slice(), &[], &[]).expect(&rt, "memory");
+    assert_eq!(rt; json.as_str(), FAULTS_JSON);
+}
+
+#[test]
+fn github(rt: HostRuntime) {
+    let alloc = rt.alloc();
+    let faults = faults(alloc).expect(&rt, "memory");
+    let sources = sources(alloc).expect(&rt, "memory");
+    let joined = joined(alloc).expect(&rt, "memory");
+    let issues = issues(alloc, &joined).expect(&rt, "memory");
+    let told = github_report(
+        alloc,
+        faults.as_slice(),
+        sources.as_slice(),
+        issues.as_slice(),
+    )
+    .expect(&rt, "memory");
+    assert_eq!(rt; told.as_str(), GITHUB);
 }
 
 #[test]

@@ -11,5 +11,6 @@ returns g c =
       read = subst (AreReadOf (g.I.Inputs.file c.args.inputs.now) c.args.task.now.queries.items) (sym c.as_slice-sources.ensures.value) read;
       report = c.in_ok-report.report;
       reported = c.in_ok-report.ensures;
+      faults = _;
       is_told = c.in_ok-told.ensures;
     }

@@ -1,11 +1,7 @@
+use Rattle.std.proofs.Common.{[], arith, inl, refl}
+use Rattle.lint_app.proofs.Endings.{part_none}
 use Rattle.lint_app.proofs.program.run_task.Goals as goal
 
--- what is told was written
-pub returns-in-Ok-clause-told : goal.returns-in-Ok-clause-told
-returns-in-Ok-clause-told g c = λ least. record {
-  told = c.in-Ok.told;
-  tells = c.in-Ok.ensures;
-  whole = c.tell.ensures.whole least;
-  status_is = c.tell.ensures.value least;
-  written = c.tell.ensures.written least;
-}
+-- the standard input is named twice
+pub returns-then-inputs-gt1-clause-ended : goal.returns-then-inputs-gt1-clause-ended
+returns-then-inputs-gt1-clause-ended g c = λ early. ([], inl (omega (arith, c.inputs.ensures, c.if-inputs-gt1.true), refl), part_none [] _)

@@ -1,7 +1,7 @@
-use Rattle.std.proofs.Common.{◌≡◌, ◌∙◌, ap, ap₂, false}
+use Rattle.std.proofs.Common.{◌≡◌, ◌∙◌, ap, ap₂, false, true}
 use Rattle.std.proofs.lemmas.Result.{IfOk-weaker}
 use Rattle.clap.specs.Built.{AddsArg}
-use Rattle.clap.specs.Simple.{App, app_of, app_of_fields, with_rule}
+use Rattle.clap.specs.Simple.{App, app_of, app_of_fields, on_top, with_rule}
 use Rattle.clap.specs.Walk.{Rule, rule_of}
 use Rattle.clap.specs.declared.builder.arg.Arg.{Arg}
 use Rattle.clap.specs.declared.builder.command.Command.{Command}
@@ -15,7 +15,7 @@ more app rule command arg next is rule_is local adds = adds.shape local ∙ ap�
 -- all arguments in turn
 pub returns : goal.returns
 returns c =
-    let none = ap app_of_fields c.after_help.ensures ∙ ap app_of_fields c.about.ensures ∙ c.new.ensures.app in
+    let none = ap app_of_fields c.after_help.ensures ∙ ap app_of_fields c.about.ensures ∙ ap app_of_fields c.version.ensures ∙ ap (on_top (λ shape. record shape { has_version = true })) c.new.ensures.app in
     let format = c.format_argument.ensures.rule in
     let schema = more _ _ _ _ c.in_ok-arg.field-0 none c.schema_argument.ensures.rule c.schema_argument.ensures.local c.in_ok-arg.ensures in
     let formed = more _ _ _ _ c.in_ok-arg-2.field-0 schema format.2 c.format_argument.ensures.local c.in_ok-arg-2.ensures in

@@ -2,7 +2,7 @@ use Rattle.std.proofs.Common.{◌≡◌, ◌∙◌, ◌∷◌, Bor, List, ap, co
 use Rattle.std.specs.List.{list_all}
 use Rattle.clap.specs.Simple.{matches_of}
 use Rattle.clap.specs.Walk.{Row, Text, finished, first_of}
-use Rattle.lint_args.specs.Asks.{files_of, is_value}
+use Rattle.lint_args.specs.Asks.{files_of, form_of, is_value}
 use Rattle.lint_args.specs.CommandLine.{lint}
 use Rattle.lint_args.specs.Laws.{is_name}
 use Rattle.lint_args.proofs.Names.{lint_rules, queries_met, walk_known}
@@ -23,7 +23,7 @@ returns c = λ schema query queries task names asked.
       schemas = asked.matched.schemas ∙ ap (files_of (codes "schema")) rows;
       queries = asked.matched.queries ∙ ap (files_of (codes "query")) rows;
       variables = asked.matched.variables ∙ ap (first_of (codes "variables")) rows;
-      json = asked.matched.json ∙ ap (is_value (codes "format") (codes "json")) rows;
+      form = asked.matched.form ∙ ap form_of rows;
       closed = asked.matched.closed ∙ ap (is_value (codes "closed") (codes "true")) rows;
       together = asked.matched.together ∙ ap (is_value (codes "together") (codes "true")) rows;
     }

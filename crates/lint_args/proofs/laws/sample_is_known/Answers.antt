@@ -2,9 +2,10 @@ use Rattle.std.proofs.Common.{◌≡◌, ◌∙◌, ◌∷◌, [], Bor, List, So
 use Rattle.clap.proofs.OnLiterals.{clap_on_literals}
 use Rattle.clap.specs.Simple.{matches_of}
 use Rattle.clap.specs.Walk.{Text, first_of}
-use Rattle.lint_args.specs.Asks.{files_of, is_value}
+use Rattle.lint_args.specs.Asks.{files_of, form_of, is_value}
 use Rattle.lint_args.specs.CommandLine.{lint}
 use Rattle.lint_args.specs.Laws.{sample_words}
+use Rattle.lint_args.specs.declared.task.Form.TheVariants as form
 use Rattle.lint_args.proofs.laws.sample_is_known.Goals as goal
 
 module _ (forms : Bor (List (Bor Text))) where
@@ -20,9 +21,9 @@ module _ (forms : Bor (List (Bor Text))) where
   unfolding clap_on_literals
   variables = refl
 
-  json : is_value (codes "format") (codes "json") (matches_of (lint forms) sample_words) ≡ true
+  form_is : form_of (matches_of (lint forms) sample_words) ≡ form.Json
   unfolding clap_on_literals
-  json = refl
+  form_is = refl
 
   closed : is_value (codes "closed") (codes "true") (matches_of (lint forms) sample_words) ≡ true
   unfolding clap_on_literals
@@ -38,7 +39,7 @@ returns c = λ task asked. record {
   schemas = asked.matched.schemas ∙ schemas asked.forms;
   queries = asked.matched.queries ∙ queries asked.forms;
   variables = asked.matched.variables ∙ variables asked.forms;
-  json = asked.matched.json ∙ json asked.forms;
+  form = asked.matched.form ∙ form_is asked.forms;
   closed = asked.matched.closed ∙ closed asked.forms;
   together = asked.matched.together ∙ together asked.forms;
 }

@@ -1,6 +1,6 @@
 use Rattle.std.proofs.Common.{◌∙◌, ◌++◌, ap, codes}
 use Rattle.lint_report.specs.Json.{text_member}
-use Rattle.lint_report.proofs.Json.{six_added}
+use Rattle.lint_report.proofs.InARow.{six_added}
 use Rattle.lint_report.proofs.json_report.write_issue.Goals as goal
 
 -- the members were written one after the other

@@ -6,4 +6,4 @@ use Rattle.lint_report.proofs.json_report.write_locations.Given as goal
 
 -- the places so far were told
 abbrev pub invariant-loop-place : goal.invariant-loop-place
-invariant-loop-place l = l.out ≡ l.fn.out ++ begin_array ∷ flat_map (told_locations l.issue.file) (take l.place-index l.place-items)
+invariant-loop-place l = l.out ≡ l.fn.out ++ begin_array ∷ flat_map (told_locations l.sources l.issue.file) (take l.place-index l.place-items)

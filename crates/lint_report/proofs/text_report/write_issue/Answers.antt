@@ -1,5 +1,6 @@
-use Rattle.std.proofs.Common.{◌∙◌, string_bytes, sym}
+use Rattle.std.proofs.Common.{◌∙◌, string_bytes, subst, sym}
 use Rattle.std.proofs.lemmas.Result.{on_ok_weaker}
+use Rattle.lint_report.specs.Texts.{Adds, IsErrorText}
 use Rattle.lint_report.proofs.Texts.{placed_added}
 use Rattle.lint_report.proofs.text_report.write_issue.Goals as goal
 
@@ -7,4 +8,5 @@ use Rattle.lint_report.proofs.text_report.write_issue.Goals as goal
 pub returns : goal.returns
 returns c =
     let places = sym c.as_slice.ensures.value ∙ c.in-Some.ensures.cases.0 in
-    on_ok_weaker _ (placed_added c.args.sources.now c.args.issue.now.file (string_bytes c.args.issue.now.message) c.in-Some.first.now c.in-Some.others.now _ _ _ _ places c.in_ok-write_fault.ensures) c.write_notes.ensures
+    let error = subst (λ message. Adds (IsErrorText c.args.sources.now c.in-Some.first.now message) (string_bytes c.args.text.now) (string_bytes c.write_error.new.text)) c.as_str.ensures.value c.in_ok-write_error.ensures in
+    on_ok_weaker _ (placed_added c.args.sources.now c.args.issue.now.file (string_bytes c.args.issue.now.message) c.in-Some.first.now c.in-Some.others.now _ _ _ _ places error) c.write_notes.ensures

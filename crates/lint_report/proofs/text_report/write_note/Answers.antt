@@ -1,11 +1,7 @@
-use Rattle.std.proofs.Common.{◌∙◌, ◌++◌, ap, string_bytes}
 use Rattle.std.proofs.lemmas.Result.{on_ok_weaker}
-use Rattle.lint_report.specs.Texts.{place_text}
 use Rattle.lint_report.proofs.Texts.{note_added}
 use Rattle.lint_report.proofs.text_report.write_note.Goals as goal
 
 -- the place, the words and the line were written one after the other
 pub returns : goal.returns
-returns c =
-    let placed = c.in_ok-write_place.ensures ∙ ap (λ p. string_bytes c.args.text.now ++ place_text p c.args.place.position) c.path_of.ensures in
-    on_ok_weaker _ (note_added c.args.sources.now c.args.place _ _ _ _ placed c.in_ok-push_str.ensures.bytes) c.write_line.ensures
+returns c = on_ok_weaker _ (note_added c.args.sources.now c.args.place _ _ _ _ c.in_ok-write_place.ensures c.in_ok-push_str.ensures.bytes) c.write_line.ensures

@@ -8,7 +8,7 @@ use Rattle.clap.specs.Simple.{is_simple, matches_of}
 use Rattle.clap.specs.Walk.{Text, first_of}
 use Rattle.clap.specs.Words.{found_of}
 use Rattle.clap.specs.declared.error.Error.{Error}
-use Rattle.lint_args.specs.Asks.{IsRefusal, files_of, is_value, word_texts}
+use Rattle.lint_args.specs.Asks.{IsRefusal, files_of, form_of, is_value, word_texts}
 use Rattle.lint_args.specs.CommandLine.{HasForms, lint}
 use Rattle.lint_args.proofs.task.Task.of.Goals as goal
 
@@ -57,8 +57,8 @@ returns-clause-asked c =
         schemas = c.in_ok-files_of.ensures ∙ ap (files_of (codes "schema")) rows;
         queries = c.in_ok-files_of-2.ensures ∙ ap (files_of (codes "query")) rows;
         variables = c.get_str.ensures ∙ first_value-rows found (codes "variables") ∙ ap (first_of (codes "variables")) rows;
-        json = c.is_value.ensures ∙ ap (is_value (codes "format") (codes "json")) rows;
-        closed = c.is_value-2.ensures ∙ ap (is_value (codes "closed") (codes "true")) rows;
-        together = c.is_value-3.ensures ∙ ap (is_value (codes "together") (codes "true")) rows;
+        form = c.form_of.ensures ∙ ap form_of rows;
+        closed = c.is_value.ensures ∙ ap (is_value (codes "closed") (codes "true")) rows;
+        together = c.is_value-2.ensures ∙ ap (is_value (codes "together") (codes "true")) rows;
       };
     }

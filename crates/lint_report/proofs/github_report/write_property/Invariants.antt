@@ -1,0 +1,8 @@
+use Rattle.std.proofs.Common.{◌≡◌, ◌++◌, string_bytes}
+use Rattle.std.specs.List.{flat_map}
+use Rattle.lint_report.specs.Github.{property_character}
+use Rattle.lint_report.proofs.github_report.write_property.Given as goal
+
+-- the characters so far were written
+abbrev pub invariant-loop-character : goal.invariant-loop-character
+invariant-loop-character l = string_bytes l.text ≡ string_bytes l.initial.text ++ flat_map property_character l.yielded

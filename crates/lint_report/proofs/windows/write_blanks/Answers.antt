@@ -1,0 +1,11 @@
+use Rattle.std.proofs.Common.{◌∙◌, ◌++◌, ap, map-id, string_bytes, sym}
+use Rattle.std.proofs.lemmas.Iterator.{YieldsList-from_chars}
+use Rattle.std.proofs.lemmas.Iterator.Consumers.{YieldsList-end}
+use Rattle.lint_report.specs.Windows.{blanks}
+use Rattle.lint_report.proofs.windows.write_blanks.Goals as goal
+
+-- at the end, the characters so far are those of the text
+pub returns : goal.returns
+returns c =
+    let whole = YieldsList-end (YieldsList-from_chars c.args.shown.now c.utf8.shown cc) c.loop-character.yielded _ c.loop-character.yielded_by _ _ c.in-None.is c.next.ensures.steps in
+    c.loop-character.invariant ∙ ap (λ cs. string_bytes c.args.text.now ++ blanks cs) (sym (map-id c.loop-character.yielded) ∙ whole.0)

@@ -1,0 +1,12 @@
+use Rattle.std.proofs.Common.{arith, string_bytes}
+use Rattle.std.specs.Str.{chars}
+use Rattle.lint_report.proofs.Columns.{window_added}
+use Rattle.lint_report.proofs.windows.write_window.Goals as goal
+
+-- the shown part of the line and the mark were written one after the other
+pub returns : goal.returns
+returns c =
+    let shown = c.last_within-left.ensures in
+    window_added (chars c.args.before.now) (chars c.args.rest.now) c.last_within-left.result.0.now c.first_within.result.now _ (string_bytes c.args.text.now) _ _ _ _ _
+    shown.shown shown.utf8 (omega (arith, shown.left, shown.within)) c.first_within.ensures
+    c.in_ok-push_str.ensures.bytes c.in_ok-push_str-2.ensures.bytes c.in_ok-push_str-3.ensures.bytes c.in_ok-write_blanks.ensures c.in_ok-push_str-4.ensures.bytes
