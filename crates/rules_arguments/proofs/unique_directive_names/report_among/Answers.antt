@@ -4,7 +4,7 @@ use Rattle.walk.specs.ContextState.{ContextState, with_errors}
 use Rattle.rules_support.specs.Names.{Named}
 use Rattle.rules_support.specs.Repeats.{repeats}
 use Rattle.rules_support.proofs.Reported.{reports_none}
-use Rattle.rules_arguments.specs.UniqueDirectiveNames.{repeated_directive_message}
+use Rattle.rules_arguments.specs.UniqueDirectiveNames.{once_among, repeated_directive_message}
 use Rattle.rules_arguments.proofs.OnceAmong.{few_repeat}
 use Rattle.rules_arguments.proofs.unique_directive_names.report_among.Goals as goal
 
@@ -16,4 +16,5 @@ returns-then-len-lt2-clause-ok g c =
 pub returns-clause-ok : goal.returns-clause-ok
 returns-clause-ok g c =
     let told : List Named → ContextState _ _ = λ names. with_errors c.args.ctx.now (repeats repeated_directive_message names) in
-    on_ok_weaker c.report_repeats.result (λ e. e ∙ ap told c.in_ok-once.ensures) c.report_repeats.ensures.ok
+    let here = ap (λ w. told (once_among w.schema c.args.directives.now.items)) (sym c.ctx.view_is) in
+    on_ok_weaker c.report_repeats.result (λ e. e ∙ ap told c.in_ok-once.ensures ∙ here) c.report_repeats.ensures.ok
