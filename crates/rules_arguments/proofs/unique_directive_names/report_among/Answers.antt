@@ -16,5 +16,5 @@ returns-then-len-lt2-clause-ok g c =
 pub returns-clause-ok : goal.returns-clause-ok
 returns-clause-ok g c =
     let told : List Named → ContextState _ _ = λ names. with_errors c.args.ctx.now (repeats repeated_directive_message names) in
-    let here = ap (λ w. told (once_among w.schema c.args.directives.now.items)) (sym c.ctx.view_is) in
+    let here = ap (λ w. told (once_among w.schema c.args.directives.now.items)) c.ctx.view_is in
     on_ok_weaker c.report_repeats.result (λ e. e ∙ ap told c.in_ok-once.ensures ∙ here) c.report_repeats.ensures.ok
