@@ -1,0 +1,46 @@
+-- What loops report, item by item.
+use Rattle.std.proofs.Common.{◌≡◌, ℕ, ◌+◌, ◌<◌, get_or, List, [], ◌∷◌, ◌++◌, take, drop, length, map, string_bytes, Bor, ap, refl, sym, ◌∙◌, append_assoc}
+use Rattle.std.specs.Prelude.{String}
+use Rattle.std.specs.List.{flat_map}
+use Rattle.std.specs.declared.alloc.Global.{Global}
+use Rattle.std.proofs.lemmas.List.{append-nil, take_more}
+use Rattle.std.proofs.lemmas.Grind.{flat_map-append}
+use Rattle.language.specs.References.{list_copied}
+use Rattle.schema_validation.proofs.Finds.{rest_at}
+use Rattle.type_system.specs.Entries.{each_entry}
+use Rattle.type_system.specs.Fault.{FaultValue}
+
+-- what was found at the items that were seen, and then at the next
+pub reports_next : {T : Type 0} (finds : T → List FaultValue) (xs : List T) (i : ℕ) (x d : T) (r r₁ r₂ : List FaultValue) → i < length xs → x ≡ get_or xs i d
+    → r₁ ≡ r ++ flat_map finds (take i xs) → r₂ ≡ r₁ ++ finds x → r₂ ≡ r ++ flat_map finds (take (i + 1) xs)
+reports_next finds xs i x d r r₁ r₂ h e seen more =
+    let before = flat_map finds (take i xs) in
+    more
+    ∙ ap (λ z. z ++ finds x) seen
+    ∙ append_assoc r before (finds x)
+    ∙ ap (λ z. r ++ (before ++ finds z)) e
+    ∙ ap (λ zs. r ++ (before ++ zs)) (sym (append-nil (finds (get_or xs i d))))
+    ∙ ap (λ zs. r ++ zs) (sym (ap (λ z. flat_map finds z) (take_more xs i d h) ∙ flat_map-append finds (take i xs) (get_or xs i d ∷ [])))
+
+-- what is still to be found at the rest of a list of names, after the next
+pub entries_next : (finds : List ℕ → List (List ℕ) → List FaultValue) (xs : List (String Global)) (i : ℕ) (x : String Global) (n : List ℕ) (ns : List (List ℕ)) (r₁ r₂ w : List FaultValue) → i < length xs → x ≡ get_or xs i x
+    → n ≡ string_bytes x → ns ≡ map string_bytes (drop (i + 1) xs) → r₁ ++ each_entry finds (map string_bytes (drop i xs)) ≡ w → r₂ ≡ r₁ ++ finds n ns → r₂ ++ each_entry finds (map string_bytes (drop (i + 1) xs)) ≡ w
+entries_next finds xs i x n ns r₁ r₂ w h e of others rest more =
+    let after = each_entry finds (map string_bytes (drop (i + 1) xs)) in
+    ap (λ z. z ++ after) more
+    ∙ append_assoc r₁ (finds n ns) after
+    ∙ ap (λ z. r₁ ++ (finds z ns ++ after)) of
+    ∙ ap (λ z. r₁ ++ (finds (string_bytes x) z ++ after)) others
+    ∙ ap (λ z. r₁ ++ each_entry finds (map string_bytes z)) (sym (rest_at xs i x h e))
+    ∙ rest
+
+-- the same at references
+pub flat_map-copied : {T A : Type 0} (f : T → List A) (rs : List (Bor T)) → flat_map (λ r. f r.now) rs ≡ flat_map f (list_copied rs)
+flat_map-copied f [] = refl
+flat_map-copied f (r ∷ rs) = ap (λ z. f r.now ++ z) (flat_map-copied f rs)
+
+pub reports_next_copied : {T : Type 0} (finds : T → List FaultValue) (xs : List (Bor T)) (i : ℕ) (x d : Bor T) (r r₁ r₂ : List FaultValue) → i < length xs → x ≡ get_or xs i d
+    → r₁ ≡ r ++ flat_map finds (list_copied (take i xs)) → r₂ ≡ r₁ ++ finds x.now → r₂ ≡ r ++ flat_map finds (list_copied (take (i + 1) xs))
+reports_next_copied finds xs i x d r r₁ r₂ h e seen more =
+    reports_next (λ z. finds z.now) xs i x d r r₁ r₂ h e (seen ∙ ap (λ z. r ++ z) (sym (flat_map-copied finds (take i xs)))) more
+    ∙ ap (λ z. r ++ z) (flat_map-copied finds (take (i + 1) xs))

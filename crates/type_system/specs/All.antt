@@ -1,0 +1,28 @@
+-- All faults of a type system, in their order (section 3).
+use Rattle.std.specs.Prelude.{List, ◌++◌}
+use Rattle.std.specs.List.{flat_map}
+use Rattle.meta.specs.declared.kinds.MetaTypeOf.{MetaTypeOf}
+use Rattle.schema.specs.Catalog.{Catalog}
+use Rattle.type_system.specs.Fault.{FaultValue}
+use Rattle.type_system.specs.ImplementedTypes.{wrong_interfaces}
+use Rattle.type_system.specs.InterfaceFields.{unmet_interfaces}
+use Rattle.type_system.specs.OutputTypes.{wrong_output_types}
+use Rattle.type_system.specs.ReservedNames.{reserved_names}
+use Rattle.type_system.specs.ReservedValues.{reserved_values}
+use Rattle.type_system.specs.RootTypes.{shared_roots}
+use Rattle.type_system.specs.SomeFields.{missing_fields}
+use Rattle.type_system.specs.SomeMembers.{missing_members}
+use Rattle.type_system.specs.SomeValues.{missing_values}
+
+module _ {S C : Type 0} (schema : Catalog S C) where
+  -- names that are reserved, and members that are missing
+  abbrev pub own_faults : MetaTypeOf S C → List FaultValue
+  own_faults t = reserved_names schema t ++ missing_fields schema t ++ missing_values t ++ missing_members t
+
+  -- the faults of a type
+  abbrev pub type_faults : MetaTypeOf S C → List FaultValue
+  type_faults t = own_faults t ++ wrong_output_types schema t ++ wrong_interfaces schema t ++ unmet_interfaces schema t ++ reserved_values t
+
+  -- those of the roots, and then those of each type in the order of the schema
+  abbrev pub all_faults : List FaultValue
+  all_faults = shared_roots schema ++ flat_map type_faults schema.types

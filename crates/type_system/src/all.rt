@@ -1,0 +1,100 @@
+//! All faults of a type system.
+ghost use Rattle.std.specs.Prelude.{◌≡◌, ◌++◌, IfOk, OnOk};
+ghost use Rattle.std.specs.List.{flat_map};
+ghost use Rattle.language.specs.References.{list_copied};
+ghost use Rattle.type_system.specs.All.{all_faults, own_faults, type_faults};
+ghost use Rattle.type_system.specs.Fault.{reported};
+ghost use Rattle.type_system.specs.ReservedNames.{reserved_directive};
+
+use crate::fault::Fault;
+use crate::implemented_types::report_wrong_interfaces;
+use crate::interface_fields::report_unmet_interfaces;
+use crate::output_types::report_wrong_output_types;
+use crate::reserved_names::{report_reserved_directive, report_reserved_names};
+use crate::reserved_values::report_reserved_values;
+use crate::root_types::report_shared_roots;
+use crate::some_fields::report_missing_fields;
+use crate::some_members::report_missing_members;
+use crate::some_values::report_missing_values;
+use language::error::OutOfMemory;
+use schema::meta::MetaTypeOf;
+use schema::model::{DirectiveType, SchemaTypeOf};
+use std::alloc::Global;
+
+/// The faults of the roots and the types of a schema: first two roots that are one type, then those of each
+/// type, in the order of the list that made the schema. Those of directives are [`directive_faults`].
+///
+/// # Errors
+///
+/// Out of memory.
+pub fn type_system_faults<'a, S, C>(
+    alloc: Global,
+    schema: &'a SchemaTypeOf<S, C>,
+) -> Result<Vec<Fault<'a>>, OutOfMemory>
+    ensures { IfOk result (λ v. reported v ≡ all_faults schema.now) }
+{
+    let mut faults = Vec::new(alloc);
+    report_shared_roots(&mut faults, schema)?;
+    let types = schema.concrete_type_list(alloc)?;
+    report_types(&mut faults, schema, types.as_slice())?;
+    Ok(faults)
+}
+
+/// All faults of a directive of a schema: the reserved names of the directive and its arguments, in their
+/// order.
+///
+/// # Errors
+///
+/// Out of memory.
+pub fn directive_faults<'a, S>(
+    alloc: Global,
+    directive: &'a DirectiveType<S>,
+) -> Result<Vec<Fault<'a>>, OutOfMemory>
+    ensures { IfOk result (λ v. reported v ≡ reserved_directive directive.now) }
+{
+    let mut faults = Vec::new(alloc);
+    report_reserved_directive(&mut faults, directive)?;
+    Ok(faults)
+}
+
+fn report_types<'a, S, C>(
+    faults: &mut Vec<Fault<'a>>,
+    schema: &'a SchemaTypeOf<S, C>,
+    types: &[&'a MetaTypeOf<S, C>],
+) -> Result<(), OutOfMemory>
+    ensures { OnOk result (reported faults.new ≡ reported faults.old
+        ++ flat_map (type_faults schema.now) (list_copied types.now)) }
+{
+    for meta in types {
+        report_type(faults, schema, *meta)?;
+    }
+    Ok(())
+}
+
+fn report_type<'a, S, C>(
+    faults: &mut Vec<Fault<'a>>,
+    schema: &'a SchemaTypeOf<S, C>,
+    meta: &'a MetaTypeOf<S, C>,
+) -> Result<(), OutOfMemory>
+    ensures { OnOk result (reported faults.new ≡ reported faults.old ++ type_faults schema.now meta.now) }
+{
+    report_own_faults(faults, schema, meta)?;
+    report_wrong_output_types(faults, schema, meta)?;
+    report_wrong_interfaces(faults, schema, meta)?;
+    report_unmet_interfaces(faults, schema, meta)?;
+    report_reserved_values(faults, meta)
+}
+
+// Reports the faults of names and of members that are missing.
+fn report_own_faults<'a, S, C>(
+    faults: &mut Vec<Fault<'a>>,
+    schema: &'a SchemaTypeOf<S, C>,
+    meta: &'a MetaTypeOf<S, C>,
+) -> Result<(), OutOfMemory>
+    ensures { OnOk result (reported faults.new ≡ reported faults.old ++ own_faults schema.now meta.now) }
+{
+    report_reserved_names(faults, schema, meta)?;
+    report_missing_fields(faults, schema, meta)?;
+    report_missing_values(faults, meta)?;
+    report_missing_members(faults, meta)
+}

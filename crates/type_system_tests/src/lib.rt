@@ -1,0 +1,9 @@
+//! Tests of the crate `type_system`: for each rule a schema that keeps it and one that does not.
+#![tactic(auto)]
+
+#[cfg(test)]
+mod interfaces;
+#[cfg(test)]
+mod schemas;
+#[cfg(test)]
+mod single;
