@@ -1,14 +1,17 @@
 -- What loops report, item by item.
-use Rattle.std.proofs.Common.{◌≡◌, ℕ, ◌+◌, ◌<◌, get_or, List, [], ◌∷◌, ◌++◌, take, drop, length, map, string_bytes, Bor, ap, refl, sym, ◌∙◌, append_assoc}
+use Rattle.std.proofs.Common.{◌≡◌, ℕ, ◌+◌, ◌<◌, get_or, List, [], ◌∷◌, ◌++◌, take, length, map, string_bytes, Bor, ap, refl, sym, ◌∙◌, append_assoc}
 use Rattle.std.specs.Prelude.{String}
 use Rattle.std.specs.List.{flat_map}
 use Rattle.std.specs.declared.alloc.Global.{Global}
 use Rattle.std.proofs.lemmas.List.{append-nil, take_more}
 use Rattle.std.proofs.lemmas.Grind.{flat_map-append}
 use Rattle.language.specs.References.{list_copied}
-use Rattle.schema_validation.proofs.Finds.{rest_at}
 use Rattle.type_system.specs.Entries.{each_entry}
 use Rattle.type_system.specs.Fault.{FaultValue}
+
+-- what two calls found, one after the other
+pub reports_both : (r a b r₁ r₂ : List FaultValue) → r₁ ≡ r ++ a → r₂ ≡ r₁ ++ b → r₂ ≡ r ++ (a ++ b)
+reports_both r a b r₁ r₂ first second = second ∙ ap (λ z. z ++ b) first ∙ append_assoc r a b
 
 -- what was found at the items that were seen, and then at the next
 pub reports_next : {T : Type 0} (finds : T → List FaultValue) (xs : List T) (i : ℕ) (x d : T) (r r₁ r₂ : List FaultValue) → i < length xs → x ≡ get_or xs i d
@@ -23,15 +26,15 @@ reports_next finds xs i x d r r₁ r₂ h e seen more =
     ∙ ap (λ zs. r ++ zs) (sym (ap (λ z. flat_map finds z) (take_more xs i d h) ∙ flat_map-append finds (take i xs) (get_or xs i d ∷ [])))
 
 -- what is still to be found at the rest of a list of names, after the next
-pub entries_next : (finds : List ℕ → List (List ℕ) → List FaultValue) (xs : List (String Global)) (i : ℕ) (x : String Global) (n : List ℕ) (ns : List (List ℕ)) (r₁ r₂ w : List FaultValue) → i < length xs → x ≡ get_or xs i x
-    → n ≡ string_bytes x → ns ≡ map string_bytes (drop (i + 1) xs) → r₁ ++ each_entry finds (map string_bytes (drop i xs)) ≡ w → r₂ ≡ r₁ ++ finds n ns → r₂ ++ each_entry finds (map string_bytes (drop (i + 1) xs)) ≡ w
-entries_next finds xs i x n ns r₁ r₂ w h e of others rest more =
-    let after = each_entry finds (map string_bytes (drop (i + 1) xs)) in
+pub entries_next : (finds : List ℕ → List (List ℕ) → List FaultValue) (xs others : List (String Global)) (x : String Global) (n : List ℕ) (r₁ r₂ w : List FaultValue) → xs ≡ x ∷ others → n ≡ string_bytes x
+    → r₁ ++ each_entry finds (map string_bytes xs) ≡ w → r₂ ≡ r₁ ++ finds n (map string_bytes others) → r₂ ++ each_entry finds (map string_bytes others) ≡ w
+entries_next finds xs others x n r₁ r₂ w split of rest more =
+    let names = map string_bytes others in
+    let after = each_entry finds names in
     ap (λ z. z ++ after) more
-    ∙ append_assoc r₁ (finds n ns) after
-    ∙ ap (λ z. r₁ ++ (finds z ns ++ after)) of
-    ∙ ap (λ z. r₁ ++ (finds (string_bytes x) z ++ after)) others
-    ∙ ap (λ z. r₁ ++ each_entry finds (map string_bytes z)) (sym (rest_at xs i x h e))
+    ∙ append_assoc r₁ (finds n names) after
+    ∙ ap (λ z. r₁ ++ (finds z names ++ after)) of
+    ∙ ap (λ zs. r₁ ++ each_entry finds (map string_bytes zs)) (sym split)
     ∙ rest
 
 -- the same at references

@@ -1,4 +1,4 @@
--- All faults of a type system, in their order (section 3).
+-- Faults of a type system, in their order (section 3).
 use Rattle.std.specs.Prelude.{List, ◌++◌}
 use Rattle.std.specs.List.{flat_map}
 use Rattle.meta.specs.declared.kinds.MetaTypeOf.{MetaTypeOf}
@@ -19,9 +19,13 @@ module _ {S C : Type 0} (schema : Catalog S C) where
   abbrev pub own_faults : MetaTypeOf S C → List FaultValue
   own_faults t = reserved_names schema t ++ missing_fields schema t ++ missing_values t ++ missing_members t
 
+  -- what a type implements that it may not, and what it does not meet of that
+  abbrev pub interface_faults : MetaTypeOf S C → List FaultValue
+  interface_faults t = wrong_interfaces schema t ++ unmet_interfaces schema t
+
   -- the faults of a type
   abbrev pub type_faults : MetaTypeOf S C → List FaultValue
-  type_faults t = own_faults t ++ wrong_output_types schema t ++ wrong_interfaces schema t ++ unmet_interfaces schema t ++ reserved_values t
+  type_faults t = own_faults t ++ wrong_output_types schema t ++ interface_faults t ++ reserved_values t
 
   -- those of the roots, and then those of each type in the order of the schema
   abbrev pub all_faults : List FaultValue

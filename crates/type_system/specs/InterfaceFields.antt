@@ -4,7 +4,6 @@ use Rattle.std.specs.List.{flat_map}
 use Rattle.std.specs.Str.{bytes_eq}
 use Rattle.language.specs.Names.{is_among}
 use Rattle.meta.specs.declared.fields.Field.{Field}
-use Rattle.meta.specs.declared.interfaces.InterfaceMeta.{InterfaceMeta}
 use Rattle.meta.specs.declared.kinds.MetaTypeOf.{MetaTypeOf}
 use Rattle.meta.specs.declared.kinds.MetaTypeOf.TheVariants as m
 use Rattle.meta.specs.Kinds.{field_named}

@@ -1,5 +1,5 @@
 -- Names that introspection reserves (sections 3.3 and 4.1).
-use Rattle.std.specs.Prelude.{ℕ, List, Bool, false, ◌&&◌, ◌||◌, codes, nat_eq}
+use Rattle.std.specs.Prelude.{ℕ, List, Bool, ◌&&◌, ◌||◌, codes, nat_eq}
 use Rattle.std.specs.List.{starts_with}
 use Rattle.std.specs.Str.{bytes_eq}
 use Rattle.schema.specs.Catalog.{Catalog}

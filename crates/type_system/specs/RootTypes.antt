@@ -1,5 +1,5 @@
 -- Roots that are one type (section 3.3.1).
-use Rattle.std.specs.Prelude.{ℕ, List, [], ◌++◌, Option, Some, None}
+use Rattle.std.specs.Prelude.{ℕ, List, [], ◌++◌, Option, Some}
 use Rattle.std.specs.Str.{bytes_eq}
 use Rattle.language.specs.declared.tree.OperationType.{OperationType}
 use Rattle.language.specs.declared.tree.OperationType.TheVariants as o

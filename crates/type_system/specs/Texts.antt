@@ -22,9 +22,13 @@ root_word o.Query = codes "query"
 root_word o.Mutation = codes "mutation"
 root_word o.Subscription = codes "subscription"
 
+-- this coordinate, which lacks a member of an interface
+abbrev pub absent_text : CoordinateValue → List ℕ
+absent_text at = codes " expected but " ++ (coordinate_text at ++ codes " does not provide it")
+
 -- the member of an interface that is missing at this coordinate
 abbrev pub missing_text : List ℕ → CoordinateValue → CoordinateValue → List ℕ
-missing_text member w at = (member ++ coordinate_text w) ++ (codes " expected but " ++ (coordinate_text at ++ codes " does not provide it"))
+missing_text member w at = (member ++ coordinate_text w) ++ absent_text at
 
 -- the type that a member of an interface has, and the type at this coordinate
 abbrev pub expected_text : List ℕ → CoordinateValue → TypeShape → List ℕ
@@ -37,6 +41,10 @@ given_text at t = codes " but " ++ (coordinate_text at ++ (codes " is type " ++ 
 abbrev pub required_text : CoordinateValue → List ℕ
 required_text at = codes "Object field " ++ (coordinate_text (holder_of at) ++ (codes " includes required argument " ++ last_name at))
 
+-- the interface of this name, which stands again
+abbrev pub once_text : List ℕ → List ℕ
+once_text n = codes " can only implement " ++ (n ++ codes " once")
+
 -- the bytes of a fault of this kind at this coordinate
 abbrev pub text_at : CoordinateValue → KindValue → List ℕ
 text_at at k.ReservedName = codes "Name \"" ++ (last_name at ++ codes "\" must not begin with \"__\", which is reserved by introspection")
@@ -46,7 +54,7 @@ text_at at k.NoValues = codes "Enum type " ++ (coordinate_text at ++ codes " mus
 text_at at k.NoMembers = codes "Union type " ++ (coordinate_text at ++ codes " must define one or more member types")
 text_at at (k.NotOutputType t) = codes "The type of " ++ (coordinate_text at ++ (codes " must be an output type but got " ++ printed t))
 text_at at (k.NotInterface n) = codes "Type " ++ (coordinate_text at ++ (codes " must only implement interface types, it cannot implement " ++ n))
-text_at at (k.RepeatedInterface n) = (codes "Type " ++ coordinate_text at) ++ (codes " can only implement " ++ (n ++ codes " once"))
+text_at at (k.RepeatedInterface n) = (codes "Type " ++ coordinate_text at) ++ once_text n
 text_at at k.OwnInterface = codes "Type " ++ (coordinate_text at ++ codes " cannot implement itself because it would create a circular reference")
 text_at at (k.MissingField w) = missing_text (codes "Interface field ") w at
 text_at at (k.WrongFieldType w t u) = expected_text (codes "Interface field ") w t ++ given_text at u

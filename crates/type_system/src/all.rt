@@ -1,8 +1,8 @@
-//! All faults of a type system.
+//! The lists of faults of a type system.
 ghost use Rattle.std.specs.Prelude.{◌≡◌, ◌++◌, IfOk, OnOk};
 ghost use Rattle.std.specs.List.{flat_map};
 ghost use Rattle.language.specs.References.{list_copied};
-ghost use Rattle.type_system.specs.All.{all_faults, own_faults, type_faults};
+ghost use Rattle.type_system.specs.All.{all_faults, interface_faults, own_faults, type_faults};
 ghost use Rattle.type_system.specs.Fault.{reported};
 ghost use Rattle.type_system.specs.ReservedNames.{reserved_directive};
 
@@ -40,8 +40,8 @@ pub fn type_system_faults<'a, S, C>(
     Ok(faults)
 }
 
-/// All faults of a directive of a schema: the reserved names of the directive and its arguments, in their
-/// order.
+/// The faults of the names of a directive of a schema: the reserved ones of the directive and its arguments,
+/// in their order.
 ///
 /// # Errors
 ///
@@ -80,9 +80,20 @@ fn report_type<'a, S, C>(
 {
     report_own_faults(faults, schema, meta)?;
     report_wrong_output_types(faults, schema, meta)?;
-    report_wrong_interfaces(faults, schema, meta)?;
-    report_unmet_interfaces(faults, schema, meta)?;
+    report_interface_faults(faults, schema, meta)?;
     report_reserved_values(faults, meta)
+}
+
+// Reports the faults of what a type implements.
+fn report_interface_faults<'a, S, C>(
+    faults: &mut Vec<Fault<'a>>,
+    schema: &'a SchemaTypeOf<S, C>,
+    meta: &'a MetaTypeOf<S, C>,
+) -> Result<(), OutOfMemory>
+    ensures { OnOk result (reported faults.new ≡ reported faults.old ++ interface_faults schema.now meta.now) }
+{
+    report_wrong_interfaces(faults, schema, meta)?;
+    report_unmet_interfaces(faults, schema, meta)
 }
 
 // Reports the faults of names and of members that are missing.

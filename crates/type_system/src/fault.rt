@@ -3,7 +3,7 @@ ghost use Rattle.std.specs.Prelude.{◌≡◌, Some};
 ghost use Rattle.std.specs.Fmt.{WritesOnOk};
 ghost use Rattle.language.specs.Types.{borrowed_shape};
 ghost use Rattle.type_system.specs.Fault.{coordinate_value, fault_value, holder_of, last_name};
-ghost use Rattle.type_system.specs.Texts.{coordinate_text, expected_text, fault_text, given_text, missing_text, required_text, root_word, text_at};
+ghost use Rattle.type_system.specs.Texts.{absent_text, coordinate_text, expected_text, fault_text, given_text, missing_text, once_text, required_text, root_word, text_at};
 
 use language::tree::OperationType;
 use language::types::BorrowedType;
@@ -218,6 +218,12 @@ fn write_repeated<W: fmt::Write>(
         (text_at (coordinate_value at.entry) (FaultKindOf.RepeatedInterface name.now)) f.new }
 {
     write!(f, "Type {at}")?;
+    write_once(f, name)
+}
+
+fn write_once<W: fmt::Write>(f: &mut fmt::Formatter<W>, name: &str) -> fmt::Result
+    ensures { WritesOnOk W.write_str_gives f.old result (once_text name.now) f.new }
+{
     write!(f, " can only implement {name} once")
 }
 
@@ -231,6 +237,12 @@ fn write_missing<W: fmt::Write>(
         (missing_text member.now (coordinate_value wanted.entry) (coordinate_value at.entry)) f.new }
 {
     write!(f, "{member}{wanted}")?;
+    write_absent(f, at)
+}
+
+fn write_absent<W: fmt::Write>(f: &mut fmt::Formatter<W>, at: Coordinate<'_>) -> fmt::Result
+    ensures { WritesOnOk W.write_str_gives f.old result (absent_text (coordinate_value at.entry)) f.new }
+{
     write!(f, " expected but {at} does not provide it")
 }
 

@@ -20,9 +20,10 @@ pub(crate) fn report_wrong_interfaces<'a, S, C>(
 ) -> Result<(), OutOfMemory>
     ensures { OnOk result (reported faults.new ≡ reported faults.old ++ wrong_interfaces schema.now meta.now) }
 {
-    let names = interface_names(meta);
-    for (i, name) in names.iter().enumerate() {
-        report_wrong_entry(faults, schema, meta, name.as_str(), &names[i + 1..])?;
+    let mut rest = interface_names(meta);
+    while let Some((name, others)) = rest.split_first() {
+        report_wrong_entry(faults, schema, meta, name.as_str(), others)?;
+        rest = others;
     }
     Ok(())
 }

@@ -1,4 +1,4 @@
-//! The faults of a type system: where a schema is other than GraphQL, October 2021, section 3 asks.
+//! Faults of a type system: where a schema is other than GraphQL, October 2021, section 3 asks.
 #![tactic(auto)]
 
 mod added_arguments;

@@ -1,4 +1,4 @@
-use Rattle.std.proofs.Common.{◌≡◌, ap, ◌∙◌}
+use Rattle.std.proofs.Common.{ap, ◌∙◌}
 use Rattle.std.specs.Prelude.{[], unwrap_or}
 use Rattle.type_system.proofs.RootNames.{found-named}
 use Rattle.type_system.proofs.root_types.query_name.Goals as goal
