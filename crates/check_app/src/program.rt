@@ -2,8 +2,9 @@
 ghost use Rattle.std.specs.Prelude.{◌≡◌, ◌≤◌, ◌⊎◌, Err, IfErr, IfOk, None, OnOk, Some, false, true, if◌then◌else◌, map, string_bytes};
 ghost use Rattle.std.specs.Io.KnownBytes.{Appends};
 ghost use Rattle.check_app.specs.Failures.{TellsFailure};
+ghost use Rattle.check_app.specs.Report.{TellsReport};
 ghost use Rattle.check_app.specs.Statuses.{status_of};
-ghost use Rattle.check_app.specs.Told.{IsReportAsked, IsReportBy, IsReportOnSome, TellsReport};
+ghost use Rattle.check_app.specs.Told.{IsReport};
 ghost use Rattle.check_app.specs.Words.{is_read, is_usage, mode_named, other_task, plain_task, reads_input, sample_named, task_asked};
 
 use crate::failure::Failure;
@@ -19,7 +20,7 @@ use std::alloc::Global;
 use std::io::{self, Read, Write};
 use validation::ast::Definition;
 use validation::meta::default_check::DefaultCheck;
-use validation::{AllRules, DefaultScalarValue, SchemaType};
+use validation::{DefaultScalarValue, SchemaType};
 
 /// A sample schema.
 #[derive(Clone, Copy, Debug, PartialEq, Eq)]
@@ -56,6 +57,7 @@ struct Task {
 /// - 3: out of memory;
 /// - 4: invalid arguments;
 /// - 5: a read or a write failed.
+#[tactic(auto, using(crate::proofs::Reports::tells))]
 pub fn run<R: Read, W: Write, E: Write>(
     alloc: Global,
     words: &[String],
@@ -64,8 +66,7 @@ pub fn run<R: Read, W: Write, E: Write>(
     faults: &mut E,
 ) -> u8
     ensures status { result ≤ 5 }
-    ensures told { result ≤ 1 → TellsReport ⟦<DefaultScalarValue as AllRules<'static>>⟧.rules
-        (task_asked (map string_bytes words.now)) (W.contents output.old) (W.contents output.new) result }
+    ensures told { result ≤ 1 → TellsReport (W.contents output.old) (W.contents output.new) result }
     ensures quiet { result ≤ 1 → faults.new ≡ faults.old }
     ensures silent { 2 ≤ result → result ≤ 4 → output.new ≡ output.old }
     ensures unread { reads_input (task_asked (map string_bytes words.now)) ≡ false → input.new ≡ input.old }
@@ -115,8 +116,7 @@ pub fn tell<E: Write>(failure: Failure, faults: &mut E) -> u8
 }
 
 fn report_on<R: Read>(alloc: Global, words: &[String], input: &mut R) -> Result<Report, Failure>
-    ensures report { IfOk result (IsReportAsked ⟦<DefaultScalarValue as AllRules<'static>>⟧.rules
-        (task_asked (map string_bytes words.now))) }
+    ensures report { IfOk result IsReport }
     ensures unknown { task_asked (map string_bytes words.now) ≡ None → IfOk result (λ _. ⊥) }
     ensures usage { task_asked (map string_bytes words.now) ≡ None → IfErr result (λ e. is_usage e ≡ true) }
     ensures other { IfErr result (λ e. is_usage e ≡ true → task_asked (map string_bytes words.now) ≡ None) }
@@ -208,8 +208,7 @@ fn sample_named(word: &str) -> Option<Sample>
 
 /// Validates the document of a text against a sample schema. The document of `demo` is built in code.
 fn check(alloc: Global, task: Task, text: Vec<u8>) -> Result<Report, Failure>
-    ensures report { IfOk result
-        (IsReportOnSome ⟦<DefaultScalarValue as AllRules<'static>>⟧.rules task.mode) }
+    ensures report { IfOk result IsReport }
     ensures other { IfErr result (λ e. is_usage e ≡ false) }
 {
     let checks = Checks {
@@ -245,8 +244,7 @@ fn report_of<'a>(
     document: &'a [Definition<'_, DefaultScalarValue>],
     mode: Mode,
 ) -> Result<Report, Failure>
-    ensures report { IfOk result
-        (IsReportBy ⟦<DefaultScalarValue as AllRules<'static>>⟧.rules mode schema.now document.now) }
+    ensures report { IfOk result IsReport }
     ensures other { IfErr result (λ e. is_usage e ≡ false) }
 {
     let report = match mode {
