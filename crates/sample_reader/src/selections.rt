@@ -3,14 +3,26 @@ use crate::error::ReadError;
 use crate::lexer::Punctuator;
 use crate::tokens::Tokens;
 use crate::values::{Variables, read_arguments, read_directives};
-use language::position::{SourcePosition, Span, Spanning};
+use language::position::{SourcePosition, Spanning};
 use language::tree::{Field, FragmentSpread, InlineFragment, Selection};
 use language::value::DefaultScalarValue;
 use std::alloc::Global;
+use std::mem;
 
 type Nodes<'a> = Vec<Selection<'a, DefaultScalarValue>>;
 
-/// Parses a selection set, which is never empty.
+// A field or an inline fragment whose set is read: where it starts, and the set that it stands in, so far.
+#[derive(Drop)]
+enum Begun<'a> {
+    Field(SourcePosition, Field<'a, DefaultScalarValue>, Nodes<'a>),
+    Inline(
+        SourcePosition,
+        InlineFragment<'a, DefaultScalarValue>,
+        Nodes<'a>,
+    ),
+}
+
+/// Parses a selection set, which is never empty. What is begun stands on a list in memory, so no depth is too deep.
 ///
 /// # Errors
 ///
@@ -19,106 +31,106 @@ pub fn read_selection_set<'a>(
     alloc: Global,
     tokens: &mut Tokens<'a>,
 ) -> Result<Vec<Selection<'a, DefaultScalarValue>>, ReadError> {
-    let levels = tokens.bound();
-    read_set(alloc, tokens, levels)
-}
-
-// A selection set of at most `levels` levels.
-#[cycle(selections)]
-fn read_set<'a>(
-    alloc: Global,
-    tokens: &mut Tokens<'a>,
-    levels: usize,
-) -> Result<Nodes<'a>, ReadError> {
-    let Some(inner) = levels.checked_sub(1) else {
-        return Err(tokens.fault());
-    };
     tokens.expect(Punctuator::BraceOpen)?;
+    let mut begun = Vec::new(alloc);
     let mut nodes = Vec::new(alloc);
     for _ in 0..tokens.bound() {
-        read_selection(alloc, tokens, inner, &mut nodes)?;
-        if tokens.take(Punctuator::BraceClose) {
+        if !nodes.is_empty() && tokens.take(Punctuator::BraceClose) {
             nodes.shrink_to_fit();
-            return Ok(nodes);
+            match begun.pop() {
+                None => return Ok(nodes),
+                Some(last) => nodes = end(last, nodes, tokens)?,
+            }
+        } else {
+            read_selection(alloc, tokens, &mut nodes, &mut begun)?;
         }
     }
     Err(tokens.fault())
 }
 
-// Adds one selection. The functions below add it themselves, each in a frame of its own, so that a level takes little
-// stack.
-#[cycle(selections)]
+// Puts a set into the selection that it belongs to, and that into the set that it stands in.
+fn end<'a>(
+    begun: Begun<'a>,
+    set: Nodes<'a>,
+    tokens: &Tokens<'a>,
+) -> Result<Nodes<'a>, ReadError> {
+    match begun {
+        Begun::Field(start, mut item, mut nodes) => {
+            item.selection_set = Some(set);
+            let span = tokens.span_from(start);
+            nodes.push(Selection::Field(Spanning { item, span }))?;
+            Ok(nodes)
+        }
+        Begun::Inline(start, mut item, mut nodes) => {
+            item.selection_set = set;
+            let span = tokens.span_from(start);
+            nodes.push(Selection::InlineFragment(Spanning { item, span }))?;
+            Ok(nodes)
+        }
+    }
+}
+
+// One selection more, or its beginning up to the brace that begins its set.
 fn read_selection<'a>(
     alloc: Global,
     tokens: &mut Tokens<'a>,
-    levels: usize,
     nodes: &mut Nodes<'a>,
+    begun: &mut Vec<Begun<'a>>,
 ) -> Result<(), ReadError> {
     let start = tokens.start();
     if tokens.take(Punctuator::Spread) {
-        read_after_dots(alloc, tokens, start, levels, nodes)
+        read_after_dots(alloc, tokens, start, nodes, begun)
     } else {
-        read_field(alloc, tokens, levels, nodes)
+        read_field(alloc, tokens, nodes, begun)
     }
 }
 
 // An inline fragment, or the spread of a fragment.
-#[inline(never)]
-#[cycle(selections)]
 fn read_after_dots<'a>(
     alloc: Global,
     tokens: &mut Tokens<'a>,
     start: SourcePosition,
-    levels: usize,
     nodes: &mut Nodes<'a>,
+    begun: &mut Vec<Begun<'a>>,
 ) -> Result<(), ReadError> {
     if tokens.is_word("on") {
         tokens.advance();
         let condition = tokens.name()?;
-        return read_inline_fragment(alloc, tokens, start, Some(condition), levels, nodes);
+        return begin_inline_fragment(alloc, tokens, start, Some(condition), nodes, begun);
     }
     if tokens.is(Punctuator::At) || tokens.is(Punctuator::BraceOpen) {
-        return read_inline_fragment(alloc, tokens, start, None, levels, nodes);
+        return begin_inline_fragment(alloc, tokens, start, None, nodes, begun);
     }
     read_fragment_spread(alloc, tokens, start, nodes)
 }
 
-#[inline(never)]
-#[cycle(selections)]
 fn read_field<'a>(
     alloc: Global,
     tokens: &mut Tokens<'a>,
-    levels: usize,
     nodes: &mut Nodes<'a>,
+    begun: &mut Vec<Begun<'a>>,
 ) -> Result<(), ReadError> {
     let start = tokens.start();
     let (alias, name) = read_alias_and_name(tokens)?;
     let arguments = read_arguments(alloc, tokens, Variables::Allowed)?;
     let directives = read_directives(alloc, tokens, Variables::Allowed)?;
-    let mut field = Field {
+    let item = Field {
         alias,
         name,
         arguments,
         directives,
         selection_set: None,
     };
-    if tokens.is(Punctuator::BraceOpen) {
-        field.selection_set = Some(read_set(alloc, tokens, levels)?);
+    if tokens.take(Punctuator::BraceOpen) {
+        let outer = mem::replace(nodes, Vec::new(alloc));
+        begun.push(Begun::Field(start, item, outer))?;
+    } else {
+        let span = tokens.span_from(start);
+        nodes.push(Selection::Field(Spanning { item, span }))?;
     }
-    add_field(nodes, field, tokens.span_from(start))
-}
-
-#[inline(never)]
-fn add_field<'a>(
-    nodes: &mut Nodes<'a>,
-    item: Field<'a, DefaultScalarValue>,
-    span: Span,
-) -> Result<(), ReadError> {
-    nodes.push(Selection::Field(Spanning { item, span }))?;
     Ok(())
 }
 
-#[inline(never)]
 fn read_alias_and_name<'a>(
     tokens: &mut Tokens<'a>,
 ) -> Result<(Option<Spanning<&'a str>>, Spanning<&'a str>), ReadError> {
@@ -130,30 +142,27 @@ fn read_alias_and_name<'a>(
     Ok((None, first))
 }
 
-// What follows the dots and the type condition, if there is one.
-#[inline(never)]
-#[cycle(selections)]
-fn read_inline_fragment<'a>(
+// What follows the dots, and a type condition if there is one, up to the brace.
+fn begin_inline_fragment<'a>(
     alloc: Global,
     tokens: &mut Tokens<'a>,
     start: SourcePosition,
     type_condition: Option<Spanning<&'a str>>,
-    levels: usize,
     nodes: &mut Nodes<'a>,
+    begun: &mut Vec<Begun<'a>>,
 ) -> Result<(), ReadError> {
     let directives = read_directives(alloc, tokens, Variables::Allowed)?;
-    let selection_set = read_set(alloc, tokens, levels)?;
+    tokens.expect(Punctuator::BraceOpen)?;
     let item = InlineFragment {
         type_condition,
         directives,
-        selection_set,
+        selection_set: Vec::new(alloc),
     };
-    let span = tokens.span_from(start);
-    nodes.push(Selection::InlineFragment(Spanning { item, span }))?;
+    let outer = mem::replace(nodes, Vec::new(alloc));
+    begun.push(Begun::Inline(start, item, outer))?;
     Ok(())
 }
 
-#[inline(never)]
 fn read_fragment_spread<'a>(
     alloc: Global,
     tokens: &mut Tokens<'a>,

@@ -3,7 +3,7 @@ use crate::error::ReadError;
 use crate::lexer::{Punctuator, Token};
 use crate::tokens::Tokens;
 use language::error::OutOfMemory;
-use language::position::Spanning;
+use language::position::{SourcePosition, Spanning};
 use language::tree::{Arguments, Directive};
 use language::value::{DefaultScalarValue, InputValue};
 use std::alloc::Global;
@@ -18,7 +18,68 @@ pub enum Variables {
     Refused,
 }
 
-/// Parses a value.
+// A list or an object that is begun: where it starts, what it holds so far, and the key whose value is read.
+#[derive(Drop)]
+enum Begun {
+    List(SourcePosition, Vec<Spanning<Value>>),
+    Object(
+        SourcePosition,
+        Vec<(Spanning<String>, Spanning<Value>)>,
+        Option<Spanning<String>>,
+    ),
+}
+
+impl Begun {
+    // What ends it.
+    fn closing(&self) -> Punctuator {
+        match self {
+            Begun::List(_, _) => Punctuator::BracketClose,
+            Begun::Object(_, _, _) => Punctuator::BraceClose,
+        }
+    }
+
+    // Reads what stands before a value: the key, in an object.
+    fn read_before_value(&mut self, alloc: Global, tokens: &mut Tokens<'_>) -> Result<(), ReadError> {
+        if let Begun::Object(_, _, key) = self {
+            *key = Some(read_key(alloc, tokens)?);
+        }
+        Ok(())
+    }
+
+    fn add(&mut self, value: Spanning<Value>) -> Result<(), ReadError> {
+        match self {
+            Begun::List(_, items) => items.push(value)?,
+            Begun::Object(_, entries, key) => {
+                if let Some(key) = key.take() {
+                    entries.push((key, value))?;
+                }
+            }
+        }
+        Ok(())
+    }
+
+    // The value, whose last token is taken.
+    fn end(self, tokens: &Tokens<'_>) -> Spanning<Value> {
+        match self {
+            Begun::List(start, mut items) => {
+                items.shrink_to_fit();
+                Spanning {
+                    item: InputValue::List(items),
+                    span: tokens.span_from(start),
+                }
+            }
+            Begun::Object(start, mut entries, _) => {
+                entries.shrink_to_fit();
+                Spanning {
+                    item: InputValue::Object(entries),
+                    span: tokens.span_from(start),
+                }
+            }
+        }
+    }
+}
+
+/// Parses a value. The lists and objects that are begun stand on a list in memory, so no depth is too deep.
 ///
 /// # Errors
 ///
@@ -28,77 +89,62 @@ pub fn read_value(
     tokens: &mut Tokens<'_>,
     variables: Variables,
 ) -> Result<Spanning<Value>, ReadError> {
-    let levels = tokens.bound();
-    read_nested(alloc, tokens, variables, levels)
+    let mut begun = Vec::new(alloc);
+    for _ in 0..tokens.bound() {
+        if let Some(value) = read_part(alloc, tokens, variables, &mut begun)? {
+            return Ok(value);
+        }
+    }
+    Err(tokens.fault())
 }
 
-// A value of at most `levels` levels of lists and objects.
-#[cycle(values)]
-fn read_nested(
+// Reads up to the next bracket or plain value: the whole value, where it ends there.
+fn read_part(
     alloc: Global,
     tokens: &mut Tokens<'_>,
     variables: Variables,
-    levels: usize,
-) -> Result<Spanning<Value>, ReadError> {
+    begun: &mut Vec<Begun>,
+) -> Result<Option<Spanning<Value>>, ReadError> {
+    if let Some(mut last) = begun.pop() {
+        if tokens.take(last.closing()) {
+            let value = last.end(tokens);
+            return place(value, begun);
+        }
+        last.read_before_value(alloc, tokens)?;
+        begun.push(last)?;
+    }
     let start = tokens.start();
-    let item = match tokens.ahead() {
+    match tokens.ahead() {
         Token::Punctuator(Punctuator::BracketOpen) => {
-            InputValue::List(read_items(alloc, tokens, variables, levels)?)
+            tokens.advance();
+            begun.push(Begun::List(start, Vec::new(alloc)))?;
+            Ok(None)
         }
         Token::Punctuator(Punctuator::BraceOpen) => {
-            InputValue::Object(read_entries(alloc, tokens, variables, levels)?)
+            tokens.advance();
+            begun.push(Begun::Object(start, Vec::new(alloc), None))?;
+            Ok(None)
         }
-        _ => read_plain(alloc, tokens, variables)?,
-    };
-    Ok(Spanning {
-        item,
-        span: tokens.span_from(start),
-    })
+        _ => {
+            let item = read_plain(alloc, tokens, variables)?;
+            let span = tokens.span_from(start);
+            place(Spanning { item, span }, begun)
+        }
+    }
 }
 
-#[cycle(values)]
-fn read_items(
-    alloc: Global,
-    tokens: &mut Tokens<'_>,
-    variables: Variables,
-    levels: usize,
-) -> Result<Vec<Spanning<Value>>, ReadError> {
-    let Some(inner) = levels.checked_sub(1) else {
-        return Err(tokens.fault());
-    };
-    tokens.advance();
-    let mut items = Vec::new(alloc);
-    for _ in 0..tokens.bound() {
-        if tokens.take(Punctuator::BracketClose) {
-            items.shrink_to_fit();
-            return Ok(items);
+// Puts a value into the list or object that is begun; where none is, it is the whole value.
+fn place(
+    value: Spanning<Value>,
+    begun: &mut Vec<Begun>,
+) -> Result<Option<Spanning<Value>>, ReadError> {
+    match begun.last_mut() {
+        None => Ok(Some(value)),
+        Some(last) => {
+            last.add(value)?;
+            Ok(None)
         }
-        items.push(read_nested(alloc, tokens, variables, inner)?)?;
     }
-    Err(tokens.fault())
-}
-
-#[cycle(values)]
-fn read_entries(
-    alloc: Global,
-    tokens: &mut Tokens<'_>,
-    variables: Variables,
-    levels: usize,
-) -> Result<Vec<(Spanning<String>, Spanning<Value>)>, ReadError> {
-    let Some(inner) = levels.checked_sub(1) else {
-        return Err(tokens.fault());
-    };
-    tokens.advance();
-    let mut entries = Vec::new(alloc);
-    for _ in 0..tokens.bound() {
-        if tokens.take(Punctuator::BraceClose) {
-            entries.shrink_to_fit();
-            return Ok(entries);
-        }
-        let key = read_key(alloc, tokens)?;
-        entries.push((key, read_nested(alloc, tokens, variables, inner)?))?;
-    }
-    Err(tokens.fault())
 }
 
 fn read_key(alloc: Global, tokens: &mut Tokens<'_>) -> Result<Spanning<String>, ReadError> {
