@@ -1,7 +1,6 @@
 //! The types that values are checked against.
-ghost use Rattle.std.specs.Prelude.{◌≡◌, IfSome, Some, option_map, true, fold};
-ghost use Rattle.std.specs.Fmt.{WritesOnOk};
-ghost use Rattle.language.specs.Types.{borrowed_shape, shape, with_modifier};
+ghost use Rattle.std.specs.Prelude.{◌≡◌, IfSome, Some, option_map, true};
+ghost use Rattle.language.specs.Types.{borrowed_shape, shape};
 ghost use Rattle.schema_validation.specs.Accepted.{is_listed};
 ghost use Rattle.schema_validation.specs.Names.{argument_type};
 ghost use Rattle.schema.specs.Wrapped.{wrapped_of};
@@ -9,7 +8,7 @@ ghost use Rattle.literals.specs.Expected.{expected_type, IsLayerOf};
 ghost use Rattle.literals.specs.InSchema.{IsInSchema};
 ghost use Rattle.literals.specs.Judged.{IsTypeOf, printed_name, printed_type, written_type};
 
-use language::types::{BorrowedType, TypeModifier};
+use language::types::{BorrowedType, TypeModifier, print_type};
 use meta::arguments::Argument;
 use meta::kinds::MetaTypeOf;
 use schema::model::{SchemaTypeOf, TypeTypeOf};
@@ -99,28 +98,7 @@ impl<S, C> fmt::Display for Expected<'_, '_, S, C> {
     fn fmt<W: fmt::Write>(&self, f: &mut fmt::Formatter<W>) -> fmt::Result {
         match self {
             Expected::Made(made) => (**made).fmt(f),
-            Expected::Written(meta, modifiers) => print_written(name_text(*meta), *modifiers, f),
-        }
-    }
-}
-
-fn print_written<W: fmt::Write>(
-    name: &str,
-    modifiers: &[TypeModifier],
-    f: &mut fmt::Formatter<W>,
-) -> fmt::Result
-    ensures { WritesOnOk W.write_str_gives f.old result (fold with_modifier name.now modifiers.now) f.new }
-{
-    match modifiers.split_last() {
-        None => f.write_str(name),
-        Some((TypeModifier::NonNull, inner)) => {
-            print_written(name, inner, f)?;
-            f.write_str("!")
-        }
-        Some((TypeModifier::List(_), inner)) => {
-            f.write_str("[")?;
-            print_written(name, inner, f)?;
-            f.write_str("]")
+            Expected::Written(meta, modifiers) => print_type(name_text(*meta), *modifiers, f),
         }
     }
 }
