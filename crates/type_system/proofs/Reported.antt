@@ -7,7 +7,7 @@ use Rattle.std.proofs.lemmas.List.{append-nil, take_more}
 use Rattle.std.proofs.lemmas.Grind.{flat_map-append}
 use Rattle.language.specs.References.{list_copied}
 use Rattle.type_system.specs.Entries.{each_entry}
-use Rattle.type_system.specs.Fault.{FaultValue}
+use Rattle.type_system_report.specs.Fault.{FaultValue}
 
 -- what two calls found, one after the other
 pub reports_both : (r a b r₁ r₂ : List FaultValue) → r₁ ≡ r ++ a → r₂ ≡ r₁ ++ b → r₂ ≡ r ++ (a ++ b)

@@ -4,9 +4,9 @@ use Rattle.std.specs.List.{flat_map}
 use Rattle.meta.specs.declared.arguments.Argument.{Argument}
 use Rattle.meta.specs.declared.fields.Field.{Field}
 use Rattle.meta.specs.Arguments.{arguments_of}
-use Rattle.type_system.specs.declared.fault.FaultKindOf.TheVariants as k
+use Rattle.type_system_report.specs.declared.fault.FaultKindOf.TheVariants as k
 use Rattle.type_system.specs.Arguments.{argument_named, is_required}
-use Rattle.type_system.specs.Fault.{FaultValue, fault_if}
+use Rattle.type_system_report.specs.Fault.{FaultValue, fault_if}
 use Rattle.type_system.specs.Pair.{PairValue, given_argument, wanted_field}
 
 -- a required argument, and the field has none of its name

@@ -2,31 +2,43 @@
 use Rattle.std.specs.Prelude.{List, ◌++◌}
 use Rattle.std.specs.List.{flat_map}
 use Rattle.meta.specs.declared.kinds.MetaTypeOf.{MetaTypeOf}
+use Rattle.schema_validation.specs.declared.directives.DirectiveType.{DirectiveType}
 use Rattle.schema.specs.Catalog.{Catalog}
-use Rattle.type_system.specs.Fault.{FaultValue}
+use Rattle.type_system_report.specs.Fault.{FaultValue}
+use Rattle.type_system.specs.Ancestors.{wrong_ancestors}
 use Rattle.type_system.specs.ImplementedTypes.{wrong_interfaces}
 use Rattle.type_system.specs.InterfaceFields.{unmet_interfaces}
 use Rattle.type_system.specs.OutputTypes.{wrong_output_types}
-use Rattle.type_system.specs.ReservedNames.{reserved_names}
+use Rattle.type_system.specs.ReservedNames.{reserved_directive, reserved_names}
 use Rattle.type_system.specs.ReservedValues.{reserved_values}
 use Rattle.type_system.specs.RootTypes.{shared_roots}
 use Rattle.type_system.specs.SomeFields.{missing_fields}
+use Rattle.type_system.specs.SomeLocations.{missing_locations}
 use Rattle.type_system.specs.SomeMembers.{missing_members}
 use Rattle.type_system.specs.SomeValues.{missing_values}
+use Rattle.type_system.specs.UniqueMembers.{repeated_members}
 
 module _ {S C : Type 0} (schema : Catalog S C) where
   -- names that are reserved, and members that are missing
   abbrev pub own_faults : MetaTypeOf S C → List FaultValue
   own_faults t = reserved_names schema t ++ missing_fields schema t ++ missing_values t ++ missing_members t
 
-  -- what a type implements that it may not, and what it does not meet of that
+  -- what a type implements that it may not, what it must implement besides, and what it does not meet of that
   abbrev pub interface_faults : MetaTypeOf S C → List FaultValue
-  interface_faults t = wrong_interfaces schema t ++ unmet_interfaces schema t
+  interface_faults t = wrong_interfaces schema t ++ wrong_ancestors t schema ++ unmet_interfaces schema t
+
+  -- members of a union that stand twice, and values of an enum that are no names of values
+  abbrev pub member_faults : MetaTypeOf S C → List FaultValue
+  member_faults t = repeated_members t ++ reserved_values t
 
   -- the faults of a type
   abbrev pub type_faults : MetaTypeOf S C → List FaultValue
-  type_faults t = own_faults t ++ wrong_output_types schema t ++ interface_faults t ++ reserved_values t
+  type_faults t = own_faults t ++ wrong_output_types schema t ++ interface_faults t ++ member_faults t
 
   -- those of the roots, and then those of each type in the order of the schema
   abbrev pub all_faults : List FaultValue
   all_faults = shared_roots schema ++ flat_map type_faults schema.types
+
+-- those of a directive
+abbrev pub directive_faults : {S : Type 0} → DirectiveType S → List FaultValue
+directive_faults d = reserved_directive d ++ missing_locations d

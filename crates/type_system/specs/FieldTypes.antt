@@ -7,8 +7,8 @@ use Rattle.language.specs.Types.{TypeShape, shape}
 use Rattle.schema.specs.Catalog.{Catalog, type_in}
 use Rattle.schema.specs.Layers.{are_layers_below}
 use Rattle.schema_validation.specs.Names.{interfaces_of, members_of}
-use Rattle.type_system.specs.declared.fault.FaultKindOf.TheVariants as k
-use Rattle.type_system.specs.Fault.{FaultValue, fault_if}
+use Rattle.type_system_report.specs.declared.fault.FaultKindOf.TheVariants as k
+use Rattle.type_system_report.specs.Fault.{FaultValue, fault_if}
 use Rattle.type_system.specs.Pair.{PairValue, given_field, wanted_field}
 
 module _ {S C : Type 0} (schema : Catalog S C) where

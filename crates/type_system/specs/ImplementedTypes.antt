@@ -7,10 +7,10 @@ use Rattle.meta.specs.declared.kinds.MetaTypeOf.{MetaTypeOf}
 use Rattle.meta.specs.declared.kinds.MetaTypeOf.TheVariants as m
 use Rattle.schema.specs.Catalog.{Catalog, type_in}
 use Rattle.schema_validation.specs.Names.{interfaces_of}
-use Rattle.type_system.specs.declared.fault.CoordinateOf.TheVariants as c
-use Rattle.type_system.specs.declared.fault.FaultKindOf.TheVariants as k
+use Rattle.type_system_report.specs.declared.fault.CoordinateOf.TheVariants as c
+use Rattle.type_system_report.specs.declared.fault.FaultKindOf.TheVariants as k
 use Rattle.type_system.specs.Entries.{each_entry}
-use Rattle.type_system.specs.Fault.{FaultValue, fault_if}
+use Rattle.type_system_report.specs.Fault.{FaultValue, fault_if}
 use Rattle.type_system.specs.Members.{name_in}
 
 module _ {S C : Type 0} where

@@ -4,9 +4,9 @@ use Rattle.std.specs.List.{flat_map}
 use Rattle.language.specs.Types.{shape}
 use Rattle.meta.specs.declared.arguments.Argument.{Argument}
 use Rattle.meta.specs.Arguments.{arguments_of}
-use Rattle.type_system.specs.declared.fault.FaultKindOf.TheVariants as k
+use Rattle.type_system_report.specs.declared.fault.FaultKindOf.TheVariants as k
 use Rattle.type_system.specs.Arguments.{argument_named}
-use Rattle.type_system.specs.Fault.{FaultValue, fault_if}
+use Rattle.type_system_report.specs.Fault.{FaultValue, fault_if}
 use Rattle.type_system.specs.Pair.{PairValue, given_argument, given_field, wanted_argument}
 use Rattle.type_system.specs.SameTypes.{is_same_type}
 

@@ -9,11 +9,11 @@ use Rattle.meta.specs.declared.kinds.MetaTypeOf.TheVariants as m
 use Rattle.meta.specs.Kinds.{field_named}
 use Rattle.schema.specs.Catalog.{Catalog, type_in}
 use Rattle.schema_validation.specs.Names.{interfaces_of}
-use Rattle.type_system.specs.declared.fault.CoordinateOf.TheVariants as c
-use Rattle.type_system.specs.declared.fault.FaultKindOf.TheVariants as k
+use Rattle.type_system_report.specs.declared.fault.CoordinateOf.TheVariants as c
+use Rattle.type_system_report.specs.declared.fault.FaultKindOf.TheVariants as k
 use Rattle.type_system.specs.AddedArguments.{added_arguments}
 use Rattle.type_system.specs.Entries.{each_entry}
-use Rattle.type_system.specs.Fault.{FaultValue}
+use Rattle.type_system_report.specs.Fault.{FaultValue}
 use Rattle.type_system.specs.FieldTypes.{wrong_field_type}
 use Rattle.type_system.specs.InterfaceArguments.{unmet_arguments}
 use Rattle.type_system.specs.Members.{name_in}

@@ -1,8 +1,8 @@
 pub mod AddedArguments
 pub mod All
+pub mod Ancestors
 pub mod Arguments
 pub mod Entries
-pub mod Fault
 pub mod FieldTypes
 pub mod ImplementedTypes
 pub mod InterfaceArguments
@@ -16,6 +16,7 @@ pub mod ReservedValues
 pub mod RootTypes
 pub mod SameTypes
 pub mod SomeFields
+pub mod SomeLocations
 pub mod SomeMembers
 pub mod SomeValues
-pub mod Texts
+pub mod UniqueMembers

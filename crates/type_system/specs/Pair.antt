@@ -1,9 +1,9 @@
 -- A field of a type beside the field of an interface that it stands for.
 use Rattle.std.specs.Prelude.{ℕ, List, string_bytes}
 use Rattle.meta.specs.declared.fields.Field.{Field}
-use Rattle.type_system.specs.declared.fault.CoordinateOf.TheVariants as c
+use Rattle.type_system_report.specs.declared.fault.CoordinateOf.TheVariants as c
 use Rattle.type_system.specs.declared.pair.FieldPair.{FieldPair}
-use Rattle.type_system.specs.Fault.{CoordinateValue}
+use Rattle.type_system_report.specs.Fault.{CoordinateValue}
 
 -- The field `given` of the type `of`, and the field `wanted` of the interface.
 pub record PairValue (S : Type 0) : Type 0 where

@@ -9,9 +9,9 @@ use Rattle.meta.specs.Arguments.{arguments_of}
 use Rattle.meta.specs.Kinds.{fields_of, input_fields_of}
 use Rattle.schema_validation.specs.declared.directives.DirectiveType.{DirectiveType}
 use Rattle.schema.specs.Catalog.{Catalog}
-use Rattle.type_system.specs.declared.fault.CoordinateOf.TheVariants as c
-use Rattle.type_system.specs.declared.fault.FaultKindOf.TheVariants as k
-use Rattle.type_system.specs.Fault.{CoordinateValue, FaultValue, fault_if, last_name}
+use Rattle.type_system_report.specs.declared.fault.CoordinateOf.TheVariants as c
+use Rattle.type_system_report.specs.declared.fault.FaultKindOf.TheVariants as k
+use Rattle.type_system_report.specs.Fault.{CoordinateValue, FaultValue, fault_if, last_name}
 use Rattle.type_system.specs.Introspected.{is_introspection_field, is_introspection_type, is_reserved}
 use Rattle.type_system.specs.Members.{name_in, values_of}
 

@@ -5,9 +5,9 @@ use Rattle.language.specs.declared.tree.OperationType.{OperationType}
 use Rattle.language.specs.declared.tree.OperationType.TheVariants as o
 use Rattle.schema_validation.specs.Accepted.{Roots}
 use Rattle.schema.specs.Catalog.{Catalog}
-use Rattle.type_system.specs.declared.fault.CoordinateOf.TheVariants as c
-use Rattle.type_system.specs.declared.fault.FaultKindOf.TheVariants as k
-use Rattle.type_system.specs.Fault.{FaultValue, fault_if}
+use Rattle.type_system_report.specs.declared.fault.CoordinateOf.TheVariants as c
+use Rattle.type_system_report.specs.declared.fault.FaultKindOf.TheVariants as k
+use Rattle.type_system_report.specs.Fault.{FaultValue, fault_if}
 
 -- the name of the root of operations of this kind, if there is one
 abbrev pub root_name : Roots → OperationType → Option (List ℕ)

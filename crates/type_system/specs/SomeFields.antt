@@ -5,9 +5,9 @@ use Rattle.meta.specs.declared.fields.Field.{Field}
 use Rattle.meta.specs.declared.kinds.MetaTypeOf.{MetaTypeOf}
 use Rattle.meta.specs.declared.kinds.MetaTypeOf.TheVariants as m
 use Rattle.schema.specs.Catalog.{Catalog}
-use Rattle.type_system.specs.declared.fault.CoordinateOf.TheVariants as c
-use Rattle.type_system.specs.declared.fault.FaultKindOf.TheVariants as k
-use Rattle.type_system.specs.Fault.{FaultValue, fault_if}
+use Rattle.type_system_report.specs.declared.fault.CoordinateOf.TheVariants as c
+use Rattle.type_system_report.specs.declared.fault.FaultKindOf.TheVariants as k
+use Rattle.type_system_report.specs.Fault.{FaultValue, fault_if}
 use Rattle.type_system.specs.Introspected.{is_introspection_field}
 use Rattle.type_system.specs.Members.{name_in}
 

@@ -2,16 +2,16 @@
 ghost use Rattle.std.specs.Prelude.{◌≡◌, ◌++◌, OnOk};
 ghost use Rattle.type_system.specs.AddedArguments.{added_argument, added_arguments, is_added};
 ghost use Rattle.type_system.specs.Arguments.{is_required};
-ghost use Rattle.type_system.specs.Fault.{reported};
+ghost use Rattle.type_system_report.specs.Fault.{reported};
 ghost use Rattle.type_system.specs.Pair.{pair_value};
 
-use crate::fault::{Fault, FaultKindOf};
 use crate::members::arguments;
 use crate::pair::FieldPair;
-use crate::report::report;
 use language::error::OutOfMemory;
 use schema::meta::named::first_named;
 use schema::meta::{Argument, Field};
+use type_system_report::report::report;
+use type_system_report::{Fault, FaultKindOf};
 
 /// Reports each required argument of the field that the interface's field lacks.
 pub(crate) fn report_added_arguments<'a, S>(

@@ -2,11 +2,10 @@
 ghost use Rattle.std.specs.Prelude.{◌≡◌, ◌++◌, IfOk, OnOk};
 ghost use Rattle.std.specs.List.{flat_map};
 ghost use Rattle.language.specs.References.{list_copied};
-ghost use Rattle.type_system.specs.All.{all_faults, interface_faults, own_faults, type_faults};
-ghost use Rattle.type_system.specs.Fault.{reported};
-ghost use Rattle.type_system.specs.ReservedNames.{reserved_directive};
+ghost use Rattle.type_system.specs.All.{all_faults, directive_faults, interface_faults, member_faults, own_faults, type_faults};
+ghost use Rattle.type_system_report.specs.Fault.{reported};
 
-use crate::fault::Fault;
+use crate::ancestors::report_wrong_ancestors;
 use crate::implemented_types::report_wrong_interfaces;
 use crate::interface_fields::report_unmet_interfaces;
 use crate::output_types::report_wrong_output_types;
@@ -14,12 +13,15 @@ use crate::reserved_names::{report_reserved_directive, report_reserved_names};
 use crate::reserved_values::report_reserved_values;
 use crate::root_types::report_shared_roots;
 use crate::some_fields::report_missing_fields;
+use crate::some_locations::report_missing_locations;
 use crate::some_members::report_missing_members;
 use crate::some_values::report_missing_values;
+use crate::unique_members::report_repeated_members;
 use language::error::OutOfMemory;
 use schema::meta::MetaTypeOf;
 use schema::model::{DirectiveType, SchemaTypeOf};
 use std::alloc::Global;
+use type_system_report::Fault;
 
 /// The faults of the roots and the types of a schema: first two roots that are one type, then those of each
 /// type, in the order of the list that made the schema. Those of directives are [`directive_faults`].
@@ -40,8 +42,8 @@ pub fn type_system_faults<'a, S, C>(
     Ok(faults)
 }
 
-/// The faults of the names of a directive of a schema: the reserved ones of the directive and its arguments,
-/// in their order.
+/// The faults of a directive of a schema: the reserved names, of the directive and then of its arguments, and
+/// whether it has no location.
 ///
 /// # Errors
 ///
@@ -50,10 +52,11 @@ pub fn directive_faults<'a, S>(
     alloc: Global,
     directive: &'a DirectiveType<S>,
 ) -> Result<Vec<Fault<'a>>, OutOfMemory>
-    ensures { IfOk result (λ v. reported v ≡ reserved_directive directive.now) }
+    ensures { IfOk result (λ v. reported v ≡ directive_faults directive.now) }
 {
     let mut faults = Vec::new(alloc);
     report_reserved_directive(&mut faults, directive)?;
+    report_missing_locations(&mut faults, directive)?;
     Ok(faults)
 }
 
@@ -81,7 +84,7 @@ fn report_type<'a, S, C>(
     report_own_faults(faults, schema, meta)?;
     report_wrong_output_types(faults, schema, meta)?;
     report_interface_faults(faults, schema, meta)?;
-    report_reserved_values(faults, meta)
+    report_member_faults(faults, meta)
 }
 
 // Reports the faults of what a type implements.
@@ -93,7 +96,19 @@ fn report_interface_faults<'a, S, C>(
     ensures { OnOk result (reported faults.new ≡ reported faults.old ++ interface_faults schema.now meta.now) }
 {
     report_wrong_interfaces(faults, schema, meta)?;
+    report_wrong_ancestors(faults, schema, meta)?;
     report_unmet_interfaces(faults, schema, meta)
+}
+
+// Reports the faults of members that are there.
+fn report_member_faults<'a, S, C>(
+    faults: &mut Vec<Fault<'a>>,
+    meta: &'a MetaTypeOf<S, C>,
+) -> Result<(), OutOfMemory>
+    ensures { OnOk result (reported faults.new ≡ reported faults.old ++ member_faults meta.now) }
+{
+    report_repeated_members(faults, meta)?;
+    report_reserved_values(faults, meta)
 }
 
 // Reports the faults of names and of members that are missing.

@@ -1,20 +1,20 @@
 //! The type of a field is that of the interface's field, or a subtype (GraphQL, October 2021, sections 3.6 and 3.7).
 ghost use Rattle.std.specs.Prelude.{◌≡◌, ◌++◌, OnOk};
 ghost use Rattle.language.specs.Types.{shape};
-ghost use Rattle.type_system.specs.Fault.{reported};
+ghost use Rattle.type_system_report.specs.Fault.{reported};
 ghost use Rattle.type_system.specs.FieldTypes.{is_field_type, is_implementer_named, is_member_named, may_stand_for, wrong_field_type};
 ghost use Rattle.type_system.specs.Pair.{pair_value};
 
-use crate::fault::{Fault, FaultKindOf};
 use crate::layers::are_layers_below;
 use crate::listed::is_text_among;
 use crate::members::{interface_names, union_members};
 use crate::pair::FieldPair;
-use crate::report::report;
 use language::error::OutOfMemory;
 use language::types::Type;
 use schema::meta::MetaTypeOf;
 use schema::model::SchemaTypeOf;
+use type_system_report::report::report;
+use type_system_report::{Fault, FaultKindOf};
 
 /// Reports the type of a field that may not stand for that of the interface's field.
 pub(crate) fn report_wrong_field_type<'a, S, C>(

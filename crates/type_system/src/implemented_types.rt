@@ -1,15 +1,15 @@
 //! What a type implements is an interface, once, and not itself (GraphQL, October 2021, sections 3.6 and 3.7).
 ghost use Rattle.std.specs.Prelude.{◌≡◌, ◌++◌, OnOk, map, string_bytes};
-ghost use Rattle.type_system.specs.Fault.{reported};
+ghost use Rattle.type_system_report.specs.Fault.{reported};
 ghost use Rattle.type_system.specs.ImplementedTypes.{implemented_again, is_interface, is_interface_named, no_interface, own_interface, wrong_entry, wrong_interfaces};
 
-use crate::fault::{CoordinateOf, Fault, FaultKindOf};
 use crate::listed::is_text_among;
 use crate::members::{interface_names, type_name};
-use crate::report::report;
 use language::error::OutOfMemory;
 use schema::meta::MetaTypeOf;
 use schema::model::SchemaTypeOf;
+use type_system_report::report::report;
+use type_system_report::{CoordinateOf, Fault, FaultKindOf};
 
 /// Reports each entry of what a type implements that is no interface, stands again further on, or is
 /// the type itself.

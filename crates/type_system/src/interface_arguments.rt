@@ -1,20 +1,20 @@
 //! A field has the arguments of the interface's field, with the same types (GraphQL, October 2021, sections 3.6 and 3.7).
 ghost use Rattle.std.specs.Prelude.{◌≡◌, ◌++◌, OnOk};
 ghost use Rattle.language.specs.Types.{shape};
-ghost use Rattle.type_system.specs.Fault.{reported};
+ghost use Rattle.type_system_report.specs.Fault.{reported};
 ghost use Rattle.type_system.specs.InterfaceArguments.{other_type, unmet_argument, unmet_arguments};
 ghost use Rattle.type_system.specs.Pair.{pair_value};
 ghost use Rattle.type_system.specs.SameTypes.{is_same_type};
 
-use crate::fault::{Fault, FaultKindOf};
 use crate::layers::are_layers_same;
 use crate::members::arguments;
 use crate::pair::FieldPair;
-use crate::report::report;
 use language::error::OutOfMemory;
 use language::types::Type;
 use schema::meta::Argument;
 use schema::meta::named::first_named;
+use type_system_report::report::report;
+use type_system_report::{Fault, FaultKindOf};
 
 /// Reports each argument of the interface's field that the field lacks, or has with another type.
 pub(crate) fn report_unmet_arguments<'a, S>(

@@ -1,20 +1,20 @@
 //! A type has the fields of the interfaces that it implements (GraphQL, October 2021, sections 3.6 and 3.7).
 ghost use Rattle.std.specs.Prelude.{◌≡◌, ◌++◌, OnOk, map, option_copied, string_bytes};
-ghost use Rattle.type_system.specs.Fault.{reported};
+ghost use Rattle.type_system_report.specs.Fault.{reported};
 ghost use Rattle.type_system.specs.InterfaceFields.{unmet_entry, unmet_field, unmet_interfaces, unmet_named, unmet_pair};
 ghost use Rattle.type_system.specs.Pair.{pair_value};
 
 use crate::added_arguments::report_added_arguments;
-use crate::fault::{CoordinateOf, Fault, FaultKindOf};
 use crate::field_types::report_wrong_field_type;
 use crate::interface_arguments::report_unmet_arguments;
 use crate::listed::is_text_among;
 use crate::members::{fields, interface_names, type_name};
 use crate::pair::FieldPair;
-use crate::report::report;
 use language::error::OutOfMemory;
 use schema::meta::{Field, MetaTypeOf};
 use schema::model::SchemaTypeOf;
+use type_system_report::report::report;
+use type_system_report::{CoordinateOf, Fault, FaultKindOf};
 
 /// Reports each field of an interface of the type that the type does not meet. An interface that the
 /// type names again is judged once.

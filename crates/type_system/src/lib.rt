@@ -3,7 +3,7 @@
 
 mod added_arguments;
 pub mod all;
-pub mod fault;
+mod ancestors;
 mod field_types;
 mod implemented_types;
 mod interface_arguments;
@@ -14,13 +14,14 @@ mod listed;
 mod members;
 mod output_types;
 mod pair;
-mod report;
 mod reserved_names;
 mod reserved_values;
 mod root_types;
 mod some_fields;
+mod some_locations;
 mod some_members;
 mod some_values;
+mod unique_members;
 
 pub use all::{directive_faults, type_system_faults};
-pub use fault::{Coordinate, CoordinateOf, Fault, FaultKind, FaultKindOf, FaultOf};
+pub use type_system_report::{Coordinate, CoordinateOf, Fault, FaultKind, FaultKindOf, FaultOf};

@@ -1,14 +1,14 @@
 //! The type of a field is an output type (GraphQL, October 2021, sections 3.6 and 3.7).
 ghost use Rattle.std.specs.Prelude.{◌≡◌, ◌++◌, OnOk};
-ghost use Rattle.type_system.specs.Fault.{reported};
+ghost use Rattle.type_system_report.specs.Fault.{reported};
 ghost use Rattle.type_system.specs.OutputTypes.{is_input_object, is_input_object_named, wrong_output_type, wrong_output_types};
 
-use crate::fault::{CoordinateOf, Fault, FaultKindOf};
 use crate::members::{fields, type_name};
-use crate::report::report;
 use language::error::OutOfMemory;
 use schema::meta::{Field, MetaTypeOf};
 use schema::model::SchemaTypeOf;
+use type_system_report::report::report;
+use type_system_report::{CoordinateOf, Fault, FaultKindOf};
 
 /// Reports each field of a type whose type is no output type.
 pub(crate) fn report_wrong_output_types<'a, S, C>(

@@ -1,10 +1,10 @@
 //! A field of a type beside the field of an interface that it stands for.
 ghost use Rattle.std.specs.Prelude.{◌≡◌};
-ghost use Rattle.type_system.specs.Fault.{coordinate_value};
+ghost use Rattle.type_system_report.specs.Fault.{coordinate_value};
 ghost use Rattle.type_system.specs.Pair.{given_argument, given_field, pair_value, wanted_argument, wanted_field};
 
-use crate::fault::{Coordinate, CoordinateOf};
 use schema::meta::Field;
+use type_system_report::{Coordinate, CoordinateOf};
 
 /// The field `given` of the type `of`, and the field `wanted` of the interface.
 #[derive(Drop)]

@@ -1,16 +1,16 @@
 //! No name begins with `__`, but those of introspection (GraphQL, October 2021, sections 3.3 and 3.4).
 ghost use Rattle.std.specs.Prelude.{◌≡◌, ◌++◌, OnOk};
 ghost use Rattle.std.specs.List.{flat_map};
-ghost use Rattle.type_system.specs.Fault.{coordinate_value, reported};
+ghost use Rattle.type_system_report.specs.Fault.{coordinate_value, reported};
 ghost use Rattle.type_system.specs.ReservedNames.{reserved_argument, reserved_directive, reserved_directive_argument, reserved_field, reserved_input_field, reserved_name, reserved_names, reserved_value};
 
-use crate::fault::{Coordinate, CoordinateOf, Fault, FaultKindOf};
 use crate::introspected::{is_introspection_field, is_introspection_type, is_reserved};
 use crate::members::{arguments, enum_values, fields, input_fields, type_name};
-use crate::report::report;
 use language::error::OutOfMemory;
 use schema::meta::{Argument, EnumValue, Field, MetaTypeOf};
 use schema::model::{DirectiveType, SchemaTypeOf};
+use type_system_report::report::report;
+use type_system_report::{Coordinate, CoordinateOf, Fault, FaultKindOf};
 
 /// Reports the names of a type and its members that are reserved.
 pub(crate) fn report_reserved_names<'a, S, C>(

@@ -1,13 +1,13 @@
 //! No enum value is named `true`, `false` or `null` (GraphQL, October 2021, section 3.9).
 ghost use Rattle.std.specs.Prelude.{◌≡◌, ◌++◌, OnOk};
-ghost use Rattle.type_system.specs.Fault.{reported};
+ghost use Rattle.type_system_report.specs.Fault.{reported};
 ghost use Rattle.type_system.specs.ReservedValues.{is_reserved_value, reserved_value, reserved_values};
 
-use crate::fault::{CoordinateOf, Fault, FaultKindOf};
 use crate::members::{enum_values, type_name};
-use crate::report::report;
 use language::error::OutOfMemory;
 use schema::meta::{EnumValue, MetaTypeOf};
+use type_system_report::report::report;
+use type_system_report::{CoordinateOf, Fault, FaultKindOf};
 
 /// Reports each value of an enum that has a reserved name.
 pub(crate) fn report_reserved_values<'a, S, C>(

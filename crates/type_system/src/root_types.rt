@@ -1,16 +1,16 @@
 //! The roots of a schema are different types (GraphQL, October 2021, section 3.3.1).
 ghost use Rattle.std.specs.Prelude.{◌≡◌, ◌++◌, OnOk, option_and_then, option_copied};
 ghost use Rattle.meta.specs.Kinds.{name_of_meta};
-ghost use Rattle.type_system.specs.Fault.{reported};
+ghost use Rattle.type_system_report.specs.Fault.{reported};
 ghost use Rattle.type_system.specs.RootTypes.{root_name, shared_root, shared_roots};
 
-use crate::fault::{CoordinateOf, Fault, FaultKindOf};
 use crate::members::type_name;
-use crate::report::report;
 use language::error::OutOfMemory;
 use language::tree::OperationType;
 use schema::meta::MetaTypeOf;
 use schema::model::SchemaTypeOf;
+use type_system_report::report::report;
+use type_system_report::{CoordinateOf, Fault, FaultKindOf};
 
 /// Reports each two roots that are one type.
 pub(crate) fn report_shared_roots<'a, S, C>(

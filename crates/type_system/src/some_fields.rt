@@ -1,15 +1,15 @@
 //! An object, an interface and an input object have a field (GraphQL, October 2021, sections 3.6, 3.7 and 3.10).
 ghost use Rattle.std.specs.Prelude.{◌≡◌, ◌++◌, OnOk};
-ghost use Rattle.type_system.specs.Fault.{reported};
+ghost use Rattle.type_system_report.specs.Fault.{reported};
 ghost use Rattle.type_system.specs.SomeFields.{are_introspections, has_no_fields, missing_fields};
 
-use crate::fault::{CoordinateOf, Fault, FaultKindOf};
 use crate::introspected::is_introspection_field;
 use crate::members::{fields, input_fields, type_name};
-use crate::report::report;
 use language::error::OutOfMemory;
 use schema::meta::{Field, MetaTypeOf};
 use schema::model::SchemaTypeOf;
+use type_system_report::report::report;
+use type_system_report::{CoordinateOf, Fault, FaultKindOf};
 
 /// Reports a type without a field of its own, where it needs one.
 pub(crate) fn report_missing_fields<'a, S, C>(

@@ -1,12 +1,12 @@
 //! A union has a member (GraphQL, October 2021, section 3.8).
 ghost use Rattle.std.specs.Prelude.{◌≡◌, ◌++◌, OnOk};
-ghost use Rattle.type_system.specs.Fault.{reported};
+ghost use Rattle.type_system_report.specs.Fault.{reported};
 ghost use Rattle.type_system.specs.SomeMembers.{missing_members};
 
-use crate::fault::{CoordinateOf, Fault, FaultKindOf};
-use crate::report::report;
 use language::error::OutOfMemory;
 use schema::meta::MetaTypeOf;
+use type_system_report::report::report;
+use type_system_report::{CoordinateOf, Fault, FaultKindOf};
 
 /// Reports a union without a member.
 pub(crate) fn report_missing_members<'a, S, C>(

@@ -1,12 +1,12 @@
 //! An enum has a value (GraphQL, October 2021, section 3.9).
 ghost use Rattle.std.specs.Prelude.{◌≡◌, ◌++◌, OnOk};
-ghost use Rattle.type_system.specs.Fault.{reported};
+ghost use Rattle.type_system_report.specs.Fault.{reported};
 ghost use Rattle.type_system.specs.SomeValues.{missing_values};
 
-use crate::fault::{CoordinateOf, Fault, FaultKindOf};
-use crate::report::report;
 use language::error::OutOfMemory;
 use schema::meta::MetaTypeOf;
+use type_system_report::report::report;
+use type_system_report::{CoordinateOf, Fault, FaultKindOf};
 
 /// Reports an enum without a value.
 pub(crate) fn report_missing_values<'a, S, C>(

@@ -1,7 +1,7 @@
 use Rattle.std.proofs.Common.{◌≡◌, ◌++◌, map, take}
 use Rattle.std.specs.List.{flat_map}
 use Rattle.type_system.specs.All.{type_faults}
-use Rattle.type_system.specs.Fault.{reported}
+use Rattle.type_system_report.specs.Fault.{reported}
 use Rattle.type_system.proofs.all.report_types.Given as goal
 
 -- what is found at those that were seen was reported

@@ -1,6 +1,6 @@
 use Rattle.std.proofs.Common.{◌≡◌, ◌++◌, take}
 use Rattle.std.specs.List.{flat_map}
-use Rattle.type_system.specs.Fault.{reported}
+use Rattle.type_system_report.specs.Fault.{reported}
 use Rattle.type_system.specs.InterfaceArguments.{unmet_argument}
 use Rattle.type_system.specs.Pair.{pair_value}
 use Rattle.type_system.proofs.interface_arguments.report_unmet_arguments.Given as goal

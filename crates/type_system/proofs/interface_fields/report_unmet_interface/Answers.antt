@@ -1,5 +1,5 @@
 use Rattle.std.proofs.Common.{◌≡◌, ◌++◌, string_bytes, subst}
-use Rattle.type_system.specs.Fault.{reported}
+use Rattle.type_system_report.specs.Fault.{reported}
 use Rattle.type_system.specs.InterfaceFields.{unmet_field}
 use Rattle.type_system.proofs.Reported.{reports_next}
 use Rattle.type_system.proofs.interface_fields.report_unmet_interface.Goals as goal

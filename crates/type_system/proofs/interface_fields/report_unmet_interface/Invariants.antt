@@ -1,6 +1,6 @@
 use Rattle.std.proofs.Common.{◌≡◌, ◌++◌, string_bytes, take}
 use Rattle.std.specs.List.{flat_map}
-use Rattle.type_system.specs.Fault.{reported}
+use Rattle.type_system_report.specs.Fault.{reported}
 use Rattle.type_system.specs.InterfaceFields.{unmet_field}
 use Rattle.type_system.proofs.interface_fields.report_unmet_interface.Given as goal
 

@@ -1,6 +1,6 @@
 use Rattle.std.proofs.Common.{◌≡◌, ◌++◌, length, map, string_bytes}
 use Rattle.type_system.specs.Entries.{each_entry}
-use Rattle.type_system.specs.Fault.{reported}
+use Rattle.type_system_report.specs.Fault.{reported}
 use Rattle.type_system.specs.InterfaceFields.{unmet_entry, unmet_interfaces}
 use Rattle.type_system.proofs.interface_fields.report_unmet_interfaces.Given as goal
 

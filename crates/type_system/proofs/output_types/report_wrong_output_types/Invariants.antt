@@ -1,6 +1,6 @@
 use Rattle.std.proofs.Common.{◌≡◌, ◌++◌, take}
 use Rattle.std.specs.List.{flat_map}
-use Rattle.type_system.specs.Fault.{reported}
+use Rattle.type_system_report.specs.Fault.{reported}
 use Rattle.type_system.specs.OutputTypes.{wrong_output_type}
 use Rattle.type_system.proofs.output_types.report_wrong_output_types.Given as goal
 

@@ -1,6 +1,6 @@
 use Rattle.std.proofs.Common.{◌++◌, ap, ◌∙◌}
-use Rattle.type_system.specs.declared.fault.CoordinateOf.TheVariants as k
-use Rattle.type_system.specs.Fault.{reported}
+use Rattle.type_system_report.specs.declared.fault.CoordinateOf.TheVariants as k
+use Rattle.type_system_report.specs.Fault.{reported}
 use Rattle.type_system.specs.ReservedNames.{reserved_argument, reserved_name}
 use Rattle.type_system.proofs.Reported.{reports_next}
 use Rattle.type_system.proofs.reserved_names.report_arguments.Goals as goal

@@ -1,6 +1,6 @@
 use Rattle.std.proofs.Common.{◌≡◌, ◌++◌, take}
 use Rattle.std.specs.List.{flat_map}
-use Rattle.type_system.specs.Fault.{reported}
+use Rattle.type_system_report.specs.Fault.{reported}
 use Rattle.type_system.specs.ReservedValues.{reserved_value}
 use Rattle.type_system.proofs.reserved_values.report_reserved_values.Given as goal
 

@@ -2,8 +2,8 @@
 ghost use Rattle.std.specs.Prelude.{◌≡◌, Some};
 ghost use Rattle.std.specs.Fmt.{WritesOnOk};
 ghost use Rattle.language.specs.Types.{borrowed_shape};
-ghost use Rattle.type_system.specs.Fault.{coordinate_value, fault_value, holder_of, last_name};
-ghost use Rattle.type_system.specs.Texts.{absent_text, coordinate_text, expected_text, fault_text, given_text, missing_text, once_text, required_text, root_word, text_at};
+ghost use Rattle.type_system_report.specs.Fault.{coordinate_value, fault_value, holder_of, last_name};
+ghost use Rattle.type_system_report.specs.Texts.{absent_text, coordinate_text, expected_text, fault_text, given_text, missing_text, once_text, required_text, root_word, text_at};
 
 use language::tree::OperationType;
 use language::types::BorrowedType;
@@ -51,6 +51,11 @@ pub enum FaultKindOf<N, T> {
     RepeatedInterface(N),
     /// An interface implements itself (section 3.7).
     OwnInterface,
+    /// The type lacks the first interface, which the second, an interface of the type, implements
+    /// (sections 3.6 and 3.7).
+    MissingAncestor(N, N),
+    /// The interface of this name implements the type, which implements it (section 3.7).
+    CircularInterface(N),
     /// The type lacks this field of an interface (sections 3.6 and 3.7).
     MissingField(CoordinateOf<N>),
     /// This field of an interface has the first type, of which the second is no subtype (sections 3.6
@@ -63,8 +68,12 @@ pub enum FaultKindOf<N, T> {
     WrongArgumentType(CoordinateOf<N>, T, T),
     /// The argument is required, and this field of an interface lacks it (sections 3.6 and 3.7).
     AddedArgument(CoordinateOf<N>),
+    /// A union has the member of this name again (section 3.8).
+    RepeatedMember(N),
     /// An enum value is named `true`, `false` or `null` (section 3.9).
     ReservedValue,
+    /// A directive has no location (section 3.13).
+    NoLocations,
 }
 
 /// The kind of a fault that borrows from a schema.
@@ -162,6 +171,8 @@ impl fmt::Display for FaultOf<&str, BorrowedType<'_>> {
                 f,
                 "Type {at} cannot implement itself because it would create a circular reference"
             ),
+            FaultKindOf::MissingAncestor(name, by) => write_missing_ancestor(f, at, name, by),
+            FaultKindOf::CircularInterface(name) => write_circular(f, at, name),
             FaultKindOf::MissingField(wanted) => write_missing(f, "Interface field ", *wanted, at),
             FaultKindOf::WrongFieldType(wanted, t, u) => {
                 write_expected(f, "Interface field ", *wanted, *t)?;
@@ -178,7 +189,11 @@ impl fmt::Display for FaultOf<&str, BorrowedType<'_>> {
                 write_required(f, at)?;
                 write!(f, " that is missing from the Interface field {wanted}")
             }
+            FaultKindOf::RepeatedMember(name) => write_repeated_member(f, at, name),
             FaultKindOf::ReservedValue => write_reserved_value(f, at),
+            FaultKindOf::NoLocations => {
+                write!(f, "Directive {at} must include one or more locations")
+            }
         }
     }
 }
@@ -225,6 +240,43 @@ fn write_once<W: fmt::Write>(f: &mut fmt::Formatter<W>, name: &str) -> fmt::Resu
     ensures { WritesOnOk W.write_str_gives f.old result (once_text name.now) f.new }
 {
     write!(f, " can only implement {name} once")
+}
+
+fn write_missing_ancestor<W: fmt::Write>(
+    f: &mut fmt::Formatter<W>,
+    at: Coordinate<'_>,
+    name: &str,
+    by: &str,
+) -> fmt::Result
+    ensures { WritesOnOk W.write_str_gives f.old result
+        (text_at (coordinate_value at.entry) (FaultKindOf.MissingAncestor name.now by.now)) f.new }
+{
+    write!(f, "Type {at} must implement {name}")?;
+    write!(f, " because it is implemented by {by}")
+}
+
+fn write_circular<W: fmt::Write>(
+    f: &mut fmt::Formatter<W>,
+    at: Coordinate<'_>,
+    name: &str,
+) -> fmt::Result
+    ensures { WritesOnOk W.write_str_gives f.old result
+        (text_at (coordinate_value at.entry) (FaultKindOf.CircularInterface name.now)) f.new }
+{
+    write!(f, "Type {at} cannot implement {name}")?;
+    f.write_str(" because it would create a circular reference")
+}
+
+fn write_repeated_member<W: fmt::Write>(
+    f: &mut fmt::Formatter<W>,
+    at: Coordinate<'_>,
+    name: &str,
+) -> fmt::Result
+    ensures { WritesOnOk W.write_str_gives f.old result
+        (text_at (coordinate_value at.entry) (FaultKindOf.RepeatedMember name.now)) f.new }
+{
+    write!(f, "Union type {at}")?;
+    write!(f, " can only include type {name} once")
 }
 
 fn write_missing<W: fmt::Write>(

@@ -3,9 +3,9 @@ use Rattle.std.specs.Prelude.{ℕ, List, ◌++◌, codes}
 use Rattle.language.specs.declared.tree.OperationType.{OperationType}
 use Rattle.language.specs.declared.tree.OperationType.TheVariants as o
 use Rattle.language.specs.Types.{TypeShape, printed}
-use Rattle.type_system.specs.declared.fault.CoordinateOf.TheVariants as c
-use Rattle.type_system.specs.declared.fault.FaultKindOf.TheVariants as k
-use Rattle.type_system.specs.Fault.{CoordinateValue, FaultValue, KindValue, holder_of, last_name}
+use Rattle.type_system_report.specs.declared.fault.CoordinateOf.TheVariants as c
+use Rattle.type_system_report.specs.declared.fault.FaultKindOf.TheVariants as k
+use Rattle.type_system_report.specs.Fault.{CoordinateValue, FaultValue, KindValue, holder_of, last_name}
 
 -- the bytes of a coordinate
 abbrev pub coordinate_text : CoordinateValue → List ℕ
@@ -56,12 +56,16 @@ text_at at (k.NotOutputType t) = codes "The type of " ++ (coordinate_text at ++ 
 text_at at (k.NotInterface n) = codes "Type " ++ (coordinate_text at ++ (codes " must only implement interface types, it cannot implement " ++ n))
 text_at at (k.RepeatedInterface n) = (codes "Type " ++ coordinate_text at) ++ once_text n
 text_at at k.OwnInterface = codes "Type " ++ (coordinate_text at ++ codes " cannot implement itself because it would create a circular reference")
+text_at at (k.MissingAncestor n j) = (codes "Type " ++ (coordinate_text at ++ (codes " must implement " ++ n))) ++ (codes " because it is implemented by " ++ j)
+text_at at (k.CircularInterface n) = (codes "Type " ++ (coordinate_text at ++ (codes " cannot implement " ++ n))) ++ codes " because it would create a circular reference"
 text_at at (k.MissingField w) = missing_text (codes "Interface field ") w at
 text_at at (k.WrongFieldType w t u) = expected_text (codes "Interface field ") w t ++ given_text at u
 text_at at (k.MissingArgument w) = missing_text (codes "Interface field argument ") w at
 text_at at (k.WrongArgumentType w t u) = expected_text (codes "Interface field argument ") w t ++ given_text at u
 text_at at (k.AddedArgument w) = required_text at ++ (codes " that is missing from the Interface field " ++ coordinate_text w)
+text_at at (k.RepeatedMember n) = (codes "Union type " ++ coordinate_text at) ++ (codes " can only include type " ++ (n ++ codes " once"))
 text_at at k.ReservedValue = codes "Enum type " ++ (coordinate_text (holder_of at) ++ (codes " cannot include value: " ++ last_name at))
+text_at at k.NoLocations = codes "Directive " ++ (coordinate_text at ++ codes " must include one or more locations")
 
 -- the bytes of a fault
 abbrev pub fault_text : FaultValue → List ℕ

@@ -4,11 +4,11 @@ use Rattle.std.specs.declared.alloc.Global.{Global}
 use denote.Ref.{Bor}
 use Rattle.language.specs.declared.types.BorrowedType.{BorrowedType}
 use Rattle.language.specs.Types.{TypeShape, borrowed_shape}
-use Rattle.type_system.specs.declared.fault.CoordinateOf.{CoordinateOf}
-use Rattle.type_system.specs.declared.fault.CoordinateOf.TheVariants as c
-use Rattle.type_system.specs.declared.fault.FaultKindOf.{FaultKindOf}
-use Rattle.type_system.specs.declared.fault.FaultKindOf.TheVariants as k
-use Rattle.type_system.specs.declared.fault.FaultOf.{FaultOf}
+use Rattle.type_system_report.specs.declared.fault.CoordinateOf.{CoordinateOf}
+use Rattle.type_system_report.specs.declared.fault.CoordinateOf.TheVariants as c
+use Rattle.type_system_report.specs.declared.fault.FaultKindOf.{FaultKindOf}
+use Rattle.type_system_report.specs.declared.fault.FaultKindOf.TheVariants as k
+use Rattle.type_system_report.specs.declared.fault.FaultOf.{FaultOf}
 
 -- coordinates, kinds and faults by names and types as values
 abbrev pub CoordinateValue : Type 0
@@ -41,12 +41,16 @@ module _ {N M : Type 0} (name : N → M) where
   kind_map of_type (k.NotInterface n) = k.NotInterface (name n)
   kind_map of_type (k.RepeatedInterface n) = k.RepeatedInterface (name n)
   kind_map of_type k.OwnInterface = k.OwnInterface
+  kind_map of_type (k.MissingAncestor n j) = k.MissingAncestor (name n) (name j)
+  kind_map of_type (k.CircularInterface n) = k.CircularInterface (name n)
   kind_map of_type (k.MissingField w) = k.MissingField (coordinate_map w)
   kind_map of_type (k.WrongFieldType w t u) = k.WrongFieldType (coordinate_map w) (of_type t) (of_type u)
   kind_map of_type (k.MissingArgument w) = k.MissingArgument (coordinate_map w)
   kind_map of_type (k.WrongArgumentType w t u) = k.WrongArgumentType (coordinate_map w) (of_type t) (of_type u)
   kind_map of_type (k.AddedArgument w) = k.AddedArgument (coordinate_map w)
+  kind_map of_type (k.RepeatedMember n) = k.RepeatedMember (name n)
   kind_map of_type k.ReservedValue = k.ReservedValue
+  kind_map of_type k.NoLocations = k.NoLocations
 
 -- what borrowed coordinates, kinds and faults stand for
 abbrev pub coordinate_value : CoordinateOf (Bor (List ℕ)) → CoordinateValue

@@ -1,12 +1,12 @@
 //! How a rule reports a fault.
 ghost use Rattle.std.specs.Prelude.{◌≡◌, ◌++◌, ◌∷◌, [], OnOk};
-ghost use Rattle.type_system.specs.Fault.{coordinate_value, kind_value, reported};
+ghost use Rattle.type_system_report.specs.Fault.{coordinate_value, kind_value, reported};
 
 use crate::fault::{Coordinate, Fault, FaultKind, FaultOf};
 use language::error::OutOfMemory;
 
 /// Appends a fault.
-pub(crate) fn report<'a>(
+pub fn report<'a>(
     faults: &mut Vec<Fault<'a>>,
     coordinate: Coordinate<'a>,
     kind: FaultKind<'a>,

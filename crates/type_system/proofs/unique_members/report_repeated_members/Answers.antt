@@ -1,0 +1,7 @@
+use Rattle.type_system.specs.UniqueMembers.{repeated_member}
+use Rattle.type_system.proofs.Reported.{entries_next}
+use Rattle.type_system.proofs.unique_members.report_repeated_members.Goals as goal
+
+pub loop-name-preserved : goal.loop-name-preserved
+loop-name-preserved g c =
+    entries_next (repeated_member c.args.meta.now) c.loop-name.rest.now c.in-Some.others.now c.in-Some.name.now c.as_str.result.now _ _ _ c.in-Some.ensures.cases.0 c.as_str.ensures.value c.loop-name.invariant c.in_ok-report_repeated_member.ensures
