@@ -88,6 +88,42 @@ fn interfaces_are_interfaces_once(rt: HostRuntime) {
     );
 }
 
+const BEAST: [ObjectRow; 1] = [("Dog", &["Beast"], &[("name", "String", &[])])];
+
+fn named_interface(
+    alloc: Global,
+    name: &str,
+    interface: &str,
+) -> Result<MetaType, OutOfMemory> {
+    let mut fields = own_fields(alloc)?;
+    fields.push(field(alloc, &NAMED[0])?)?;
+    interface_of(alloc, name, &[interface], fields)
+}
+
+fn ancestor_types(alloc: Global) -> Result<Vec<MetaType>, OutOfMemory> {
+    let mut types = common_types(alloc)?;
+    add_objects(alloc, &mut types, &ROOT)?;
+    add_interfaces(alloc, &mut types, &PET)?;
+    types.push(named_interface(alloc, "Beast", "Pet")?)?;
+    types.push(named_interface(alloc, "Left", "Right")?)?;
+    types.push(named_interface(alloc, "Right", "Left")?)?;
+    add_objects(alloc, &mut types, &BEAST)?;
+    Ok(types)
+}
+
+#[test]
+fn interfaces_of_interfaces_are_named(rt: HostRuntime) {
+    let alloc = rt.alloc();
+    tells(
+        &rt,
+        alloc,
+        ancestor_types(alloc).expect(&rt, "memory"),
+        "Left: Type Left cannot implement Right because it would create a circular reference\n\
+         Right: Type Right cannot implement Left because it would create a circular reference\n\
+         Dog: Type Dog must implement Pet because it is implemented by Beast\n",
+    );
+}
+
 fn owner_types(alloc: Global, objects: &[ObjectRow]) -> Result<Vec<MetaType>, OutOfMemory> {
     let mut types = common_types(alloc)?;
     add_objects(alloc, &mut types, &ROOT)?;

@@ -4,7 +4,7 @@ use language::error::OutOfMemory;
 use meta::MetaType;
 use samples::build::{argument, union_of};
 use samples::rows::{InterfaceRow, ObjectRow, add_interfaces, add_objects, input_object};
-use schema::model::DirectiveType;
+use schema::model::{DirectiveLocation, DirectiveType};
 use std::alloc::Global;
 
 const ROOT: [ObjectRow; 2] = [
@@ -64,23 +64,38 @@ fn names_are_not_reserved(rt: HostRuntime) {
     );
 }
 
-fn reserved_directive(alloc: Global) -> Result<DirectiveType, OutOfMemory> {
+// A directive with arguments of this name and `g`.
+fn directive(
+    alloc: Global,
+    name: &str,
+    first: &str,
+    locations: Vec<DirectiveLocation>,
+) -> Result<DirectiveType, OutOfMemory> {
     let mut arguments = Vec::new(alloc);
-    arguments.push(argument(alloc, "__f", "String")?)?;
+    arguments.push(argument(alloc, first, "String")?)?;
     arguments.push(argument(alloc, "g", "String")?)?;
-    DirectiveType::new(alloc, "__odd", Vec::new(alloc), arguments, false)
+    DirectiveType::new(alloc, name, locations, arguments, false)
+}
+
+fn right_directive(alloc: Global) -> Result<DirectiveType, OutOfMemory> {
+    let mut locations = Vec::new(alloc);
+    locations.push(DirectiveLocation::Field)?;
+    directive(alloc, "_even", "_f", locations)
 }
 
 #[test]
-fn directives_are_not_reserved(rt: HostRuntime) {
+fn directives_are_right(rt: HostRuntime) {
     let alloc = rt.alloc();
-    let odd = reserved_directive(alloc).expect(&rt, "memory");
+    let even = right_directive(alloc).expect(&rt, "memory");
+    tells_directive(&rt, alloc, &even, "");
+    let odd = directive(alloc, "__odd", "__f", Vec::new(alloc)).expect(&rt, "memory");
     tells_directive(
         &rt,
         alloc,
         &odd,
         "@__odd: Name \"__odd\" must not begin with \"__\", which is reserved by introspection\n\
-         @__odd(__f:): Name \"__f\" must not begin with \"__\", which is reserved by introspection\n",
+         @__odd(__f:): Name \"__f\" must not begin with \"__\", which is reserved by introspection\n\
+         @__odd: Directive @__odd must include one or more locations\n",
     );
 }
 
@@ -143,11 +158,12 @@ fn full_types(alloc: Global) -> Result<Vec<MetaType>, OutOfMemory> {
 fn valued_types(alloc: Global) -> Result<Vec<MetaType>, OutOfMemory> {
     let mut types = root_types(alloc)?;
     types.push(enum_of(alloc, "Size", &["true", "S", "null", "false"])?)?;
+    types.push(union_of(alloc, "Pet", &["Dog", "QueryRoot", "Dog"])?)?;
     Ok(types)
 }
 
 #[test]
-fn values_are_no_other_words(rt: HostRuntime) {
+fn members_are_right(rt: HostRuntime) {
     let alloc = rt.alloc();
     tells(&rt, alloc, full_types(alloc).expect(&rt, "memory"), "");
     tells(
@@ -156,7 +172,8 @@ fn values_are_no_other_words(rt: HostRuntime) {
         valued_types(alloc).expect(&rt, "memory"),
         "Size.true: Enum type Size cannot include value: true\n\
          Size.null: Enum type Size cannot include value: null\n\
-         Size.false: Enum type Size cannot include value: false\n",
+         Size.false: Enum type Size cannot include value: false\n\
+         Pet: Union type Pet can only include type Dog once\n",
     );
 }
 
