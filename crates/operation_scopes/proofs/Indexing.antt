@@ -25,7 +25,7 @@ use Rattle.operation_scopes.specs.OperationNumbers.{number_at}
 use Rattle.operation_scopes.specs.Places.{AddsAt, numbered_places, places_from, places_of}
 use Rattle.operation_scopes.specs.Scopes.{IsLastOf, IsOperationName, OperationNames, operation_name, same_scope, scope_of}
 use Rattle.operation_scopes.proofs.Growing.{at_pushed, before_pushed, each_more, next_places, not_true, same_places}
-use Rattle.operation_scopes.proofs.Once.{once_none, once_push}
+use Rattle.operation_scopes.proofs.Once.{once_push}
 use Rattle.operation_scopes.proofs.PlaceLists.{places_get, places_has, places_last}
 use Rattle.operation_scopes.proofs.ScopeTests.{is_operation, name_same, name_self}
 
@@ -88,12 +88,6 @@ module _ {S : Type 0} where
         | inr is ↦ subst (λ z. Contains (names ++ operation_name o ∷ []) z) (name_same (operation_name o) name is) (Contains-push names (operation_name o))
       ],
     );
-  }
-
-  pub names_none : OperationNames {S = S} [] []
-  names_none = record {
-    once = once_none;
-    are = λ name. (λ c. absurd (omega (arith, c.1)), λ n. let l = n.1.1 in absurd (omega (arith, l)));
   }
 
 -- Names of operations by number: the numbers, the names, and the places at each.
@@ -310,25 +304,6 @@ module _ {S : Type 0} (document xs : List (Definition S)) (number : Option ℕ) 
   pub indexed_next : (d : Definition S) → Contains document d → number ≡ defined_number old.graph.numbers d → AddsDefinition d number place n n' old new → Indexed document (xs ++ d ∷ []) n' new
   indexed_next (definition.Operation o) c e adds = operation_next o adds
   indexed_next (definition.Fragment f) c e (same, adds) = fragment_next f c e same adds
-
--- before the first
-pub indexed_none : {S : Type 0} (document : List (Definition S)) (n : OperationNumbers) (index : ScopeIndex) → ((name : Option (List ℕ)) → number_at n name ≡ None) → index.names.items ≡ [] → index.operations.items ≡ []
-    → ((k : ℕ) → numbered_places index.fragments.items k ≡ []) → HasLists index.graph.numbers index.fragments.items → IsGraphOf document index.graph → HasSpreads document index.graph.numbers index.spreads → Indexed document [] n index
-indexed_none {S} document n index none names lists empty sized graph spreads = record {
-  operations = record {
-    numbered = λ name k. (
-      λ e. absurd (none_some k (sym (none name) ∙ e)),
-      λ g. absurd (none_some name (ap (λ zs. slice_get (map (option_map (λ m. m.now)) zs) k) (sym names) ∙ g)),
-    );
-    are = subst (λ zs. OperationNames {S = S} [] (map (option_map (λ m. m.now)) zs)) (sym names) names_none;
-    sized = ap length lists ∙ ap (λ zs. length (map (option_map (λ m. m.now)) zs)) (sym names);
-    places = λ name k g. absurd (none_some name (ap (λ zs. slice_get (map (option_map (λ m. m.now)) zs) k) (sym names) ∙ g));
-  };
-  fragments = λ name k at. empty k;
-  lists = sized;
-  graph = graph;
-  spreads = spreads;
-}
 
 module _ {S : Type 0} (document : List (Definition S)) (name : Option (List ℕ)) where
   abbrev own : List ℕ
