@@ -1,4 +1,3 @@
-pub mod Settling
 pub mod Telling
 pub mod UseLemmas
 pub mod Variables

@@ -50,9 +50,6 @@ more_uses f xs i x old now new is l h e =
 pub then_uses : (old now new xs ys : Uses) → now ≡ old ++ xs → new ≡ now ++ ys → new ≡ old ++ (xs ++ ys)
 then_uses old now new xs ys h e = e ∙ ap (λ z. z ++ ys) h ∙ append_assoc old xs ys
 
-pub no_uses : (old : Uses) → old ≡ old ++ []
-no_uses old = sym (append-nil old)
-
 module _ {S : Type 0} (s : Selection S) (old : Uses) where
   -- what a field adds: its arguments' uses, its directives', and those of its set
   pub field_some : (f : Spanning (Field S) Span) (w : Vec (Selection S) Global) (a b new : Uses) → s ≡ v.Field f → (out-Field S f.item).selection_set ≡ Some w

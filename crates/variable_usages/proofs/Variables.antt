@@ -6,7 +6,7 @@ use Rattle.std.specs.List.{Contains}
 use Rattle.std.specs.Str.{bytes_eq}
 use Rattle.std.proofs.lemmas.List.Folds.{list_any-append}
 use Rattle.std.proofs.lemmas.List.Elements.{Contains-append_left, Contains-push, Contains-push_cases}
-use Rattle.operation_scopes.proofs.Once.{once_none, once_push}
+use Rattle.operation_scopes.proofs.Once.{once_push}
 use Rattle.std.proofs.lemmas.List.{map-append}
 use Rattle.variable_usages.specs.declared.uses.VariableUse.{VariableUse}
 use Rattle.language.specs.Position.{index_of}
@@ -41,9 +41,6 @@ pub true_false : (b : Bool) → b ≡ true → b ≡ false → ⊥
 true_false b h k = cc
 
 module _ (used : List ℕ → Bool) where
-  pub unused_none : UnusedAmong used [] []
-  unused_none = record { once = once_none; are = λ v. (λ c. absurd (omega (arith, c.1)), λ c. let l = c.0.1 in absurd (omega (arith, l))) }
-
   module _ (variables found : List NameAndSpan) (v : NameAndSpan) (u : UnusedAmong used variables found) where
     kept : (p : NameAndSpan) → Contains found p → Contains (variables ++ v ∷ []) p × (used p.0 ≡ false)
     kept p c = let r = (u.are p).0 c in (Contains-append_left variables (v ∷ []) p r.0, r.1)
