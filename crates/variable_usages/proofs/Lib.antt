@@ -1,4 +1,5 @@
+pub mod Skipping
 pub mod Telling
+pub mod Turns
 pub mod UseLemmas
 pub mod Variables
-pub mod Skipping

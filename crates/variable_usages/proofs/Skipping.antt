@@ -16,10 +16,10 @@ use Rattle.operation_scopes.proofs.Indexing.{some_last}
 use Rattle.operation_scopes.proofs.InReaching.{some_reach}
 use Rattle.operation_scopes.proofs.Once.{once_none}
 use Rattle.variable_usages.specs.declared.uses.VariableUse.{VariableUse}
-use Rattle.variable_usages.specs.InReachUses.{AllUses, InTurn, kept_uses}
+use Rattle.variable_usages.specs.InReachUses.{AddsPart, AllUses, InTurn, kept_uses}
 use Rattle.variable_usages.specs.Names.{NameAndSpan, defined_names, is_among}
 use Rattle.variable_usages.specs.Undefined.{UndefinedIn, UndefinedVariables, UsesNothing, told_undefined}
-use Rattle.variable_usages.specs.Unused.{AddsUnused, DefinesNone, Unused, UnusedAmong}
+use Rattle.variable_usages.specs.Unused.{DefinesNone, Unused, UnusedAmong, UnusedIn}
 use Rattle.variable_usages.specs.Uses.{definition_uses, use_of}
 use Rattle.variable_usages.proofs.Telling.{kept_there}
 
@@ -49,7 +49,7 @@ no_variables used variables e = record {
 
 module _ {S : Type 0} (document : List (Definition S)) (index : ScopeIndex) (h : IsIndexOf document index) (name : Option (List ℕ)) where
   -- where no variable is defined none is unused
-  pub none_unused : (old : List Unused) → DefinesNone document name → AddsUnused document name old old
+  pub none_unused : (old : List Unused) → DefinesNone document name → AddsPart (UnusedIn document name) old old
   none_unused old (last, is, none) =
       let (places, reach) = some_reach document index h name in (
         [],

@@ -14,6 +14,10 @@ abbrev pub InTurn : {X Y : Type 0} → (X → List Y → Type 0) → List X → 
 InTurn gives [] ys = ys ≡ []
 InTurn {X} {Y} gives (x ∷ xs) ys = (part : List Y) × (rest : List Y) × gives x part × InTurn gives xs rest × (ys ≡ part ++ rest)
 
+-- What is given for one of these was added.
+abbrev pub AddsPart : {Y : Type 0} → (List Y → Type 0) → List Y → List Y → Type 0
+AddsPart {Y} gives old new = (part : List Y) × gives part × (new ≡ old ++ part)
+
 module _ {S : Type 0} where
   -- The uses in all definitions whose scopes the operations of the name reach.
   abbrev pub UsedIn : List (Definition S) → Option (List ℕ) → Uses → Type 0

@@ -47,9 +47,6 @@ module _ {S : Type 0} where
     pub used : UsedIn document name uses
     pub told : found ≡ flat_map (told_undefined (is_among (defined_names last)) name last.span.start) uses
 
-  abbrev pub AddsUndefined : List (Definition S) → Option (List ℕ) → List Undefined → List Undefined → Type 0
-  AddsUndefined document name old new = (found : List Undefined) × UndefinedIn document name found × (new ≡ old ++ found)
-
   -- Those of each name of operations.
   abbrev pub UndefinedVariables : List (Definition S) → List Undefined → Type 0
   UndefinedVariables document found = (names : List (Option (List ℕ))) × OperationNames document names × InTurn (UndefinedIn document) names found

@@ -63,9 +63,6 @@ module _ {S : Type 0} where
   abbrev pub DefinesNone : List (Definition S) → Option (List ℕ) → Type 0
   DefinesNone document name = (last : Spanning (Operation S) Span) × IsLastOf document name last × (variable_list last ≡ [])
 
-  abbrev pub AddsUnused : List (Definition S) → Option (List ℕ) → List Unused → List Unused → Type 0
-  AddsUnused document name old new = (found : List Unused) × UnusedIn document name found × (new ≡ old ++ found)
-
   -- Those of each name of operations.
   abbrev pub UnusedVariables : List (Definition S) → List Unused → Type 0
   UnusedVariables document found = (names : List (Option (List ℕ))) × OperationNames document names × InTurn (UnusedIn document) names found

@@ -1,14 +1,12 @@
 //! Variables that are used but not defined (section 5.8.3).
-ghost use Rattle.std.specs.Prelude.{◌≡◌, ◌⊎◌, ◌++◌, ℕ, List, IfOk, IsTrue, OnOk, map, option_copied};
+ghost use Rattle.std.specs.Prelude.{◌≡◌, ◌⊎◌, ◌++◌, IfOk, IsTrue, OnOk, map, option_copied};
 ghost use Rattle.std.specs.List.{flat_map};
-ghost use Rattle.fragment_reach.specs.Reach.{operation};
-ghost use Rattle.operation_scopes.specs.Places.{places_of};
-ghost use Rattle.operation_scopes.specs.Scopes.{IsOperationName};
 ghost use Rattle.operation_scopes.specs.Searches.{IsReady};
-ghost use Rattle.variable_usages.specs.DocumentIndex.{IsDocumentIndex};
+ghost use Rattle.variable_usages.specs.DocumentIndex.{IsDocumentIndex, MayReach};
+ghost use Rattle.variable_usages.specs.InReachUses.{AddsPart};
 ghost use Rattle.variable_usages.specs.Names.{has_name};
 ghost use Rattle.variable_usages.specs.Uses.{use_of};
-ghost use Rattle.variable_usages.specs.Undefined.{AddsUndefined, TellsUndefined, UndefinedVariables, UsesNothing, told_undefined, undefined_of};
+ghost use Rattle.variable_usages.specs.Undefined.{TellsUndefined, UndefinedIn, UndefinedVariables, UsesNothing, told_undefined, undefined_of};
 
 use crate::document_index::{DocumentIndex, index_document};
 use crate::names::{is_named, name_set, variables};
@@ -84,13 +82,9 @@ fn add_undefined<'a, S>(
     search: &mut UseSearch<'a>,
     found: &mut Vec<UndefinedVariable<'a>>,
 ) -> Result<(), OutOfMemory>
-    requires index { IsDocumentIndex document.now index.now }
-    requires ready { IsReady index.now.scopes search.old.search }
-    requires own { own.now ≡ places_of document.now (operation (option_copied name)) }
-    requires named { IsOperationName document.now (option_copied name) }
-    ensures told { OnOk result
-        (AddsUndefined document.now (option_copied name.entry) (map undefined_of found.old.items)
-        (map undefined_of found.new.items)) }
+    requires { MayReach document.now index.now search.old.search (option_copied name) own.now }
+    ensures told { OnOk result (AddsPart (UndefinedIn document.now (option_copied name.entry))
+        (map undefined_of found.old.items) (map undefined_of found.new.items)) }
     ensures ready { OnOk result (IsReady index.now.scopes search.new.search) }
 {
     let all = index.uses.as_slice();

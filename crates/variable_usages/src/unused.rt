@@ -3,11 +3,11 @@ ghost use Rattle.std.specs.Prelude.{◌≡◌, ◌≤◌, ◌++◌, ◌↔◌, �
 ghost use Rattle.std.specs.List.{Contains};
 ghost use Rattle.fragment_reach.specs.Reach.{operation};
 ghost use Rattle.operation_scopes.specs.Places.{places_of};
-ghost use Rattle.operation_scopes.specs.Scopes.{IsOperationName};
 ghost use Rattle.operation_scopes.specs.Searches.{IsReady};
-ghost use Rattle.variable_usages.specs.DocumentIndex.{IsDocumentIndex};
+ghost use Rattle.variable_usages.specs.DocumentIndex.{IsDocumentIndex, MayReach};
+ghost use Rattle.variable_usages.specs.InReachUses.{AddsPart};
 ghost use Rattle.variable_usages.specs.Names.{has_name};
-ghost use Rattle.variable_usages.specs.Unused.{AddsUnused, AddsVariable, DefinesNone, StartBy, UnusedAmong, UnusedVariables, name_and_span, unused_by, unused_of, variable_at};
+ghost use Rattle.variable_usages.specs.Unused.{AddsVariable, DefinesNone, StartBy, UnusedAmong, UnusedIn, UnusedVariables, name_and_span, unused_by, unused_of, variable_at};
 
 use crate::document_index::{DocumentIndex, index_document};
 use crate::names::{is_named, used_names, variables};
@@ -144,12 +144,9 @@ fn add_unused<'a, S>(
     search: &mut UseSearch<'a>,
     found: &mut Vec<UnusedVariable<'a>>,
 ) -> Result<(), OutOfMemory>
-    requires index { IsDocumentIndex document.now index.now }
-    requires ready { IsReady index.now.scopes search.old.search }
-    requires own { own.now ≡ places_of document.now (operation (option_copied name)) }
-    requires named { IsOperationName document.now (option_copied name) }
-    ensures told { OnOk result (AddsUnused document.now (option_copied name.entry) (map unused_of found.old.items)
-        (map unused_of found.new.items)) }
+    requires { MayReach document.now index.now search.old.search (option_copied name) own.now }
+    ensures told { OnOk result (AddsPart (UnusedIn document.now (option_copied name.entry))
+        (map unused_of found.old.items) (map unused_of found.new.items)) }
     ensures ready { OnOk result (IsReady index.now.scopes search.new.search) }
 {
     let all = index.uses.as_slice();
@@ -185,12 +182,9 @@ fn add_if_defined<'a, S>(
     search: &mut UseSearch<'a>,
     found: &mut Vec<UnusedVariable<'a>>,
 ) -> Result<(), OutOfMemory>
-    requires index { IsDocumentIndex document.now index.now }
-    requires ready { IsReady index.now.scopes search.old.search }
-    requires own { own.now ≡ places_of document.now (operation (option_copied name)) }
-    requires named { IsOperationName document.now (option_copied name) }
-    ensures told { OnOk result (AddsUnused document.now (option_copied name.entry) (map unused_of found.old.items)
-        (map unused_of found.new.items)) }
+    requires { MayReach document.now index.now search.old.search (option_copied name) own.now }
+    ensures told { OnOk result (AddsPart (UnusedIn document.now (option_copied name.entry))
+        (map unused_of found.old.items) (map unused_of found.new.items)) }
     ensures ready { OnOk result (IsReady index.now.scopes search.new.search) }
 {
     if defines_none(document, own) {

@@ -1,4 +1,4 @@
-use Rattle.std.proofs.Common.{◌<◌, arith, below_more, length, inl, inr, refl}
+use Rattle.std.proofs.Common.{arith, below_more, length, inl, inr, refl}
 use Rattle.std.proofs.lemmas.Bool.{cases_lt}
 use Rattle.std.proofs.lemmas.Option.{slice_get_read}
 use Rattle.variable_usages.proofs.Skipping.{no_uses, past_uses}

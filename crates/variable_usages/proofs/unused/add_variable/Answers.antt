@@ -1,6 +1,5 @@
-use Rattle.std.proofs.Common.{map, subst, sym, ap, ◌∙◌, ◌++◌, ◌∷◌, [], arith}
+use Rattle.std.proofs.Common.{map, subst, sym, ap, ◌∙◌, arith}
 use Rattle.std.proofs.lemmas.List.{map-append}
-use Rattle.std.specs.List.{Contains}
 use Rattle.variable_usages.specs.Unused.{StartBy, name_and_span, variable_at}
 use Rattle.variable_usages.proofs.Variables.{start_later, start_next}
 use Rattle.variable_usages.proofs.unused.add_variable.Goals as goal
