@@ -1,11 +1,12 @@
 -- What fits into so many columns, as a text is taken apart.
-use Rattle.std.proofs.Common.{◌≡◌, ◌∙◌, ◌+◌, ◌-◌, ◌<◌, ◌≤◌, ℕ, IsUtf8, List, [], ◌∷◌, ◌++◌, append_assoc, append-nil, ap, arith, codes, cond, drop, le-leb, length, length-append, refl, subst, sym, take}
+use Rattle.std.proofs.Common.{◌≡◌, ◌∙◌, ◌+◌, ◌-◌, ◌<◌, ◌≤◌, ℕ, Bool, IsUtf8, List, [], ◌∷◌, ◌++◌, append_assoc, append-nil, ap, arith, cond, drop, le-leb, length, length-append, refl, subst, sym, take}
 use Rattle.std.proofs.Math.Seq.{drop-append_seam, take-append_seam}
 use Rattle.std.proofs.Math.Utf8.{encode, encodes}
 use Rattle.std.proofs.lemmas.Bool.{lt-leb}
 use Rattle.std.proofs.lemmas.Str.{IsCharBoundary-at_seam, IsCharBoundary-from_take, IsUtf8-drop, chars-append, chars-nil, chars_from_encodes, chars_past_char, encodes-append}
 use Rattle.std.specs.List.{slice_range}
 use Rattle.std.specs.Str.{IsCharBoundary, chars}
+use Rattle.lint_report.specs.Colours.{mark}
 use Rattle.lint_report.specs.Windows.{blanks, first_within, last_within, room_for, room_of, window}
 use Rattle.lint_report.proofs.InARow.{five_added}
 
@@ -140,18 +141,18 @@ taken_front text rest room left h =
 
 -- ---- a window
 
-pub window_added : (before rest shown first : List ℕ) (room : ℕ) (old one two three four new : List ℕ)
+pub window_added : (coloured : Bool) (before rest shown first : List ℕ) (room : ℕ) (old one two three four new : List ℕ)
     → shown ≡ encodes (last_within 80 before) → IsUtf8 shown → room ≡ 120 - room_of (last_within 80 before) → first ≡ encodes (first_within room rest)
-    → one ≡ old ++ shown → two ≡ one ++ first → three ≡ two ++ 10 ∷ [] → four ≡ three ++ blanks (chars shown) → new ≡ four ++ codes "^\n"
-    → new ≡ old ++ window before rest
-window_added before rest shown first room old one two three four new shown_is utf8 room_is first_is a b c d e =
+    → one ≡ old ++ shown → two ≡ one ++ first → three ≡ two ++ 10 ∷ [] → four ≡ three ++ blanks (chars shown) → new ≡ four ++ mark coloured
+    → new ≡ old ++ window coloured before rest
+window_added coloured before rest shown first room old one two three four new shown_is utf8 room_is first_is a b c d e =
     let front = last_within 80 before in
     let behind = first_within (120 - room_of front) rest in
     let characters : chars shown ≡ front = sym (chars_from_encodes front shown utf8 (sym shown_is)) in
     let more = first_is ∙ ap (λ n. encodes (first_within n rest)) room_is in
-    five_added old one two three four new shown first (10 ∷ []) (blanks (chars shown)) (codes "^\n") a b c d e
-    ∙ ap (λ cs. old ++ (shown ++ (first ++ 10 ∷ (blanks cs ++ codes "^\n")))) characters
-    ∙ ap (λ t. old ++ (t ++ (first ++ 10 ∷ (blanks front ++ codes "^\n")))) shown_is
-    ∙ ap (λ t. old ++ (encodes front ++ (t ++ 10 ∷ (blanks front ++ codes "^\n")))) more
-    ∙ ap (λ t. old ++ t) (sym (append_assoc (encodes front) (encodes behind) (10 ∷ (blanks front ++ codes "^\n")))
-    ∙ ap (λ t. t ++ 10 ∷ (blanks front ++ codes "^\n")) (sym (encodes-append front behind)))
+    five_added old one two three four new shown first (10 ∷ []) (blanks (chars shown)) (mark coloured) a b c d e
+    ∙ ap (λ cs. old ++ (shown ++ (first ++ 10 ∷ (blanks cs ++ mark coloured)))) characters
+    ∙ ap (λ t. old ++ (t ++ (first ++ 10 ∷ (blanks front ++ mark coloured)))) shown_is
+    ∙ ap (λ t. old ++ (encodes front ++ (t ++ 10 ∷ (blanks front ++ mark coloured)))) more
+    ∙ ap (λ t. old ++ t) (sym (append_assoc (encodes front) (encodes behind) (10 ∷ (blanks front ++ mark coloured)))
+    ∙ ap (λ t. t ++ 10 ∷ (blanks front ++ mark coloured)) (sym (encodes-append front behind)))

@@ -1,11 +1,12 @@
 -- Texts that are added to a text.
-use Rattle.std.proofs.Common.{◌≡◌, ◌∙◌, ◌+◌, ◌<◌, ◌≤◌, ℕ, List, [], ◌∷◌, ◌++◌, append_assoc, append-nil, ap, codes, get_or, length, refl, subst, sym, take}
+use Rattle.std.proofs.Common.{◌≡◌, ◌∙◌, ◌+◌, ◌<◌, ◌≤◌, ℕ, Bool, List, [], ◌∷◌, ◌++◌, append_assoc, append-nil, ap, codes, get_or, length, refl, subst, sym, take}
 use Rattle.std.proofs.lemmas.List.{take_all, take_more}
 use Rattle.std.proofs.lemmas.List.Folds.{concat-append}
 use Rattle.std.specs.List.{AllZip, concat}
 use Rattle.lint_report.specs.declared.issues.Issue.{Issue}
 use Rattle.lint_report.specs.declared.sources.Place.{Place}
 use Rattle.lint_report.specs.declared.sources.Source.{Source}
+use Rattle.lint_report.specs.Colours.{error_word}
 use Rattle.lint_report.specs.Issues.{file_count}
 use Rattle.lint_report.specs.Texts.{Adds, AreNotes, AreTexts, IsErrorText, IsIssueText, IsNoteText, IsTextAt, IsTextReport, ShowsLine, last_line, line, told_place}
 
@@ -48,36 +49,36 @@ pub four_added : (old one two new a b c d : List ℕ) → one ≡ old ++ a → t
 four_added old one two new a b c d first second third = three_added old one two new a (b ++ c) d first second third ∙ ap (λ t. old ++ (t ++ d)) (sym (append_assoc a b c))
 
 -- an error is its place, its message and the line of the place
-pub error_added : (sources : List Source) (place : Place) (message : List ℕ) (old one two new : List ℕ) → one ≡ old ++ told_place sources place → two ≡ one ++ (codes "error: " ++ line message) → Adds (ShowsLine sources place) two new → Adds (IsErrorText sources place message) old new
-error_added sources place message old one two new placed told shown = record {
-  added = told_place sources place ++ codes "error: " ++ line message ++ shown.added;
-  new_is = four_added old one two new (told_place sources place) (codes "error: ") (line message) shown.added placed told shown.new_is;
+pub error_added : (coloured : Bool) (sources : List Source) (place : Place) (message : List ℕ) (old one two new : List ℕ) → one ≡ old ++ told_place coloured sources place → two ≡ one ++ (error_word coloured ++ line message) → Adds (ShowsLine coloured sources place) two new → Adds (IsErrorText coloured sources place message) old new
+error_added coloured sources place message old one two new placed told shown = record {
+  added = told_place coloured sources place ++ error_word coloured ++ line message ++ shown.added;
+  new_is = four_added old one two new (told_place coloured sources place) (error_word coloured) (line message) shown.added placed told shown.new_is;
   holds = record { below = shown.added; shows = shown.holds; text_is = refl };
 }
 
 -- a note is its place, its words and the line of the place
-pub note_added : (sources : List Source) (place : Place) (old one two new : List ℕ) → one ≡ old ++ told_place sources place → two ≡ one ++ line (codes "note: also here") → Adds (ShowsLine sources place) two new → Adds (IsNoteText sources place) old new
-note_added sources place old one two new placed told shown = record {
-  added = told_place sources place ++ line (codes "note: also here") ++ shown.added;
-  new_is = three_added old one two new (told_place sources place) (line (codes "note: also here")) shown.added placed told shown.new_is;
+pub note_added : (coloured : Bool) (sources : List Source) (place : Place) (old one two new : List ℕ) → one ≡ old ++ told_place coloured sources place → two ≡ one ++ line (codes "note: also here") → Adds (ShowsLine coloured sources place) two new → Adds (IsNoteText coloured sources place) old new
+note_added coloured sources place old one two new placed told shown = record {
+  added = told_place coloured sources place ++ line (codes "note: also here") ++ shown.added;
+  new_is = three_added old one two new (told_place coloured sources place) (line (codes "note: also here")) shown.added placed told shown.new_is;
   holds = record { below = shown.added; shows = shown.holds; text_is = refl };
 }
 
 -- an error with places
-pub placed_added : (sources : List Source) (file : ℕ) (message : List ℕ) (first : Place) (others places : List Place) (old one new : List ℕ) → places ≡ first ∷ others → Adds (IsErrorText sources first message) old one → Adds (AreNotes sources others) one new → Adds (IsTextAt sources file message places) old new
-placed_added sources file message first others places old one new is error notes = subst (λ l. Adds (IsTextAt sources file message l) old new) (sym is) (record {
+pub placed_added : (coloured : Bool) (sources : List Source) (file : ℕ) (message : List ℕ) (first : Place) (others places : List Place) (old one new : List ℕ) → places ≡ first ∷ others → Adds (IsErrorText coloured sources first message) old one → Adds (AreNotes coloured sources others) one new → Adds (IsTextAt coloured sources file message places) old new
+placed_added coloured sources file message first others places old one new is error notes = subst (λ l. Adds (IsTextAt coloured sources file message l) old new) (sym is) (record {
   added = error.added ++ notes.added;
   new_is = notes.new_is ∙ ap (λ t. t ++ notes.added) error.new_is ∙ append_assoc old error.added notes.added;
   holds = record { error = error.added; notes = notes.added; is_error = error.holds; are_notes = notes.holds; text_is = refl };
 })
 
 -- the errors and the line of counts
-pub report_told : (sources : List Source) (issues : List Issue) (n errors files judged unjudged : ℕ) (told new : List ℕ)
-    → length issues ≤ n → Adds (AreTexts (IsIssueText sources) (take n issues)) [] told → errors ≡ length issues → files ≡ file_count issues
-    → new ≡ told ++ last_line errors files judged unjudged → IsTextReport sources issues judged unjudged new
-report_told sources issues n errors files judged unjudged told new all so_far errors_are files_are ended = record {
+pub report_told : (coloured : Bool) (sources : List Source) (issues : List Issue) (n errors files judged unjudged : ℕ) (told new : List ℕ)
+    → length issues ≤ n → Adds (AreTexts (IsIssueText coloured sources) (take n issues)) [] told → errors ≡ length issues → files ≡ file_count issues
+    → new ≡ told ++ last_line errors files judged unjudged → IsTextReport coloured sources issues judged unjudged new
+report_told coloured sources issues n errors files judged unjudged told new all so_far errors_are files_are ended = record {
   texts = so_far.holds.texts;
-  each = subst (λ l. AllZip (IsIssueText sources) l so_far.holds.texts) (take_all n issues all) so_far.holds.each;
+  each = subst (λ l. AllZip (IsIssueText coloured sources) l so_far.holds.texts) (take_all n issues all) so_far.holds.each;
   text_is = ended ∙ ap (λ t. t ++ last_line errors files judged unjudged) (so_far.new_is ∙ so_far.holds.text_is)
       ∙ ap (λ e. concat so_far.holds.texts ++ last_line e files judged unjudged) errors_are
       ∙ ap (λ f. concat so_far.holds.texts ++ last_line (length issues) f judged unjudged) files_are;

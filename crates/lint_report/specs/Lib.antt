@@ -1,3 +1,4 @@
+pub mod Colours
 pub mod Faults
 pub mod Github
 pub mod Issues

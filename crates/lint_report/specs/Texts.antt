@@ -1,5 +1,5 @@
 -- Errors as text.
-use Rattle.std.specs.Prelude.{◌≡◌, ◌==◌, ◌+◌, ◌-◌, ◌^◌, ℕ, List, [], ◌∷◌, ◌++◌, chars, codes, length, min, slice_get, string_bytes, if◌then◌else◌}
+use Rattle.std.specs.Prelude.{◌≡◌, ◌==◌, ◌+◌, ◌-◌, ◌^◌, ℕ, Bool, List, [], ◌∷◌, ◌++◌, chars, codes, length, min, slice_get, string_bytes, if◌then◌else◌}
 use Rattle.std.specs.Fmt.{decimal}
 use Rattle.std.specs.List.{AllZip, concat}
 use Rattle.std.specs.Option.{option_map_or}
@@ -8,6 +8,7 @@ use Rattle.lint_report.specs.declared.faults.Fault.{Fault}
 use Rattle.lint_report.specs.declared.issues.Issue.{Issue}
 use Rattle.lint_report.specs.declared.sources.Place.{Place}
 use Rattle.lint_report.specs.declared.sources.Source.{Source}
+use Rattle.lint_report.specs.Colours.{bold, error_word, plain}
 use Rattle.lint_report.specs.Issues.{file_count}
 use Rattle.lint_report.specs.ShownLines.{IsLineOf, IsSplitAt, characters_before}
 use Rattle.lint_report.specs.Windows.{window}
@@ -35,30 +36,30 @@ abbrev pub told_column : List Source → Place → ℕ
 told_column sources place = from_one (characters_before (text_in sources place.file) place.position)
 
 -- what comes before a message: `path:line:column: `
-abbrev pub told_place : List Source → Place → List ℕ
-told_place sources place =
-    path_in sources place.file ++ codes ":" ++ decimal (told_line place) ++ codes ":" ++ decimal (told_column sources place) ++ codes ": "
+abbrev pub told_place : Bool → List Source → Place → List ℕ
+told_place coloured sources place =
+    bold coloured ++ path_in sources place.file ++ plain coloured ++ codes ":" ++ decimal (told_line place) ++ codes ":" ++ decimal (told_column sources place) ++ codes ": "
 
 -- a window of the line of a place, and a mark below the place
-pub record ShowsLine (sources : List Source) (place : Place) (text : List ℕ) : Type 0 where
+pub record ShowsLine (coloured : Bool) (sources : List Source) (place : Place) (text : List ℕ) : Type 0 where
   pub shown : List ℕ
   pub before : List ℕ
   pub rest : List ℕ
   pub is_line : IsLineOf (text_in sources place.file) place.position shown
   pub is_split : IsSplitAt shown (column_of place.position) before rest
-  pub text_is : text ≡ window (chars before) (chars rest)
+  pub text_is : text ≡ window coloured (chars before) (chars rest)
 
 -- an error at a place: the place, the message, and the line of the place
-pub record IsErrorText (sources : List Source) (place : Place) (message : List ℕ) (text : List ℕ) : Type 0 where
+pub record IsErrorText (coloured : Bool) (sources : List Source) (place : Place) (message : List ℕ) (text : List ℕ) : Type 0 where
   pub below : List ℕ
-  pub shows : ShowsLine sources place below
-  pub text_is : text ≡ told_place sources place ++ codes "error: " ++ line message ++ below
+  pub shows : ShowsLine coloured sources place below
+  pub text_is : text ≡ told_place coloured sources place ++ error_word coloured ++ line message ++ below
 
 -- a note at a further place, and its line
-pub record IsNoteText (sources : List Source) (place : Place) (text : List ℕ) : Type 0 where
+pub record IsNoteText (coloured : Bool) (sources : List Source) (place : Place) (text : List ℕ) : Type 0 where
   pub below : List ℕ
-  pub shows : ShowsLine sources place below
-  pub text_is : text ≡ told_place sources place ++ line (codes "note: also here") ++ below
+  pub shows : ShowsLine coloured sources place below
+  pub text_is : text ≡ told_place coloured sources place ++ line (codes "note: also here") ++ below
 
 -- a text for each item, one after the other
 pub record AreTexts {X : Type 0} (P : X → List ℕ → Type 0) (items : List X) (text : List ℕ) : Type 0 where
@@ -67,24 +68,25 @@ pub record AreTexts {X : Type 0} (P : X → List ℕ → Type 0) (items : List X
   pub text_is : text ≡ concat texts
 
 -- a note for each place
-abbrev pub AreNotes : List Source → List Place → List ℕ → Type 0
-AreNotes sources places text = AreTexts (IsNoteText sources) places text
+abbrev pub AreNotes : Bool → List Source → List Place → List ℕ → Type 0
+AreNotes coloured sources places text = AreTexts (IsNoteText coloured sources) places text
 
 -- the error at its first place, and a note for each further one
-pub record IsPlacedText (sources : List Source) (first : Place) (others : List Place) (message text : List ℕ) : Type 0 where
+pub record IsPlacedText (coloured : Bool) (sources : List Source) (first : Place) (others : List Place) (message text : List ℕ) : Type 0 where
   pub error : List ℕ
   pub notes : List ℕ
-  pub is_error : IsErrorText sources first message error
-  pub are_notes : AreNotes sources others notes
+  pub is_error : IsErrorText coloured sources first message error
+  pub are_notes : AreNotes coloured sources others notes
   pub text_is : text ≡ error ++ notes
 
 -- an error at some places; one without a place has the path of its file alone
-abbrev pub IsTextAt : List Source → ℕ → List ℕ → List Place → List ℕ → Type 0
-IsTextAt sources file message [] text = text ≡ path_in sources file ++ codes ": error: " ++ line message
-IsTextAt sources file message (first ∷ others) text = IsPlacedText sources first others message text
+abbrev pub IsTextAt : Bool → List Source → ℕ → List ℕ → List Place → List ℕ → Type 0
+IsTextAt coloured sources file message [] text =
+    text ≡ bold coloured ++ path_in sources file ++ plain coloured ++ codes ": " ++ error_word coloured ++ line message
+IsTextAt coloured sources file message (first ∷ others) text = IsPlacedText coloured sources first others message text
 
-abbrev pub IsIssueText : List Source → Issue → List ℕ → Type 0
-IsIssueText sources issue text = IsTextAt sources issue.file (string_bytes issue.message) issue.places.items text
+abbrev pub IsIssueText : Bool → List Source → Issue → List ℕ → Type 0
+IsIssueText coloured sources issue text = IsTextAt coloured sources issue.file (string_bytes issue.message) issue.places.items text
 
 -- a count in words: `no errors`, `1 error`, `2 errors`
 abbrev pub count_text : ℕ → List ℕ → List ℕ
@@ -122,14 +124,14 @@ pub record Adds (P : List ℕ → Type 0) (old new : List ℕ) : Type 0 where
   pub holds : P added
 
 -- the errors in order, and a line of counts
-pub record IsTextReport (sources : List Source) (issues : List Issue) (judged unjudged : ℕ) (text : List ℕ) : Type 0 where
+pub record IsTextReport (coloured : Bool) (sources : List Source) (issues : List Issue) (judged unjudged : ℕ) (text : List ℕ) : Type 0 where
   pub texts : List (List ℕ)
-  pub each : AllZip (IsIssueText sources) issues texts
+  pub each : AllZip (IsIssueText coloured sources) issues texts
   pub text_is : text ≡ concat texts ++ last_line (length issues) (file_count issues) judged unjudged
 
 -- why files could not be judged: an error for each, which has the fault's file alone
-abbrev pub IsFaultText : Fault → List ℕ → Type 0
-IsFaultText fault text = IsIssueText (fault.source ∷ []) fault.issue text
+abbrev pub IsFaultText : Bool → Fault → List ℕ → Type 0
+IsFaultText coloured fault text = IsIssueText coloured (fault.source ∷ []) fault.issue text
 
-abbrev pub AreFaultTexts : List Fault → List ℕ → Type 0
-AreFaultTexts faults text = AreTexts IsFaultText faults text
+abbrev pub AreFaultTexts : Bool → List Fault → List ℕ → Type 0
+AreFaultTexts coloured faults text = AreTexts (IsFaultText coloured) faults text

@@ -1,5 +1,6 @@
 -- What is shown of a line round a place. Characters stand for themselves, as numbers.
-use Rattle.std.specs.Prelude.{◌==◌, ◌+◌, ◌-◌, ℕ, List, [], ◌∷◌, ◌++◌, codes, encode_utf8_all, false, flat_map, if◌then◌else◌, max, nat_le, replicate, unwrap_or}
+use Rattle.std.specs.Prelude.{◌==◌, ◌+◌, ◌-◌, ℕ, List, [], ◌∷◌, ◌++◌, Bool, encode_utf8_all, false, flat_map, if◌then◌else◌, max, nat_le, replicate, unwrap_or}
+use Rattle.lint_report.specs.Colours.{mark}
 use Rattle.unicode_width.specs.Width.{char_width}
 
 -- the columns of a character; a control character has none
@@ -42,6 +43,6 @@ abbrev pub blanks : List ℕ → List ℕ
 blanks = flat_map blank_for
 
 -- the shown part of the line, and a mark below the place
-abbrev pub window : List ℕ → List ℕ → List ℕ
-window before rest =
-    encode_utf8_all (shown_before before ++ shown_rest before rest) ++ (10 ∷ (blanks (shown_before before) ++ codes "^\n"))
+abbrev pub window : Bool → List ℕ → List ℕ → List ℕ
+window coloured before rest =
+    encode_utf8_all (shown_before before ++ shown_rest before rest) ++ (10 ∷ (blanks (shown_before before) ++ mark coloured))

@@ -11,6 +11,7 @@
 //!   files.
 #![tactic(auto)]
 
+pub mod colours;
 pub mod faults;
 pub mod github_report;
 pub mod issues;

@@ -3,6 +3,7 @@ ghost use Rattle.std.specs.Prelude.{◌≡◌, ◌++◌, IfOk, OnOk, Some, strin
 ghost use Rattle.lint_report.specs.ShownLines.{IsSplitAt};
 ghost use Rattle.lint_report.specs.Texts.{Adds, AreFaultTexts, AreNotes, IsErrorText, IsIssueText, IsNoteText, IsTextReport, ShowsLine, count_text, counts_text, last_line, path_in, summary_text, text_in, told_column, told_line, told_place, unjudged_text};
 
+use crate::colours::{bold, error_word, plain};
 use crate::faults::Fault;
 use crate::issues::{Issue, files_of};
 use crate::sources::{Place, Source};
@@ -41,23 +42,24 @@ impl fmt::Display for Count<'_> {
 }
 
 /// The errors in order, and a last line that counts errors and files. `judged` files were validated, and `unjudged`
-/// files could not be.
+/// files could not be. With colours paths are bold, and the words and marks of errors red.
 ///
 /// # Errors
 ///
 /// Out of memory.
 pub fn text_report(
     alloc: Global,
+    is_coloured: bool,
     sources: &[Source],
     issues: &[Issue],
     judged: usize,
     unjudged: usize,
 ) -> Result<String, OutOfMemory>
-    ensures { IfOk result (λ s. IsTextReport sources.now issues.now judged unjudged (string_bytes s)) }
+    ensures { IfOk result (λ s. IsTextReport is_coloured sources.now issues.now judged unjudged (string_bytes s)) }
 {
     let mut text = String::new(alloc);
     for issue in issues {
-        write_issue(&mut text, sources, issue)?;
+        write_issue(&mut text, is_coloured, sources, issue)?;
     }
     let files = files_of(alloc, issues)?;
     write_last_line(&mut text, issues.len(), files, judged, unjudged)?;
@@ -69,12 +71,21 @@ pub fn text_report(
 /// # Errors
 ///
 /// Out of memory.
-pub fn faults_text(alloc: Global, faults: &[Fault]) -> Result<String, OutOfMemory>
-    ensures { IfOk result (λ s. AreFaultTexts faults.now (string_bytes s)) }
+pub fn faults_text(
+    alloc: Global,
+    is_coloured: bool,
+    faults: &[Fault],
+) -> Result<String, OutOfMemory>
+    ensures { IfOk result (λ s. AreFaultTexts is_coloured faults.now (string_bytes s)) }
 {
     let mut text = String::new(alloc);
     for fault in faults {
-        write_issue(&mut text, slice::from_ref(&fault.source), &fault.issue)?;
+        write_issue(
+            &mut text,
+            is_coloured,
+            slice::from_ref(&fault.source),
+            &fault.issue,
+        )?;
     }
     Ok(text)
 }
@@ -86,58 +97,86 @@ pub fn faults_text(alloc: Global, faults: &[Fault]) -> Result<String, OutOfMemor
 /// # Errors
 ///
 /// Out of memory; `text` may be partly written.
-pub fn write_issue(text: &mut String, sources: &[Source], issue: &Issue) -> Result<(), OutOfMemory>
-    ensures { OnOk result (Adds (IsIssueText sources.now issue.now) (string_bytes text.old) (string_bytes text.new)) }
+pub fn write_issue(
+    text: &mut String,
+    is_coloured: bool,
+    sources: &[Source],
+    issue: &Issue,
+) -> Result<(), OutOfMemory>
+    ensures { OnOk result (Adds (IsIssueText is_coloured sources.now issue.now) (string_bytes text.old) (string_bytes text.new)) }
 {
     let Some((first, others)) = issue.places.as_slice().split_first() else {
         let path = path_of(sources, issue.file);
-        writeln!(text, "{path}: error: {}", issue.message)?;
+        let (bold, plain, word) = (
+            bold(is_coloured),
+            plain(is_coloured),
+            error_word(is_coloured),
+        );
+        writeln!(text, "{bold}{path}{plain}: {word}{}", issue.message)?;
         return Ok(());
     };
-    write_error(text, sources, *first, issue.message.as_str())?;
-    write_notes(text, sources, others)
+    write_error(text, is_coloured, sources, *first, issue.message.as_str())?;
+    write_notes(text, is_coloured, sources, others)
 }
 
 // An error at its first place.
 fn write_error(
     text: &mut String,
+    is_coloured: bool,
     sources: &[Source],
     place: Place,
     message: &str,
 ) -> Result<(), OutOfMemory>
     ensures { OnOk result
-        (Adds (IsErrorText sources.now place message.now) (string_bytes text.old) (string_bytes text.new)) }
+        (Adds (IsErrorText is_coloured sources.now place message.now) (string_bytes text.old) (string_bytes text.new)) }
 {
-    write_place(text, sources, place)?;
-    writeln!(text, "error: {message}")?;
-    write_line(text, sources, place)
+    write_place(text, is_coloured, sources, place)?;
+    let word = error_word(is_coloured);
+    writeln!(text, "{word}{message}")?;
+    write_line(text, is_coloured, sources, place)
 }
 
 // A note for each further place.
-fn write_notes(text: &mut String, sources: &[Source], places: &[Place]) -> Result<(), OutOfMemory>
-    ensures { OnOk result (Adds (AreNotes sources.now places.now) (string_bytes text.old) (string_bytes text.new)) }
+fn write_notes(
+    text: &mut String,
+    is_coloured: bool,
+    sources: &[Source],
+    places: &[Place],
+) -> Result<(), OutOfMemory>
+    ensures { OnOk result (Adds (AreNotes is_coloured sources.now places.now) (string_bytes text.old) (string_bytes text.new)) }
 {
     for place in places {
-        write_note(text, sources, *place)?;
+        write_note(text, is_coloured, sources, *place)?;
     }
     Ok(())
 }
 
-fn write_note(text: &mut String, sources: &[Source], place: Place) -> Result<(), OutOfMemory>
-    ensures { OnOk result (Adds (IsNoteText sources.now place) (string_bytes text.old) (string_bytes text.new)) }
+fn write_note(
+    text: &mut String,
+    is_coloured: bool,
+    sources: &[Source],
+    place: Place,
+) -> Result<(), OutOfMemory>
+    ensures { OnOk result (Adds (IsNoteText is_coloured sources.now place) (string_bytes text.old) (string_bytes text.new)) }
 {
-    write_place(text, sources, place)?;
+    write_place(text, is_coloured, sources, place)?;
     text.push_str("note: also here\n")?;
-    write_line(text, sources, place)
+    write_line(text, is_coloured, sources, place)
 }
 
 // What comes before a message: `path:line:column: `.
-fn write_place(text: &mut String, sources: &[Source], place: Place) -> Result<(), AllocError>
-    ensures { OnOk result (string_bytes text.new ≡ string_bytes text.old ++ told_place sources.now place) }
+fn write_place(
+    text: &mut String,
+    is_coloured: bool,
+    sources: &[Source],
+    place: Place,
+) -> Result<(), AllocError>
+    ensures { OnOk result (string_bytes text.new ≡ string_bytes text.old ++ told_place is_coloured sources.now place) }
 {
+    let (bold, plain) = (bold(is_coloured), plain(is_coloured));
     let path = path_of(sources, place.file);
     let (line, column) = (told_line(place), told_column(sources, place));
-    write!(text, "{path}:{line}:{column}: ")
+    write!(text, "{bold}{path}{plain}:{line}:{column}: ")
 }
 
 /// The line of a place, counted from 1.
@@ -175,12 +214,17 @@ pub fn text_of(sources: &[Source], file: usize) -> &str
 }
 
 // A window of the line of a place, and a mark below the place.
-fn write_line(text: &mut String, sources: &[Source], place: Place) -> Result<(), OutOfMemory>
-    ensures { OnOk result (Adds (ShowsLine sources.now place) (string_bytes text.old) (string_bytes text.new)) }
+fn write_line(
+    text: &mut String,
+    is_coloured: bool,
+    sources: &[Source],
+    place: Place,
+) -> Result<(), OutOfMemory>
+    ensures { OnOk result (Adds (ShowsLine is_coloured sources.now place) (string_bytes text.old) (string_bytes text.new)) }
 {
     let line = line_of(text_of(sources, place.file), place.position);
     let (before, rest) = split_at(line, place.position.column());
-    write_window(text, before, rest)?;
+    write_window(text, is_coloured, before, rest)?;
     Ok(())
 }
 

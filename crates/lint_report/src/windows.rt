@@ -3,6 +3,7 @@ ghost use Rattle.std.specs.Prelude.{◌≡◌, ◌-◌, ◌≤◌, ◌++◌, [],
 ghost use Rattle.std.specs.Char.{encode_utf8};
 ghost use Rattle.lint_report.specs.Windows.{blank_for, blanks, columns, first_within, last_within, room_for, room_of, window};
 
+use crate::colours::mark;
 use std::alloc::AllocError;
 use unicode_width::UnicodeWidthChar;
 
@@ -11,21 +12,27 @@ const BEFORE: usize = 80;
 
 const BEHIND: usize = 40;
 
-/// Appends a window of a line, given as what comes before a place and the rest, and a line with a mark below the place.
+/// Appends a window of a line, given as what comes before a place and the rest, and a line with a mark below the place,
+/// which may be coloured.
 ///
 /// # Errors
 ///
 /// Out of memory; `text` may be partly written.
-pub fn write_window(text: &mut String, before: &str, rest: &str) -> Result<(), AllocError>
+pub fn write_window(
+    text: &mut String,
+    is_coloured: bool,
+    before: &str,
+    rest: &str,
+) -> Result<(), AllocError>
     ensures { OnOk result
-        (string_bytes text.new ≡ string_bytes text.old ++ window (chars before.now) (chars rest.now)) }
+        (string_bytes text.new ≡ string_bytes text.old ++ window is_coloured (chars before.now) (chars rest.now)) }
 {
     let (shown, left) = last_within(before, BEFORE);
     text.push_str(shown)?;
     text.push_str(first_within(rest, left + BEHIND))?;
     text.push_str("\n")?;
     write_blanks(text, shown)?;
-    text.push_str("^\n")?;
+    text.push_str(mark(is_coloured))?;
     Ok(())
 }
 

@@ -37,6 +37,13 @@ const FAULTS_TEXT: &str = "c: 1,2.graphql:2:3: error: 50% of\r\n\u{e9} is bad
 d.graphql: error: entity not found
 ";
 
+const FAULTS_COLOURED: &str =
+    "\x1b[1mc: 1,2.graphql\x1b[0m:2:3: \x1b[1;31merror:\x1b[0m 50% of\r\n\u{e9} is bad
+\u{e9}\tb
+ \t\x1b[1;31m^\x1b[0m
+\x1b[1md.graphql\x1b[0m: \x1b[1;31merror:\x1b[0m entity not found
+";
+
 const FAULTS_JSON: &str = "[
   {
     \"path\": \"c: 1,2.graphql\",
@@ -169,8 +176,10 @@ fn json(rt: HostRuntime) {
 fn faults_are_told(rt: HostRuntime) {
     let alloc = rt.alloc();
     let faults = faults(alloc).expect(&rt, "memory");
-    let text = faults_text(alloc, faults.as_slice()).expect(&rt, "memory");
+    let text = faults_text(alloc, false, faults.as_slice()).expect(&rt, "memory");
     assert_eq!(rt; text.as_str(), FAULTS_TEXT);
+    let text = faults_text(alloc, true, faults.as_slice()).expect(&rt, "memory");
+    assert_eq!(rt; text.as_str(), FAULTS_COLOURED);
     let json = json_report(alloc, faults.as_slice(), &[], &[]).expect(&rt, "memory");
     assert_eq!(rt; json.as_str(), FAULTS_JSON);
 }
@@ -198,7 +207,7 @@ fn text(rt: HostRuntime) {
     let sources = sources(alloc).expect(&rt, "memory");
     let joined = joined(alloc).expect(&rt, "memory");
     let issues = issues(alloc, &joined).expect(&rt, "memory");
-    let told = text_report(alloc, sources.as_slice(), issues.as_slice(), 2, 0).expect(
+    let told = text_report(alloc, false, sources.as_slice(), issues.as_slice(), 2, 0).expect(
         &rt, "memory",
     );
     assert_eq!(rt;
@@ -215,7 +224,7 @@ fn counts(rt: HostRuntime) {
     let issues = issues(alloc, &joined).expect(&rt, "memory");
     for (errors, judged, unjudged, wanted) in COUNTS {
         let shown = issues.as_slice().get(..*errors).unwrap_or(&[]);
-        let told = text_report(alloc, sources.as_slice(), shown, *judged, *unjudged).expect(
+        let told = text_report(alloc, false, sources.as_slice(), shown, *judged, *unjudged).expect(
             &rt, "memory",
         );
         assert!(rt; told.ends_with(*wanted));

@@ -28,7 +28,7 @@ const COUNTS: &[(&str, usize, usize, usize, usize)] = &[
 
 fn window(alloc: Global, before: &str, rest: &str) -> Result<String, AllocError> {
     let mut text = String::new(alloc);
-    write_window(&mut text, before, rest)?;
+    write_window(&mut text, false, before, rest)?;
     Ok(text)
 }
 

@@ -4,4 +4,4 @@ use Rattle.lint_report.proofs.text_report.faults_text.Given as goal
 
 -- the faults so far were written
 abbrev pub invariant-loop-fault : goal.invariant-loop-fault
-invariant-loop-fault l = Adds (AreFaultTexts (take l.fault-index l.faults)) [] (string_bytes l.text)
+invariant-loop-fault l = Adds (AreFaultTexts l.is_coloured (take l.fault-index l.faults)) [] (string_bytes l.text)

@@ -5,9 +5,9 @@ use Rattle.lint_report.proofs.text_report.text_report.Goals as goal
 
 -- the next error was written
 pub loop-issue-preserved : goal.loop-issue-preserved
-loop-issue-preserved c = texts_more (IsIssueText c.args.sources.now) c.args.issues.now c.loop-issue.issue-index c.issue-item.result c.issue-item.result [] _ _ (omega arith) c.issue-item.is c.loop-issue.invariant c.in_ok-write_issue.ensures
+loop-issue-preserved c = texts_more (IsIssueText c.args.is_coloured c.args.sources.now) c.args.issues.now c.loop-issue.issue-index c.issue-item.result c.issue-item.result [] _ _ (omega arith) c.issue-item.is c.loop-issue.invariant c.in_ok-write_issue.ensures
 
 -- each error was written, and then the line of counts
 pub returns : goal.returns
-returns c = report_told c.args.sources.now c.args.issues.now c.loop-issue.issue-index _ _ c.args.judged c.args.unjudged _ _ (omega arith)
+returns c = report_told c.args.is_coloured c.args.sources.now c.args.issues.now c.loop-issue.issue-index _ _ c.args.judged c.args.unjudged _ _ (omega arith)
     c.loop-issue.invariant refl c.in_ok-files.ensures c.in_ok-write_last_line.ensures

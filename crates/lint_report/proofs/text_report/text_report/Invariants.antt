@@ -4,4 +4,4 @@ use Rattle.lint_report.proofs.text_report.text_report.Given as goal
 
 -- the errors so far were written
 abbrev pub invariant-loop-issue : goal.invariant-loop-issue
-invariant-loop-issue l = Adds (AreTexts (IsIssueText l.sources) (take l.issue-index l.issues)) [] (string_bytes l.text)
+invariant-loop-issue l = Adds (AreTexts (IsIssueText l.is_coloured l.sources) (take l.issue-index l.issues)) [] (string_bytes l.text)

@@ -5,4 +5,4 @@ use Rattle.lint_report.proofs.text_report.write_notes.Goals as goal
 
 -- the next note was written
 pub loop-place-preserved : goal.loop-place-preserved
-loop-place-preserved c = texts_more (IsNoteText c.args.sources.now) c.args.places.now c.loop-place.place-index _ _ _ _ _ (omega arith) refl c.loop-place.invariant c.in_ok-write_note.ensures
+loop-place-preserved c = texts_more (IsNoteText c.args.is_coloured c.args.sources.now) c.args.places.now c.loop-place.place-index _ _ _ _ _ (omega arith) refl c.loop-place.invariant c.in_ok-write_note.ensures
