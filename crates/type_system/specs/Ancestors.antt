@@ -1,5 +1,5 @@
 -- What a type must implement because an interface of it does (sections 3.6 and 3.7).
-use Rattle.std.specs.Prelude.{ℕ, List, [], Option, Some, not, if◌then◌else◌}
+use Rattle.std.specs.Prelude.{ℕ, List, [], Option, Some, not, string_bytes, if◌then◌else◌}
 use Rattle.std.specs.List.{flat_map}
 use Rattle.std.specs.Str.{bytes_eq}
 use Rattle.language.specs.Names.{is_among}
@@ -24,7 +24,7 @@ module _ {S C : Type 0} (t : MetaTypeOf S C) where
 
   -- the interfaces of an interface of this name
   abbrev pub wrong_ancestors_by : List ℕ → Option (MetaTypeOf S C) → List FaultValue
-  wrong_ancestors_by j (Some (m.Interface x)) = flat_map (wrong_ancestor j) (interfaces_of (m.Interface x))
+  wrong_ancestors_by j (Some (m.Interface x)) = flat_map (λ i. wrong_ancestor j (string_bytes i)) x.interface_names.items
   wrong_ancestors_by j _ = []
 
   -- those of the interface of the name, unless it is also one of those after it

@@ -67,7 +67,7 @@ fn report_names<'a, S, C>(
     names: &'a [String],
 ) -> Result<(), OutOfMemory>
     ensures { OnOk result (reported faults.new ≡ reported faults.old
-        ++ flat_map (wrong_ancestor meta.now interface.now) (map string_bytes names.now)) }
+        ++ flat_map (λ n. wrong_ancestor meta.now interface.now (string_bytes n)) names.now) }
 {
     for name in names {
         report_name(faults, meta, interface, name.as_str())?;
