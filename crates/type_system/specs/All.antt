@@ -18,6 +18,10 @@ use Rattle.type_system.specs.SomeMembers.{missing_members}
 use Rattle.type_system.specs.SomeValues.{missing_values}
 use Rattle.type_system.specs.UniqueMembers.{repeated_members}
 
+-- members of a union that stand twice, and values of an enum that are no names of values
+abbrev pub member_faults : {S C : Type 0} → MetaTypeOf S C → List FaultValue
+member_faults t = repeated_members t ++ reserved_values t
+
 module _ {S C : Type 0} (schema : Catalog S C) where
   -- names that are reserved, and members that are missing
   abbrev pub own_faults : MetaTypeOf S C → List FaultValue
@@ -26,10 +30,6 @@ module _ {S C : Type 0} (schema : Catalog S C) where
   -- what a type implements that it may not, what it must implement besides, and what it does not meet of that
   abbrev pub interface_faults : MetaTypeOf S C → List FaultValue
   interface_faults t = wrong_interfaces schema t ++ wrong_ancestors t schema ++ unmet_interfaces schema t
-
-  -- members of a union that stand twice, and values of an enum that are no names of values
-  abbrev pub member_faults : MetaTypeOf S C → List FaultValue
-  member_faults t = repeated_members t ++ reserved_values t
 
   -- the faults of a type
   abbrev pub type_faults : MetaTypeOf S C → List FaultValue
