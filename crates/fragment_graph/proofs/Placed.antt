@@ -25,9 +25,6 @@ module _ {S : Type 0} where
   pub placed-Field : (s : Selection S) (f : Spanning (Field S) Span) (w : Vec (Selection S) Global) → s ≡ v.Field f → (out-Field S f.item).selection_set ≡ Some w → placed_spreads_of s ≡ placed_spreads_of_all w.items
   placed-Field s f w p q = placed-roll-Field s f p ∙ ap (λ o. option_map_or (λ z. placed_spreads_of_all z.items) o []) q
 
-  pub placed-Leaf : (s : Selection S) (f : Spanning (Field S) Span) → s ≡ v.Field f → (out-Field S f.item).selection_set ≡ None → placed_spreads_of s ≡ []
-  placed-Leaf s f p q = placed-roll-Field s f p ∙ ap (λ o. option_map_or (λ z. placed_spreads_of_all z.items) o []) q
-
   pub placed-Spread : (s : Selection S) (f : Spanning (FragmentSpread S) Span) → s ≡ v.FragmentSpread f → placed_spreads_of s ≡ record { name = f.item.name.item.now; place = f.span.start } ∷ []
   placed-Spread s f p =
       ap placed_spreads_of (p ∙ sym (v.rolls-FragmentSpread f))
