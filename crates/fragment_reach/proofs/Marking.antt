@@ -5,7 +5,7 @@ use Rattle.std.proofs.lemmas.List.{length-replicate}
 use Rattle.std.proofs.lemmas.List.Elements.{Contains-append_left, Contains-append_right}
 use Rattle.fragment_graph.specs.declared.graph.Spread.{Spread}
 use Rattle.fragment_graph.proofs.Lists.{same_some, none_some, get_more, get_snoc, get_end, get_some, set_same, set_keep, set_other, contains_at, contains_get, contains_one}
-use Rattle.fragment_reach.specs.Search.{IsClear, IsListed, IsMarked, unmarked, WellMarked, Marks}
+use Rattle.fragment_reach.specs.Search.{IsClear, IsMarked, unmarked, WellMarked, Marks}
 
 false_true : false ≡ true → ⊥
 false_true e = cc
@@ -138,21 +138,3 @@ well_first n order marks c = record {
       omega (arith, none, all_unmarked marks c.none_marked);
   once = λ i j v h k. absurd (none_some v (ap (λ (zs : List ℕ). slice_get zs i) (sym c.none_listed) ∙ h));
 }
-
-marked_nowhere : (marks : List Bool) (u : ℕ) → IsMarked (slice_set marks u false) u → ⊥
-marked_nowhere [] u h = none_some true h
-marked_nowhere (b ∷ bs) zero h = false_true (same_some false true h)
-marked_nowhere (b ∷ bs) (suc u) h = marked_nowhere bs u h
-
--- a mark that is taken from a listed node
-pub forgotten : (order order' : List ℕ) (marks : List Bool) (u : ℕ) → order ≡ order' ++ u ∷ [] → ((v : ℕ) → IsMarked marks v → IsListed order v)
-    → (v : ℕ) → IsMarked (slice_set marks u false) v → IsListed order' v
-forgotten order order' marks u e listed v h = elim (cases_eq v u) [
-  | inl same ↦ absurd (marked_nowhere marks u (subst (λ (w : ℕ). IsMarked (slice_set marks u false) w) same h))
-  | inr other ↦
-      let at = listed v (sym (set_other marks u v false other) ∙ h) in
-      elim (get_snoc order' u at.0 v (ap (λ (zs : List ℕ). slice_get zs at.0) (sym e) ∙ at.1)) [
-        | inl before ↦ (at.0, before)
-        | inr last ↦ absurd (other (sym last.1))
-      ]
-]
