@@ -15,11 +15,7 @@ type Nodes<'a> = Vec<Selection<'a, DefaultScalarValue>>;
 #[derive(Drop)]
 enum Begun<'a> {
     Field(SourcePosition, Field<'a, DefaultScalarValue>, Nodes<'a>),
-    Inline(
-        SourcePosition,
-        InlineFragment<'a, DefaultScalarValue>,
-        Nodes<'a>,
-    ),
+    Inline(SourcePosition, InlineFragment<'a, DefaultScalarValue>, Nodes<'a>),
 }
 
 /// Parses a selection set, which is never empty. What is begun stands on a list in memory, so no depth is too deep.
@@ -49,11 +45,7 @@ pub fn read_selection_set<'a>(
 }
 
 // Puts a set into the selection that it belongs to, and that into the set that it stands in.
-fn end<'a>(
-    begun: Begun<'a>,
-    set: Nodes<'a>,
-    tokens: &Tokens<'a>,
-) -> Result<Nodes<'a>, ReadError> {
+fn end<'a>(begun: Begun<'a>, set: Nodes<'a>, tokens: &Tokens<'a>) -> Result<Nodes<'a>, ReadError> {
     match begun {
         Begun::Field(start, mut item, mut nodes) => {
             item.selection_set = Some(set);

@@ -22,11 +22,7 @@ pub enum Variables {
 #[derive(Drop)]
 enum Begun {
     List(SourcePosition, Vec<Spanning<Value>>),
-    Object(
-        SourcePosition,
-        Vec<(Spanning<String>, Spanning<Value>)>,
-        Option<Spanning<String>>,
-    ),
+    Object(SourcePosition, Vec<(Spanning<String>, Spanning<Value>)>, Option<Spanning<String>>),
 }
 
 impl Begun {
@@ -39,7 +35,11 @@ impl Begun {
     }
 
     // Reads what stands before a value: the key, in an object.
-    fn read_before_value(&mut self, alloc: Global, tokens: &mut Tokens<'_>) -> Result<(), ReadError> {
+    fn read_before_value(
+        &mut self,
+        alloc: Global,
+        tokens: &mut Tokens<'_>,
+    ) -> Result<(), ReadError> {
         if let Begun::Object(_, _, key) = self {
             *key = Some(read_key(alloc, tokens)?);
         }

@@ -91,11 +91,7 @@ fn report_name<'a, S, C>(
     Ok(())
 }
 
-fn unnamed<'a, S, C>(
-    meta: &MetaTypeOf<S, C>,
-    interface: &'a str,
-    name: &'a str,
-) -> FaultKind<'a>
+fn unnamed<'a, S, C>(meta: &MetaTypeOf<S, C>, interface: &'a str, name: &'a str) -> FaultKind<'a>
     ensures { kind_value result ≡ unnamed meta.now interface.now name.now }
 {
     if type_name(meta) == name {

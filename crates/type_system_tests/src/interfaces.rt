@@ -90,11 +90,7 @@ fn interfaces_are_interfaces_once(rt: HostRuntime) {
 
 const BEAST: [ObjectRow; 1] = [("Dog", &["Beast"], &[("name", "String", &[])])];
 
-fn named_interface(
-    alloc: Global,
-    name: &str,
-    interface: &str,
-) -> Result<MetaType, OutOfMemory> {
+fn named_interface(alloc: Global, name: &str, interface: &str) -> Result<MetaType, OutOfMemory> {
     let mut fields = own_fields(alloc)?;
     fields.push(field(alloc, &NAMED[0])?)?;
     interface_of(alloc, name, &[interface], fields)

@@ -28,7 +28,6 @@ add_selection-returns-in-FragmentSpread g t c =
     (adds_spread c.args.schema.now (known_rank c.args.fragments.now) (option_copied c.args.parent) c.in-FragmentSpread.spread _ _ _ _ refl h))
     c.add_spread.ensures
 
-
 pub add_field-returns-in_ok-number-in-Some : goal.add_field-returns-in_ok-number-in-Some
 add_field-returns-in_ok-number-in-Some g t c =
     on_ok_weaker c.push_field.result
