@@ -1,6 +1,6 @@
 -- Changes of a schema.
 use Rattle.std.proofs.Common.{◌≡◌, ℕ, List, [], ◌∷◌, Bool, true, false, cond, not, ◌&&◌, ◌||◌, Option, Some, map, string_bytes, refl, ap, sym, ◌∙◌}
-use Rattle.std.specs.Prelude.{find, String, Result, Ok, Err, IfErr, OnErr, is_ok, IsOkUnless}
+use Rattle.std.specs.Prelude.{find, String, Result, Ok, Err, IfErr, OnOk, OnErr, is_ok, IsOkUnless}
 use Rattle.std.specs.declared.alloc.Global.{Global}
 use Rattle.std.specs.List.{list_any, list_all}
 use Rattle.std.specs.Option.{option_map_or}
@@ -136,6 +136,10 @@ module _ {S C : Type 0} (ts : List (MetaTypeOf S C)) (ns : List (List ℕ)) (inp
   memory-refused (Err x) h = memory-true x h
 
 module _ {A T E : Type 0} (x a b : A) where
+  pub on-ok-from : (r : Result T E) → x ≡ cond (is_ok r) a b → OnOk r (x ≡ a)
+  on-ok-from (Ok t) e = e
+  on-ok-from (Err f) e = tt
+
   pub on-err-from : (r : Result T E) → x ≡ cond (is_ok r) a b → OnErr r (x ≡ b)
   on-err-from (Ok t) e = tt
   on-err-from (Err f) e = e

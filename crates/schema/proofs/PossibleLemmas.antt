@@ -67,6 +67,16 @@ module _ {T : Type 0} (name_of : T → Option (List ℕ)) (p : T → Bool) (n : 
   unfolding passing
   among-filter ts h = among-passing ts h
 
+-- a name among the names of an option
+pub among-option : (o : Option (List ℕ)) (n : List ℕ) → is_among (option_to_list o) n ≡ option_map_or (λ k. bytes_eq k n) o false
+among-option None n = refl
+among-option (Some k) n = or-false (bytes_eq k n)
+
+-- the converse
+pub meet-option : (o : Option (List ℕ)) (ys : List (List ℕ)) → do_meet (option_to_list o) ys ≡ option_map_or (is_among ys) o false
+meet-option None ys = refl
+meet-option (Some k) ys = or-false (is_among ys k)
+
 meet-turned : (xs ys : List (List ℕ)) → do_meet xs ys ≡ true → do_meet ys xs ≡ true
 meet-turned xs ys h =
     let a = Any-from_list_any (is_among ys) xs h in
