@@ -1,12 +1,10 @@
 -- What an accepted list of types has.
-use Rattle.std.proofs.Common.{◌≡◌, ℕ, ◌+◌, ◌≤◌, List, [], ◌∷◌, Bool, true, false, cond, not, ◌&&◌, ◌||◌, Option, Some, None, is_some, lit≤, string_bytes, refl, ap, subst, ◌∙◌, arith}
+use Rattle.std.proofs.Common.{◌≡◌, ℕ, ◌+◌, ◌≤◌, List, [], ◌∷◌, Bool, true, false, cond, not, ◌&&◌, ◌||◌, Option, Some, is_some, lit≤, string_bytes, refl, ap, ◌∙◌, arith}
 use Rattle.std.specs.Prelude.{find, count_by, Result, Ok, Err, IfErr, OnOk, IsOkUnless}
 use Rattle.std.specs.List.{list_any}
 use Rattle.std.specs.Option.{option_map_or}
-use Rattle.std.specs.Str.{bytes_eq}
 use Rattle.std.proofs.lemmas.Bool.{and_parts, or_parts}
 use Rattle.std.proofs.lemmas.List.Sums.{sum_by-cons}
-use Rattle.std.proofs.lemmas.Slice.Eq.{bytes_eq-Decides}
 use Rattle.schema_validation.specs.declared.error.SchemaError.{SchemaError}
 use Rattle.schema_validation.specs.declared.error.SchemaError.TheVariants as e
 use Rattle.meta.specs.declared.kinds.MetaTypeOf.{MetaTypeOf}
@@ -14,7 +12,8 @@ use Rattle.schema_validation.specs.Accepted.{Roots, root_names, IsAccepted, IsTr
 use Rattle.meta.specs.Kinds.{name_of_meta}
 use Rattle.schema_validation.specs.Named.{is_called, is_any_called, are_distinct}
 use Rattle.schema_validation.specs.Names.{all_names, all_inputs, all_members}
-use Rattle.schema_validation.proofs.Finds.{not-true, all-at}
+use Rattle.schema_validation.proofs.Finds.{all-at}
+use Rattle.schema_validation.proofs.KindLemmas.{first-alone}
 
 false_step : (b : Bool) (n : ℕ) → b ≡ false → n ≡ 0 → cond b 1 0 + n ≡ 0
 false_step true n h k = cc
@@ -31,17 +30,6 @@ one_step true n h k = let none : n ≡ 0 = h refl in omega (arith, none)
 one_step false n h k = omega (arith, k)
 
 module _ {T : Type 0} (name_of : T → Option (List ℕ)) where
-  alone_at : (o : Option (List ℕ)) (ts : List T) (n : List ℕ) → option_map_or (λ k. not (is_any_called name_of ts k)) o true ≡ true → option_map_or (λ k. bytes_eq k n) o false ≡ true → is_any_called name_of ts n ≡ false
-  alone_at None ts n h k = cc
-  alone_at (Some q) ts n h k =
-      let same : q ≡ n = (bytes_eq-Decides q n).0 k in
-      subst (λ w. is_any_called name_of ts w ≡ false) same (not-true (is_any_called name_of ts q) h)
-
-  -- no other entry has the first one's name
-  pub first-alone : (t : T) (ts : List T) (n : List ℕ) → are_distinct name_of (t ∷ ts) ≡ true → is_called name_of n t ≡ true → is_any_called name_of ts n ≡ false
-  first-alone t ts n h k =
-      alone_at (name_of t) ts n (and_parts (option_map_or (λ q. not (is_any_called name_of ts q)) (name_of t) true) (are_distinct name_of ts) h).0 k
-
   rest-distinct : (t : T) (ts : List T) → are_distinct name_of (t ∷ ts) ≡ true → are_distinct name_of ts ≡ true
   rest-distinct t ts h = (and_parts (option_map_or (λ q. not (is_any_called name_of ts q)) (name_of t) true) (are_distinct name_of ts) h).1
 

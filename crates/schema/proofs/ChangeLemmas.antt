@@ -1,12 +1,11 @@
 -- Changes of a schema.
-use Rattle.std.proofs.Common.{◌≡◌, ℕ, List, [], ◌∷◌, Bool, true, false, cond, not, ◌&&◌, ◌||◌, Option, Some, map, string_bytes, refl, ap, sym, ◌∙◌}
-use Rattle.std.specs.Prelude.{find, String, Result, Ok, Err, IfErr, OnOk, OnErr, is_ok, IsOkUnless}
+use Rattle.std.proofs.Common.{◌≡◌, ℕ, List, [], ◌∷◌, Bool, true, false, cond, ◌&&◌, ◌||◌, Option, map, string_bytes, refl, ap, sym, ◌∙◌}
+use Rattle.std.specs.Prelude.{String, Result, Ok, Err, IfErr, OnOk, OnErr, is_ok, IsOkUnless}
 use Rattle.std.specs.declared.alloc.Global.{Global}
 use Rattle.std.specs.List.{list_any, list_all}
-use Rattle.std.specs.Option.{option_map_or}
 use Rattle.std.specs.Str.{bytes_eq}
 use Rattle.std.specs.String.{string_eq}
-use Rattle.std.proofs.lemmas.Bool.{and_parts, and_from, or_parts, or_from}
+use Rattle.std.proofs.lemmas.Bool.{and_parts, and_from}
 use Rattle.std.proofs.lemmas.Slice.Eq.{bytes_eq-Decides}
 use Rattle.indexmap.specs.IndexMap.{insert_entry}
 use Rattle.schema_validation.specs.declared.error.SchemaError.{SchemaError}
@@ -19,10 +18,9 @@ use Rattle.schema.specs.Changes.{directive_types, with_directive, IsTrueOfArgume
 use Rattle.schema_validation.specs.Directives.{directive_name, directive_inputs}
 use Rattle.meta.specs.Kinds.{name_of_meta, is_input_meta}
 use Rattle.schema_validation.specs.Named.{is_called, is_any_called, are_distinct, are_keyed}
-use Rattle.schema.proofs.AcceptedLemmas.{first-alone}
 use Rattle.schema_validation.proofs.Finds.{all-at}
 use Rattle.schema_validation.proofs.KeyedLemmas.{bytes_eq-sym}
-use Rattle.schema.proofs.PossibleLemmas.{or-false, weaker-all}
+use Rattle.schema.proofs.PossibleLemmas.{weaker-all}
 use Rattle.schema_validation.proofs.Refusals.{all-front, all-back, all-joined}
 use Rattle.std.specs.Coded.{codes}
 use mathlib.Core.HLevel.{is_prop→PathP}
@@ -30,24 +28,8 @@ use mathlib.Core.HLevel.{is_prop→PathP}
 true-prop : (b : Bool) → IsProp (b ≡ true)
 true-prop b = hlevel codes
 
--- a type of a kind is listed where the type of the name has it
+-- a name of a kind is a name
 module _ {T : Type 0} (name_of : T → Option (List ℕ)) (kind : T → Bool) (n : List ℕ) where
-  none-of-kind : (ts : List T) → is_any_called name_of ts n ≡ false → list_any (λ t. is_called name_of n t && kind t) ts ≡ false
-  none-of-kind [] h = refl
-  none-of-kind (t ∷ ts) h =
-      let parts = or_parts (is_called name_of n t) (is_any_called name_of ts n) h in
-      or_from (is_called name_of n t && kind t) (list_any (λ u. is_called name_of n u && kind u) ts) (ap (λ b. b && kind t) parts.0) (none-of-kind ts parts.1)
-
-  kind_step : (b : Bool) (t : T) (ts : List T) → is_called name_of n t ≡ b → are_distinct name_of (t ∷ ts) ≡ true → list_any (λ u. is_called name_of n u && kind u) ts ≡ option_map_or kind (find (is_called name_of n) ts) false
-      → ((b && kind t) || list_any (λ u. is_called name_of n u && kind u) ts) ≡ option_map_or kind (cond b (Some t) (find (is_called name_of n) ts)) false
-  kind_step true t ts e h rest = ap (λ r. kind t || r) (none-of-kind ts (first-alone name_of t ts n h e)) ∙ or-false (kind t)
-  kind_step false t ts e h rest = rest
-
-  pub kind-found : (ts : List T) → are_distinct name_of ts ≡ true → list_any (λ t. is_called name_of n t && kind t) ts ≡ option_map_or kind (find (is_called name_of n) ts) false
-  kind-found [] h = refl
-  kind-found (t ∷ ts) h =
-      kind_step (is_called name_of n t) t ts refl h (kind-found ts (and_parts (option_map_or (λ k. not (is_any_called name_of ts k)) (name_of t) true) (are_distinct name_of ts) h).1)
-
   listed_step : (b q r s : Bool) → ((b && q) || r) ≡ true → (r ≡ true → s ≡ true) → (b || s) ≡ true
   listed_step true q r s h f = refl
   listed_step false q r s h f = f h

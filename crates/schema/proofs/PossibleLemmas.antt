@@ -18,9 +18,10 @@ use Rattle.meta.specs.Kinds.{name_of_meta, is_abstract_meta}
 use Rattle.schema_validation.specs.Named.{is_called, is_any_called, are_named, are_distinct}
 use Rattle.schema_validation.specs.Names.{members_of}
 use Rattle.schema.specs.Possible.{is_among, do_meet, is_implementer, possible_names, types_named, have_one_name, do_overlap}
-use Rattle.schema.proofs.AcceptedLemmas.{first-alone, find-called}
+use Rattle.schema.proofs.AcceptedLemmas.{find-called}
 use Rattle.schema_validation.proofs.Finds.{found-passes, found-among}
 use Rattle.schema_validation.proofs.KeyedLemmas.{bytes_eq-sym}
+use Rattle.schema_validation.proofs.KindLemmas.{first-alone}
 use Rattle.schema_validation.proofs.Refusals.{all-front, all-back, all-members}
 
 pub or-false : (b : Bool) → (b || false) ≡ b

@@ -17,7 +17,7 @@ use Rattle.schema_validation.proofs.Finds.{rest_at}
 pub pushed-two : {A : Type 0} (xs ys zs : List A) (x y : A) → ys ≡ xs ++ x ∷ [] → zs ≡ ys ++ y ∷ [] → zs ≡ xs ++ x ∷ y ∷ []
 pushed-two xs ys zs x y e f = f ∙ ap (λ l. l ++ y ∷ []) e ∙ append_assoc xs (x ∷ []) (y ∷ [])
 
-split-at : {A : Type 0} (xs : List A) (i : ℕ) (x : A) → i < length xs → x ≡ get_or xs i x → xs ≡ take i xs ++ x ∷ drop (i + 1) xs
+pub split-at : {A : Type 0} (xs : List A) (i : ℕ) (x : A) → i < length xs → x ≡ get_or xs i x → xs ≡ take i xs ++ x ∷ drop (i + 1) xs
 split-at xs i x h e = sym (take-append-drop i xs) ∙ ap (λ l. take i xs ++ l) (rest_at xs i x h e)
 
 insert-removed : {A : Type 0} (xs : List A) (i : ℕ) (y : A) → i < length xs → insert (remove xs i) i y ≡ take i xs ++ y ∷ drop (i + 1) xs

@@ -9,3 +9,4 @@ pub mod Names
 pub mod Places
 pub mod Repeated
 pub mod RootNames
+pub mod Tables

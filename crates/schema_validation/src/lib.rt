@@ -12,7 +12,7 @@ pub mod keyed;
 pub mod listed;
 pub mod orders;
 pub mod places;
-mod repeated;
 pub mod roots;
 pub mod slots;
 pub mod standard_directives;
+mod table;

@@ -9,4 +9,4 @@ returns-in-Some-clause-err g c =
     let k = string_bytes c.in_ok-from_str.field-0 in
     let same : k ≡ c.in-Some.name.now = c.in_ok-from_str.ensures.ok in
     let names = root_names (roots_asked c.args.roots) in
-    (failing-among (is_listed c.args.types.now) names c.in-Some.name.now k same c.in-Some.ensures, failing-test (is_listed c.args.types.now) names c.in-Some.name.now k same c.in-Some.ensures)
+    (failing-among (is_listed c.args.table.now.types.now) names c.in-Some.name.now k same c.in-Some.ensures, failing-test (is_listed c.args.table.now.types.now) names c.in-Some.name.now k same c.in-Some.ensures)

@@ -1,7 +1,7 @@
 use Rattle.std.proofs.Common.{false, ap, sym, ◌∙◌}
 use Rattle.std.specs.Option.{option_map_or}
 use Rattle.meta.specs.Kinds.{name_of_meta, is_input_meta}
-use Rattle.schema.proofs.ChangeLemmas.{kind-found}
+use Rattle.schema_validation.proofs.KindLemmas.{kind-found}
 use Rattle.schema.proofs.model.schemas.SchemaTypeOf.is_input_known.Goals as goal
 
 pub returns-in-Some : goal.returns-in-Some
