@@ -13,7 +13,7 @@ pub use graphql_reader::{
 };
 pub use introspection::{IntrospectionError, schema_text};
 pub use merge_field_laws;
-pub use sdl_reader::{Defined, SchemaFault, SchemaReadError, read_schema};
+pub use sdl_reader::{Defined, Faults, PlacedFault, SchemaFault, SchemaReadError, read_schema};
 pub use validation;
 pub use validation::{
     Definition, InputValue, OutOfMemory, RootNode, RuleError, SchemaType, Variables,

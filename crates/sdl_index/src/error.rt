@@ -1,9 +1,11 @@
 //! Why a text is not a schema.
+ghost use Rattle.std.specs.Prelude.{◌≡◌, ◌<◌, [], IfSome, None, length};
+
 use graphql_reader::{ReadError, SyntaxError};
 use language::error::OutOfMemory;
 use language::position::SourcePosition;
 use schema::error::SchemaError;
-use std::alloc::{AllocError, AllocFailed};
+use std::alloc::{AllocError, AllocFailed, Global};
 use std::error::Error;
 use std::fmt;
 
@@ -69,7 +71,7 @@ pub enum SchemaFault<'a> {
     UnknownExtended(&'a str),
     /// An extension of a type of another kind (section 3.4.3).
     OtherKindExtended(&'a str),
-    /// `SchemaType` refuses the types, or a directive.
+    /// What makes `SchemaType` refuse the types, or a directive.
     Refused(SchemaError),
 }
 
@@ -98,22 +100,84 @@ impl fmt::Display for SchemaFault<'_> {
     }
 }
 
+/// A fault of the definitions, and its position: that of the name, or of the type reference that holds it.
+#[derive(Debug, PartialEq, Eq, Drop)]
+pub struct PlacedFault<'a> {
+    pub position: SourcePosition,
+    pub fault: SchemaFault<'a>,
+}
+
+/// Faults of the definitions, one at least.
+#[derive(Debug, PartialEq, Eq, Drop)]
+pub struct Faults<'a> {
+    list: Vec<PlacedFault<'a>>,
+    ghost some: { 0 < length list.items },
+}
+
+impl<'a> Faults<'a> {
+    /// These faults, or `None` if there are none.
+    pub fn of_list(list: Vec<PlacedFault<'a>>) -> Option<Faults<'a>>
+        ensures kept { IfSome result (λ faults. faults.list ≡ list.entry) }
+        ensures none { result ≡ None → list.entry.items ≡ [] }
+    {
+        if list.is_empty() {
+            None
+        } else {
+            Some(Faults { list })
+        }
+    }
+
+    /// The faults in their order.
+    pub fn as_slice(&self) -> &[PlacedFault<'a>]
+        ensures list { result.now ≡ self.now.list.items }
+        ensures some { 0 < length result.now }
+    {
+        self.list.as_slice()
+    }
+}
+
+impl fmt::Display for Faults<'_> {
+    fn fmt<W: fmt::Write>(&self, f: &mut fmt::Formatter<W>) -> fmt::Result {
+        let mut between = "";
+        for placed in self.list.as_slice() {
+            write!(f, "{between}{}", placed.fault)?;
+            between = "; ";
+        }
+        Ok(())
+    }
+}
+
 /// Why a text could not be read as a schema.
 #[derive(Debug, PartialEq, Eq, Drop)]
 pub enum SchemaReadError<'a> {
     /// The text has a syntax error.
     Syntax(SyntaxError<'a>),
-    /// A fault of the definitions, and its position: that of the name, or of the type reference that holds it.
-    Fault(SourcePosition, SchemaFault<'a>),
+    /// Faults of the definitions, in the order of the text.
+    Faults(Faults<'a>),
     /// Out of memory; nothing is known of the text.
     OutOfMemory,
+}
+
+impl<'a> SchemaReadError<'a> {
+    /// The error of a single fault, or out of memory.
+    pub fn of_fault(
+        alloc: Global,
+        position: SourcePosition,
+        fault: SchemaFault<'a>,
+    ) -> SchemaReadError<'a> {
+        let mut list = Vec::new(alloc);
+        match list.push(PlacedFault { position, fault }) {
+            Ok(()) => SchemaReadError::Faults(Faults { list }),
+            Err(_) => SchemaReadError::OutOfMemory,
+        }
+    }
 }
 
 impl fmt::Display for SchemaReadError<'_> {
     fn fmt<W: fmt::Write>(&self, f: &mut fmt::Formatter<W>) -> fmt::Result {
         match self {
             SchemaReadError::Syntax(error) => write!(f, "{error}"),
-            SchemaReadError::Fault(_, fault) => write!(f, "{fault}"),
+            SchemaReadError::Faults(faults) => write!(f, "{faults}"),
             SchemaReadError::OutOfMemory => f.write_str("out of memory"),
         }
     }

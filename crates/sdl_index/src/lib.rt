@@ -6,7 +6,11 @@
 
 pub mod applied;
 pub mod error;
-pub mod names;
+mod extensions;
+pub mod faults;
+mod kinds;
+mod names;
 pub mod parts;
-pub mod places;
+mod references;
+mod repeats;
 pub mod roots;

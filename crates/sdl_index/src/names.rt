@@ -1,14 +1,15 @@
 //! Lists of unique names.
-use crate::error::{Defined, SchemaFault, SchemaReadError};
+use crate::error::{Defined, PlacedFault, SchemaFault};
 use language::error::OutOfMemory;
 use language::position::Spanning;
+use name_tables::map::NameMap;
 use std::alloc::Global;
 
 /// A list of unique names.
 #[derive(Drop)]
 pub struct Names<'a> {
     defined: Defined,
-    names: Vec<&'a str>,
+    names: NameMap<'a, ()>,
 }
 
 impl<'a> Names<'a> {
@@ -16,55 +17,43 @@ impl<'a> Names<'a> {
     pub fn new(alloc: Global, defined: Defined) -> Names<'a> {
         Names {
             defined,
-            names: Vec::new(alloc),
+            names: NameMap::new(alloc),
         }
     }
 
-    fn has(&self, name: &str) -> bool {
-        for known in self.names.as_slice() {
-            if *known == name {
-                return true;
-            }
-        }
-        false
-    }
-
-    /// Adds a name.
+    /// Adds a name, and returns whether it is new. That the list has it already is a fault.
     ///
     /// # Errors
     ///
-    /// The list has the name already, or out of memory; the list is unchanged then.
-    pub fn add(&mut self, name: &Spanning<&'a str>) -> Result<(), SchemaReadError<'a>> {
-        if self.has(name.item) {
-            let fault = SchemaFault::Repeated(self.defined, name.item);
-            return Err(SchemaReadError::Fault(name.span.start, fault));
+    /// Out of memory.
+    pub fn add(
+        &mut self,
+        name: &Spanning<&'a str>,
+        faults: &mut Vec<PlacedFault<'a>>,
+    ) -> Result<bool, OutOfMemory> {
+        if self.names.insert(name.item, ())?.is_none() {
+            return Ok(true);
         }
-        self.names.push(name.item)?;
-        Ok(())
+        faults.push(PlacedFault {
+            position: name.span.start,
+            fault: SchemaFault::Repeated(self.defined, name.item),
+        })?;
+        Ok(false)
     }
 
     /// Adds several names.
     ///
     /// # Errors
     ///
-    /// The list has one of the names already, or out of memory; the names before it are added then.
-    pub fn add_all(&mut self, names: &[Spanning<&'a str>]) -> Result<(), SchemaReadError<'a>> {
+    /// Out of memory; some of the names may be added then.
+    pub fn add_all(
+        &mut self,
+        names: &[Spanning<&'a str>],
+        faults: &mut Vec<PlacedFault<'a>>,
+    ) -> Result<(), OutOfMemory> {
         for name in names {
-            self.add(name)?;
+            self.add(name, faults)?;
         }
         Ok(())
-    }
-
-    /// Copies of the names, in order.
-    ///
-    /// # Errors
-    ///
-    /// Out of memory.
-    pub fn copied(&self, alloc: Global) -> Result<Vec<String>, OutOfMemory> {
-        let mut copies = Vec::new(alloc);
-        for name in self.names.as_slice() {
-            copies.push(String::from_str(alloc, name)?)?;
-        }
-        Ok(copies)
     }
 }

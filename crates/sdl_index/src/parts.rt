@@ -1,8 +1,6 @@
 //! The definitions of a document, by kind.
-use crate::error::{Defined, SchemaFault, SchemaReadError};
-use crate::names::Names;
 use graphql_reader::type_system::{
-    DirectiveDefinition, SchemaDefinition, TypeBody, TypeDefinition, TypeSystemDefinition,
+    DirectiveDefinition, SchemaDefinition, TypeDefinition, TypeSystemDefinition,
 };
 use language::error::OutOfMemory;
 use language::position::Spanning;
@@ -13,21 +11,33 @@ use std::alloc::Global;
 pub struct Parts<'a> {
     pub schemas: Vec<Spanning<SchemaDefinition<'a>>>,
     pub types: Vec<TypeDefinition<'a>>,
+    /// By the names of their types, those of one type in the order of the text.
     pub extensions: Vec<TypeDefinition<'a>>,
     pub standard: Vec<TypeDefinition<'a>>,
     pub directives: Vec<DirectiveDefinition<'a>>,
+}
+
+impl<'a> Parts<'a> {
+    /// The extensions of the type with this name, in the order of the text.
+    pub fn extensions_of(&self, name: &str) -> &[TypeDefinition<'a>] {
+        let extensions = self.extensions.as_slice();
+        let start = extensions.partition_point(|part| part.name.item < name);
+        let rest = &extensions[start..];
+        let end = rest.partition_point(|part| part.name.item == name);
+        &rest[..end]
+    }
 }
 
 /// The parts of a document. `standard` holds the definitions of the standard types.
 ///
 /// # Errors
 ///
-/// A type is defined twice, an extended type is not defined or of another kind, or out of memory.
+/// Out of memory.
 pub fn parts_of<'a>(
     alloc: Global,
     document: Vec<TypeSystemDefinition<'a>>,
     standard: Vec<TypeSystemDefinition<'a>>,
-) -> Result<Parts<'a>, SchemaReadError<'a>> {
+) -> Result<Parts<'a>, OutOfMemory> {
     let mut parts = Parts {
         schemas: Vec::new(alloc),
         types: Vec::new(alloc),
@@ -38,11 +48,10 @@ pub fn parts_of<'a>(
     for definition in document {
         add_part(&mut parts, definition)?;
     }
-    check_types(alloc, parts.types.as_slice())?;
     for definition in standard {
         add_standard(&mut parts, definition)?;
     }
-    check_extensions(&parts)?;
+    parts.extensions.sort_by_key(|part| part.name.item)?;
     Ok(parts)
 }
 
@@ -91,57 +100,4 @@ pub fn first_named<'d, 'a>(
         }
     }
     None
-}
-
-fn check_types<'a>(alloc: Global, types: &[TypeDefinition<'a>]) -> Result<(), SchemaReadError<'a>> {
-    let mut names = Names::new(alloc, Defined::Type);
-    for defined in types {
-        names.add(&defined.name)?;
-    }
-    Ok(())
-}
-
-fn check_extensions<'a>(parts: &Parts<'a>) -> Result<(), SchemaReadError<'a>> {
-    for extension in parts.extensions.as_slice() {
-        check_extension(parts, extension)?;
-    }
-    Ok(())
-}
-
-fn check_extension<'a>(
-    parts: &Parts<'a>,
-    extension: &TypeDefinition<'a>,
-) -> Result<(), SchemaReadError<'a>> {
-    let name = extension.name.item;
-    if let Some(defined) = first_named(parts.types.as_slice(), name) {
-        return check_kind(defined, extension);
-    }
-    if let Some(defined) = first_named(parts.standard.as_slice(), name) {
-        return check_kind(defined, extension);
-    }
-    let fault = SchemaFault::UnknownExtended(name);
-    Err(SchemaReadError::Fault(extension.name.span.start, fault))
-}
-
-fn check_kind<'a>(
-    defined: &TypeDefinition<'a>,
-    extension: &TypeDefinition<'a>,
-) -> Result<(), SchemaReadError<'a>> {
-    if is_same_kind(&defined.body, &extension.body) {
-        return Ok(());
-    }
-    let fault = SchemaFault::OtherKindExtended(extension.name.item);
-    Err(SchemaReadError::Fault(extension.name.span.start, fault))
-}
-
-fn is_same_kind(defined: &TypeBody<'_>, extended: &TypeBody<'_>) -> bool {
-    match (defined, extended) {
-        (TypeBody::Scalar, TypeBody::Scalar) => true,
-        (TypeBody::Object(_), TypeBody::Object(_)) => true,
-        (TypeBody::Interface(_), TypeBody::Interface(_)) => true,
-        (TypeBody::Union(_), TypeBody::Union(_)) => true,
-        (TypeBody::Enum(_), TypeBody::Enum(_)) => true,
-        (TypeBody::InputObject(_), TypeBody::InputObject(_)) => true,
-        _ => false,
-    }
 }

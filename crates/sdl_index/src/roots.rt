@@ -1,9 +1,13 @@
 //! The root operation types of a schema (GraphQL, October 2021, section 3.3.1).
-use crate::error::{Defined, SchemaFault, SchemaReadError};
+use crate::error::{Defined, PlacedFault, SchemaFault};
+use crate::kinds::{KnownTypes, TypeKind};
 use crate::parts::{Parts, first_named};
-use graphql_reader::type_system::{RootOperationType, TypeDefinition};
-use language::position::SourcePosition;
+use graphql_reader::type_system::{RootOperationType, SchemaDefinition, TypeDefinition};
+use language::error::OutOfMemory;
+use language::position::{SourcePosition, Spanning};
 use language::tree::OperationType;
+use schema::error::SchemaError;
+use std::alloc::Global;
 
 /// The name of a root type, and its position.
 #[derive(Clone, Copy)]
@@ -15,20 +19,14 @@ pub struct Root<'a> {
 /// The root types that a document names.
 #[derive(Clone, Copy)]
 pub struct Roots<'a> {
-    query: Option<Root<'a>>,
-    mutation: Option<Root<'a>>,
-    subscription: Option<Root<'a>>,
-}
-
-/// The root types of a schema, which has one of queries at least.
-#[derive(Clone, Copy)]
-pub struct SchemaRoots<'a> {
-    pub query: Root<'a>,
+    pub query: Option<Root<'a>>,
     pub mutation: Option<Root<'a>>,
     pub subscription: Option<Root<'a>>,
+    /// The position of the schema definition, or the start of a document that has none.
+    pub position: SourcePosition,
 }
 
-impl<'a> SchemaRoots<'a> {
+impl<'a> Roots<'a> {
     /// The name of the mutation root type, or `_EmptyMutation`.
     pub fn mutation_name(&self) -> &'a str {
         match self.mutation {
@@ -45,70 +43,81 @@ impl<'a> SchemaRoots<'a> {
         }
     }
 
-    /// The position of the root type with this name.
-    pub fn position_of(&self, name: &str) -> SourcePosition {
-        match (self.mutation, self.subscription) {
-            (_, _) if self.query.name == name => self.query.position,
-            (Some(root), _) if root.name == name => root.position,
-            (_, Some(root)) => root.position,
-            _ => self.query.position,
+    fn of_operation(&self, operation_type: OperationType) -> Option<Root<'a>> {
+        match operation_type {
+            OperationType::Query => self.query,
+            OperationType::Mutation => self.mutation,
+            OperationType::Subscription => self.subscription,
+        }
+    }
+
+    fn with(self, operation_type: OperationType, root: Root<'a>) -> Roots<'a> {
+        let root = Some(root);
+        match operation_type {
+            OperationType::Query => Roots {
+                query: root,
+                ..self
+            },
+            OperationType::Mutation => Roots {
+                mutation: root,
+                ..self
+            },
+            OperationType::Subscription => Roots {
+                subscription: root,
+                ..self
+            },
         }
     }
 }
 
-/// The root types of a document. Without a schema definition they are the types `Query`, `Mutation` and `Subscription`.
+/// The root types of a document, and the faults of those that it names. Without a schema definition they are the types
+/// `Query`, `Mutation` and `Subscription`. Of several schema definitions, and of several roots of one operation, the
+/// first counts.
 ///
 /// # Errors
 ///
-/// The schema or a root is defined twice, or there is no query root type.
-pub fn roots_of<'a>(parts: &Parts<'a>) -> Result<SchemaRoots<'a>, SchemaReadError<'a>> {
+/// Out of memory.
+pub fn roots_of<'a>(
+    parts: &Parts<'a>,
+    faults: &mut Vec<PlacedFault<'a>>,
+) -> Result<Roots<'a>, OutOfMemory> {
     let mut roots = Roots {
         query: None,
         mutation: None,
         subscription: None,
+        position: SourcePosition::new(0, 0, 0),
     };
+    let mut is_defined = false;
     for schema in parts.schemas.as_slice() {
-        roots = with_roots(roots, schema.item.roots.as_slice())?;
-    }
-    let start = match schema_start(parts)? {
-        Some(start) => start,
-        None => {
-            roots = with_usual_roots(roots, parts.types.as_slice());
-            SourcePosition::new(0, 0, 0)
-        }
-    };
-    match roots.query {
-        Some(query) => Ok(SchemaRoots {
-            query,
-            mutation: roots.mutation,
-            subscription: roots.subscription,
-        }),
-        None => Err(SchemaReadError::Fault(start, SchemaFault::NoQueryRoot)),
-    }
-}
-
-// The position of the schema definition, of which there may be one.
-fn schema_start<'a>(parts: &Parts<'a>) -> Result<Option<SourcePosition>, SchemaReadError<'a>> {
-    let mut start = None;
-    for schema in parts.schemas.as_slice() {
-        if !schema.item.is_extension {
-            if start.is_some() {
-                let fault = SchemaFault::SecondSchema;
-                return Err(SchemaReadError::Fault(schema.span.start, fault));
-            }
-            start = Some(schema.span.start);
+        if is_defined && !schema.item.is_extension {
+            let fault = SchemaFault::SecondSchema;
+            faults.push(PlacedFault {
+                position: schema.span.start,
+                fault,
+            })?;
+        } else {
+            roots = with_schema(roots, schema, faults)?;
+            is_defined = is_defined || !schema.item.is_extension;
         }
     }
-    Ok(start)
+    if is_defined {
+        return Ok(roots);
+    }
+    Ok(with_usual_roots(roots, parts.types.as_slice()))
 }
 
-fn with_roots<'a>(
+// The roots that a schema definition or an extension adds.
+fn with_schema<'a>(
     roots: Roots<'a>,
-    named: &[RootOperationType<'a>],
-) -> Result<Roots<'a>, SchemaReadError<'a>> {
+    schema: &Spanning<SchemaDefinition<'a>>,
+    faults: &mut Vec<PlacedFault<'a>>,
+) -> Result<Roots<'a>, OutOfMemory> {
     let mut roots = roots;
-    for root in named {
-        roots = with_root(roots, root)?;
+    if !schema.item.is_extension {
+        roots.position = schema.span.start;
+    }
+    for named in schema.item.roots.as_slice() {
+        roots = with_root(roots, named, faults)?;
     }
     Ok(roots)
 }
@@ -116,44 +125,28 @@ fn with_roots<'a>(
 fn with_root<'a>(
     roots: Roots<'a>,
     named: &RootOperationType<'a>,
-) -> Result<Roots<'a>, SchemaReadError<'a>> {
-    let root = Some(Root {
+    faults: &mut Vec<PlacedFault<'a>>,
+) -> Result<Roots<'a>, OutOfMemory> {
+    let root = Root {
         name: named.name.item,
         position: named.name.span.start,
-    });
-    let (earlier, word, roots) = match named.operation_type {
-        OperationType::Query => (
-            roots.query,
-            "query",
-            Roots {
-                query: root,
-                ..roots
-            },
-        ),
-        OperationType::Mutation => {
-            (
-                roots.mutation,
-                "mutation",
-                Roots {
-                    mutation: root,
-                    ..roots
-                },
-            )
-        }
-        OperationType::Subscription => (
-            roots.subscription,
-            "subscription",
-            Roots {
-                subscription: root,
-                ..roots
-            },
-        ),
     };
-    if earlier.is_some() {
-        let fault = SchemaFault::Repeated(Defined::Root, word);
-        return Err(SchemaReadError::Fault(named.name.span.start, fault));
+    if roots.of_operation(named.operation_type).is_some() {
+        faults.push(PlacedFault {
+            position: root.position,
+            fault: SchemaFault::Repeated(Defined::Root, word_of(named.operation_type)),
+        })?;
+        return Ok(roots);
     }
-    Ok(roots)
+    Ok(roots.with(named.operation_type, root))
+}
+
+fn word_of(operation_type: OperationType) -> &'static str {
+    match operation_type {
+        OperationType::Query => "query",
+        OperationType::Mutation => "mutation",
+        OperationType::Subscription => "subscription",
+    }
 }
 
 fn with_usual_roots<'a>(roots: Roots<'a>, types: &[TypeDefinition<'a>]) -> Roots<'a> {
@@ -161,6 +154,7 @@ fn with_usual_roots<'a>(roots: Roots<'a>, types: &[TypeDefinition<'a>]) -> Roots
         query: named_or_usual(roots.query, types, "Query"),
         mutation: named_or_usual(roots.mutation, types, "Mutation"),
         subscription: named_or_usual(roots.subscription, types, "Subscription"),
+        position: roots.position,
     }
 }
 
@@ -179,4 +173,64 @@ fn named_or_usual<'a>(
         }),
         None => None,
     }
+}
+
+/// Appends a fault if there is no query root type, and for each root type that is not defined. That of queries must be
+/// an object.
+///
+/// # Errors
+///
+/// Out of memory.
+pub fn add_root_faults<'a>(
+    alloc: Global,
+    known: &KnownTypes<'a>,
+    roots: &Roots<'a>,
+    faults: &mut Vec<PlacedFault<'a>>,
+) -> Result<(), OutOfMemory> {
+    match roots.query {
+        None => faults.push(PlacedFault {
+            position: roots.position,
+            fault: SchemaFault::NoQueryRoot,
+        })?,
+        Some(root) => check_query(alloc, known, root, faults)?,
+    }
+    check_root(alloc, known, roots.mutation, faults)?;
+    check_root(alloc, known, roots.subscription, faults)
+}
+
+fn check_query<'a>(
+    alloc: Global,
+    known: &KnownTypes<'a>,
+    root: Root<'a>,
+    faults: &mut Vec<PlacedFault<'a>>,
+) -> Result<(), OutOfMemory> {
+    match known.kind(root.name) {
+        Some(TypeKind::Object) => Ok(()),
+        Some(_) => {
+            faults.push(PlacedFault {
+                position: root.position,
+                fault: SchemaFault::Refused(SchemaError::QueryNotObject),
+            })?;
+            Ok(())
+        }
+        None => check_root(alloc, known, Some(root), faults),
+    }
+}
+
+fn check_root<'a>(
+    alloc: Global,
+    known: &KnownTypes<'a>,
+    root: Option<Root<'a>>,
+    faults: &mut Vec<PlacedFault<'a>>,
+) -> Result<(), OutOfMemory> {
+    if let Some(root) = root {
+        if known.kind(root.name).is_none() {
+            let error = SchemaError::MissingRoot(String::from_str(alloc, root.name)?);
+            faults.push(PlacedFault {
+                position: root.position,
+                fault: SchemaFault::Refused(error),
+            })?;
+        }
+    }
+    Ok(())
 }

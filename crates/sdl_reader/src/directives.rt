@@ -3,12 +3,10 @@ use crate::fields::{arguments_of, copied};
 use graphql_reader::SourceScalar;
 use graphql_reader::type_system::{DirectiveDefinition, DirectivePlace};
 use language::error::OutOfMemory;
-use language::position::{SourcePosition, Spanning};
+use language::position::Spanning;
 use schema::error::SchemaError;
 use schema::model::{DirectiveLocation, DirectiveType, SchemaTypeOf};
-use sdl_index::error::{Defined, SchemaFault, SchemaReadError};
-use sdl_index::names::Names;
-use sdl_index::places::place_of_input;
+use sdl_index::error::{SchemaFault, SchemaReadError};
 use sdl_scalars::check::SourceCheck;
 use std::alloc::Global;
 
@@ -19,15 +17,13 @@ pub type SourceSchema = SchemaTypeOf<SourceScalar, SourceCheck>;
 ///
 /// # Errors
 ///
-/// A directive or an argument is defined twice, an argument's type is refused, or out of memory.
+/// A directive is refused for an argument's type, or out of memory.
 pub fn add_directives<'a>(
     alloc: Global,
     schema: &mut SourceSchema,
     directives: &[DirectiveDefinition<'a>],
 ) -> Result<(), SchemaReadError<'a>> {
-    let mut names = Names::new(alloc, Defined::Directive);
     for defined in directives {
-        names.add(&defined.name)?;
         add_directive(alloc, schema, defined)?;
     }
     Ok(())
@@ -41,14 +37,18 @@ fn add_directive<'a>(
     let directive = directive_of(alloc, defined)?;
     match schema.add_directive(directive) {
         Ok(()) => Ok(()),
-        Err(error) => Err(refusal_of(defined, error)),
+        Err(SchemaError::OutOfMemory) => Err(SchemaReadError::OutOfMemory),
+        Err(error) => {
+            let position = defined.name.span.start;
+            Err(SchemaReadError::of_fault(alloc, position, SchemaFault::Refused(error)))
+        }
     }
 }
 
-fn directive_of<'a>(
+fn directive_of(
     alloc: Global,
-    defined: &DirectiveDefinition<'a>,
-) -> Result<DirectiveType<SourceScalar>, SchemaReadError<'a>> {
+    defined: &DirectiveDefinition<'_>,
+) -> Result<DirectiveType<SourceScalar>, OutOfMemory> {
     let arguments = arguments_of(alloc, defined.arguments.as_slice())?;
     Ok(DirectiveType {
         name: String::from_str(alloc, defined.name.item)?,
@@ -57,19 +57,6 @@ fn directive_of<'a>(
         arguments,
         is_repeatable: defined.is_repeatable,
     })
-}
-
-// A directive is refused because of an argument's type.
-fn refusal_of<'a>(defined: &DirectiveDefinition<'a>, error: SchemaError) -> SchemaReadError<'a> {
-    let place = match &error {
-        SchemaError::OutOfMemory => return SchemaReadError::OutOfMemory,
-        SchemaError::UnknownType(name) | SchemaError::NotInputType(name) => {
-            place_of_input(defined.arguments.as_slice(), name.as_str())
-        }
-        _ => None,
-    };
-    let position: SourcePosition = place.unwrap_or(defined.name.span.start);
-    SchemaReadError::Fault(position, SchemaFault::Refused(error))
 }
 
 // Locations that `DirectiveLocation` lacks are left out; all of them are in type system documents.

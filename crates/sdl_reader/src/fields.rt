@@ -10,8 +10,6 @@ use meta::arguments::Argument;
 use meta::enum_values::EnumValue;
 use meta::fields::Field;
 use sdl_index::applied::deprecation;
-use sdl_index::error::{Defined, SchemaReadError};
-use sdl_index::names::Names;
 use std::alloc::Global;
 
 /// A copy of the description, if there is one.
@@ -26,29 +24,27 @@ pub fn copied(alloc: Global, description: &Description) -> Result<Option<String>
     }
 }
 
-/// Appends fields and their names.
+/// Appends fields.
 ///
 /// # Errors
 ///
-/// A field or an argument is defined twice, or out of memory; the fields before it are appended then.
-pub fn add_fields<'a>(
+/// Out of memory; some of the fields are appended then.
+pub fn add_fields(
     alloc: Global,
-    defined: &[FieldDefinition<'a>],
-    names: &mut Names<'a>,
+    defined: &[FieldDefinition<'_>],
     fields: &mut Vec<Field<SourceScalar>>,
-) -> Result<(), SchemaReadError<'a>> {
+) -> Result<(), OutOfMemory> {
     for field in defined {
-        names.add(&field.name)?;
         fields.push(field_of(alloc, field)?)?;
     }
     Ok(())
 }
 
 // A field without arguments gets an empty list, so that every argument is unknown there (section 5.4.1).
-fn field_of<'a>(
+fn field_of(
     alloc: Global,
-    defined: &FieldDefinition<'a>,
-) -> Result<Field<SourceScalar>, SchemaReadError<'a>> {
+    defined: &FieldDefinition<'_>,
+) -> Result<Field<SourceScalar>, OutOfMemory> {
     let arguments = arguments_of(alloc, defined.arguments.as_slice())?;
     Ok(Field {
         name: String::from_str(alloc, defined.name.item)?,
@@ -63,30 +59,27 @@ fn field_of<'a>(
 ///
 /// # Errors
 ///
-/// An argument is defined twice, or out of memory.
-pub fn arguments_of<'a>(
+/// Out of memory.
+pub fn arguments_of(
     alloc: Global,
-    defined: &[InputValueDefinition<'a>],
-) -> Result<Vec<Argument<SourceScalar>>, SchemaReadError<'a>> {
-    let mut names = Names::new(alloc, Defined::Argument);
+    defined: &[InputValueDefinition<'_>],
+) -> Result<Vec<Argument<SourceScalar>>, OutOfMemory> {
     let mut arguments = Vec::new(alloc);
-    add_arguments(alloc, defined, &mut names, &mut arguments)?;
+    add_arguments(alloc, defined, &mut arguments)?;
     Ok(arguments)
 }
 
-/// Appends arguments or input fields, and their names.
+/// Appends arguments or input fields.
 ///
 /// # Errors
 ///
-/// One is defined twice, or out of memory; those before it are appended then.
-pub fn add_arguments<'a>(
+/// Out of memory; some of them are appended then.
+pub fn add_arguments(
     alloc: Global,
-    defined: &[InputValueDefinition<'a>],
-    names: &mut Names<'a>,
+    defined: &[InputValueDefinition<'_>],
     arguments: &mut Vec<Argument<SourceScalar>>,
-) -> Result<(), SchemaReadError<'a>> {
+) -> Result<(), OutOfMemory> {
     for argument in defined {
-        names.add(&argument.name)?;
         arguments.push(argument_of(alloc, argument)?)?;
     }
     Ok(())
@@ -113,20 +106,36 @@ fn default_of(
     }
 }
 
-/// Appends enum values and their names.
+/// Appends enum values, and copies of their names.
 ///
 /// # Errors
 ///
-/// A value is defined twice, or out of memory; the values before it are appended then.
-pub fn add_values<'a>(
+/// Out of memory; some of the values are appended then.
+pub fn add_values(
     alloc: Global,
-    defined: &[EnumValueDefinition<'a>],
-    names: &mut Names<'a>,
+    defined: &[EnumValueDefinition<'_>],
+    names: &mut Vec<String>,
     values: &mut Vec<EnumValue>,
-) -> Result<(), SchemaReadError<'a>> {
+) -> Result<(), OutOfMemory> {
     for value in defined {
-        names.add(&value.name)?;
+        names.push(String::from_str(alloc, value.name.item)?)?;
         values.push(value_of(alloc, value)?)?;
+    }
+    Ok(())
+}
+
+/// Appends copies of names.
+///
+/// # Errors
+///
+/// Out of memory; some of the names are appended then.
+pub fn add_names(
+    alloc: Global,
+    listed: &[Spanning<&str>],
+    names: &mut Vec<String>,
+) -> Result<(), OutOfMemory> {
+    for name in listed {
+        names.push(String::from_str(alloc, name.item)?)?;
     }
     Ok(())
 }

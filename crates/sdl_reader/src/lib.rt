@@ -13,4 +13,4 @@ mod types;
 
 pub use graphql_reader::{Found, SourceScalar, SyntaxError, SyntaxFault};
 pub use reader::read_schema;
-pub use sdl_index::error::{Defined, SchemaFault, SchemaReadError};
+pub use sdl_index::error::{Defined, Faults, PlacedFault, SchemaFault, SchemaReadError};

@@ -1,5 +1,5 @@
 //! Metadata of types, each from its definition and extensions.
-use crate::fields::{add_arguments, add_fields, add_values, copied};
+use crate::fields::{add_arguments, add_fields, add_names, add_values, copied};
 use graphql_reader::SourceScalar;
 use graphql_reader::type_system::{TypeBody, TypeDefinition};
 use language::error::OutOfMemory;
@@ -15,8 +15,6 @@ use meta::objects::ObjectMeta;
 use meta::scalars::ScalarMetaOf;
 use meta::unions::UnionMeta;
 use sdl_index::applied::specified_by;
-use sdl_index::error::{Defined, SchemaReadError};
-use sdl_index::names::Names;
 use sdl_index::parts::Parts;
 use sdl_scalars::check::SourceCheck;
 use std::alloc::Global;
@@ -24,44 +22,41 @@ use std::alloc::Global;
 /// Metadata of a type of a text.
 pub type SourceMeta = MetaTypeOf<SourceScalar, SourceCheck>;
 
-// The extensions of a document. Those with a type's name extend that type.
+// The extensions of a type.
 type Extensions<'e, 'a> = &'e [TypeDefinition<'a>];
 
 /// The types of a document, followed by the standard types.
 ///
 /// # Errors
 ///
-/// A name is in its list twice, or out of memory.
-pub fn types_of<'a>(
-    alloc: Global,
-    parts: &Parts<'a>,
-) -> Result<Vec<SourceMeta>, SchemaReadError<'a>> {
+/// Out of memory.
+pub fn types_of(alloc: Global, parts: &Parts<'_>) -> Result<Vec<SourceMeta>, OutOfMemory> {
     let mut types = Vec::new(alloc);
-    let extensions = parts.extensions.as_slice();
-    add_types(alloc, parts.types.as_slice(), extensions, &mut types)?;
-    add_types(alloc, parts.standard.as_slice(), extensions, &mut types)?;
+    add_types(alloc, parts, parts.types.as_slice(), &mut types)?;
+    add_types(alloc, parts, parts.standard.as_slice(), &mut types)?;
     Ok(types)
 }
 
-fn add_types<'a>(
+fn add_types(
     alloc: Global,
-    defined: &[TypeDefinition<'a>],
-    extensions: Extensions<'_, 'a>,
+    parts: &Parts<'_>,
+    defined: &[TypeDefinition<'_>],
     types: &mut Vec<SourceMeta>,
-) -> Result<(), SchemaReadError<'a>> {
+) -> Result<(), OutOfMemory> {
     for definition in defined {
+        let extensions = parts.extensions_of(definition.name.item);
         types.push(type_of(alloc, definition, extensions)?)?;
     }
     Ok(())
 }
 
-fn type_of<'a>(
+fn type_of(
     alloc: Global,
-    defined: &TypeDefinition<'a>,
-    extensions: Extensions<'_, 'a>,
-) -> Result<SourceMeta, SchemaReadError<'a>> {
+    defined: &TypeDefinition<'_>,
+    extensions: Extensions<'_, '_>,
+) -> Result<SourceMeta, OutOfMemory> {
     match &defined.body {
-        TypeBody::Scalar => Ok(scalar_of(alloc, defined, extensions)?),
+        TypeBody::Scalar => scalar_of(alloc, defined, extensions),
         TypeBody::Object(_) => object_of(alloc, defined, extensions),
         TypeBody::Interface(_) => interface_of(alloc, defined, extensions),
         TypeBody::Union(_) => union_of(alloc, defined, extensions),
@@ -105,21 +100,19 @@ fn url_of<'d>(
         return url;
     }
     for part in extensions {
-        if part.name.item == defined.name.item {
-            let url = specified_by(&part.directives);
-            if url.is_some() {
-                return url;
-            }
+        let url = specified_by(&part.directives);
+        if url.is_some() {
+            return url;
         }
     }
     None
 }
 
-fn object_of<'a>(
+fn object_of(
     alloc: Global,
-    defined: &TypeDefinition<'a>,
-    extensions: Extensions<'_, 'a>,
-) -> Result<SourceMeta, SchemaReadError<'a>> {
+    defined: &TypeDefinition<'_>,
+    extensions: Extensions<'_, '_>,
+) -> Result<SourceMeta, OutOfMemory> {
     let fields = fields_of(alloc, defined, extensions)?;
     let interface_names = interfaces_of(alloc, defined, extensions)?;
     Ok(MetaTypeOf::Object(ObjectMeta {
@@ -130,11 +123,11 @@ fn object_of<'a>(
     }))
 }
 
-fn interface_of<'a>(
+fn interface_of(
     alloc: Global,
-    defined: &TypeDefinition<'a>,
-    extensions: Extensions<'_, 'a>,
-) -> Result<SourceMeta, SchemaReadError<'a>> {
+    defined: &TypeDefinition<'_>,
+    extensions: Extensions<'_, '_>,
+) -> Result<SourceMeta, OutOfMemory> {
     let fields = fields_of(alloc, defined, extensions)?;
     let interface_names = interfaces_of(alloc, defined, extensions)?;
     Ok(MetaTypeOf::Interface(InterfaceMeta {
@@ -152,57 +145,51 @@ fn typename(alloc: Global) -> Result<Field<SourceScalar>, OutOfMemory> {
     Ok(field)
 }
 
-fn fields_of<'a>(
+fn fields_of(
     alloc: Global,
-    defined: &TypeDefinition<'a>,
-    extensions: Extensions<'_, 'a>,
-) -> Result<Vec<Field<SourceScalar>>, SchemaReadError<'a>> {
-    let mut names = Names::new(alloc, Defined::Field);
+    defined: &TypeDefinition<'_>,
+    extensions: Extensions<'_, '_>,
+) -> Result<Vec<Field<SourceScalar>>, OutOfMemory> {
     let mut fields = Vec::new(alloc);
     fields.push(typename(alloc)?)?;
-    add_fields_of(alloc, defined, &mut names, &mut fields)?;
+    add_fields_of(alloc, defined, &mut fields)?;
     for part in extensions {
-        if part.name.item == defined.name.item {
-            add_fields_of(alloc, part, &mut names, &mut fields)?;
-        }
+        add_fields_of(alloc, part, &mut fields)?;
     }
     Ok(fields)
 }
 
-fn add_fields_of<'a>(
+fn add_fields_of(
     alloc: Global,
-    part: &TypeDefinition<'a>,
-    names: &mut Names<'a>,
+    part: &TypeDefinition<'_>,
     fields: &mut Vec<Field<SourceScalar>>,
-) -> Result<(), SchemaReadError<'a>> {
+) -> Result<(), OutOfMemory> {
     match &part.body {
         TypeBody::Object(defined) | TypeBody::Interface(defined) => {
-            add_fields(alloc, defined.as_slice(), names, fields)
+            add_fields(alloc, defined.as_slice(), fields)
         }
         _ => Ok(()),
     }
 }
 
-fn interfaces_of<'a>(
+fn interfaces_of(
     alloc: Global,
-    defined: &TypeDefinition<'a>,
-    extensions: Extensions<'_, 'a>,
-) -> Result<Vec<String>, SchemaReadError<'a>> {
-    let mut names = Names::new(alloc, Defined::Interface);
-    names.add_all(defined.interfaces.as_slice())?;
+    defined: &TypeDefinition<'_>,
+    extensions: Extensions<'_, '_>,
+) -> Result<Vec<String>, OutOfMemory> {
+    let mut names = Vec::new(alloc);
+    add_names(alloc, defined.interfaces.as_slice(), &mut names)?;
     for part in extensions {
-        if part.name.item == defined.name.item {
-            names.add_all(part.interfaces.as_slice())?;
-        }
+        add_names(alloc, part.interfaces.as_slice(), &mut names)?;
     }
-    Ok(names.copied(alloc)?)
+    Ok(names)
 }
 
-fn union_of<'a>(
+fn union_of(
     alloc: Global,
-    defined: &TypeDefinition<'a>,
-    extensions: Extensions<'_, 'a>,
-) -> Result<SourceMeta, SchemaReadError<'a>> {
+    defined: &TypeDefinition<'_>,
+    extensions: Extensions<'_, '_>,
+) -> Result<SourceMeta, OutOfMemory> {
     let of_type_names = members_of(alloc, defined, extensions)?;
     Ok(MetaTypeOf::Union(UnionMeta {
         name: String::from_str(alloc, defined.name.item)?,
@@ -211,62 +198,56 @@ fn union_of<'a>(
     }))
 }
 
-fn members_of<'a>(
+fn members_of(
     alloc: Global,
-    defined: &TypeDefinition<'a>,
-    extensions: Extensions<'_, 'a>,
-) -> Result<Vec<String>, SchemaReadError<'a>> {
-    let mut names = Names::new(alloc, Defined::Member);
-    add_members_of(defined, &mut names)?;
+    defined: &TypeDefinition<'_>,
+    extensions: Extensions<'_, '_>,
+) -> Result<Vec<String>, OutOfMemory> {
+    let mut names = Vec::new(alloc);
+    add_members_of(alloc, defined, &mut names)?;
     for part in extensions {
-        if part.name.item == defined.name.item {
-            add_members_of(part, &mut names)?;
-        }
+        add_members_of(alloc, part, &mut names)?;
     }
-    Ok(names.copied(alloc)?)
+    Ok(names)
 }
 
-fn add_members_of<'a>(
-    part: &TypeDefinition<'a>,
-    names: &mut Names<'a>,
-) -> Result<(), SchemaReadError<'a>> {
+fn add_members_of(
+    alloc: Global,
+    part: &TypeDefinition<'_>,
+    names: &mut Vec<String>,
+) -> Result<(), OutOfMemory> {
     match &part.body {
-        TypeBody::Union(members) => names.add_all(members.as_slice()),
+        TypeBody::Union(members) => add_names(alloc, members.as_slice(), names),
         _ => Ok(()),
     }
 }
 
-fn enum_of<'a>(
+fn enum_of(
     alloc: Global,
-    defined: &TypeDefinition<'a>,
-    extensions: Extensions<'_, 'a>,
-) -> Result<SourceMeta, SchemaReadError<'a>> {
-    let mut names = Names::new(alloc, Defined::EnumValue);
+    defined: &TypeDefinition<'_>,
+    extensions: Extensions<'_, '_>,
+) -> Result<SourceMeta, OutOfMemory> {
+    let mut names = Vec::new(alloc);
     let mut values = Vec::new(alloc);
     add_values_of(alloc, defined, &mut names, &mut values)?;
     for part in extensions {
-        if part.name.item == defined.name.item {
-            add_values_of(alloc, part, &mut names, &mut values)?;
-        }
+        add_values_of(alloc, part, &mut names, &mut values)?;
     }
-    let check = SourceCheck::Enum(names.copied(alloc)?);
+    let check = SourceCheck::Enum(names);
     let mut meta = EnumMetaOf::with_check(alloc, defined.name.item, values, check)?;
     meta.description = copied(alloc, &defined.description)?;
     Ok(meta.into_meta())
 }
 
-fn input_object_of<'a>(
+fn input_object_of(
     alloc: Global,
-    defined: &TypeDefinition<'a>,
-    extensions: Extensions<'_, 'a>,
-) -> Result<SourceMeta, SchemaReadError<'a>> {
-    let mut names = Names::new(alloc, Defined::InputField);
+    defined: &TypeDefinition<'_>,
+    extensions: Extensions<'_, '_>,
+) -> Result<SourceMeta, OutOfMemory> {
     let mut fields = Vec::new(alloc);
-    add_inputs_of(alloc, defined, &mut names, &mut fields)?;
+    add_inputs_of(alloc, defined, &mut fields)?;
     for part in extensions {
-        if part.name.item == defined.name.item {
-            add_inputs_of(alloc, part, &mut names, &mut fields)?;
-        }
+        add_inputs_of(alloc, part, &mut fields)?;
     }
     let name = defined.name.item;
     let mut meta = InputObjectMetaOf::with_check(alloc, name, fields, SourceCheck::Object)?;
@@ -274,26 +255,25 @@ fn input_object_of<'a>(
     Ok(meta.into_meta())
 }
 
-fn add_values_of<'a>(
+fn add_values_of(
     alloc: Global,
-    part: &TypeDefinition<'a>,
-    names: &mut Names<'a>,
+    part: &TypeDefinition<'_>,
+    names: &mut Vec<String>,
     values: &mut Vec<EnumValue>,
-) -> Result<(), SchemaReadError<'a>> {
+) -> Result<(), OutOfMemory> {
     match &part.body {
         TypeBody::Enum(listed) => add_values(alloc, listed.as_slice(), names, values),
         _ => Ok(()),
     }
 }
 
-fn add_inputs_of<'a>(
+fn add_inputs_of(
     alloc: Global,
-    part: &TypeDefinition<'a>,
-    names: &mut Names<'a>,
+    part: &TypeDefinition<'_>,
     fields: &mut Vec<Argument<SourceScalar>>,
-) -> Result<(), SchemaReadError<'a>> {
+) -> Result<(), OutOfMemory> {
     match &part.body {
-        TypeBody::InputObject(listed) => add_arguments(alloc, listed.as_slice(), names, fields),
+        TypeBody::InputObject(listed) => add_arguments(alloc, listed.as_slice(), fields),
         _ => Ok(()),
     }
 }

@@ -1,4 +1,4 @@
-//! Texts that are not schemas, each with its fault and its 0-based position: line, column and index.
+//! Texts that are not schemas, each with its faults and their 0-based positions: line, column and index.
 use crate::shown::shown_error;
 use sdl_reader::{SchemaReadError, read_schema};
 use std::alloc::{AllocError, Global};
@@ -98,7 +98,7 @@ const FAULTS: &[(&str, &str)] = &[
     ),
     (
         "type Query { a(x: Dog): Dog }",
-        "fault 0:18 18 the type \"Dog\" is not defined",
+        "fault 0:18 18 the type \"Dog\" is not defined\n0:24 24 the type \"Dog\" is not defined",
     ),
     (
         "type Query implements Dog { a: Int }",
@@ -146,6 +146,54 @@ const FAULTS: &[(&str, &str)] = &[
     ),
 ];
 
+// Several faults in one text.
+const SEVERAL: &[(&str, &str)] = &[
+    (
+        "type Query { a: Dog\n b: Cat } scalar Query",
+        "fault 0:16 16 the type \"Dog\" is not defined\n1:4 24 the type \"Cat\" is not defined\n1:17 37 the type \"Query\" is defined twice",
+    ),
+    (
+        "type Query { a: Int a: Int a: Int }",
+        "fault 0:20 20 the field \"a\" is defined twice\n0:27 27 the field \"a\" is defined twice",
+    ),
+    (
+        "scalar A scalar A type A type Query { a: A }",
+        "fault 0:16 16 the type \"A\" is defined twice\n0:23 23 the type \"A\" is defined twice",
+    ),
+    (
+        "type Query implements I & I { a(x: Query, x: Fur): Int }",
+        "fault 0:22 22 the type \"I\" is not defined\n0:26 26 the interface \"I\" is listed twice\n0:26 26 the type \"I\" is not defined\n0:35 35 the type \"Query\" is not an input type\n0:42 42 the argument \"x\" is defined twice\n0:45 45 the type \"Fur\" is not defined",
+    ),
+    (
+        "type Query { a: Int } union U = E | Fur | U enum E { A B A }",
+        "fault 0:32 32 the union member \"E\" is not an object\n0:36 36 the type \"Fur\" is not defined\n0:42 42 the union member \"U\" is not an object\n0:57 57 the enum value \"A\" is defined twice",
+    ),
+    (
+        "schema { query: Q mutation: M mutation: N } schema { query: R } extend schema { subscription: S }",
+        "fault 0:16 16 the root type \"Q\" is not defined\n0:28 28 the root type \"M\" is not defined\n0:40 40 the root \"mutation\" is defined twice\n0:44 44 the schema is defined twice\n0:94 94 the root type \"S\" is not defined",
+    ),
+    (
+        "extend type Dog { a: Fur } extend input Query { a: Int }\ntype Query { a: Int }",
+        "fault 0:12 12 the type \"Dog\" is extended but not defined\n0:21 21 the type \"Fur\" is not defined\n0:40 40 the type \"Query\" is extended as another kind of type",
+    ),
+    (
+        "directive @d(x: Fur x: Int) on FIELD directive @d on QUERY\nscalar A",
+        "fault 0:0 0 the schema has no query type\n0:16 16 the type \"Fur\" is not defined\n0:20 20 the argument \"x\" is defined twice\n0:48 48 the directive \"d\" is defined twice",
+    ),
+    (
+        "type A { x: Int } type A { y: Int } extend type A { z: Int z: Int x: Int } type Query { a: A }",
+        "fault 0:23 23 the type \"A\" is defined twice\n0:59 59 the field \"z\" is defined twice\n0:66 66 the field \"x\" is defined twice",
+    ),
+    (
+        "extend type B { b: Int c: Int } extend type A { a: Fur } extend type B { c: Int } type B { b: Int } type A { x: Int } type Query { a: A }",
+        "fault 0:16 16 the field \"b\" is defined twice\n0:51 51 the type \"Fur\" is not defined\n0:73 73 the field \"c\" is defined twice",
+    ),
+    (
+        "extend enum __TypeKind { LIST NEW NEW } type Query { a: __TypeKind }",
+        "fault 0:25 25 the enum value \"LIST\" is defined twice\n0:34 34 the enum value \"NEW\" is defined twice",
+    ),
+];
+
 fn told(alloc: Global, text: &str) -> Result<String, AllocError> {
     match read_schema(alloc, text) {
         Ok(_) => String::from_str(alloc, "a schema"),
@@ -156,6 +204,14 @@ fn told(alloc: Global, text: &str) -> Result<String, AllocError> {
 #[test]
 fn tells_faults(rt: HostRuntime) {
     for (text, wanted) in FAULTS {
+        let found = told(rt.alloc(), text).expect(&rt, "memory");
+        assert_eq!(rt; found.as_str(), *wanted);
+    }
+}
+
+#[test]
+fn tells_all_faults_in_order(rt: HostRuntime) {
+    for (text, wanted) in SEVERAL {
         let found = told(rt.alloc(), text).expect(&rt, "memory");
         assert_eq!(rt; found.as_str(), *wanted);
     }

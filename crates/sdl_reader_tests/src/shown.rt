@@ -1,34 +1,36 @@
 //! What a schema says of a type, as a text.
-use language::position::SourcePosition;
 use meta::arguments::Argument;
 use meta::deprecation::DeprecationStatus;
 use meta::enum_values::EnumValue;
 use meta::fields::Field;
 use meta::kinds::MetaTypeOf;
 use schema::model::SchemaTypeOf;
-use sdl_reader::{SchemaReadError, SourceScalar};
+use sdl_reader::{PlacedFault, SchemaReadError, SourceScalar};
 use sdl_scalars::check::SourceCheck;
 use std::alloc::{AllocError, Global};
 
 pub type SourceSchema = SchemaTypeOf<SourceScalar, SourceCheck>;
 
-/// The error with its place: line, column and index.
+/// Each fault on a line, with its place: line, column and index.
 pub fn shown_error(alloc: Global, error: &SchemaReadError<'_>) -> Result<String, AllocError> {
     match error {
-        SchemaReadError::Syntax(syntax) => shown_at(alloc, "syntax", syntax.position, error),
-        SchemaReadError::Fault(position, _) => shown_at(alloc, "fault", *position, error),
+        SchemaReadError::Syntax(syntax) => {
+            let (position, index) = (syntax.position, syntax.position.index());
+            format!(in alloc; "syntax {position} {index} {error}")
+        }
+        SchemaReadError::Faults(faults) => shown_faults(alloc, faults.as_slice()),
         SchemaReadError::OutOfMemory => format!(in alloc; "{error}"),
     }
 }
 
-fn shown_at(
-    alloc: Global,
-    kind: &str,
-    position: SourcePosition,
-    error: &SchemaReadError<'_>,
-) -> Result<String, AllocError> {
-    let index = position.index();
-    format!(in alloc; "{kind} {position} {index} {error}")
+fn shown_faults(alloc: Global, faults: &[PlacedFault<'_>]) -> Result<String, AllocError> {
+    let mut text = String::from_str(alloc, "fault")?;
+    for placed in faults {
+        let (position, index) = (placed.position, placed.position.index());
+        let end = if text.len() > 5 { "\n" } else { " " };
+        text = format!(in alloc; "{text}{end}{position} {index} {}", placed.fault)?;
+    }
+    Ok(text)
 }
 
 /// The type of the name: its kind, its description and what it is made of.
