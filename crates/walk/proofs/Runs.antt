@@ -5,7 +5,7 @@ use Rattle.walk.specs.declared.multi_visitor.MultiVisitorCons.{MultiVisitorCons}
 use Rattle.walk.specs.Pair.{pair_step}
 use Rattle.walk.specs.ErrorValue.{ErrorValue}
 use Rattle.events.specs.Typing.{Typing}
-use Rattle.walk.specs.ContextState.{ContextState, scope_of_context, with_errors, typing, pushed, popped, or_untyped}
+use Rattle.walk.specs.ContextState.{ContextState, HasTypes, scope_of_context, with_errors, typing, pushed, popped, or_untyped}
 use Rattle.events.specs.TypedEvent.{TypedEvent}
 use Rattle.walk.specs.Step.{StepOf, Run, Stepped, Ran, KeepsPlace}
 
@@ -79,6 +79,10 @@ module _ {S C V : Type 0} (step : StepOf S C V) where
   -- a step below the types at hand
   pub Stepped-below : (m : TypedEvent S C) (a b : V) (w w' : ContextState S C) → Stepped step m a b w w' → Stepped step m a b (popped w) (popped w')
   Stepped-below m a b w w' (es, s, e) = (es, s, ap popped e)
+
+  -- a step leaves the types as they are
+  pub HasTypes-stepped : (m : TypedEvent S C) (a b : V) (w w' : ContextState S C) → HasTypes w → Stepped step m a b w w' → HasTypes w'
+  HasTypes-stepped m a b w w' h (es, s, e) = subst (λ z. HasTypes z) (sym e) h
 
   -- a run below types that were pushed for it
   pub Ran-pushed : (ms : List (TypedEvent S C)) (t : Typing S C) (a b : V) (w w₁ w₂ w₃ : ContextState S C) → w₁ ≡ pushed w t → Ran step ms a b (popped w₁) (popped w₂) → w₃ ≡ popped w₂ → Ran step ms a b w w₃

@@ -1,6 +1,6 @@
 -- What a context holds, as callers see it.
 use Rattle.std.specs.Global.{Global}
-use Rattle.std.specs.Prelude.{◌≡◌, ℕ, ◌-◌, List, [], ◌∷◌, ◌++◌, Option, Some, None, Bool, true, false, slice_get, length, take}
+use Rattle.std.specs.Prelude.{◌≡◌, ℕ, ◌-◌, ◌<◌, List, [], ◌∷◌, ◌++◌, Option, Some, None, Bool, true, false, slice_get, length, take}
 use Rattle.language.specs.declared.tree.Definition.{Definition}
 use Rattle.schema.specs.Catalog.{Catalog}
 use Rattle.walk.specs.ErrorValue.{ErrorValue}
@@ -33,6 +33,10 @@ module _ {S C : Type 0} where
 
   abbrev pub typing : ContextState S C → Typing S C
   typing w = last_typing w.typings
+
+  -- some types are pushed
+  abbrev pub HasTypes : ContextState S C → Type 0
+  HasTypes w = 0 < length w.typings
 
   -- the context with these types pushed
   abbrev pub pushed : ContextState S C → Typing S C → ContextState S C

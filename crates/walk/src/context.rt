@@ -4,7 +4,7 @@ ghost use Rattle.std.specs.Prelude.{◌≡◌, ◌++◌, ◌∷◌, [], true, fa
 ghost use Rattle.std.specs.Option.{option_copied, option_map};
 ghost use Rattle.language.specs.Types.{borrowed_shape};
 ghost use Rattle.walk.specs.Calls.{CalledAt};
-ghost use Rattle.walk.specs.ContextState.{typing, pushed, popped, with_errors, failing, fresh_context, has_some};
+ghost use Rattle.walk.specs.ContextState.{HasTypes, typing, pushed, popped, with_errors, failing, fresh_context, has_some};
 ghost use Rattle.walk.specs.ErrorValue.{error_cmp};
 ghost use Rattle.events.specs.EventValue.{typing_of};
 ghost use Rattle.events.specs.Cursor.{IsNextLeft};
@@ -282,13 +282,14 @@ impl<'a, S, C> ValidatorContextOf<'a, S, C> {
         &mut self,
         cursor: &mut EventCursorOf<'a, S, C>,
     ) -> Result<Option<Event<'a, S>>, OutOfMemory>
+        requires typed { HasTypes self.old }
+        ensures typed { HasTypes self.new }
         ensures next { IfOk result (λ found. IsNextLeft found (typing self.new) cursor.old cursor.new) }
         ensures ok { OnOk result (popped self.new ≡ popped self.old) }
         ensures err { OnErr result (popped self.new ≡ failing (popped self.old)) }
     {
         let Some(at) = self.types.last_mut() else {
-            self.failed = true;
-            return Err(OutOfMemory);
+            unreachable!()
         };
         let found = cursor.next(at);
         if found.is_err() {

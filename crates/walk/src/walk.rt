@@ -1,7 +1,7 @@
 //! The walk over a document.
 
 ghost use Rattle.std.specs.Prelude.{◌≡◌, ◌↔◌, IfOk, OnOk, OnErr, IsErr, true};
-ghost use Rattle.walk.specs.ContextState.{IsMadeFor, popped, typing};
+ghost use Rattle.walk.specs.ContextState.{HasTypes, IsMadeFor, popped, typing};
 ghost use Rattle.walk.specs.Rule.{Appended, AppendsAllowed, Meets, any_value};
 ghost use Rattle.events.specs.EventValue.{typed_event, typing_of};
 ghost use Rattle.events.specs.Cursor.{events_left};
@@ -62,6 +62,7 @@ fn tell_all<'a, S: CheckedScalar, V: Visitor<'a, S>>(
     ctx: &mut ValidatorContext<'a, S>,
     cursor: &mut EventCursor<'a, S>,
 ) -> Result<(), OutOfMemory>
+    requires typed { HasTypes ctx.old }
     ensures ran { IfOk result (λ _. Ran V.step (events_left cursor.old) v.old v.new (popped ctx.old) (popped ctx.new)) }
     ensures err { OnErr result (KeepsPlace (popped ctx.old) (popped ctx.new)) }
     ensures failed { OnErr result (ctx.new.failed ≡ true) }
