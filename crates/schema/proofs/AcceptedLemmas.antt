@@ -39,7 +39,7 @@ module _ {T : Type 0} (name_of : T → Option (List ℕ)) where
   at-most-one (t ∷ ts) n h =
       let more : count_by (is_called name_of n) (t ∷ ts) ≡ cond (is_called name_of n t) 1 0 + count_by (is_called name_of n) ts = sum_by-cons (λ y. cond (is_called name_of n y) 1 0) t ts in
       let few : cond (is_called name_of n t) 1 0 + count_by (is_called name_of n) ts ≤ 1 =
-      one_step (is_called name_of n t) (count_by (is_called name_of n) ts) (λ k. none-count (is_called name_of n) ts (first-alone t ts n h k)) (at-most-one ts n (rest-distinct t ts h)) in
+      one_step (is_called name_of n t) (count_by (is_called name_of n) ts) (λ k. none-count (is_called name_of n) ts (first-alone name_of t ts n h k)) (at-most-one ts n (rest-distinct t ts h)) in
       omega (arith, more, few)
 
   -- what is found by a name, where an entry of the name and the kind is there
@@ -71,7 +71,7 @@ module _ {T : Type 0} (name_of : T → Option (List ℕ)) where
       where
         found : (b : Bool) → is_called name_of n t ≡ b → (is_called name_of n t ≡ false → (u : T) × (find (is_called name_of n) ts ≡ Some u) × (kind u ≡ true)) → (u : T) × (cond (is_called name_of n t) (Some t) (find (is_called name_of n) ts) ≡ Some u) × (kind u ≡ true)
         found true q rest =
-            let others : list_any (λ u. is_called name_of n u && kind u) ts ≡ false = weaker_false (list_any (is_called name_of n) ts) (list_any (λ u. is_called name_of n u && kind u) ts) (any-weaker ts) (first-alone t ts n h q) in
+            let others : list_any (λ u. is_called name_of n u && kind u) ts ≡ false = weaker_false (list_any (is_called name_of n) ts) (list_any (λ u. is_called name_of n u && kind u) ts) (any-weaker ts) (first-alone name_of t ts n h q) in
             (t, ap (λ b. cond b (Some t) (find (is_called name_of n) ts)) q, kind_step (is_called name_of n t) (kind t) (list_any (λ u. is_called name_of n u && kind u) ts) k q others)
         found false q rest =
             let r = rest q in

@@ -106,6 +106,3 @@ module _ {S C : Type 0} (ts : List (MetaTypeOf S C)) where
 
   pub alone : (t : MetaTypeOf S C) → None ≡ repeated_name t ts → option_map_or (λ n. not (is_listed ts n)) (name_of_meta t) true ≡ true
   alone t h = again-None (name_of_meta t) h
-
-  pub count-rest : (p : MetaTypeOf S C → Bool) (t : MetaTypeOf S C) → count_by p ts ≤ count_by p (t ∷ ts)
-  count-rest p t = let more : count_by p (t ∷ ts) ≡ cond (p t) 1 0 + count_by p ts = sum_by-cons (λ y. cond (p y) 1 0) t ts in omega (arith, more)
