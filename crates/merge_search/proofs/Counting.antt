@@ -187,12 +187,12 @@ in_log_pair s n t f g ne (inr c) = elim (t.listed c.0 f g c.2) [
 ]
 
 -- Two spreads of a set are compared.
-spread_pair : (w : World) (s : Search) → ((i : ℕ) → Top w s i) → (i f g : ℕ) → Contains (spreads_of w i) f → Contains (spreads_of w i) g → (f ≡ g → ⊥) → Pair s false f g
-spread_pair w s top i f g p q ne = elim (cases_order p.0 q.0) [
+spread_pair : (w : World) (s : Search) (order : List ℕ) → ((i : ℕ) → Contains order i → Top w s i) → (i f g : ℕ) → Contains order i → Contains (spreads_of w i) f → Contains (spreads_of w i) g → (f ≡ g → ⊥) → Pair s false f g
+spread_pair w s order top i f g c p q ne = elim (cases_order p.0 q.0) [
   | inl eq ↦ absurd (ne (same_some f g (slice_get (spreads_of w i) p.0) (at p) (subst (λ k. slice_get (spreads_of w i) k ≡ Some g) (sym eq) (at q))))
   | inr lt ↦ elim lt [
-    | inl l ↦ (top i).2 p.0 q.0 f g l (at p) (at q)
-    | inr l ↦ flip_pair s false g f ((top i).2 q.0 p.0 g f l (at q) (at p))
+    | inl l ↦ (top i c).2 p.0 q.0 f g l (at p) (at q)
+    | inr l ↦ flip_pair s false g f ((top i c).2 q.0 p.0 g f l (at q) (at p))
   ]
 ]
   where
@@ -200,9 +200,9 @@ spread_pair w s top i f g p q ne = elim (cases_order p.0 q.0) [
     at {x} c = slice_get-get_or (spreads_of w i) c.0 x c.1 ∙ ap (λ y. Some y) c.2
 
 -- The lower bound.
-pub at_least : (w : World) (n : ℕ) (s : Search) → ((i : ℕ) → Top w s i) → (t : Tally (pair_in s) n s) → n * (n - 1) ≤ greatest → (ps : List (ℕ × ℕ)) → Together w ps → length ps ≤ s.compared
-at_least w n s top t small ps h =
+pub at_least : (w : World) (n : ℕ) (s : Search) (order : List ℕ) → ((i : ℕ) → Contains order i → Top w s i) → (t : Tally (pair_in s) n s) → n * (n - 1) ≤ greatest → (ps : List (ℕ × ℕ)) → Together w order ps → length ps ≤ s.compared
+at_least w n s order top t small ps h =
     let z : Placed t.log ps = placed t.log ps h.once (λ k d l.
     let p = get_or ps k d in let u = h.spread k d l in
-    in_log_pair s n t (p.0) (p.1) u.0 (spread_pair w s top u.1.0 (p.0) (p.1) u.1.1 u.1.2 u.0)) in
+    in_log_pair s n t (p.0) (p.1) u.0 (spread_pair w s order top u.1.0 (p.0) (p.1) u.1.1 u.1.2 u.1.3 u.0)) in
     omega (arith, z.as_many, few_below z.places (length t.log) z.once z.inside, t.counted, few_pairs n t.log t.distinct t.within, small)

@@ -1,8 +1,7 @@
 -- What follows once all sets were searched.
-use Rattle.std.proofs.Common.{◌≡◌, ◌==◌, ℕ, ◌+◌, ◌<◌, ◌≤◌, List, [], length, get_or, refl, sym, subst, ap, ◌∙◌, arith, Some, inl, inr, ◌⊎◌, false, true, slice_get, below_more}
+use Rattle.std.proofs.Common.{◌≡◌, ◌==◌, ℕ, ◌+◌, ◌<◌, ◌≤◌, List, [], length, get_or, refl, sym, subst, ap, ◌∙◌, arith, Some, inl, inr, false, true, slice_get, below_more}
 use Rattle.std.specs.List.{All, Contains}
-use Rattle.std.specs.Option.{option_map_or}
-use Rattle.std.proofs.lemmas.Option.{get_or_from_slice_get, slice_get_within, slice_get_past, slice_get-get_or}
+use Rattle.std.proofs.lemmas.Option.{get_or_from_slice_get, slice_get_within, slice_get-get_or}
 use Rattle.std.proofs.lemmas.Bool.{cases_order}
 use Rattle.std.proofs.lemmas.List.{get_or_default}
 use Rattle.std.proofs.lemmas.List.Elements.{All-contains}
@@ -12,12 +11,12 @@ use Rattle.merge_search.specs.declared.state.Search.{Search}
 use Rattle.merge_search.specs.declared.state.Finding.{Finding}
 use Rattle.merge_search.specs.declared.state.Finding.TheVariants.{Direct}
 use Rattle.merge_search.specs.Judgement.{Lawful}
-use Rattle.merge_search.specs.Graph.{Falling, IsWhole}
+use Rattle.merge_search.specs.Graph.{Falling, AreListed, IsWhole}
 use Rattle.merge_search.specs.World.{World, own_of, spreads_of, set_of, conflict_of, Same}
 use Rattle.merge_search.specs.Opening.{Opens}
 use Rattle.merge_search.specs.Work.{pair_in, search_in, OwnPairs, Done, AllClosed, Grows, Did}
 use Rattle.merge_search.specs.Merging.{Stands, own, spread, Apart, own_own, own_spread, spread_own, two_spreads, one_spread, SetMerges, Merges, Top, OwnWritten}
-use Rattle.merge_search.specs.Reports.{Root, Judged, Real, AddsAll, AtOwn, AtPlaces, IsRoot}
+use Rattle.merge_search.specs.Reports.{Root, Judged, Real, AddsAll, AtOwn, AtPlaces, AtSearched, IsRoot}
 use Rattle.merge_search.specs.State.{Begins}
 use Rattle.merge_search.specs.Tops.{AtTop, AtWithin, AtWritten, AtListed}
 use Rattle.merge_search.proofs.Adding.{Upto, refuted, roots_of, no_root}
@@ -54,52 +53,33 @@ places_listed w s f xs eq c r h = (
     at : {x : ℕ} (p : Contains xs x) → slice_get (spreads_of w s) p.0 ≡ Some x
     at {x} p = subst (λ ys. slice_get ys p.0 ≡ Some x) eq (place_of xs x p)
 
-pub no_own : (w : World) (s : ℕ) → length w.sets ≤ s → length (own_of w s) ≡ 0
-no_own w s le = ap (λ o. length (option_map_or (λ n. n.own.items) o [])) (slice_get_past w.sets s le)
-
-no_spreads : (w : World) (s : ℕ) → length w.sets ≤ s → length (spreads_of w s) ≡ 0
-no_spreads w s le = ap (λ o. length (option_map_or (λ n. n.spreads.items) o [])) (slice_get_past w.sets s le)
-
-past_end : (w : World) (M : Search) (s : ℕ) → length w.sets ≤ s → Top w M s
-past_end w M s le = (
-  λ k l a b lt p q same. absurd (omega (arith, slice_get_within (own_of w s) k a p, no_own w s le)),
-  λ k d lt. absurd (omega (arith, lt, no_spreads w s le)),
-  λ k l f g lt p q. absurd (omega (arith, slice_get_within (spreads_of w s) k f p, no_spreads w s le)),
-)
-
-lt_or_le : (s n : ℕ) → (s < n) ⊎ (n ≤ s)
-lt_or_le s n = elim (cases_order s n) [ inl eq ↦ inr (omega (arith, eq)) | inr o ↦ elim o [ inl l ↦ inl l | inr g ↦ inr (omega (arith, g)) ] ]
-
 eq_from : (m n : ℕ) → (m == n) ≡ true → m ≡ n
 eq_from m n h = grind arith
 
-in_order : (w : World) (order : List ℕ) → IsWhole w.sets order → (s : ℕ) → s < length w.sets → Contains order s
-in_order w order whole s lt = Contains-from_any {eq = λ x y. x == y} eq_from s order (whole s lt)
+all_listed : (fragments order : List ℕ) → AreListed fragments order → (f : ℕ) → f < length fragments → Contains order (get_or fragments f 0)
+all_listed fragments order listed f l = Contains-from_any {eq = λ x y. x == y} eq_from (get_or fragments f 0) order (listed f l)
 
 at_order : (order : List ℕ) (n : ℕ) (P : ℕ → Type 0) → length order ≤ n → ((i : ℕ) → i < n → P (get_or order i 0)) → (s : ℕ) → Contains order s → P s
 at_order order n P le h s c = subst P (get_or_default order c.0 0 s c.1 ∙ c.2) (h c.0 (omega (arith, c.1, le)))
 
-pub all_tops : (w : World) (M : Search) (order : List ℕ) (n : ℕ) → IsWhole w.sets order → length order ≤ n → ((i : ℕ) → i < n → Top w M (get_or order i 0)) → (s : ℕ) → Top w M s
-all_tops w M order n whole le h s = elim (lt_or_le s (length w.sets)) [
-  | inl l ↦ at_order order n (λ t. Top w M t) le h s (in_order w order whole s l)
-  | inr g ↦ past_end w M s g
-]
+pub all_tops : (w : World) (M : Search) (order : List ℕ) (n : ℕ) → length order ≤ n → ((i : ℕ) → i < n → Top w M (get_or order i 0)) → (s : ℕ) → Contains order s → Top w M s
+all_tops w M order n le h s c = at_order order n (λ t. Top w M t) le h s c
 
 nothing_in : {X : Type 0} (xs : List X) (x : X) → xs ≡ [] → Contains xs x → ⊥
 nothing_in xs x eq c = omega (arith, c.1, ap length eq)
 
-refuses_all : (w : World) (laws : Lawful w.judgement) (found : List Finding) → Real w found → 0 < length found → ((s : ℕ) → SetMerges w s) → ⊥
-refuses_all w laws found d l all =
+refuses_all : (w : World) (laws : Lawful w.judgement) (order : List ℕ) (found : List Finding) → Real w order found → 0 < length found → ((s : ℕ) → Contains order s → SetMerges w s) → ⊥
+refuses_all w laws order found d l all =
     let long : 0 < length d.more = subst (λ (z : List Finding). 0 < length z) d.grown l in
     let some = roots_of d.shown long in
     let at = d.placed 0 no_root some in
-    (refuted w laws d.shown) 0 no_root some (all at.0 (get_or d.roots 0 no_root).left (get_or d.roots 0 no_root).right at.1.0 at.1.1)
+    (refuted w laws d.shown) 0 no_root some (all at.0 at.1 (get_or d.roots 0 no_root).left (get_or d.roots 0 no_root).right at.2.0 at.2.1)
 
 -- Each pair that a set asks for at the top is a root.
 abbrev pub TopsTold : World → List ℕ → List Root → Type 0
 TopsTold w order roots = (s : ℕ) → Contains order s → (r : Root) → AtTop w s r → conflict_of w false r.left r.right ≡ true → Contains roots r
 
-module _ (w : World) (laws : Lawful w.judgement) (order : List ℕ) (whole : IsWhole w.sets order) (roots : List Root) (told : TopsTold w order roots) where
+module _ (w : World) (laws : Lawful w.judgement) (order : List ℕ) (roots : List Root) (told : TopsTold w order roots) where
   own_root : (s : ℕ) → Contains order s → (a b : Entry) → Contains (own_of w s) a → Contains (own_of w s) b → Same a b → conflict_of w false a b ≡ true → IsRoot roots a b
   own_root s c a b p q same fails = elim (cases_order p.0 q.0) [
     | inl eq ↦
@@ -111,33 +91,27 @@ module _ (w : World) (laws : Lawful w.judgement) (order : List ℕ) (whole : IsW
     ]
   ]
 
-  root_in : (s : ℕ) → Contains order s → (a b : Entry) → Contains (own_of w s) a → Stands w s b → Same a b → conflict_of w false a b ≡ true → IsRoot roots a b
-  root_in s c a b p (own q) same fails = own_root s c a b p q same fails
-  root_in s c a b p (spread {f = f} v q) same fails = inl (told s c (record { left = a; right = b }) (inr (f, v, (p, q, same))) fails)
-
-  pub top_root : (s : ℕ) (a b : Entry) → Contains (own_of w s) a → Stands w s b → Same a b → conflict_of w false a b ≡ true → IsRoot roots a b
-  top_root s a b p q same fails = elim (lt_or_le s (length w.sets)) [
-    | inl l ↦ root_in s (in_order w order whole s l) a b p q same fails
-    | inr g ↦ absurd (omega (arith, p.1, no_own w s g))
-  ]
+  pub top_root : (s : ℕ) (a b : Entry) → Contains order s → Contains (own_of w s) a → Stands w s b → Same a b → conflict_of w false a b ≡ true → IsRoot roots a b
+  top_root s a b c p (own q) same fails = own_root s c a b p q same fails
+  top_root s a b c p (spread {f = f} v q) same fails = inl (told s c (record { left = a; right = b }) (inr (f, v, (p, q, same))) fails)
 
 all_of_merged : (w : World) → ((s : ℕ) (a b : Entry) → Stands w s a → Stands w s b → Same a b → Merges w false a b) → (s : ℕ) → SetMerges w s
 all_of_merged w h s a b apart same = let at = apart_stands apart in h s a b at.0 at.1 same
 
-judged : (w : World) (M : Search) (order : List ℕ) → Falling w.sets w.fragments → IsWhole w.sets order → AllClosed w M M → ((s : ℕ) → Top w M s)
-    → (real : Real w M.found.items) → TopsTold w order real.roots → Judged w M.found.items
-judged w M order falling whole closed top real told = record {
+judged : (w : World) (M : Search) (order : List ℕ) → Falling w.sets w.fragments → AreListed w.fragments order → AllClosed w M M → ((s : ℕ) → Contains order s → Top w M s)
+    → (real : Real w order M.found.items) → TopsTold w order real.roots → Judged w order M.found.items
+judged w M order falling listed closed top real told = record {
   real = real;
   complete = λ laws.
-      let quiet : M.found.items ≡ [] → (s : ℕ) (a b : Entry) → Stands w s a → Stands w s b → Same a b → Merges w false a b =
-      λ none s a b p q same. set_merges w M falling closed top laws (λ c d e r. nothing_in M.found.items (Direct c d e) none r) p q same in
+      let quiet : IsWhole w.sets order → M.found.items ≡ [] → (s : ℕ) (a b : Entry) → Stands w s a → Stands w s b → Same a b → Merges w false a b =
+      λ whole none s a b p q same. set_merges w M falling closed order (all_listed w.fragments order listed) top laws whole (λ c d e r. nothing_in M.found.items (Direct c d e) none r) p q same in
       record {
         exact = quiet;
-        merges = λ none. all_of_merged w (quiet none);
-        refuses = refuses_all w laws M.found.items real;
-        ways = λ s a b p q same v. ways w M falling closed top laws p q same v;
-        failing = λ s a b p q same h. failing w M falling closed top laws p q same h;
-        at_the_top = top_root w laws order whole real.roots told;
+        merges = λ whole none. all_of_merged w (quiet whole none);
+        refuses = refuses_all w laws order M.found.items real;
+        ways = λ whole s a b p q same v. ways w M falling closed order (all_listed w.fragments order listed) top laws whole p q same v;
+        failing = λ s a b c p q same h. failing w M falling closed order (all_listed w.fragments order listed) top laws c p q same h;
+        at_the_top = top_root w laws order real.roots told;
       };
 }
 
@@ -159,13 +133,13 @@ no_tops w order s b M g = (
   λ i l. absurd (omega (arith, l)),
 )
 
-pub judged_at : (w : World) (M : Search) (order items : List ℕ) (n : ℕ) → items ≡ order → length items ≤ n → Falling w.sets w.fragments → IsWhole w.sets order
-    → TopsDone w items n M → AddsAll w false (λ r. (s : ℕ) × AtPlaces w s r) (Upto items n 0 (λ s. AtTop w s)) [] M.found.items → Judged w M.found.items
-judged_at w M order items n eq le falling whole had real =
-    let all : IsWhole w.sets items = subst (λ zs. IsWhole w.sets zs) (sym eq) whole in
+pub judged_at : (w : World) (M : Search) (order items : List ℕ) (n : ℕ) → items ≡ order → length items ≤ n → Falling w.sets w.fragments → AreListed w.fragments order
+    → TopsDone w items n M → AddsAll w false (AtSearched w items) (Upto items n 0 (λ s. AtTop w s)) [] M.found.items → Judged w order M.found.items
+judged_at w M order items n eq le falling listed had real =
     let end = had M (grows_same M) in
-    judged w M items falling all end.0 (all_tops w M items n all le end.1) real.adds
-    (λ s c r at fails. real.tells r (c.0, omega (arith, c.1, le), subst (λ t. AtTop w t r) (sym (get_or_default items c.0 0 s c.1 ∙ c.2)) at) fails)
+    subst (λ zs. Judged w zs M.found.items) eq
+    (judged w M items falling (subst (AreListed w.fragments) (sym eq) listed) end.0 (all_tops w M items n le end.1) real.adds
+    (λ s c r at fails. real.tells r (c.0, omega (arith, c.1, le), subst (λ t. AtTop w t r) (sym (get_or_default items c.0 0 s c.1 ∙ c.2)) at) fails))
 
 -- all of a fragment, from the own fields of those that a search opens
 own_in : (w : World) (M : Search) (s t g : ℕ) (hs : List ℕ) → t ≡ set_of w g → ((h k : ℕ) → Contains hs h → Contains (spreads_of w (set_of w h)) k → Contains hs k)

@@ -1,6 +1,6 @@
 -- Sets of fields by number, and the sets of the fragments.
 use Rattle.std.specs.Prelude.{ℕ, suc, ◌<◌, ◌≤◌, ◌≡◌, ◌==◌, List, [], length, get_or, slice_get, true}
-use Rattle.std.specs.List.{All, list_any}
+use Rattle.std.specs.List.{All, Contains, list_any}
 use Rattle.std.specs.Option.{option_map_or}
 use Rattle.merge_search.specs.declared.node.Entry.{Entry}
 use Rattle.merge_search.specs.declared.node.SetNode.{SetNode}
@@ -19,6 +19,10 @@ height a = option_map_or (λ s. suc s) a.below 0
 abbrev pub Falling : List SetNode → List ℕ → Type 0
 Falling sets fragments = (s : ℕ) → All (λ a. height a ≤ s) (own_at sets s) × All (λ f. (f < length fragments) × (get_or fragments f 0 < s)) (spreads_at sets s)
 
--- Each set stands in the order.
+-- The set of each fragment stands in the order.
+abbrev pub AreListed : List ℕ → List ℕ → Type 0
+AreListed fragments order = (f : ℕ) → f < length fragments → list_any (λ t. get_or fragments f 0 == t) order ≡ true
+
+-- Each set does.
 abbrev pub IsWhole : List SetNode → List ℕ → Type 0
-IsWhole sets order = (s : ℕ) → s < length sets → list_any (λ t. s == t) order ≡ true
+IsWhole sets order = (s : ℕ) → s < length sets → Contains order s

@@ -6,6 +6,7 @@ use Rattle.merge_search.specs.declared.state.Search.{Search}
 use Rattle.merge_search.specs.declared.state.Finding.{Finding}
 use Rattle.merge_search.specs.declared.state.Finding.TheVariants.{Direct, Nested}
 use Rattle.merge_search.specs.Judgement.{Lawful}
+use Rattle.merge_search.specs.Graph.{IsWhole}
 use Rattle.merge_search.specs.World.{World, own_of, spreads_of, set_of, conflict_of, exclusive_of, Same}
 use Rattle.merge_search.specs.Merging.{Stands, Below, Apart, Merges, SetMerges, Way, Passes}
 
@@ -98,20 +99,25 @@ Told w found a b =
 abbrev pub IsRoot : List Root → Entry → Entry → Type 0
 IsRoot roots a b = Contains roots (record { left = a; right = b }) ⊎ Contains roots (record { left = b; right = a })
 
--- Every report is true: the trees of two places of a written-out set.
-abbrev pub Real : World → List Finding → Type 0
-Real w found = Adds w false (λ r. (s : ℕ) × AtPlaces w s r) [] found
+-- Two places of a set that stands in the order, written out, of one response name.
+abbrev pub AtSearched : World → List ℕ → Root → Type 0
+AtSearched w order r = (s : ℕ) × Contains order s × AtPlaces w s r
 
--- Nothing is missed: no report only where every set merges, each way to a fault passes a report, each failing pair is reported, and at the top where one of the two is an own field of the set.
-pub record Complete (w : World) (found : List Finding) (roots : List Root) : Type 0 where
-  pub exact : found ≡ [] → (s : ℕ) (a b : Entry) → Stands w s a → Stands w s b → Same a b → Merges w false a b
-  pub merges : found ≡ [] → (s : ℕ) → SetMerges w s
-  pub refuses : 0 < length found → ((s : ℕ) → SetMerges w s) → ⊥
-  pub ways : (s : ℕ) (a b : Entry) → Stands w s a → Stands w s b → Same a b → (v : Way w false a b) → Passes found v
-  pub failing : (s : ℕ) (a b : Entry) → Stands w s a → Stands w s b → Same a b → conflict_of w false a b ≡ true → Told w found a b
-  pub at_the_top : (s : ℕ) (a b : Entry) → Contains (own_of w s) a → Stands w s b → Same a b → conflict_of w false a b ≡ true → IsRoot roots a b
+-- Every report is true: the trees of two places of a written-out set of the order.
+abbrev pub Real : World → List ℕ → List Finding → Type 0
+Real w order found = Adds w false (AtSearched w order) [] found
+
+-- Nothing is missed: no report where all sets of the order merge, each failing pair of such a set is reported, and at the top where one of the two is an own field of the set.
+-- Where each set stands in the order, there is no report only if every set merges, and each way to a fault passes a report.
+pub record Complete (w : World) (order : List ℕ) (found : List Finding) (roots : List Root) : Type 0 where
+  pub exact : IsWhole w.sets order → found ≡ [] → (s : ℕ) (a b : Entry) → Stands w s a → Stands w s b → Same a b → Merges w false a b
+  pub merges : IsWhole w.sets order → found ≡ [] → (s : ℕ) → SetMerges w s
+  pub refuses : 0 < length found → ((s : ℕ) → Contains order s → SetMerges w s) → ⊥
+  pub ways : IsWhole w.sets order → (s : ℕ) (a b : Entry) → Stands w s a → Stands w s b → Same a b → (v : Way w false a b) → Passes found v
+  pub failing : (s : ℕ) (a b : Entry) → Contains order s → Stands w s a → Stands w s b → Same a b → conflict_of w false a b ≡ true → Told w found a b
+  pub at_the_top : (s : ℕ) (a b : Entry) → Contains order s → Contains (own_of w s) a → Stands w s b → Same a b → conflict_of w false a b ≡ true → IsRoot roots a b
 
 -- What was found is true, and where the judgement keeps its laws nothing is missed.
-pub record Judged (w : World) (found : List Finding) : Type 0 where
-  pub real : Real w found
-  pub complete : Lawful w.judgement → Complete w found real.roots
+pub record Judged (w : World) (order : List ℕ) (found : List Finding) : Type 0 where
+  pub real : Real w order found
+  pub complete : Lawful w.judgement → Complete w order found real.roots

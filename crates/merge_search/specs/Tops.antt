@@ -56,11 +56,11 @@ MarkedDone w M plain list f = has plain (set_of w f) ≡ true → (g : ℕ) → 
 abbrev pub SamePair : ℕ × ℕ → ℕ × ℕ → Type 0
 SamePair p q = ((p.0 ≡ q.0) × (p.1 ≡ q.1)) ⊎ ((p.0 ≡ q.1) × (p.1 ≡ q.0))
 
--- Two different fragments that one set spreads.
-abbrev pub SpreadTogether : World → ℕ × ℕ → Type 0
-SpreadTogether w p = (p.0 ≡ p.1 → ⊥) × ((s : ℕ) × Contains (spreads_of w s) (p.0) × Contains (spreads_of w s) (p.1))
+-- Two different fragments that one set of the order spreads.
+abbrev pub SpreadTogether : World → List ℕ → ℕ × ℕ → Type 0
+SpreadTogether w order p = (p.0 ≡ p.1 → ⊥) × ((s : ℕ) × Contains order s × Contains (spreads_of w s) (p.0) × Contains (spreads_of w s) (p.1))
 
--- Pairs of fragments that some set spreads together, each once.
-pub record Together (w : World) (ps : List (ℕ × ℕ)) : Type 0 where
-  pub spread : All (SpreadTogether w) ps
+-- Pairs of fragments that some set of the order spreads together, each once.
+pub record Together (w : World) (order : List ℕ) (ps : List (ℕ × ℕ)) : Type 0 where
+  pub spread : All (SpreadTogether w order) ps
   pub once : (k l : ℕ) (p q : ℕ × ℕ) → k < l → slice_get ps k ≡ Some p → slice_get ps l ≡ Some q → SamePair p q → ⊥

@@ -1,11 +1,11 @@
 //! The sets of a document by number.
-ghost use Rattle.merge_search.specs.Graph.{Falling, IsWhole};
+ghost use Rattle.merge_search.specs.Graph.{Falling, AreListed};
 
 use crate::node::SetNode;
 
-/// The sets of a document by number, the set of each fragment, and an order of the sets.
+/// The sets of a document by number, the set of each fragment, and an order of the sets that are searched.
 ///
-/// A set refers to smaller sets alone.
+/// A set refers to smaller sets alone. The sets of the fragments are searched; another may only stand below a field.
 #[derive(Drop)]
 pub struct Graph<J> {
     pub judge: J,
@@ -13,5 +13,5 @@ pub struct Graph<J> {
     pub fragments: Vec<usize>,
     pub order: Vec<usize>,
     ghost falling: { Falling sets.items fragments.items },
-    ghost whole: { IsWhole sets.items order.items },
+    ghost listed: { AreListed fragments.items order.items },
 }

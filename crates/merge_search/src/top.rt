@@ -238,19 +238,20 @@ fn compare_set<J: Judge>(
     compare_spreads(graph, s, plain, search)
 }
 
-/// Searches all sets, in the graph's order.
+/// Searches the sets of the graph's order, one after the other.
 ///
-/// What is found is true, and nothing is missed. Of `n` fragments at most `n (n - 1)` pairs are compared, and at
+/// What is found is true, and nothing is missed; but where some set isn't in the order, what stands below one field
+/// alone may be. Of `n` fragments at most `n (n - 1)` pairs are compared, and at
 /// least those that some set spreads together; no search opens more than `n` fragments.
 ///
 /// # Errors
 ///
 /// Out of memory.
 pub fn search_all<J: Judge>(alloc: Global, graph: &Graph<J>) -> Result<Search, AllocError>
-    ensures judged { IfOk result (λ m. Judged (world J.judgement graph.now) m.found.items) }
+    ensures judged { IfOk result (λ m. Judged (world J.judgement graph.now) graph.now.order.items m.found.items) }
     ensures few { let n = length graph.now.fragments.items in IfOk result (λ m. m.compared ≤ n * (n - 1)) }
     ensures enough { let w = world J.judgement graph.now in
-        IfOk result (λ m. (ps : List (ℕ × ℕ)) → Together w ps → length ps ≤ m.compared) }
+        IfOk result (λ m. (ps : List (ℕ × ℕ)) → Together w graph.now.order.items ps → length ps ≤ m.compared) }
     ensures opened { IfOk result (λ m. m.opened ≤ length graph.now.fragments.items * m.lists) }
 {
     let plain = passed_over(alloc, graph)?;

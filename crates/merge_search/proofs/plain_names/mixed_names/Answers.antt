@@ -4,7 +4,7 @@ use Rattle.std.specs.List.{Contains}
 use Rattle.merge_search.specs.declared.node.Entry.{Entry}
 use Rattle.merge_search.specs.World.{world, own_of}
 use Rattle.merge_search.specs.Firsts.{IsNoted}
-use Rattle.merge_search.proofs.Judging.{no_own}
+use Rattle.merge_search.proofs.Core.{no_own}
 use Rattle.merge_search.proofs.NamesSeen.{plain_name}
 use Rattle.merge_search.proofs.plain_names.mixed_names.Goals as goal
 

@@ -1,8 +1,8 @@
-use Rattle.std.proofs.Common.{ℕ, ◌^◌, ◌<◌, [], length, get_or, sym, subst, arith, false}
-use Rattle.merge_search.specs.Graph.{IsWhole}
+use Rattle.std.proofs.Common.{◌^◌, ◌<◌, [], length, get_or, sym, subst, arith, false}
+use Rattle.std.proofs.lemmas.List.Elements.{Contains-get_or}
 use Rattle.merge_search.specs.World.{world}
-use Rattle.merge_search.specs.Reports.{AddsAll, AtPlaces}
-use Rattle.merge_search.specs.Tops.{AtTop}
+use Rattle.merge_search.specs.Reports.{AddsAll, AtSearched}
+use Rattle.merge_search.specs.Tops.{AtTop, Together}
 use Rattle.merge_search.proofs.Adding.{Upto, all_start, all_more}
 use Rattle.merge_search.proofs.Counting.{at_most, at_least, small_square}
 use Rattle.merge_search.proofs.Judging.{next_tops, no_tops, judged_at, all_tops}
@@ -16,7 +16,7 @@ loop-s-init g c =
     let b = c.no_search-search.ensures in (
       c.order-s-items.ensures,
       no_tops v c.order-s-items.result.now c.no_search-search.result b,
-      subst (λ ys. AddsAll v false (λ r. (s : ℕ) × AtPlaces v s r) (Upto c.order-s-items.result.now 0 0 (λ s. AtTop v s)) [] ys) (sym b.found) (all_start v false _ (λ s. AtTop v s) c.order-s-items.result.now 0 []),
+      subst (λ ys. AddsAll v false (AtSearched v c.order-s-items.result.now) (Upto c.order-s-items.result.now 0 0 (λ s. AtTop v s)) [] ys) (sym b.found) (all_start v false _ (λ s. AtTop v s) c.order-s-items.result.now 0 []),
       no_tally (length v.fragments) c.no_search-search.result b,
     )
 
@@ -25,7 +25,7 @@ loop-s-preserved g c =
     let v = world g.J.Judge.judgement c.args.graph.now in (
       c.loop-s.invariant.0,
       next_tops v c.order-s-items.result.now c.loop-s.s-index c.loop-s.invariant.1 c.in_ok-compare_set.ensures.done,
-      all_more v false _ _ (λ s. AtTop v s) c.order-s-items.result.now c.loop-s.s-index 0 (λ r z. (get_or c.order-s-items.result.now c.loop-s.s-index 0, z)) c.loop-s.invariant.2 c.in_ok-compare_set.ensures.real,
+      all_more v false _ _ (λ s. AtTop v s) c.order-s-items.result.now c.loop-s.s-index 0 (λ r z. (get_or c.order-s-items.result.now c.loop-s.s-index 0, Contains-get_or c.order-s-items.result.now c.loop-s.s-index 0 c.loop-s-test.true, z)) c.loop-s.invariant.2 c.in_ok-compare_set.ensures.real,
       c.in_ok-compare_set.ensures.done.keeps c.loop-s.invariant.3,
     )
 
@@ -33,11 +33,10 @@ pub returns : goal.returns
 returns g c =
     let v = world g.J.Judge.judgement c.args.graph.now in
     let m = c.loop-s.search in
-    let whole = subst (λ zs. IsWhole v.sets zs) (sym c.loop-s.invariant.0) c.args.graph.now.whole in
     let n : length v.fragments < 2 ^ 63 = omega (arith, c.args.graph.now.fragments.ok.0, c.args.graph.now.fragments.ok.1, c.args.graph.now.fragments.small) in
     record {
-      judged = judged_at v m c.args.graph.now.order.items c.order-s-items.result.now c.loop-s.s-index c.loop-s.invariant.0 c.loop-s-test.false c.args.graph.now.falling c.args.graph.now.whole c.loop-s.invariant.1 c.loop-s.invariant.2;
+      judged = judged_at v m c.args.graph.now.order.items c.order-s-items.result.now c.loop-s.s-index c.loop-s.invariant.0 c.loop-s-test.false c.args.graph.now.falling c.args.graph.now.listed c.loop-s.invariant.1 c.loop-s.invariant.2;
       few = at_most (length v.fragments) m c.loop-s.invariant.3;
-      enough = λ ps h. at_least v (length v.fragments) m (all_tops v m c.order-s-items.result.now c.loop-s.s-index whole c.loop-s-test.false (c.loop-s.invariant.1 m (grows_same m)).1) c.loop-s.invariant.3 (small_square (length v.fragments) n) ps h;
+      enough = λ ps h. at_least v (length v.fragments) m c.order-s-items.result.now (all_tops v m c.order-s-items.result.now c.loop-s.s-index c.loop-s-test.false (c.loop-s.invariant.1 m (grows_same m)).1) c.loop-s.invariant.3 (small_square (length v.fragments) n) ps (subst (λ zs. Together v zs ps) (sym c.loop-s.invariant.0) h);
       opened = c.loop-s.invariant.3.opened;
     }

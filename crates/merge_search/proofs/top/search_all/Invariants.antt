@@ -1,8 +1,8 @@
-use Rattle.std.proofs.Common.{◌≡◌, ℕ, [], length, false}
+use Rattle.std.proofs.Common.{◌≡◌, [], length, false}
 use Rattle.merge_search.specs.World.{world}
 use Rattle.merge_search.specs.Counts.{Tally}
 use Rattle.merge_search.specs.Work.{pair_in}
-use Rattle.merge_search.specs.Reports.{AddsAll, AtPlaces}
+use Rattle.merge_search.specs.Reports.{AddsAll, AtSearched}
 use Rattle.merge_search.specs.Tops.{AtTop}
 use Rattle.merge_search.proofs.Adding.{Upto}
 use Rattle.merge_search.proofs.Judging.{TopsDone}
@@ -12,5 +12,5 @@ abbrev pub invariant-loop-s : goal.invariant-loop-s
 invariant-loop-s g l =
     (l.s-items ≡ l.graph.order.items)
     × TopsDone (world g.J.Judge.judgement l.graph) l.s-items l.s-index l.search
-    × AddsAll (world g.J.Judge.judgement l.graph) false (λ r. (s : ℕ) × AtPlaces (world g.J.Judge.judgement l.graph) s r) (Upto l.s-items l.s-index 0 (λ s. AtTop (world g.J.Judge.judgement l.graph) s)) [] l.search.found.items
+    × AddsAll (world g.J.Judge.judgement l.graph) false (AtSearched (world g.J.Judge.judgement l.graph) l.s-items) (Upto l.s-items l.s-index 0 (λ s. AtTop (world g.J.Judge.judgement l.graph) s)) [] l.search.found.items
     × Tally (pair_in l.search) (length l.graph.fragments.items) l.search
