@@ -1,11 +1,11 @@
 -- What each step adds, put together.
-use Rattle.std.proofs.Common.{◌≡◌, ℕ, suc, ◌+◌, ◌<◌, ◌≤◌, List, [], ◌∷◌, ◌++◌, length, take, get_or, Option, Some, None, slice_get, refl, sym, ap, subst, ◌∙◌, arith, inl, inr, ◌==◌, append_assoc, append-nil, length-append}
+use Rattle.std.proofs.Common.{◌≡◌, ℕ, suc, ◌+◌, ◌<◌, ◌≤◌, List, [], ◌∷◌, ◌++◌, length, take, get_or, Option, Some, None, slice_get, true, refl, sym, ap, subst, ◌∙◌, arith, inl, inr, ◌==◌, append_assoc, append-nil, length-append}
 use Rattle.std.specs.List.{All, Contains}
 use Rattle.std.specs.Option.{option_map_or}
 use Rattle.std.specs.declared.vec.Vec.{Vec}
 use Rattle.std.specs.declared.alloc.Global.{Global}
 use Rattle.std.proofs.lemmas.List.{take_all}
-use Rattle.std.proofs.lemmas.List.Elements.{All-append, All-weaker, All-nil, All-cons, Contains-append_left, Contains-append_right, Contains-push}
+use Rattle.std.proofs.lemmas.List.Elements.{All-append, All-weaker, All-nil, All-cons, Contains-append_left, Contains-append_right, Contains-append_cases, Contains-push}
 use Rattle.std.proofs.lemmas.List.Folds.{list_any-append}
 use Rattle.std.proofs.lemmas.Option.{slice_get_past, slice_get_within}
 use Rattle.std.proofs.lemmas.Bool.{cases_order, or_left, or_right}
@@ -22,14 +22,15 @@ use Rattle.merge_search.specs.declared.node.Entry.{Entry as OwnField}
 use Rattle.merge_set_table.specs.declared.table.NumberedSet.{NumberedSet}
 use Rattle.merge_set_table.specs.declared.table.Table.{Table}
 use Rattle.merge_set_table.specs.Once.{is_among}
-use Rattle.merge_set_table.specs.Table.{numbered, IsOwnField, IsWithin, Falling, height}
-use Rattle.merge_set_table.specs.Represents.{Represents, nothing, join, leaf, field, spread, unknown, inline}
-use Rattle.merge_set_table.specs.Adding.{AreWithin, AddsSpread, TakesOver, PushesField, AddsOrder, Keeps, Adds, AddsSet}
+use Rattle.merge_set_table.specs.Table.{numbered, Extends, IsOwnField, IsWithin, Falling, height}
+use Rattle.merge_set_table.specs.Represents.{Represents, nothing, join, leaf, field, spread, unknown, inline, IsSetOf}
+use Rattle.merge_set_table.specs.Adding.{AreWithin, AddsSpread, TakesOver, PushesField, ComesFrom, Keeps, AddsParts, HasSet, AddsFor, AddsSetFor, Adds, AddsSet}
 use Rattle.merge_set_table.proofs.Lists.{get_front, get_last, same_some}
 use Rattle.merge_set_table.proofs.OnceLaws.{next_take}
-use Rattle.merge_set_table.specs.Inside.{IsInside, below_field, of_inline}
-use Rattle.merge_set_table.proofs.Representing.{extends_self, extends_then, represents_more}
-use Rattle.merge_set_table.proofs.Origins.{comes_none, comes_then, comes_pushed, comes_inside}
+use Rattle.merge_set_table.specs.Inside.{IsInside, below_field, of_inline, type_entered, IsDeeper, of_field, of_fragment, IsConditionKnown}
+use Rattle.merge_set_table.proofs.Representing.{extends_self, extends_then, represents_more, set_more}
+use Rattle.merge_set_table.proofs.Origins.{fields_inside, fields_none, fields_then, fields_pushed, comes_none, comes_then, comes_inside}
+use Rattle.merge_set_table.proofs.Nodes.{only_field, only_inline, no_field, no_inline, spread_no_field, spread_no_inline}
 
 abbrev pub Low : ℕ → OwnField → Type 0
 Low n a = height a ≤ n
@@ -54,32 +55,13 @@ falling_push sets row fragments f own to s =
 
 module _ {S C : Type 0} (schema : Catalog S C) (numbers : List ℕ → Option ℕ) where
   keeps_self : (t : Table S C) → Keeps numbers t t
-  keeps_self t = record {
-    extends = extends_self (numbered t);
-    apart = λ a. a;
-    falls = λ fragments w f. f;
-    order = record { more = []; order = sym (append-nil t.order.items); whole = λ k l h. absurd (omega (arith, l, h)) };
-  }
-
-  order_then : (s t u : Table S C) → AddsOrder s t → AddsOrder t u → AddsOrder s u
-  order_then s t u d e = record {
-    more = d.more ++ e.more;
-    order = e.order ∙ (ap (λ z. z ++ e.more) d.order ∙ append_assoc s.order.items d.more e.more);
-    whole = λ k l h. list_any-append (λ y. y == k) d.more e.more ∙ elim (cases_order k (length t.sets.items)) [
-      | inl eq ↦ or_right (is_among d.more k) (is_among e.more k) (e.whole k (omega (arith, eq)) h)
-      | inr o ↦ elim o [
-        | inl lt ↦ or_left (is_among d.more k) (is_among e.more k) (d.whole k l lt)
-        | inr gt ↦ or_right (is_among d.more k) (is_among e.more k) (e.whole k (omega (arith, gt)) h)
-      ]
-    ];
-  }
+  keeps_self t = record { extends = extends_self (numbered t); apart = λ a. a; falls = λ fragments w f. f }
 
   pub keeps_then : (s t u : Table S C) → Keeps numbers s t → Keeps numbers t u → Keeps numbers s u
   keeps_then s t u d e = record {
     extends = extends_then d.extends e.extends;
     apart = λ a. e.apart (d.apart a);
     falls = λ fragments w f. e.falls fragments (within_more numbers fragments (length s.sets.items) (length t.sets.items) d.extends.longer w) (d.falls fragments w f);
-    order = order_then s t u d.order e.order;
   }
 
   keeps_pushed : (o : PlainEntry S C) (below : Option ℕ) (part part' : NumberedSet) (t t' : Table S C) → PushesField o below part part' t t' → Keeps numbers t t'
@@ -87,15 +69,11 @@ module _ {S C : Type 0} (schema : Catalog S C) (numbers : List ℕ → Option �
     extends = pushed.extends;
     apart = pushed.apart;
     falls = λ fragments w f. subst (λ z. Falling z fragments) (sym pushed.sets) f;
-    order = record {
-      more = [];
-      order = pushed.order ∙ sym (append-nil t.order.items);
-      whole = λ k l h. let e = ap length pushed.sets in absurd (omega (arith, l, h, e));
-    };
   }
 
-  pub adds_none : (p : Option (MetaTypeOf S C)) (part : NumberedSet) (t : Table S C) → Adds schema numbers p [] part part t t
-  adds_none p part t = record {
+  -- What each step adds to a set.
+  parts_none : (p : Option (MetaTypeOf S C)) (part : NumberedSet) (t : Table S C) → AddsParts schema numbers p [] part part t t
+  parts_none p part t = record {
     own_more = [];
     to_more = [];
     own = sym (append-nil part.own.items);
@@ -103,12 +81,11 @@ module _ {S C : Type 0} (schema : Catalog S C) (numbers : List ℕ → Option �
     represents = nothing;
     below = All-nil (Low (length t.sets.items));
     within = λ fragments bound w. All-nil (IsWithin fragments bound);
-    from = λ p0 set0 whole i sub. comes_none schema numbers p0 set0 t t refl refl;
     keeps = keeps_self t;
   }
 
-  pub adds_then : (p : Option (MetaTypeOf S C)) (xs ys : List (Selection S)) (a b c : NumberedSet) (s t u : Table S C) → Adds schema numbers p xs a b s t → Adds schema numbers p ys b c t u → Adds schema numbers p (xs ++ ys) a c s u
-  adds_then p xs ys a b c s t u d e = record {
+  parts_then : (p : Option (MetaTypeOf S C)) (xs ys : List (Selection S)) (a b c : NumberedSet) (s t u : Table S C) → AddsParts schema numbers p xs a b s t → AddsParts schema numbers p ys b c t u → AddsParts schema numbers p (xs ++ ys) a c s u
+  parts_then p xs ys a b c s t u d e = record {
     own_more = d.own_more ++ e.own_more;
     to_more = d.to_more ++ e.to_more;
     own = e.own ∙ (ap (λ z. z ++ e.own_more) d.own ∙ append_assoc a.own.items d.own_more e.own_more);
@@ -116,22 +93,12 @@ module _ {S C : Type 0} (schema : Catalog S C) (numbers : List ℕ → Option �
     represents = join (represents_more schema numbers e.keeps.extends d.represents) e.represents;
     below = All-append (Low (length u.sets.items)) d.own_more e.own_more (low_more _ _ d.own_more e.keeps.extends.longer d.below) e.below;
     within = λ fragments bound w. All-append (IsWithin fragments bound) d.to_more e.to_more (d.within fragments bound w) (e.within fragments bound w);
-    from = λ p0 set0 whole i sub. comes_then schema numbers p0 set0 s t u e.keeps.extends
-        (d.from p0 set0 whole i (λ x c. sub x (Contains-append_left xs ys x c))) (e.from p0 set0 whole i (λ x c. sub x (Contains-append_right xs ys x c)));
     keeps = keeps_then s t u d.keeps e.keeps;
   }
 
-  pub adds_next : (p : Option (MetaTypeOf S C)) (xs : List (Selection S)) (k : ℕ) (x : Selection S) (a b c : NumberedSet) (s t u : Table S C) → k < length xs → x ≡ get_or xs k x
-      → Adds schema numbers p (take k xs) a b s t → Adds schema numbers p (x ∷ []) b c t u → Adds schema numbers p (take (k + 1) xs) a c s u
-  adds_next p xs k x a b c s t u l is d e =
-      subst (λ z. Adds schema numbers p z a c s u) (sym (next_take xs k x l is)) (adds_then p (take k xs) (x ∷ []) a b c s t u d e)
-
-  pub adds_whole : (p : Option (MetaTypeOf S C)) (xs : List (Selection S)) (k : ℕ) (a b : NumberedSet) (s t : Table S C) → length xs ≤ k → Adds schema numbers p (take k xs) a b s t → Adds schema numbers p xs a b s t
-  adds_whole p xs k a b s t l d = subst (λ z. Adds schema numbers p z a b s t) (take_all k xs l) d
-
-  pub adds_leaf : (p : Option (MetaTypeOf S C)) (f : Placed (Field S)) (o : PlainEntry S C) (a b : NumberedSet) (s t : Table S C)
-      → o ≡ entry_under p f → f.item.selection_set ≡ None → PushesField o None a b s t → Adds schema numbers p (selection.Field f ∷ []) a b s t
-  adds_leaf p f o a b s t is none pushed = record {
+  parts_leaf : (p : Option (MetaTypeOf S C)) (f : Placed (Field S)) (o : PlainEntry S C) (a b : NumberedSet) (s t : Table S C)
+      → o ≡ entry_under p f → f.item.selection_set ≡ None → PushesField o None a b s t → AddsParts schema numbers p (selection.Field f ∷ []) a b s t
+  parts_leaf p f o a b s t is none pushed = record {
     own_more = pushed.own_field ∷ [];
     to_more = [];
     own = pushed.own;
@@ -139,14 +106,13 @@ module _ {S C : Type 0} (schema : Catalog S C) (numbers : List ℕ → Option �
     represents = leaf f pushed.own_field (subst (λ z. IsOwnField (numbered t) z pushed.own_field) is pushed.is) none pushed.below_is;
     below = All-cons (Low (length t.sets.items)) pushed.own_field [] (subst (λ z. option_map_or (λ n. suc n) z 0 ≤ length t.sets.items) (sym pushed.below_is) (omega arith)) (All-nil (Low (length t.sets.items)));
     within = λ fragments bound w. All-nil (IsWithin fragments bound);
-    from = λ p0 set0 whole i sub. comes_pushed schema numbers p0 set0 p whole f o None a b s t i (sub (selection.Field f) (Contains-push [] (selection.Field f))) is pushed;
     keeps = keeps_pushed o None a b s t pushed;
   }
 
-  pub adds_field : (p q : Option (MetaTypeOf S C)) (f : Placed (Field S)) (w : Vec (Selection S) Global) (o : PlainEntry S C) (set' : List (Selection S)) (n : ℕ) (a b : NumberedSet) (s t u : Table S C)
+  parts_field : (p q : Option (MetaTypeOf S C)) (f : Placed (Field S)) (w : Vec (Selection S) Global) (o : PlainEntry S C) (set' : List (Selection S)) (n : ℕ) (a b : NumberedSet) (s t u : Table S C)
       → o ≡ entry_under p f → f.item.selection_set ≡ Some w → q ≡ type_below schema o → set' ≡ w.items
-      → AddsSet schema numbers q set' n s t → PushesField o (Some n) a b t u → Adds schema numbers p (selection.Field f ∷ []) a b s u
-  adds_field p q f w o set' n a b s t u is some type all added pushed =
+      → HasSet schema numbers q set' n s t → PushesField o (Some n) a b t u → AddsParts schema numbers p (selection.Field f ∷ []) a b s u
+  parts_field p q f w o set' n a b s t u is some type all added pushed =
       let inside : Represents schema numbers (numbered u) (type_below schema (entry_under p f)) w.items added.is.row.own.items added.is.to =
       represents_more schema numbers pushed.extends
       (subst (λ z. Represents schema numbers (numbered t) z w.items added.is.row.own.items added.is.to) (type ∙ ap (type_below schema) is)
@@ -162,18 +128,11 @@ module _ {S C : Type 0} (schema : Catalog S C) (numbers : List ℕ → Option �
             (pushed.extends.sets n added.is.row added.is.stored) added.is.once inside;
         below = All-cons (Low (length u.sets.items)) pushed.own_field [] (subst (λ z. option_map_or (λ k. suc k) z 0 ≤ length u.sets.items) (sym pushed.below_is) (omega (arith, small, as_long))) (All-nil (Low (length u.sets.items)));
         within = λ fragments bound w. All-nil (IsWithin fragments bound);
-        from = λ p0 set0 whole i sub.
-            let stands : Contains whole (selection.Field f) = sub (selection.Field f) (Contains-push [] (selection.Field f)) in
-            let below : IsInside schema p0 set0 q set' =
-            subst (λ z. IsInside schema p0 set0 z set') (sym (type ∙ ap (type_below schema) is))
-            (subst (λ z. IsInside schema p0 set0 (type_below schema (entry_under p f)) z) (sym all) (below_field f w i stands some)) in
-            comes_then schema numbers p0 set0 s t u pushed.extends (comes_inside schema numbers s t below added.from)
-            (comes_pushed schema numbers p0 set0 p whole f o (Some n) a b t u i stands is pushed);
         keeps = keeps_then s t u added.keeps (keeps_pushed o (Some n) a b t u pushed);
       }
 
-  pub adds_spread : (p : Option (MetaTypeOf S C)) (f : Placed (FragmentSpread S)) (number : Option ℕ) (a b : NumberedSet) (t : Table S C) → number ≡ numbers f.item.name.item.now → AddsSpread number a b → Adds schema numbers p (selection.FragmentSpread f ∷ []) a b t t
-  adds_spread p f None a b t is added = record {
+  parts_spread : (p : Option (MetaTypeOf S C)) (f : Placed (FragmentSpread S)) (number : Option ℕ) (a b : NumberedSet) (t : Table S C) → number ≡ numbers f.item.name.item.now → AddsSpread number a b → AddsParts schema numbers p (selection.FragmentSpread f ∷ []) a b t t
+  parts_spread p f None a b t is added = record {
     own_more = [];
     to_more = [];
     own = added.own ∙ sym (append-nil a.own.items);
@@ -181,10 +140,9 @@ module _ {S C : Type 0} (schema : Catalog S C) (numbers : List ℕ → Option �
     represents = unknown f (sym is);
     below = All-nil (Low (length t.sets.items));
     within = λ fragments bound w. All-nil (IsWithin fragments bound);
-    from = λ p0 set0 whole i sub. comes_none schema numbers p0 set0 t t refl refl;
     keeps = keeps_self t;
   }
-  adds_spread p f (Some g) a b t is added = record {
+  parts_spread p f (Some g) a b t is added = record {
     own_more = [];
     to_more = g ∷ [];
     own = added.own ∙ sym (append-nil a.own.items);
@@ -192,33 +150,267 @@ module _ {S C : Type 0} (schema : Catalog S C) (numbers : List ℕ → Option �
     represents = spread f g (sym is);
     below = All-nil (Low (length t.sets.items));
     within = λ fragments bound w. All-cons (IsWithin fragments bound) g [] (w f.item.name.item.now g (sym is)) (All-nil (IsWithin fragments bound));
-    from = λ p0 set0 whole i sub. comes_none schema numbers p0 set0 t t refl refl;
     keeps = keeps_self t;
   }
 
-  pub adds_inline : (p q : Option (MetaTypeOf S C)) (i : Placed (InlineFragment S)) (set' : List (Selection S)) (n : ℕ) (sets : List NumberedSet) (a b : NumberedSet) (s t : Table S C)
+  -- an inline fragment whose set was stored under the type that its fields have
+  parts_inline : (p q : Option (MetaTypeOf S C)) (i : Placed (InlineFragment S)) (set' : List (Selection S)) (n : ℕ) (sets : List NumberedSet) (a b : NumberedSet) (s t : Table S C)
       → q ≡ type_inside schema p i.item.type_condition → set' ≡ i.item.selection_set.items → sets ≡ t.sets.items
-      → AddsSet schema numbers q set' n s t → TakesOver sets n a b → Adds schema numbers p (selection.InlineFragment i ∷ []) a b s t
-  adds_inline p q i set' n sets a b s t type all listed added over =
+      → HasSet schema numbers q set' n s t → TakesOver sets n a b → AddsParts schema numbers p (selection.InlineFragment i ∷ []) a b s t
+  parts_inline p q i set' n sets a b s t type all listed added over =
       let same : over.row ≡ added.is.row = same_some over.row added.is.row (sym over.stored ∙ ap (λ z. slice_get z n) listed ∙ added.is.stored) in
       record {
         own_more = added.is.row.own.items;
         to_more = added.is.row.spreads.items;
         own = over.own ∙ ap (λ r. a.own.items ++ r.own.items) same;
         spreads = over.spreads ∙ ap (λ r. a.spreads.items ++ r.spreads.items) same;
-        represents = inline i n added.is.row added.is.to added.is.stored added.is.once
+        represents = inline i added.is.row.own.items added.is.to added.is.row.spreads.items added.is.once.same
             (subst (λ z. Represents schema numbers (numbered t) z i.item.selection_set.items added.is.row.own.items added.is.to) type
             (subst (λ z. Represents schema numbers (numbered t) q z added.is.row.own.items added.is.to) all added.is.represents));
         below = added.own;
         within = added.within;
-        from = λ p0 set0 whole j sub.
-            let stands : Contains whole (selection.InlineFragment i) = sub (selection.InlineFragment i) (Contains-push [] (selection.InlineFragment i)) in
-            let inside : IsInside schema p0 set0 q set' =
-            subst (λ z. IsInside schema p0 set0 z set') (sym type)
-            (subst (λ z. IsInside schema p0 set0 (type_inside schema p i.item.type_condition) z) (sym all) (of_inline i j stands)) in
-            comes_inside schema numbers s t inside added.from;
         keeps = added.keeps;
       }
+
+  -- or whose fields were added one by one, after something else
+  parts_opened : (p q : Option (MetaTypeOf S C)) (i : Placed (InlineFragment S)) (set' : List (Selection S)) (a b : NumberedSet) (s t u : Table S C)
+      → q ≡ type_inside schema p i.item.type_condition → set' ≡ i.item.selection_set.items → Keeps numbers s t
+      → AddsParts schema numbers q set' a b t u → AddsParts schema numbers p (selection.InlineFragment i ∷ []) a b s u
+  parts_opened p q i set' a b s t u type all kept added = record {
+    own_more = added.own_more;
+    to_more = added.to_more;
+    own = added.own;
+    spreads = added.spreads;
+    represents = inline i added.own_more added.to_more added.to_more (λ x. refl)
+        (subst (λ z. Represents schema numbers (numbered u) z i.item.selection_set.items added.own_more added.to_more) type
+        (subst (λ z. Represents schema numbers (numbered u) q z added.own_more added.to_more) all added.represents));
+    below = added.below;
+    within = added.within;
+    keeps = keeps_then s t u kept added.keeps;
+  }
+
+  -- Fields that are added to a set under whatever type.
+  pub for_none : (p : Option (MetaTypeOf S C)) (part : NumberedSet) (t : Table S C) → AddsFor schema numbers p [] part part t t
+  for_none p part t = record { parts = parts_none p part t; order = refl; from = λ p0 q set0 whole i sub. fields_none schema p0 set0 t t refl }
+
+  for_then : (p : Option (MetaTypeOf S C)) (xs ys : List (Selection S)) (a b c : NumberedSet) (s t u : Table S C) → AddsFor schema numbers p xs a b s t → AddsFor schema numbers p ys b c t u → AddsFor schema numbers p (xs ++ ys) a c s u
+  for_then p xs ys a b c s t u d e = record {
+    parts = parts_then p xs ys a b c s t u d.parts e.parts;
+    order = e.order ∙ d.order;
+    from = λ p0 q set0 whole i sub. fields_then schema p0 set0 s t u e.parts.keeps.extends
+        (d.from p0 q set0 whole i (λ x c. sub x (Contains-append_left xs ys x c))) (e.from p0 q set0 whole i (λ x c. sub x (Contains-append_right xs ys x c)));
+  }
+
+  pub for_next : (p : Option (MetaTypeOf S C)) (xs : List (Selection S)) (k : ℕ) (x : Selection S) (a b c : NumberedSet) (s t u : Table S C) → k < length xs → x ≡ get_or xs k x
+      → AddsFor schema numbers p (take k xs) a b s t → AddsFor schema numbers p (x ∷ []) b c t u → AddsFor schema numbers p (take (k + 1) xs) a c s u
+  for_next p xs k x a b c s t u l is d e =
+      subst (λ z. AddsFor schema numbers p z a c s u) (sym (next_take xs k x l is)) (for_then p (take k xs) (x ∷ []) a b c s t u d e)
+
+  pub for_whole : (p : Option (MetaTypeOf S C)) (xs : List (Selection S)) (k : ℕ) (a b : NumberedSet) (s t : Table S C) → length xs ≤ k → AddsFor schema numbers p (take k xs) a b s t → AddsFor schema numbers p xs a b s t
+  for_whole p xs k a b s t l d = subst (λ z. AddsFor schema numbers p z a b s t) (take_all k xs l) d
+
+  pub for_leaf : (p : Option (MetaTypeOf S C)) (f : Placed (Field S)) (o : PlainEntry S C) (a b : NumberedSet) (s t : Table S C)
+      → o ≡ entry_under p f → f.item.selection_set ≡ None → PushesField o None a b s t → AddsFor schema numbers p (selection.Field f ∷ []) a b s t
+  for_leaf p f o a b s t is none pushed = record {
+    parts = parts_leaf p f o a b s t is none pushed;
+    order = pushed.order;
+    from = λ p0 q set0 whole i sub. fields_pushed schema p0 set0 q whole f o None a b s t i (sub (selection.Field f) (Contains-push [] (selection.Field f))) (ap (λ z. z.field) is) pushed;
+  }
+
+  pub for_field : (p q : Option (MetaTypeOf S C)) (f : Placed (Field S)) (w : Vec (Selection S) Global) (o : PlainEntry S C) (set' : List (Selection S)) (n : ℕ) (a b : NumberedSet) (s t u : Table S C)
+      → o ≡ entry_under p f → f.item.selection_set ≡ Some w → q ≡ type_below schema o → set' ≡ w.items
+      → AddsSetFor schema numbers q set' n s t → PushesField o (Some n) a b t u → AddsFor schema numbers p (selection.Field f ∷ []) a b s u
+  for_field p q f w o set' n a b s t u is some type all added pushed = record {
+    parts = parts_field p q f w o set' n a b s t u is some type all added.has pushed;
+    order = pushed.order ∙ added.order;
+    from = λ p0 r set0 whole i sub.
+        let stands : Contains whole (selection.Field f) = sub (selection.Field f) (Contains-push [] (selection.Field f)) in
+        fields_then schema p0 set0 s t u pushed.extends
+        (fields_inside schema s t (subst (λ z. IsInside schema p0 set0 (type_below schema (entry_under r f)) z) (sym all) (below_field f w i stands some)) (added.from (type_below schema (entry_under r f))))
+        (fields_pushed schema p0 set0 r whole f o (Some n) a b t u i stands (ap (λ z. z.field) is) pushed);
+  }
+
+  pub for_spread : (p : Option (MetaTypeOf S C)) (f : Placed (FragmentSpread S)) (number : Option ℕ) (a b : NumberedSet) (t : Table S C) → number ≡ numbers f.item.name.item.now → AddsSpread number a b → AddsFor schema numbers p (selection.FragmentSpread f ∷ []) a b t t
+  for_spread p f number a b t is added = record { parts = parts_spread p f number a b t is added; order = refl; from = λ p0 q set0 whole i sub. fields_none schema p0 set0 t t refl }
+
+  pub for_inline : (p q : Option (MetaTypeOf S C)) (i : Placed (InlineFragment S)) (set' : List (Selection S)) (a b : NumberedSet) (s t : Table S C)
+      → q ≡ type_inside schema p i.item.type_condition → set' ≡ i.item.selection_set.items
+      → AddsFor schema numbers q set' a b s t → AddsFor schema numbers p (selection.InlineFragment i ∷ []) a b s t
+  for_inline p q i set' a b s t type all added = record {
+    parts = parts_opened p q i set' a b s s t type all (keeps_self s) added.parts;
+    order = added.order;
+    from = λ p0 r set0 whole j sub.
+        let stands : Contains whole (selection.InlineFragment i) = sub (selection.InlineFragment i) (Contains-push [] (selection.InlineFragment i)) in
+        added.from p0 (type_entered schema r i.item.type_condition) set0 set'
+        (subst (λ z. IsInside schema p0 set0 (type_entered schema r i.item.type_condition) z) (sym all) (of_inline i j stands)) (λ x c. c);
+  }
+
+  pub for_as : (p : Option (MetaTypeOf S C)) (x y : Selection S) (a b : NumberedSet) (s t : Table S C) → x ≡ y → AddsFor schema numbers p (y ∷ []) a b s t → AddsFor schema numbers p (x ∷ []) a b s t
+  for_as p x y a b s t is added = subst (λ z. AddsFor schema numbers p (z ∷ []) a b s t) (sym is) added
+
+  -- Fields that are added to a set with all sets in them.
+  order_then : (ms ns : List ℕ) (s t u : Table S C) → t.order.items ≡ s.order.items ++ ms → u.order.items ≡ t.order.items ++ ns → u.order.items ≡ s.order.items ++ (ms ++ ns)
+  order_then ms ns s t u d e = e ∙ (ap (λ z. z ++ ns) d ∙ append_assoc s.order.items ms ns)
+
+  pub adds_none : (p : Option (MetaTypeOf S C)) (part : NumberedSet) (t : Table S C) → Adds schema numbers p [] part part t t
+  adds_none p part t = record {
+    parts = parts_none p part t;
+    more = [];
+    order = sym (append-nil t.order.items);
+    found = nothing_deeper;
+    from = λ p0 set0 whole i sub. comes_none schema numbers p0 set0 t t refl (fields_none schema p0 set0 t t refl);
+  }
+    where
+      nothing_deeper : (q : Option (MetaTypeOf S C)) (inner : List (Selection S)) → IsDeeper schema p [] q inner → (n : ℕ) × (is_among [] n ≡ true) × IsSetOf schema numbers (numbered t) n q inner
+      nothing_deeper q inner (of_field f w c e i) = let l = c.1 in absurd (omega (arith, l))
+      nothing_deeper q inner (of_fragment f c i) = let l = c.1 in absurd (omega (arith, l))
+
+  adds_then : (p : Option (MetaTypeOf S C)) (xs ys : List (Selection S)) (a b c : NumberedSet) (s t u : Table S C) → Adds schema numbers p xs a b s t → Adds schema numbers p ys b c t u → Adds schema numbers p (xs ++ ys) a c s u
+  adds_then p xs ys a b c s t u d e = record {
+    parts = parts_then p xs ys a b c s t u d.parts e.parts;
+    more = d.more ++ e.more;
+    order = order_then d.more e.more s t u d.order e.order;
+    found = either;
+    from = λ p0 set0 whole i sub. comes_then schema numbers p0 set0 d.more e.more s t u e.parts.keeps.extends
+        (d.from p0 set0 whole i (λ x c. sub x (Contains-append_left xs ys x c))) (e.from p0 set0 whole i (λ x c. sub x (Contains-append_right xs ys x c)));
+  }
+    where
+      Found : Option (MetaTypeOf S C) → List (Selection S) → Type 0
+      Found q inner = (n : ℕ) × (is_among (d.more ++ e.more) n ≡ true) × IsSetOf schema numbers (numbered u) n q inner
+
+      first : (q : Option (MetaTypeOf S C)) (inner : List (Selection S)) → IsDeeper schema p xs q inner → Found q inner
+      first q inner i = let h = d.found q inner i in
+          (h.0, list_any-append (λ y. y == h.0) d.more e.more ∙ or_left (is_among d.more h.0) (is_among e.more h.0) h.1, set_more schema numbers e.parts.keeps.extends h.2)
+
+      second : (q : Option (MetaTypeOf S C)) (inner : List (Selection S)) → IsDeeper schema p ys q inner → Found q inner
+      second q inner i = let h = e.found q inner i in
+          (h.0, list_any-append (λ y. y == h.0) d.more e.more ∙ or_right (is_among d.more h.0) (is_among e.more h.0) h.1, h.2)
+
+      either : (q : Option (MetaTypeOf S C)) (inner : List (Selection S)) → IsDeeper schema p (xs ++ ys) q inner → Found q inner
+      either q inner (of_field f w k some i) = elim (Contains-append_cases xs ys (selection.Field f) k) [
+        | inl h ↦ first q inner (of_field f w h some i)
+        | inr h ↦ second q inner (of_field f w h some i)
+      ]
+      either q inner (of_fragment f k i) = elim (Contains-append_cases xs ys (selection.InlineFragment f) k) [
+        | inl h ↦ first q inner (of_fragment f h i)
+        | inr h ↦ second q inner (of_fragment f h i)
+      ]
+
+  pub adds_next : (p : Option (MetaTypeOf S C)) (xs : List (Selection S)) (k : ℕ) (x : Selection S) (a b c : NumberedSet) (s t u : Table S C) → k < length xs → x ≡ get_or xs k x
+      → Adds schema numbers p (take k xs) a b s t → Adds schema numbers p (x ∷ []) b c t u → Adds schema numbers p (take (k + 1) xs) a c s u
+  adds_next p xs k x a b c s t u l is d e =
+      subst (λ z. Adds schema numbers p z a c s u) (sym (next_take xs k x l is)) (adds_then p (take k xs) (x ∷ []) a b c s t u d e)
+
+  pub adds_whole : (p : Option (MetaTypeOf S C)) (xs : List (Selection S)) (k : ℕ) (a b : NumberedSet) (s t : Table S C) → length xs ≤ k → Adds schema numbers p (take k xs) a b s t → Adds schema numbers p xs a b s t
+  adds_whole p xs k a b s t l d = subst (λ z. Adds schema numbers p z a b s t) (take_all k xs l) d
+
+  pub adds_leaf : (p : Option (MetaTypeOf S C)) (f : Placed (Field S)) (o : PlainEntry S C) (a b : NumberedSet) (s t : Table S C)
+      → o ≡ entry_under p f → f.item.selection_set ≡ None → PushesField o None a b s t → Adds schema numbers p (selection.Field f ∷ []) a b s t
+  adds_leaf p f o a b s t is none pushed = record {
+    parts = parts_leaf p f o a b s t is none pushed;
+    more = [];
+    order = pushed.order ∙ sym (append-nil s.order.items);
+    found = nothing_deeper;
+    from = λ p0 set0 whole i sub. comes_none schema numbers p0 set0 s t pushed.sets
+        (fields_pushed schema p0 set0 p whole f o None a b s t i (sub (selection.Field f) (Contains-push [] (selection.Field f))) (ap (λ z. z.field) is) pushed);
+  }
+    where
+      nothing_deeper : (q : Option (MetaTypeOf S C)) (inner : List (Selection S)) → IsDeeper schema p (selection.Field f ∷ []) q inner → (n : ℕ) × (is_among [] n ≡ true) × IsSetOf schema numbers (numbered t) n q inner
+      nothing_deeper q inner (of_field g w c e i) = absurd (none_there w (sym none ∙ ap (λ (h : Placed (Field S)). h.item.selection_set) (only_field f g c) ∙ e))
+        where
+          none_there : (w : Vec (Selection S) Global) → None ≡ Some w → ⊥
+          none_there w e = cc
+      nothing_deeper q inner (of_fragment g c i) = absurd (no_inline f g c)
+
+  pub adds_field : (p q : Option (MetaTypeOf S C)) (f : Placed (Field S)) (w : Vec (Selection S) Global) (o : PlainEntry S C) (set' : List (Selection S)) (n : ℕ) (a b : NumberedSet) (s t u : Table S C)
+      → o ≡ entry_under p f → f.item.selection_set ≡ Some w → q ≡ type_below schema o → set' ≡ w.items
+      → AddsSet schema numbers q set' n s t → PushesField o (Some n) a b t u → Adds schema numbers p (selection.Field f ∷ []) a b s u
+  adds_field p q f w o set' n a b s t u is some type all added pushed = record {
+    parts = parts_field p q f w o set' n a b s t u is some type all added.has pushed;
+    more = added.more;
+    order = pushed.order ∙ added.order;
+    found = deeper;
+    from = λ p0 set0 whole i sub.
+        let stands : Contains whole (selection.Field f) = sub (selection.Field f) (Contains-push [] (selection.Field f)) in
+        let below : IsInside schema p0 set0 q set' =
+        subst (λ z. IsInside schema p0 set0 z set') (sym (type ∙ ap (type_below schema) is))
+        (subst (λ z. IsInside schema p0 set0 (type_below schema (entry_under p f)) z) (sym all) (below_field f w i stands some)) in
+        subst (λ z. ComesFrom schema numbers p0 set0 z s u) (append-nil added.more)
+        (comes_then schema numbers p0 set0 added.more [] s t u pushed.extends (comes_inside schema numbers s t below added.from)
+        (comes_none schema numbers p0 set0 t u pushed.sets (fields_pushed schema p0 set0 p whole f o (Some n) a b t u i stands (ap (λ z. z.field) is) pushed)));
+  }
+    where
+      deeper : (r : Option (MetaTypeOf S C)) (inner : List (Selection S)) → IsDeeper schema p (selection.Field f ∷ []) r inner → (k : ℕ) × (is_among added.more k ≡ true) × IsSetOf schema numbers (numbered u) k r inner
+      deeper r inner (of_field g v c e i) =
+          let same : f ≡ g = only_field f g c in
+          let one : v ≡ w = same_some v w (sym e ∙ ap (λ (h : Placed (Field S)). h.item.selection_set) (sym same) ∙ some) in
+          let here : IsInside schema q set' r inner =
+          subst (λ z. IsInside schema z set' r inner) (sym (type ∙ ap (type_below schema) is))
+          (subst (λ z. IsInside schema (type_below schema (entry_under p f)) z r inner) (sym all)
+          (subst (λ (z : Vec (Selection S) Global). IsInside schema (type_below schema (entry_under p f)) z.items r inner) one
+          (subst (λ z. IsInside schema (type_below schema (entry_under p z)) v.items r inner) (sym same) i))) in
+          let h = added.found r inner here in (h.0, h.1, set_more schema numbers pushed.extends h.2)
+      deeper r inner (of_fragment g c i) = absurd (no_inline f g c)
+
+  pub adds_spread : (p : Option (MetaTypeOf S C)) (f : Placed (FragmentSpread S)) (number : Option ℕ) (a b : NumberedSet) (t : Table S C) → number ≡ numbers f.item.name.item.now → AddsSpread number a b → Adds schema numbers p (selection.FragmentSpread f ∷ []) a b t t
+  adds_spread p f number a b t is added = record {
+    parts = parts_spread p f number a b t is added;
+    more = [];
+    order = sym (append-nil t.order.items);
+    found = nothing_deeper;
+    from = λ p0 set0 whole i sub. comes_none schema numbers p0 set0 t t refl (fields_none schema p0 set0 t t refl);
+  }
+    where
+      nothing_deeper : (q : Option (MetaTypeOf S C)) (inner : List (Selection S)) → IsDeeper schema p (selection.FragmentSpread f ∷ []) q inner → (n : ℕ) × (is_among [] n ≡ true) × IsSetOf schema numbers (numbered t) n q inner
+      nothing_deeper q inner (of_field g w c e i) = absurd (spread_no_field f g c)
+      nothing_deeper q inner (of_fragment g c i) = absurd (spread_no_inline f g c)
+
+  -- the sets in an inline fragment are those of its set
+  module _ (p q : Option (MetaTypeOf S C)) (i : Placed (InlineFragment S)) (set' : List (Selection S)) (n : ℕ) (s t : Table S C)
+      (type : q ≡ type_entered schema p i.item.type_condition) (all : set' ≡ i.item.selection_set.items) (added : AddsSet schema numbers q set' n s t) where
+    in_fragment : (u : Table S C) → Extends (numbered t) (numbered u)
+        → (r : Option (MetaTypeOf S C)) (inner : List (Selection S)) → IsDeeper schema p (selection.InlineFragment i ∷ []) r inner → (k : ℕ) × (is_among added.more k ≡ true) × IsSetOf schema numbers (numbered u) k r inner
+    in_fragment u e r inner (of_field g v c some j) = absurd (no_field i g c)
+    in_fragment u e r inner (of_fragment g c j) =
+        let same : i ≡ g = only_inline i g c in
+        let here : IsInside schema q set' r inner =
+        subst (λ z. IsInside schema z set' r inner) (sym type)
+        (subst (λ z. IsInside schema (type_entered schema p i.item.type_condition) z r inner) (sym all)
+        (subst (λ (z : Placed (InlineFragment S)). IsInside schema (type_entered schema p z.item.type_condition) z.item.selection_set.items r inner) (sym same) j)) in
+        let h = added.found r inner here in (h.0, h.1, set_more schema numbers e h.2)
+
+    entered_inside : {p0 : Option (MetaTypeOf S C)} {set0 whole : List (Selection S)} → IsInside schema p0 set0 p whole → Contains whole (selection.InlineFragment i) → IsInside schema p0 set0 q set'
+    entered_inside {p0} {set0} j stands =
+        subst (λ z. IsInside schema p0 set0 z set') (sym type)
+        (subst (λ z. IsInside schema p0 set0 (type_entered schema p i.item.type_condition) z) (sym all) (of_inline i j stands))
+
+    pub adds_inline : (sets : List NumberedSet) (a b : NumberedSet) → type_entered schema p i.item.type_condition ≡ type_inside schema p i.item.type_condition → sets ≡ t.sets.items
+        → TakesOver sets n a b → Adds schema numbers p (selection.InlineFragment i ∷ []) a b s t
+    adds_inline sets a b agree listed over = record {
+      parts = parts_inline p q i set' n sets a b s t (type ∙ agree) all listed added.has over;
+      more = added.more;
+      order = added.order;
+      found = in_fragment t (extends_self (numbered t));
+      from = λ p0 set0 whole j sub. comes_inside schema numbers s t (entered_inside j (sub (selection.InlineFragment i) (Contains-push [] (selection.InlineFragment i)))) added.from;
+    }
+
+    pub adds_lost : (a b : NumberedSet) (u : Table S C) → p ≡ type_inside schema p i.item.type_condition → (IsConditionKnown schema i.item.type_condition → ⊥)
+        → AddsFor schema numbers p set' a b t u → Adds schema numbers p (selection.InlineFragment i ∷ []) a b s u
+    adds_lost a b u agree lost merged = record {
+      parts = parts_opened p p i set' a b s t u agree all added.has.keeps merged.parts;
+      more = added.more;
+      order = merged.order ∙ added.order;
+      found = in_fragment u merged.parts.keeps.extends;
+      from = λ p0 set0 whole j sub.
+          let stands : Contains whole (selection.InlineFragment i) = sub (selection.InlineFragment i) (Contains-push [] (selection.InlineFragment i)) in
+          let inside = entered_inside j stands in
+          let first = comes_inside schema numbers s t inside added.from in
+          record {
+            sets = λ k l. let (r, inner, h, is) = first.sets k l in (r, inner, h, set_more schema numbers merged.parts.keeps.extends is);
+            fields = fields_then schema p0 set0 s t u merged.parts.keeps.extends first.fields (merged.from p0 q set0 set' inside (λ x c. c));
+            whole = λ known. absurd (lost (known p whole j i stands));
+          };
+    }
 
   pub adds_as : (p : Option (MetaTypeOf S C)) (x y : Selection S) (a b : NumberedSet) (s t : Table S C) → x ≡ y → Adds schema numbers p (y ∷ []) a b s t → Adds schema numbers p (x ∷ []) a b s t
   adds_as p x y a b s t is added = subst (λ z. Adds schema numbers p (z ∷ []) a b s t) (sym is) added

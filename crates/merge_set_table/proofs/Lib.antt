@@ -1,9 +1,11 @@
 pub mod Lists
+pub mod Nodes
 pub mod OnceLaws
 pub mod Naming
 pub mod Pushing
 pub mod Representing
 pub mod Origins
 pub mod Building
+pub mod Entering
 pub mod Closing
 pub mod OwnParts

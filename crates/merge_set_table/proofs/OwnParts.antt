@@ -16,7 +16,7 @@ use Rattle.merge_search.specs.declared.node.Entry.{Entry as OwnField}
 use Rattle.merge_set_table.specs.Table.{Numbered}
 use Rattle.merge_set_table.specs.Represents.{Represents, nothing, join, leaf, field, spread, unknown, inline}
 use Rattle.merge_set_table.specs.OwnParts.{without_set, with_set, AreFieldsOf, no_fields, more_fields, AreNumbersOf}
-use Rattle.merge_set_table.specs.Once.{is_among, IsEachOnce}
+use Rattle.merge_set_table.specs.Once.{is_among}
 use Rattle.merge_set_table.proofs.Lists.{same_some}
 
 -- the only member of a list of one
@@ -47,7 +47,7 @@ module _ {S C : Type 0} (schema : Catalog S C) (numbers : List ℕ → Option �
       (more_fields (with_set w n is some below (record { row = row; to = to; stored = stored; once = once; represents = r })) no_fields)
   represented_fields {p} (spread s g h) = at_one p (selection.FragmentSpread s) _ _ (own_fields_of-Spread schema p s) no_fields
   represented_fields {p} (unknown s h) = at_one p (selection.FragmentSpread s) _ _ (own_fields_of-Spread schema p s) no_fields
-  represented_fields {p} (inline i n row to stored once r) = at_one p (selection.InlineFragment i) _ _ (own_fields_of-Inline schema p i) (represented_fields r)
+  represented_fields {p} (inline i own to to' same r) = at_one p (selection.InlineFragment i) _ _ (own_fields_of-Inline schema p i) (represented_fields r)
 
   -- a member of one list of names with another behind it
   among_join : (to to' : List ℕ) (g : ℕ) → is_among (to ++ to') g ≡ (is_among to g || is_among to' g)
@@ -103,12 +103,12 @@ module _ {S C : Type 0} (schema : Catalog S C) (numbers : List ℕ → Option �
   represented_spreads (field f a w n row to is some below stored once r) = subst (λ z. AreNumbersOf numbers z []) (sym (one_name (selection.Field f) [] (own_spreads_of-Field f))) numbers_none
   represented_spreads (spread s g h) = subst (λ z. AreNumbersOf numbers z (g ∷ [])) (sym (one_name (selection.FragmentSpread s) _ (own_spreads_of-Spread s))) (numbers_one s.item.name.item.now g h)
   represented_spreads (unknown s h) = subst (λ z. AreNumbersOf numbers z []) (sym (one_name (selection.FragmentSpread s) _ (own_spreads_of-Spread s))) (numbers_unknown s.item.name.item.now h)
-  represented_spreads (inline i n row to stored once r) =
-      subst (λ z. AreNumbersOf numbers z row.spreads.items) (sym (one_name (selection.InlineFragment i) _ (own_spreads_of-Inline i)))
-      (numbers_once (own_spreads i.item.selection_set.items) to row.spreads.items once (represented_spreads r))
+  represented_spreads (inline i own to to' same r) =
+      subst (λ z. AreNumbersOf numbers z to') (sym (one_name (selection.InlineFragment i) _ (own_spreads_of-Inline i)))
+      (numbers_same (own_spreads i.item.selection_set.items) to to' same (represented_spreads r))
     where
-      numbers_once : (ns : Names) (to once : List ℕ) → IsEachOnce to once → AreNumbersOf numbers ns to → AreNumbersOf numbers ns once
-      numbers_once ns to once o a = record {
-        each = λ name g i h. o.same g ∙ a.each name g i h;
-        none_other = λ g h. a.none_other g (sym (o.same g) ∙ h);
+      numbers_same : (ns : Names) (to to' : List ℕ) → ((x : ℕ) → is_among to' x ≡ is_among to x) → AreNumbersOf numbers ns to → AreNumbersOf numbers ns to'
+      numbers_same ns to to' same a = record {
+        each = λ name g i h. same g ∙ a.each name g i h;
+        none_other = λ g h. a.none_other g (sym (same g) ∙ h);
       }

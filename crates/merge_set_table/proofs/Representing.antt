@@ -32,7 +32,7 @@ module _ {S C : Type 0} where
     represents_more e (field f a w n row to is some below stored once r) = field f a w n row to (own_more e is) some below (e.sets n row stored) once (represents_more e r)
     represents_more e (spread s g h) = spread s g h
     represents_more e (unknown s h) = unknown s h
-    represents_more e (inline i n row to stored once r) = inline i n row to (e.sets n row stored) once (represents_more e r)
+    represents_more e (inline i own to to' same r) = inline i own to to' same (represents_more e r)
 
     pub set_more : {m m' : Numbered S C} {n : ℕ} {p : Option (MetaTypeOf S C)} {set : List (Selection S)} → Extends m m' → IsSetOf schema numbers m n p set → IsSetOf schema numbers m' n p set
     set_more e is = record { row = is.row; to = is.to; stored = e.sets _ is.row is.stored; once = is.once; represents = represents_more e is.represents }

@@ -12,7 +12,7 @@ use Rattle.merge_set_table.specs.Names.{AreApart}
 use Rattle.merge_set_table.specs.Once.{IsEachOnce, is_among}
 use Rattle.merge_set_table.specs.Table.{numbered, Extends, IsOwnField, IsWithin, Falling, height}
 use Rattle.merge_set_table.specs.Represents.{Represents, IsSetOf}
-use Rattle.merge_set_table.specs.Inside.{IsInside, IsFieldInside}
+use Rattle.merge_set_table.specs.Inside.{IsInside, IsFieldInside, AreConditionsKnown, IsDeeper}
 
 -- Every fragment that has a number is there, and its set has a number below the bound.
 abbrev pub AreWithin : (List ℕ → Option ℕ) → List ℕ → ℕ → Type 0
@@ -60,8 +60,8 @@ module _ {S C : Type 0} where
     pub same : numbered t' ≡ numbered t
     pub order : t'.order.items ≡ t.order.items ++ 0 ∷ []
 
-  -- The set was stored, each fragment once, and its number put at its place.
-  pub record ClosesSet (place : ℕ) (part : NumberedSet) (n : ℕ) (t t' : Table S C) : Type 0 where
+  -- The set was stored, each fragment once.
+  pub record StoresSet (part : NumberedSet) (n : ℕ) (t t' : Table S C) : Type 0 where
     pub row : NumberedSet
     pub own : row.own.items ≡ part.own.items
     pub once : IsEachOnce part.spreads.items row.spreads.items
@@ -69,29 +69,34 @@ module _ {S C : Type 0} where
     pub fields : t'.fields.items ≡ t.fields.items
     pub responses : t'.responses ≡ t.responses
     pub sets : t'.sets.items ≡ t.sets.items ++ row ∷ []
-    pub order : t'.order.items ≡ slice_set t.order.items place n
+    pub order : t'.order.items ≡ t.order.items
 
-  -- The numbers of the sets that were added stand in what was added to the order.
-  pub record AddsOrder (t t' : Table S C) : Type 0 where
-    pub more : List ℕ
-    pub order : t'.order.items ≡ t.order.items ++ more
-    pub whole : (k : ℕ) → length t.sets.items ≤ k → k < length t'.sets.items → is_among more k ≡ true
+  -- The set was stored, and its number put at its place.
+  pub record ClosesSet (place : ℕ) (part : NumberedSet) (n : ℕ) (t t' : Table S C) : Type 0 where
+    pub middle : Table S C
+    pub stores : StoresSet part n t middle
+    pub same : numbered t' ≡ numbered middle
+    pub order : t'.order.items ≡ slice_set t.order.items place n
 
   -- What holds whatever was added.
   pub record Keeps (numbers : List ℕ → Option ℕ) (t t' : Table S C) : Type 0 where
     pub extends : Extends (numbered t) (numbered t')
     pub apart : AreApart t.responses → AreApart t'.responses
     pub falls : (fragments : List ℕ) → AreWithin numbers fragments (length t.sets.items) → Falling t.sets.items fragments → Falling t'.sets.items fragments
-    pub order : AddsOrder t t'
 
-  -- What was added is from the set under the type: each set is one inside it, and each field stands in one.
-  pub record ComesFrom (schema : Catalog S C) (numbers : List ℕ → Option ℕ) (p : Option (MetaTypeOf S C)) (set : List (Selection S)) (t t' : Table S C) : Type 0 where
-    pub sets : (k : ℕ) → length t.sets.items ≤ k → k < length t'.sets.items
+  -- The fields that were added stand in sets inside.
+  abbrev pub FieldsFrom : Catalog S C → Option (MetaTypeOf S C) → List (Selection S) → Table S C → Table S C → Type 0
+  FieldsFrom schema p set t t' = (k : ℕ) (a : PlainEntry S C) → length t.fields.items ≤ k → slice_get (map plain t'.fields.items) k ≡ Some a → IsFieldInside schema p set a
+
+  -- What was added is from the set under the type: each set of the order is one inside it, and so is each set where conditions are known; each field stands in one.
+  pub record ComesFrom (schema : Catalog S C) (numbers : List ℕ → Option ℕ) (p : Option (MetaTypeOf S C)) (set : List (Selection S)) (more : List ℕ) (t t' : Table S C) : Type 0 where
+    pub sets : (k : ℕ) → is_among more k ≡ true
         → (q : Option (MetaTypeOf S C)) × (inner : List (Selection S)) × IsInside schema p set q inner × IsSetOf schema numbers (numbered t') k q inner
-    pub fields : (k : ℕ) (a : PlainEntry S C) → length t.fields.items ≤ k → slice_get (map plain t'.fields.items) k ≡ Some a → IsFieldInside schema p set a
+    pub fields : FieldsFrom schema p set t t'
+    pub whole : AreConditionsKnown schema p set → (k : ℕ) → length t.sets.items ≤ k → k < length t'.sets.items → is_among more k ≡ true
 
   -- Own fields and spreads of the selections were added to a set.
-  pub record Adds (schema : Catalog S C) (numbers : List ℕ → Option ℕ) (p : Option (MetaTypeOf S C)) (xs : List (Selection S)) (part part' : NumberedSet) (t t' : Table S C) : Type 0 where
+  pub record AddsParts (schema : Catalog S C) (numbers : List ℕ → Option ℕ) (p : Option (MetaTypeOf S C)) (xs : List (Selection S)) (part part' : NumberedSet) (t t' : Table S C) : Type 0 where
     pub own_more : List OwnField
     pub to_more : List ℕ
     pub own : part'.own.items ≡ part.own.items ++ own_more
@@ -99,13 +104,40 @@ module _ {S C : Type 0} where
     pub represents : Represents schema numbers (numbered t') p xs own_more to_more
     pub below : All (λ a. height a ≤ length t'.sets.items) own_more
     pub within : (fragments : List ℕ) (bound : ℕ) → AreWithin numbers fragments bound → All (IsWithin fragments bound) to_more
-    pub from : (p0 : Option (MetaTypeOf S C)) (set0 whole : List (Selection S)) → IsInside schema p0 set0 p whole → ((x : Selection S) → Contains xs x → Contains whole x) → ComesFrom schema numbers p0 set0 t t'
     pub keeps : Keeps numbers t t'
 
-  -- The set and all sets in it were added.
-  pub record AddsSet (schema : Catalog S C) (numbers : List ℕ → Option ℕ) (p : Option (MetaTypeOf S C)) (set : List (Selection S)) (n : ℕ) (t t' : Table S C) : Type 0 where
+  -- The set was stored.
+  pub record HasSet (schema : Catalog S C) (numbers : List ℕ → Option ℕ) (p : Option (MetaTypeOf S C)) (set : List (Selection S)) (n : ℕ) (t t' : Table S C) : Type 0 where
     pub is : IsSetOf schema numbers (numbered t') n p set
     pub own : All (λ a. height a ≤ length t'.sets.items) is.row.own.items
     pub within : (fragments : List ℕ) (bound : ℕ) → AreWithin numbers fragments bound → All (IsWithin fragments bound) is.row.spreads.items
-    pub from : ComesFrom schema numbers p set t t'
     pub keeps : Keeps numbers t t'
+
+  -- Fields that stand in a set under whatever type were added to a set, and no set to the order.
+  pub record AddsFor (schema : Catalog S C) (numbers : List ℕ → Option ℕ) (p : Option (MetaTypeOf S C)) (xs : List (Selection S)) (part part' : NumberedSet) (t t' : Table S C) : Type 0 where
+    pub parts : AddsParts schema numbers p xs part part' t t'
+    pub order : t'.order.items ≡ t.order.items
+    pub from : (p0 q : Option (MetaTypeOf S C)) (set0 whole : List (Selection S)) → IsInside schema p0 set0 q whole → ((x : Selection S) → Contains xs x → Contains whole x) → FieldsFrom schema p0 set0 t t'
+
+  -- The set was stored, and got no place in the order.
+  pub record AddsSetFor (schema : Catalog S C) (numbers : List ℕ → Option ℕ) (p : Option (MetaTypeOf S C)) (set : List (Selection S)) (n : ℕ) (t t' : Table S C) : Type 0 where
+    pub has : HasSet schema numbers p set n t t'
+    pub order : t'.order.items ≡ t.order.items
+    pub from : (q : Option (MetaTypeOf S C)) → FieldsFrom schema q set t t'
+
+  -- Own fields and spreads of the selections were added to a set, and the sets in them to the order.
+  pub record Adds (schema : Catalog S C) (numbers : List ℕ → Option ℕ) (p : Option (MetaTypeOf S C)) (xs : List (Selection S)) (part part' : NumberedSet) (t t' : Table S C) : Type 0 where
+    pub parts : AddsParts schema numbers p xs part part' t t'
+    pub more : List ℕ
+    pub order : t'.order.items ≡ t.order.items ++ more
+    pub found : (q : Option (MetaTypeOf S C)) (inner : List (Selection S)) → IsDeeper schema p xs q inner → (n : ℕ) × (is_among more n ≡ true) × IsSetOf schema numbers (numbered t') n q inner
+    pub from : (p0 : Option (MetaTypeOf S C)) (set0 whole : List (Selection S)) → IsInside schema p0 set0 p whole → ((x : Selection S) → Contains xs x → Contains whole x) → ComesFrom schema numbers p0 set0 more t t'
+
+  -- The set was added, and all sets in it, each with its place in the order.
+  pub record AddsSet (schema : Catalog S C) (numbers : List ℕ → Option ℕ) (p : Option (MetaTypeOf S C)) (set : List (Selection S)) (n : ℕ) (t t' : Table S C) : Type 0 where
+    pub has : HasSet schema numbers p set n t t'
+    pub more : List ℕ
+    pub order : t'.order.items ≡ t.order.items ++ more
+    pub listed : is_among more n ≡ true
+    pub found : (q : Option (MetaTypeOf S C)) (inner : List (Selection S)) → IsInside schema p set q inner → (k : ℕ) × (is_among more k ≡ true) × IsSetOf schema numbers (numbered t') k q inner
+    pub from : ComesFrom schema numbers p set more t t'

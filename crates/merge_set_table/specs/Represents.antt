@@ -12,11 +12,10 @@ use Rattle.schema.specs.Catalog.{Catalog}
 use Rattle.merge_field_pairs.specs.OwnFields.{Placed, entry_under, type_inside, type_below}
 use Rattle.merge_search.specs.declared.node.Entry.{Entry as OwnField}
 use Rattle.merge_set_table.specs.declared.table.NumberedSet.{NumberedSet}
-use Rattle.merge_set_table.specs.Once.{IsEachOnce}
+use Rattle.merge_set_table.specs.Once.{IsEachOnce, is_among}
 use Rattle.merge_set_table.specs.Table.{Numbered, IsOwnField}
 
--- Under a type, the selections have these own fields, and spread these fragments. The sets below fields, and those of
--- inline fragments, are stored.
+-- Under a type, the selections have these own fields, and spread these fragments. The sets below fields are stored.
 pub data Represents {S C : Type 0} (schema : Catalog S C) (numbers : List ℕ → Option ℕ) (m : Numbered S C) : Option (MetaTypeOf S C) → List (Selection S) → List OwnField → List ℕ → Type 0 where
   nothing : {p : Option (MetaTypeOf S C)} → Represents schema numbers m p [] [] []
   join : {p : Option (MetaTypeOf S C)} {xs ys : List (Selection S)} {own own' : List OwnField} {to to' : List ℕ}
@@ -33,10 +32,10 @@ pub data Represents {S C : Type 0} (schema : Catalog S C) (numbers : List ℕ �
       → Represents schema numbers m p (selection.FragmentSpread s ∷ []) [] (g ∷ [])
   unknown : {p : Option (MetaTypeOf S C)} (s : Placed (FragmentSpread S)) → numbers s.item.name.item.now ≡ None
       → Represents schema numbers m p (selection.FragmentSpread s ∷ []) [] []
-  inline : {p : Option (MetaTypeOf S C)} (i : Placed (InlineFragment S)) (n : ℕ) (row : NumberedSet) (to : List ℕ)
-      → slice_get m.sets n ≡ Some row → IsEachOnce to row.spreads.items
-      → Represents schema numbers m (type_inside schema p i.item.type_condition) i.item.selection_set.items row.own.items to
-      → Represents schema numbers m p (selection.InlineFragment i ∷ []) row.own.items row.spreads.items
+  inline : {p : Option (MetaTypeOf S C)} (i : Placed (InlineFragment S)) (own : List OwnField) (to to' : List ℕ)
+      → ((x : ℕ) → is_among to' x ≡ is_among to x)
+      → Represents schema numbers m (type_inside schema p i.item.type_condition) i.item.selection_set.items own to
+      → Represents schema numbers m p (selection.InlineFragment i ∷ []) own to'
 
 -- The set of the number is that of the selections under the type.
 pub record IsSetOf {S C : Type 0} (schema : Catalog S C) (numbers : List ℕ → Option ℕ) (m : Numbered S C) (n : ℕ) (p : Option (MetaTypeOf S C)) (set : List (Selection S)) : Type 0 where

@@ -1,15 +1,17 @@
 //! Adds a selection set to a table, with all sets in it.
-ghost use Rattle.std.specs.Prelude.{◌≡◌, ◌∷◌, [], OnOk, IfOk, option_copied};
+ghost use Rattle.std.specs.Prelude.{◌≡◌, ◌∷◌, ◌&&◌, [], OnOk, IfOk, not, is_some, option_copied};
 ghost use Rattle.merge_set_table.specs.Known.{known_rank};
-ghost use Rattle.merge_set_table.specs.Adding.{Adds, AddsSet, AddsSpread};
+ghost use Rattle.merge_set_table.specs.Adding.{Adds, AddsSet};
+ghost use Rattle.merge_set_table.specs.Inside.{type_entered};
 
-use crate::known::{KnownFragments, rank_of_name};
-use crate::steps::{close_set, no_fields, open_set, push_field, take_over};
+use crate::known::KnownFragments;
+use crate::merging::merge_selections;
+use crate::steps::{add_spread, close_set, no_fields, open_set, push_field, take_over};
 use crate::table::{NumberedSet, Table};
 use language::error::OutOfMemory;
 use language::position::Spanning;
-use language::tree::{Field, Selection};
-use merge_field_pairs::own_fields::{entry_of_field, type_below_field, type_inside_fragment};
+use language::tree::{Field, InlineFragment, Selection};
+use merge_field_pairs::own_fields::{entry_of_field, type_below_field};
 use meta::kinds::MetaTypeOf;
 use schema::model::SchemaTypeOf;
 use std::alloc::Global;
@@ -77,11 +79,54 @@ fn add_selection<'a, S, C>(
         }
         Selection::FragmentSpread(spread) => add_spread(fragments, spread.item.name.item, part),
         Selection::InlineFragment(inline) => {
-            let inside = type_inside_fragment(schema, parent, &inline.item.type_condition);
-            let set = inline.item.selection_set.as_slice();
-            let number = add_set(alloc, schema, fragments, inside, set, table)?;
-            take_over(table.sets.as_slice(), number, part)
+            add_inline(alloc, schema, fragments, parent, inline, part, table)
         }
+    }
+}
+
+// An unknown condition leaves the fields in the set around the fragment under the type around them, while the set of
+// the fragment itself has no type.
+#[cycle(adding)]
+fn add_inline<'a, S, C>(
+    alloc: Global,
+    schema: &'a SchemaTypeOf<S, C>,
+    fragments: &KnownFragments<'_, '_>,
+    parent: Option<&'a MetaTypeOf<S, C>>,
+    inline: &'a Spanning<InlineFragment<'a, S>>,
+    part: &mut NumberedSet,
+    table: &mut Table<'a, S, C>,
+) -> Result<(), OutOfMemory>
+    ensures { OnOk result
+        (Adds schema.now (known_rank fragments.now) (option_copied parent.entry) (Selection.InlineFragment inline.now
+        ∷ []) part.old part.new table.old table.new) }
+{
+    let entered = type_entered(schema, parent, &inline.item.type_condition);
+    let set = inline.item.selection_set.as_slice();
+    let number = add_set(alloc, schema, fragments, entered, set, table)?;
+    if is_lost(entered, parent) {
+        return merge_selections(alloc, schema, fragments, parent, set, part, table);
+    }
+    take_over(table.sets.as_slice(), number, part)
+}
+
+// Whether there is no type inside, though there is one around.
+fn is_lost<S, C>(entered: Option<&MetaTypeOf<S, C>>, parent: Option<&MetaTypeOf<S, C>>) -> bool
+    ensures { result ≡ (not (is_some entered.entry) && is_some parent.entry) }
+{
+    entered.is_none() && parent.is_some()
+}
+
+// The type under which a walk enters the set of an inline fragment.
+fn type_entered<'a, S, C>(
+    schema: &'a SchemaTypeOf<S, C>,
+    parent: Option<&'a MetaTypeOf<S, C>>,
+    condition: &Option<Spanning<&str>>,
+) -> Option<&'a MetaTypeOf<S, C>>
+    ensures { option_copied result ≡ type_entered schema.now (option_copied parent.entry) condition.now }
+{
+    match condition {
+        Some(name) => schema.concrete_type_by_name(name.item),
+        None => parent,
     }
 }
 
@@ -108,18 +153,4 @@ fn add_field<'a, S, C>(
         }
         None => push_field(table, part, entry, None),
     }
-}
-
-// The number of the fragment, where it is known.
-fn add_spread(
-    fragments: &KnownFragments<'_, '_>,
-    name: &str,
-    part: &mut NumberedSet,
-) -> Result<(), OutOfMemory>
-    ensures { OnOk result (AddsSpread (known_rank fragments.now name.now) part.old part.new) }
-{
-    if let Some(number) = rank_of_name(fragments, name) {
-        part.spreads.push(number)?;
-    }
-    Ok(())
 }

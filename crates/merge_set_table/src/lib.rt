@@ -3,6 +3,7 @@
 
 pub mod adding;
 pub mod known;
+mod merging;
 mod names;
 mod once;
 mod recent;

@@ -1,8 +1,10 @@
 //! The steps by which a table grows.
 ghost use Rattle.std.specs.Prelude.{◌<◌, OnOk, IfOk, length};
 ghost use Rattle.merge_field_pairs.specs.Entries.{plain};
-ghost use Rattle.merge_set_table.specs.Adding.{PushesField, TakesOver, OpensSet, ClosesSet, IsEmptySet};
+ghost use Rattle.merge_set_table.specs.Adding.{AddsSpread, PushesField, TakesOver, OpensSet, StoresSet, ClosesSet, IsEmptySet};
+ghost use Rattle.merge_set_table.specs.Known.{known_rank};
 
+use crate::known::{KnownFragments, rank_of_name};
 use crate::names::number_name;
 use crate::once::each_once;
 use crate::table::{NumberedSet, Table};
@@ -49,6 +51,24 @@ pub fn push_field<'a, S, C>(
     Ok(())
 }
 
+/// Adds the number of the fragment of a name, where it is known.
+///
+/// # Errors
+///
+/// Out of memory.
+pub fn add_spread(
+    fragments: &KnownFragments<'_, '_>,
+    name: &str,
+    part: &mut NumberedSet,
+) -> Result<(), OutOfMemory>
+    ensures { OnOk result (AddsSpread (known_rank fragments.now name.now) part.old part.new) }
+{
+    if let Some(number) = rank_of_name(fragments, name) {
+        part.spreads.push(number)?;
+    }
+    Ok(())
+}
+
 /// Adds the own fields and spreads of an inner set.
 ///
 /// # Errors
@@ -81,7 +101,27 @@ pub fn open_set<S, C>(table: &mut Table<'_, S, C>) -> Result<usize, OutOfMemory>
     Ok(place)
 }
 
-/// Stores a set, each fragment that it spreads once, puts its number at its place in the order, and returns the number.
+/// Stores a set, each fragment that it spreads once, and returns its number. It gets no place in the order.
+///
+/// # Errors
+///
+/// Out of memory.
+pub fn store_set<S, C>(
+    alloc: Global,
+    part: NumberedSet,
+    table: &mut Table<'_, S, C>,
+) -> Result<usize, OutOfMemory>
+    ensures { IfOk result (λ n. StoresSet part n table.old table.new) }
+{
+    let spreads = each_once(alloc, part.spreads)?;
+    let mut own = part.own;
+    own.shrink_to_fit();
+    let number = table.sets.len();
+    table.sets.push(NumberedSet { own, spreads })?;
+    Ok(number)
+}
+
+/// Stores a set, puts its number at its place in the order, and returns the number.
 ///
 /// # Errors
 ///
@@ -95,11 +135,7 @@ pub fn close_set<S, C>(
     requires { place < length table.old.order.items }
     ensures { IfOk result (λ n. ClosesSet place part n table.old table.new) }
 {
-    let spreads = each_once(alloc, part.spreads)?;
-    let mut own = part.own;
-    own.shrink_to_fit();
-    let number = table.sets.len();
-    table.sets.push(NumberedSet { own, spreads })?;
+    let number = store_set(alloc, part, table)?;
     table.order[place] = number;
     Ok(number)
 }

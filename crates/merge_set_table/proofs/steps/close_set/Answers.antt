@@ -1,14 +1,10 @@
-use Rattle.std.proofs.Common.{refl, arith}
+use Rattle.std.proofs.Common.{refl, ap, slice_set}
 use Rattle.merge_set_table.proofs.steps.close_set.Goals as goal
 
 pub returns : goal.returns
 returns g c = record {
-  row = record { own = c.shrink_to_fit.new.self; spreads = c.in_ok-spreads.spreads };
-  own = c.shrink_to_fit.ensures.items;
-  once = c.in_ok-spreads.ensures;
-  number = omega arith;
-  fields = refl;
-  responses = refl;
-  sets = c.in_ok-push.ensures.items;
-  order = refl;
+  middle = c.store_set.new.table;
+  stores = c.in_ok-number.ensures;
+  same = refl;
+  order = ap (λ xs. slice_set xs c.args.place c.in_ok-number.number) c.in_ok-number.ensures.order;
 }
