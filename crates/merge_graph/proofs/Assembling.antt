@@ -1,7 +1,8 @@
 -- How a document's sets are put together.
-use Rattle.std.proofs.Common.{◌≡◌, ◌<◌, ◌≤◌, ◌+◌, ℕ, List, [], ◌∷◌, length, length-append, map, get_or, Option, Some, None, is_some, true, cond, slice_get, refl, sym, ap, subst, ◌∙◌, inl, inr, arith}
-use Rattle.std.specs.List.{Contains, flat_map}
-use Rattle.std.proofs.lemmas.Bool.{cases_order}
+use Rattle.std.proofs.Common.{◌≡◌, ◌==◌, ◌<◌, ◌≤◌, ◌+◌, ℕ, List, [], ◌∷◌, length, length-append, map, get_or, Option, Some, None, is_some, true, cond, slice_get, option_and_then, refl, sym, ap, subst, ◌∙◌, inl, inr, arith}
+use Rattle.std.specs.List.{Contains}
+use Rattle.std.proofs.lemmas.Bool.{cases_order, eqb-true}
+use Rattle.std.proofs.lemmas.Map.Views.{Contains-from_any}
 use Rattle.std.proofs.lemmas.List.Elements.{All-nil}
 use Rattle.std.proofs.lemmas.Slice.Eq.{bytes_eq-Decides}
 use Rattle.std.proofs.lemmas.Option.{slice_get_within, slice_get-get_or}
@@ -17,17 +18,18 @@ use Rattle.fragment_graph.proofs.Lists.{same_some, none_some, contains_get, get_
 use Rattle.merge_search.specs.declared.graph.Graph.{Graph}
 use Rattle.merge_set_table.specs.Once.{is_among}
 use Rattle.merge_set_table.specs.Table.{numbered, height, IsWithin, Falling}
+use Rattle.merge_set_table.proofs.Lists.{among_from_get}
 use Rattle.merge_set_table.proofs.Representing.{extends_self}
 use Rattle.merge_graph.specs.declared.building.Building.{Building}
 use Rattle.merge_graph.specs.declared.judge.FieldJudge.{FieldJudge}
-use Rattle.merge_graph.specs.Definitions.{type_round, selections_of, IsLast}
-use Rattle.merge_graph.specs.Building.{rank_in, stretch_of, IsSetOfDefinition, AreKnown, AddsDefinition, AddsFragment, IsNothing, Built}
-use Rattle.merge_graph.specs.TableGraph.{IsWhole, IsGraphOfTable}
+use Rattle.merge_graph.specs.Definitions.{selections_of, IsLast}
+use Rattle.merge_graph.specs.Building.{rank_in, stretch_of, order_at, AreSetsAt, AreKnown, AddsDefinition, AddsFragment, IsNothing, Built}
+use Rattle.merge_graph.specs.TableGraph.{AreListed, IsGraphOfTable}
 use Rattle.merge_graph.specs.DocumentGraph.{IsGraphOf}
-use Rattle.merge_graph.specs.Assembly.{AreRanked, KnowsAll, AreInPlaces, AreFree, HasSetAt, AddsMissing, AddsOthers, IsComplete}
+use Rattle.merge_graph.specs.Assembly.{AreRanked, KnowsAll, AreInPlaces, joined_order, AreFree, HasSetAt, AddsMissing, AddsOthers, IsComplete}
 use Rattle.merge_graph.proofs.Renumbering.{AgreeOn, in_flat, set_more}
-use Rattle.merge_graph.proofs.Growing.{built_definition, is_set, extends}
-use Rattle.merge_graph.proofs.Stretches.{among_all}
+use Rattle.merge_graph.proofs.Growing.{built_definition, extends, kept_order, new_sets}
+use Rattle.merge_graph.proofs.Stretches.{among_all, among_some}
 use Rattle.merge_graph.proofs.Few.{few_numbers}
 use Rattle.merge_graph.proofs.Lasts.{last_inside}
 use Rattle.merge_graph.proofs.Naming.{built_fragment}
@@ -38,6 +40,17 @@ agree_by : (o p : Option ℕ) → ((g : ℕ) → o ≡ Some g → p ≡ Some g) 
 agree_by None None to back = refl
 agree_by None (Some g) to back = absurd (none_some g (back g refl))
 agree_by (Some g) p to back = sym (to g refl)
+
+-- nothing stands at a free place
+nothing_at : (order : List ℕ) (o : Option (Option (ℕ × ℕ))) → ((e : Option (ℕ × ℕ)) → o ≡ Some e → e ≡ None) → (k : ℕ) → is_among (stretch_of order (option_and_then (λ e. e) o)) k ≡ true → ⊥
+nothing_at order None free k h = cc
+nothing_at order (Some None) free k h = cc
+nothing_at order (Some (Some ends)) free k h = none_some ends (sym (free (Some ends) refl))
+
+-- an option that is there
+ends_of : {X : Type 0} (o : Option X) → is_some o ≡ true → (e : X) × (o ≡ Some e)
+ends_of None some = cc
+ends_of (Some e) some = (e, refl)
 
 module _ {S : Type 0} where
   -- a definition has one name
@@ -61,9 +74,17 @@ module _ {S : Type 0} where
   )
 
 module _ {S C : Type 0} where
-  pub joined_whole : (b : Building S C) (order : List ℕ) → order ≡ flat_map (stretch_of b.order.items) b.stretches.items → AreInPlaces b → IsWhole b.table.sets.items order
-  joined_whole b order is places k l =
-      let at = places k l in subst (λ xs. is_among xs k ≡ true) (sym is) (among_all b.order.items b.stretches.items at.0 k at.1)
+  pub joined_listed : (b : Building S C) (order : List ℕ) → order ≡ joined_order b → AreInPlaces b → AreListed b.fragments.items order
+  joined_listed b order is places g l =
+      let at = places g l in let k = get_or b.fragments.items g 0 in
+      subst (λ xs. is_among xs k ≡ true) (sym is) (among_all b.order.items b.stretches.items at.0 k at.1)
+
+  -- what stands at a place stands in the whole order, and back
+  joined_contains : (b : Building S C) (p k : ℕ) → is_among (order_at b p) k ≡ true → Contains (joined_order b) k
+  joined_contains b p k h = Contains-from_any {eq = λ x y. y == x} (λ x y e. sym (eqb-true y x e)) k (joined_order b) (among_all b.order.items b.stretches.items p k h)
+
+  joined_place : (b : Building S C) (k : ℕ) → Contains (joined_order b) k → (p : ℕ) × (is_among (order_at b p) k ≡ true)
+  joined_place b k c = among_some b.order.items b.stretches.items k (let g = contains_get (joined_order b) k c in among_from_get (joined_order b) g.0 k g.1)
 
   pub built_none : (schema : Catalog S C) (document : List (Definition S)) (numbers : List ℕ → Option ℕ) (b : Building S C) → IsNothing (length document) b → Built schema document numbers b
   built_none schema document numbers b h =
@@ -75,11 +96,12 @@ module _ {S C : Type 0} where
         low = λ g l. absurd (no_fragment g l);
         sized = h.sized;
         within = λ p start end at. absurd (none_some (start, end) (sym (h.free p (Some (start, end)) at)));
-        whole = λ k l. let none = ap length h.sets in absurd (omega (arith, l, none));
+        whole = λ known k l. let none = ap length h.sets in absurd (omega (arith, l, none));
+        listed = λ g l. absurd (no_fragment g l);
         added = λ p ends d at there. absurd (none_some ends (sym (h.free p (Some ends) at)));
         fragments = λ name g k l. absurd (no_fragment g l);
         named = λ g l. absurd (no_fragment g l);
-        sets_from = λ k l. let none = ap length h.sets in absurd (omega (arith, l, none));
+        sets_from = λ k p among. absurd (nothing_at b.order.items (slice_get b.stretches.items p) (h.free p) k among);
         fields_from = λ k a at. absurd (none_some a (subst (λ fs. slice_get (map plain fs) k ≡ Some a) h.fields at));
       }
 
@@ -131,17 +153,21 @@ module _ {S C : Type 0} where
           built = built_definition schema document numbers names d place n b b' built a at k agree;
           extends = extends schema document numbers names d place n b b' built a;
           fragments = ap (λ v. v.items) a.notes.fragments;
-          has = λ x there. subst (λ (y : Definition S). (s : ℕ) × IsSetOfDefinition schema numbers (numbered b'.table) s y) (same_some d x (sym at ∙ there)) (n, is_set schema document numbers names d place n b b' built a agree);
+          kept = kept_order schema document numbers names d place n b b' built a;
+          has = λ x there. subst (λ (y : Definition S). AreSetsAt schema numbers place y b') (same_some d x (sym at ∙ there)) (new_sets schema document numbers names d place n b b' built a agree);
         }
 
     pub missing_there : (place : ℕ) (o : Option (ℕ × ℕ)) (b : Building S C) → slice_get b.stretches.items place ≡ Some o → is_some o ≡ true → Built schema document numbers b → AddsMissing schema document numbers place b b
-    missing_there place None b at some built = cc
-    missing_there place (Some ends) b at some built = record {
-      built = built;
-      extends = extends_self (numbered b.table);
-      fragments = refl;
-      has = λ d there. built.added place ends d at there;
-    }
+    missing_there place o b at some built =
+        let (ends, there) = ends_of o some in
+        let is : slice_get b.stretches.items place ≡ Some (Some ends) = at ∙ ap (λ x. Some x) there in
+        record {
+          built = built;
+          extends = extends_self (numbered b.table);
+          fragments = refl;
+          kept = λ p k h. h;
+          has = λ d stands. built.added place ends d is stands;
+        }
 
     pub others_none : (b : Building S C) → Built schema document numbers b → AddsOthers schema document numbers 0 b b
     others_none b built = record { built = built; fragments = refl; has = λ p l. absurd (omega (arith, l)) }
@@ -155,7 +181,7 @@ module _ {S C : Type 0} where
           has = λ p l. elim (cases_order p place) [
             | inl eq ↦ subst (λ (q : ℕ). HasSetAt schema document numbers q b'') (sym eq) new.has
             | inr o ↦ elim o [
-              | inl lt ↦ (λ d there. let s = had.has p lt d there in (s.0, set_more schema numbers (numbered b'.table) (numbered b''.table) s.0 (type_round schema d) (selections_of d) new.extends s.1))
+              | inl lt ↦ (λ d there q inner i. let s = had.has p lt d there q inner i in (s.0, new.kept p s.0 s.1, set_more schema numbers (numbered b'.table) (numbered b''.table) s.0 q inner new.extends s.2))
               | inr gt ↦ absurd (omega (arith, l, gt))
             ]
           ];
@@ -168,20 +194,26 @@ module _ {S C : Type 0} where
     complete b b' all added = record {
       built = added.built;
       all = subst (KnowsAll numbers) (sym added.fragments) all;
-      has = λ d c. let k = contains_get document d c in added.has k.0 (slice_get_within document k.0 d k.1) d k.1;
+      has = λ d c. let k = contains_get document d c in (k.0, added.has k.0 (slice_get_within document k.0 d k.1) d k.1);
     }
 
   pub graph_is : (schema : Catalog S C) (document : List (Definition S)) (c : DocumentCycles) (b : Building S C) (g : Graph (FieldJudge S C))
-      → AreRanked document c → IsComplete schema document (rank_in c) b → IsGraphOfTable schema (numbered b.table) b.fragments.items g → IsGraphOf schema document g
+      → AreRanked document c → IsComplete schema document (rank_in c) b → IsGraphOfTable schema (numbered b.table) b.fragments.items (joined_order b) g → IsGraphOf schema document g
   graph_is schema document c b g ranked done is = record {
     table = numbered b.table;
     numbers = rank_in c;
     fragment_sets = b.fragments.items;
+    order = joined_order b;
     is = is;
     apart = done.built.apart;
     defined = λ name. ((λ f. rank_defined document c ranked.searched name f.0 f.1), defined_rank document c ranked.searched name);
     single = rank_single document c ranked.searched;
     fragments = λ name f h. done.built.fragments name f h (done.all name f h);
-    definitions = done.has;
-    origins = record { sets = done.built.sets_from; fields = done.built.fields_from; few = few_numbers document c ranked.searched b.fragments.items done.built.named };
+    sets = λ p set i. let at = done.has i.0 i.1 in let s = at.1 p set i.2 in (s.0, joined_contains b at.0 s.0 s.1, s.2);
+    origins = record {
+      sets = λ k among. let at = joined_place b k among in done.built.sets_from k at.0 at.1;
+      fields = done.built.fields_from;
+      few = few_numbers document c ranked.searched b.fragments.items done.built.named;
+      whole = λ known k l. let at = done.built.whole known k l in joined_contains b at.0 k at.1;
+    };
   }

@@ -16,9 +16,9 @@ use Rattle.merge_set_table.specs.Adding.{AreWithin}
 use Rattle.merge_set_table.proofs.Origins.{kept_field}
 use Rattle.merge_graph.specs.declared.building.Building.{Building}
 use Rattle.merge_graph.specs.Definitions.{type_round, selections_of}
-use Rattle.merge_graph.specs.SetsIn.{IsFieldIn}
-use Rattle.merge_graph.specs.Building.{order_at, AreStretches, IsSetOfDefinition, IsFragment, HasOrigin, AreKnown, AddsDefinition, Built}
-use Rattle.merge_graph.proofs.Stretches.{stretch_at, new_stretch, stays, still_within}
+use Rattle.merge_graph.specs.SetsIn.{IsNodeIn, HasKnownConditions}
+use Rattle.merge_graph.specs.Building.{order_at, AreStretches, AreSetsAt, IsSetOfDefinition, IsFragment, HasOrigin, AreKnown, AddsDefinition, Built}
+use Rattle.merge_graph.proofs.Stretches.{stretch_at, new_stretch, same_stretch, stays, still_within}
 use Rattle.merge_graph.proofs.Renumbering.{AgreeOn, set_renumbered, set_more, spreads_inside}
 
 less_or : (m n : ℕ) → (m < n) ⊎ (n ≤ m)
@@ -45,7 +45,7 @@ module _ {S C : Type 0} (schema : Catalog S C) (document : List (Definition S)) 
     fragments_are = ap (λ v. v.items) a.notes.fragments
 
     pub extends : Extends (numbered b.table) (numbered b'.table)
-    extends = subst (λ m. Extends (numbered b.table) m) (sym a.notes.same) a.adds.keeps.extends
+    extends = subst (λ m. Extends (numbered b.table) m) (sym a.notes.same) a.adds.has.keeps.extends
 
     pub longer : length b.table.sets.items ≤ length b'.table.sets.items
     longer = extends.longer
@@ -53,10 +53,10 @@ module _ {S C : Type 0} (schema : Catalog S C) (document : List (Definition S)) 
     pub is_set : AgreeOn names numbers (placed_spreads_of_all (selections_of d)) → IsSetOfDefinition schema numbers (numbered b'.table) n d
     is_set agree =
         subst (λ m. IsSetOfDefinition schema numbers m n d) (sym a.notes.same)
-        (set_renumbered schema names numbers (numbered a.grown) n (type_round schema d) (selections_of d) a.adds.is agree)
+        (set_renumbered schema names numbers (numbered a.grown) n (type_round schema d) (selections_of d) a.adds.has.is agree)
 
     pub is_low : n < length b'.table.sets.items
-    is_low = subst (λ ss. n < length ss) (sym sets_are) (slice_get_within a.grown.sets.items n a.adds.is.row a.adds.is.stored)
+    is_low = subst (λ ss. n < length ss) (sym sets_are) (slice_get_within a.grown.sets.items n a.adds.has.is.row a.adds.has.is.stored)
 
     within : AreKnown numbers (length b.fragments.items) names → AreWithin names b.fragments.items (length b.table.sets.items)
     within k name g h = let l = (k.known name g h).1 in (l, built.low g l)
@@ -64,7 +64,7 @@ module _ {S C : Type 0} (schema : Catalog S C) (document : List (Definition S)) 
     falling : AreKnown numbers (length b.fragments.items) names → Falling b'.table.sets.items b'.fragments.items
     falling k =
         subst (λ fs. Falling b'.table.sets.items fs) (sym fragments_are)
-        (subst (λ ss. Falling ss b.fragments.items) (sym sets_are) (a.adds.keeps.falls b.fragments.items (within k) built.falling))
+        (subst (λ ss. Falling ss b.fragments.items) (sym sets_are) (a.adds.has.keeps.falls b.fragments.items (within k) built.falling))
 
     others : (p : ℕ) → (p ≡ place → ⊥) → slice_get b'.stretches.items p ≡ slice_get b.stretches.items p
     others p ne = ap (λ os. slice_get os p) a.notes.stretches ∙ set_other b.stretches.items place p (Some (length b.order.items, length b'.order.items)) ne
@@ -76,68 +76,90 @@ module _ {S C : Type 0} (schema : Catalog S C) (document : List (Definition S)) 
         subst (λ os. P b'.order.items os) (sym a.notes.stretches)
         (subst (λ xs. P xs (slice_set b.stretches.items place (Some (length b.order.items, length xs)))) (sym a.notes.order) h)
 
-    order_is : a.grown.order.items ≡ a.adds.keeps.order.more
-    order_is = a.adds.keeps.order.order ∙ ap (λ xs. xs ++ a.adds.keeps.order.more) built.order
+    order_is : a.grown.order.items ≡ a.adds.more
+    order_is = a.adds.order ∙ ap (λ xs. xs ++ a.adds.more) built.order
+
+    -- what stands at the place, and at the others
+    placed : order_at b' place ≡ a.adds.more
+    placed =
+        by_order (λ xs os. stretch_at xs os place ≡ a.adds.more) (new_stretch b.order.items a.grown.order.items b.stretches.items place a.notes.free built.within ∙ order_is)
+
+    same_order : (p : ℕ) → (p ≡ place → ⊥) → order_at b' p ≡ order_at b p
+    same_order p ne = by_order (λ xs os. stretch_at xs os p ≡ order_at b p) (same_stretch b.order.items a.grown.order.items b.stretches.items place a.notes.free built.within p ne)
+
+    pub kept_order : (p k : ℕ) → is_among (order_at b p) k ≡ true → is_among (order_at b' p) k ≡ true
+    kept_order p k h = by_order (λ xs os. is_among (stretch_at xs os p) k ≡ true) (stays b.order.items a.grown.order.items b.stretches.items place a.notes.free built.within p k h)
+
+    new_order : (k : ℕ) → is_among a.adds.more k ≡ true → is_among (order_at b' place) k ≡ true
+    new_order k h = subst (λ xs. is_among xs k ≡ true) (sym placed) h
+
+    pub new_listed : is_among (order_at b' place) n ≡ true
+    new_listed = new_order n a.adds.listed
+
+    pub new_sets : AgreeOn names numbers (placed_spreads_of_all (selections_of d)) → AreSetsAt schema numbers place d b'
+    new_sets agree q inner i =
+        let (k, among, is) = a.adds.found q inner i in (
+          k,
+          new_order k among,
+          subst (λ m. IsSetOf schema numbers m k q inner) (sym a.notes.same)
+              (set_renumbered schema names numbers (numbered a.grown) k q inner is (λ x c. agree x (spreads_inside schema i x c))),
+        )
+
+    pub kept_sets : (p : ℕ) (x : Definition S) → AreSetsAt schema numbers p x b → AreSetsAt schema numbers p x b'
+    kept_sets p x h q inner i =
+        let (k, among, is) = h q inner i in (k, kept_order p k among, set_more schema numbers (numbered b.table) (numbered b'.table) k q inner extends is)
 
     abbrev Stands : ℕ → Type 0
     Stands k = (p : ℕ) × (is_among (order_at b' p) k ≡ true)
 
-    old_stands : (k : ℕ) → k < length b.table.sets.items → Stands k
-    old_stands k l =
-        let w = built.whole k l in
-        (w.0, by_order (λ xs os. is_among (stretch_at xs os w.0) k ≡ true) (stays b.order.items a.grown.order.items b.stretches.items place a.notes.free built.within w.0 k w.1))
-
-    new_stands : (k : ℕ) → length b.table.sets.items ≤ k → k < length b'.table.sets.items → Stands k
-    new_stands k low l =
-        let more = a.adds.keeps.order.whole k low (subst (λ ss. k < length ss) sets_are l) in
-        let is = new_stretch b.order.items a.grown.order.items b.stretches.items place a.notes.free built.within in
-        (place, by_order (λ xs os. is_among (stretch_at xs os place) k ≡ true) (subst (λ xs. is_among xs k ≡ true) (sym (is ∙ order_is)) more))
-
-    whole : (k : ℕ) → k < length b'.table.sets.items → Stands k
-    whole k l = elim (cases_order k (length b.table.sets.items)) [
-      | inl eq ↦ new_stands k (omega (arith, eq)) l
-      | inr o ↦ elim o [ inl lt ↦ old_stands k lt | inr gt ↦ new_stands k (omega (arith, gt)) l ]
-    ]
+    listed : (g : ℕ) → g < length b'.fragments.items → Stands (get_or b'.fragments.items g 0)
+    listed g l =
+        let w = built.listed g (subst (λ (fs : List ℕ). g < length fs) fragments_are l) in
+        subst (λ (fs : List ℕ). Stands (get_or fs g 0)) (sym fragments_are) (w.0, kept_order w.0 (get_or b.fragments.items g 0) w.1)
 
     module _ (at : slice_get document place ≡ Some d) (are_known : AreKnown numbers (length b.fragments.items) names) (agree : AgreeOn names numbers (placed_spreads_of_all (selections_of d))) where
-      abbrev HasSet : Definition S → Type 0
-      HasSet x = (s : ℕ) × IsSetOfDefinition schema numbers (numbered b'.table) s x
-
-      added : (p : ℕ) (ends : ℕ × ℕ) (x : Definition S) → slice_get b'.stretches.items p ≡ Some (Some ends) → slice_get document p ≡ Some x → HasSet x
+      added : (p : ℕ) (ends : ℕ × ℕ) (x : Definition S) → slice_get b'.stretches.items p ≡ Some (Some ends) → slice_get document p ≡ Some x → AreSetsAt schema numbers p x b'
       added p ends x h there = elim (cases_eq p place) [
-        | inl same ↦ subst HasSet (same_some d x (sym at ∙ ap (λ (q : ℕ). slice_get document q) (sym same) ∙ there)) (n, is_set agree)
-        | inr ne ↦
-            let s = built.added p ends x (sym (others p ne) ∙ h) there in
-            (s.0, set_more schema numbers (numbered b.table) (numbered b'.table) s.0 (type_round schema x) (selections_of x) extends s.1)
+        | inl same ↦ subst (λ (q : ℕ). AreSetsAt schema numbers q x b') (sym same)
+            (subst (λ (y : Definition S). AreSetsAt schema numbers place y b') (same_some d x (sym at ∙ ap (λ (q : ℕ). slice_get document q) (sym same) ∙ there)) (new_sets agree))
+        | inr ne ↦ kept_sets p x (built.added p ends x (sym (others p ne) ∙ h) there)
       ]
 
       stands : Contains document d
       stands = contains_at document place d at
 
-      sets_from : (k : ℕ) → k < length b'.table.sets.items → HasOrigin schema document numbers (numbered b'.table) k
-      sets_from k l = elim (less_or k (length b.table.sets.items)) [
-        | inl lt ↦ (let (q, inner, i, is) = built.sets_from k lt in (q, inner, i, set_more schema numbers (numbered b.table) (numbered b'.table) k q inner extends is))
-        | inr low ↦
-            (let (q, inner, i, is) = a.adds.from.sets k low (subst (λ ss. k < length ss) sets_are l) in (
+      whole : HasKnownConditions schema document → (k : ℕ) → k < length b'.table.sets.items → Stands k
+      whole known k l = elim (less_or k (length b.table.sets.items)) [
+        | inl lt ↦ (let w = built.whole known k lt in (w.0, kept_order w.0 k w.1))
+        | inr low ↦ (place, new_order k (a.adds.from.whole (known d stands) k low (subst (λ ss. k < length ss) sets_are l)))
+      ]
+
+      sets_from : (k p : ℕ) → is_among (order_at b' p) k ≡ true → HasOrigin schema document numbers (numbered b'.table) k
+      sets_from k p h = elim (cases_eq p place) [
+        | inl same ↦
+            (let (q, inner, i, is) = a.adds.from.sets k (subst (λ xs. is_among xs k ≡ true) placed (subst (λ (r : ℕ). is_among (order_at b' r) k ≡ true) same h)) in (
               q,
               inner,
               (d, stands, i),
               subst (λ m. IsSetOf schema numbers m k q inner) (sym a.notes.same)
                   (set_renumbered schema names numbers (numbered a.grown) k q inner is (λ x c. agree x (spreads_inside schema i x c))),
             ))
+        | inr ne ↦
+            (let (q, inner, i, is) = built.sets_from k p (subst (λ xs. is_among xs k ≡ true) (same_order p ne) h) in
+            (q, inner, i, set_more schema numbers (numbered b.table) (numbered b'.table) k q inner extends is))
       ]
 
-      fields_from : (k : ℕ) (x : PlainEntry S C) → slice_get (map plain b'.table.fields.items) k ≡ Some x → IsFieldIn schema document x
+      fields_from : (k : ℕ) (x : PlainEntry S C) → slice_get (map plain b'.table.fields.items) k ≡ Some x → IsNodeIn schema document x
       fields_from k x h =
           let now : slice_get (map plain a.grown.fields.items) k ≡ Some x = subst (λ (m : Numbered S C). slice_get m.fields k ≡ Some x) a.notes.same h in
           elim (less_or k (length b.table.fields.items)) [
-            | inl lt ↦ built.fields_from k x (kept_field b.table a.grown a.adds.keeps.extends k x lt now)
-            | inr low ↦ (let f = a.adds.from.fields k x low now in (f.type, f.inner, (d, stands, f.inside), f.stands, f.is))
+            | inl lt ↦ built.fields_from k x (kept_field b.table a.grown a.adds.has.keeps.extends k x lt now)
+            | inr low ↦ (let f = a.adds.from.fields k x low now in (f.type, f.inner, (d, stands, f.inside), f.stands))
           ]
 
       pub built_definition : Built schema document numbers b'
       built_definition = record {
-        apart = subst AreApart (sym (ap (λ (m : Numbered S C). m.responses) a.notes.same)) (a.adds.keeps.apart built.apart);
+        apart = subst AreApart (sym (ap (λ (m : Numbered S C). m.responses) a.notes.same)) (a.adds.has.keeps.apart built.apart);
         order = a.notes.empty;
         falling = falling are_known;
         low = λ g l.
@@ -148,6 +170,7 @@ module _ {S C : Type 0} (schema : Catalog S C) (document : List (Definition S)) 
         sized = ap length a.notes.stretches ∙ length-set b.stretches.items place (Some (length b.order.items, length b'.order.items)) ∙ built.sized;
         within = by_order AreStretches (still_within b.order.items a.grown.order.items b.stretches.items place a.notes.free built.within);
         whole = whole;
+        listed = listed;
         added = added;
         fragments = λ name g h l.
             subst (λ (fs : List ℕ). IsFragment schema document numbers (numbered b'.table) fs name g) (sym fragments_are)

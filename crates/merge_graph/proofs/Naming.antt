@@ -1,5 +1,5 @@
 -- What was built stays right where a fragment gets its number.
-use Rattle.std.proofs.Common.{◌≡◌, ◌<◌, ℕ, List, [], ◌∷◌, ◌++◌, length, length-append, get_or, Option, Some, refl, sym, ap, subst, ◌∙◌, inl, inr, ◌⊎◌, arith}
+use Rattle.std.proofs.Common.{◌≡◌, ◌<◌, ℕ, List, [], ◌∷◌, ◌++◌, length, length-append, get_or, Option, Some, true, refl, sym, ap, subst, ◌∙◌, inl, inr, ◌⊎◌, arith}
 use Rattle.std.proofs.Math.Seq.{get_or-append_seam}
 use Rattle.std.proofs.lemmas.List.{get_or_append_left}
 use Rattle.std.proofs.lemmas.List.Elements.{All-weaker}
@@ -9,12 +9,13 @@ use Rattle.schema.specs.Catalog.{Catalog}
 use Rattle.fragment_graph.specs.Spreads.{placed_spreads_of_all}
 use Rattle.fragment_graph.proofs.Lists.{get_more, get_end}
 use Rattle.merge_set_table.specs.declared.table.NumberedSet.{NumberedSet}
+use Rattle.merge_set_table.specs.Once.{is_among}
 use Rattle.merge_set_table.specs.Table.{numbered, spreads_at, IsWithin, Falling}
 use Rattle.merge_graph.specs.declared.building.Building.{Building}
 use Rattle.merge_graph.specs.Definitions.{selections_of, IsLast}
-use Rattle.merge_graph.specs.Building.{IsFragment, AreKnown, AddsFragment, Built}
+use Rattle.merge_graph.specs.Building.{order_at, IsFragment, AreKnown, AddsFragment, Built}
 use Rattle.merge_graph.proofs.Renumbering.{AgreeOn}
-use Rattle.merge_graph.proofs.Growing.{built_definition, is_set, is_low}
+use Rattle.merge_graph.proofs.Growing.{built_definition, is_set, is_low, new_listed}
 
 -- a number below the end of a list with one element more
 last_or_below : (xs : List ℕ) (x g : ℕ) → g < length (xs ++ x ∷ []) → (g ≡ length xs) ⊎ (g < length xs)
@@ -56,6 +57,17 @@ module _ {S C : Type 0} (schema : Catalog S C) (document : List (Definition S)) 
         (subst (λ (k : ℕ). k < length a.middle.table.sets.items) (sym (get_or-append_seam b.fragments.items a.set [] 0)) set_low)
     | inr lt ↦ subst (λ (k : ℕ). k < length a.middle.table.sets.items) (sym (get_or_append_left b.fragments.items (a.set ∷ []) 0 g lt))
         (subst (λ (fs : List ℕ). get_or fs g 0 < length a.middle.table.sets.items) same_fragments (middle_built.low g (subst (λ (fs : List ℕ). g < length fs) (sym same_fragments) lt)))
+  ]
+
+  abbrev InPlace : ℕ → Type 0
+  InPlace k = (p : ℕ) × (is_among (order_at a.middle p) k ≡ true)
+
+  listed_then : (g : ℕ) → g < length (b.fragments.items ++ a.set ∷ []) → InPlace (get_or (b.fragments.items ++ a.set ∷ []) g 0)
+  listed_then g l = elim (last_or_below b.fragments.items a.set g l) [
+    | inl eq ↦ subst (λ (k : ℕ). InPlace (get_or (b.fragments.items ++ a.set ∷ []) k 0)) (sym eq)
+        (subst InPlace (sym (get_or-append_seam b.fragments.items a.set [] 0)) (place, new_listed schema document numbers names last.is place a.set b a.middle built a.adds))
+    | inr lt ↦ subst InPlace (sym (get_or_append_left b.fragments.items (a.set ∷ []) 0 g lt))
+        (subst (λ (fs : List ℕ). InPlace (get_or fs g 0)) same_fragments (middle_built.listed g (subst (λ (fs : List ℕ). g < length fs) (sym same_fragments) lt)))
   ]
 
   -- the name of the next number
@@ -102,6 +114,7 @@ module _ {S C : Type 0} (schema : Catalog S C) (document : List (Definition S)) 
     within = middle_built.within;
     whole = middle_built.whole;
     added = middle_built.added;
+    listed = subst (λ (fs : List ℕ). (g : ℕ) → g < length fs → InPlace (get_or fs g 0)) (sym a.pushed) listed_then;
     fragments = subst (λ (fs : List ℕ). (q : List ℕ) (g : ℕ) → numbers q ≡ Some g → g < length fs → IsFragment schema document numbers (numbered a.middle.table) fs q g) (sym a.pushed) fragments_then;
     named = subst (λ (fs : List ℕ). (g : ℕ) → g < length fs → (q : List ℕ) × (numbers q ≡ Some g)) (sym a.pushed) named_then;
     sets_from = middle_built.sets_from;

@@ -52,8 +52,8 @@ module _ {S C : Type 0} (schema : Catalog S C) (old new : List ℕ → Option �
       (renumbered r (agree_as _ _ (one_placed (selection.Field f) (placed_spreads_of_all w.items) (placed-Field (selection.Field f) f w refl some)) a))
   renumbered (spread s g h) a = spread s g (sym (at_spread s a) ∙ h)
   renumbered (unknown s h) a = unknown s (sym (at_spread s a) ∙ h)
-  renumbered (inline i n row to stored once r) a =
-      inline i n row to stored once
+  renumbered (inline i own to to' same r) a =
+      inline i own to to' same
       (renumbered r (agree_as _ _ (one_placed (selection.InlineFragment i) (placed_spreads_of_all i.item.selection_set.items) (placed-Inline (selection.InlineFragment i) i refl)) a))
 
   pub set_renumbered : (n : ℕ) (p : Option (MetaTypeOf S C)) (set : List (Selection S)) → IsSetOf schema old m n p set → AgreeOn old new (placed_spreads_of_all set) → IsSetOf schema new m n p set

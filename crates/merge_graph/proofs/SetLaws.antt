@@ -1,5 +1,5 @@
 -- A search's sets fall, and stand in an order, as the table's do.
-use Rattle.std.proofs.Common.{◌≡◌, ◌==◌, ◌||◌, ◌<◌, ◌≤◌, ℕ, List, [], ◌∷◌, length, map, Option, Some, None, option_map, slice_get, refl, sym, ap, subst, ◌∙◌, arith}
+use Rattle.std.proofs.Common.{◌≡◌, ◌==◌, ◌||◌, ◌≤◌, ℕ, List, [], ◌∷◌, length, map, get_or, Option, Some, None, option_map, slice_get, refl, sym, ap, subst, ◌∙◌, arith}
 use Rattle.std.specs.List.{All, list_any}
 use Rattle.std.specs.Option.{option_map_or}
 use Rattle.std.proofs.lemmas.List.{length-map}
@@ -10,7 +10,7 @@ use Rattle.merge_set_table.specs.declared.table.NumberedSet.{NumberedSet}
 use Rattle.merge_set_table.specs.Once.{is_among}
 use Rattle.merge_set_table.specs.Table.{own_at, spreads_at, IsWithin, Falling}
 use Rattle.merge_graph.specs.Sets.{PlainSet, plain_row, plain_node}
-use Rattle.merge_graph.specs.TableGraph.{IsWhole}
+use Rattle.merge_graph.specs.TableGraph.{AreListed}
 
 same_test : (m n : ℕ) → (m == n) ≡ (n == m)
 same_test m n = grind arith
@@ -45,8 +45,8 @@ module _ (nodes : List SetNode) (rows : List NumberedSet) (same : map plain_node
   pub spreads_same : (s : ℕ) → searched.spreads_at nodes s ≡ spreads_at rows s
   spreads_same s = node_spreads (slice_get nodes s) ∙ ap (λ o. option_map_or (λ (x : PlainSet). x.spreads) o []) (same_at s) ∙ row_spreads (slice_get rows s)
 
-  as_many : length nodes ≡ length rows
-  as_many = sym (length-map nodes plain_node) ∙ ap length same ∙ length-map rows plain_row
+  pub equally_many : length nodes ≡ length rows
+  equally_many = sym (length-map nodes plain_node) ∙ ap length same ∙ length-map rows plain_row
 
   pub falling : (fragments : List ℕ) → Falling rows fragments → searched.Falling nodes fragments
   falling fragments f s = (
@@ -54,5 +54,6 @@ module _ (nodes : List SetNode) (rows : List NumberedSet) (same : map plain_node
     subst (All (IsWithin fragments s)) (sym (spreads_same s)) (f s).1,
   )
 
-  pub whole : (order : List ℕ) → IsWhole rows order → searched.IsWhole nodes order
-  whole order w s l = sym (flip_any order s) ∙ w s (subst (λ (n : ℕ). s < n) as_many l)
+-- the sets of the fragments stand in the order
+pub listed : (fragments order : List ℕ) → AreListed fragments order → searched.AreListed fragments order
+listed fragments order w g l = sym (flip_any order (get_or fragments g 0)) ∙ w g l

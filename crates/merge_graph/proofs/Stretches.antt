@@ -2,7 +2,7 @@
 use Rattle.std.proofs.Common.{◌≡◌, ◌≤◌, ◌-◌, ◌==◌, ℕ, List, [], ◌∷◌, ◌++◌, length, length-append, length-drop, take, drop, take_all, Option, Some, None, true, zero, suc, slice_get, slice_set, slice_range, option_and_then, refl, sym, ap, subst, ◌∙◌, inl, inr, ◌⊎◌, arith}
 use Rattle.std.specs.List.{flat_map}
 use Rattle.std.proofs.Math.Seq.{drop-append_seam}
-use Rattle.std.proofs.lemmas.Bool.{cases_eq, or_left, or_right}
+use Rattle.std.proofs.lemmas.Bool.{cases_eq, or_left, or_right, or_cases}
 use Rattle.std.proofs.lemmas.List.{take-append-le, drop-append-le}
 use Rattle.std.proofs.lemmas.List.Folds.{list_any-append}
 use Rattle.fragment_graph.proofs.Lists.{same_some, set_same, set_other}
@@ -40,6 +40,15 @@ among_all order [] p k h = h
 among_all order (z ∷ zs) zero k h = among_append (stretch_of order z) (flat_map (stretch_of order) zs) k (inl h)
 among_all order (z ∷ zs) (suc p) k h = among_append (stretch_of order z) (flat_map (stretch_of order) zs) k (inr (among_all order zs p k h))
 
+-- what stands in all of them stands in one
+pub among_some : (order : List ℕ) (stretches : List (Option Ends)) (k : ℕ) → is_among (flat_map (stretch_of order) stretches) k ≡ true → (p : ℕ) × (is_among (stretch_at order stretches p) k ≡ true)
+among_some order [] k h = cc
+among_some order (z ∷ zs) k h =
+    elim (or_cases (is_among (stretch_of order z) k) (is_among (flat_map (stretch_of order) zs) k) (sym (list_any-append (λ y. y == k) (stretch_of order z) (flat_map (stretch_of order) zs)) ∙ h)) [
+      | inl e ↦ (0, e)
+      | inr e ↦ (let (p, at) = among_some order zs k e in (suc p, at))
+    ]
+
 -- a free place gets the end of an order that grew
 module _ (xs ys : List ℕ) (stretches : List (Option Ends)) (place : ℕ) (free : slice_get stretches place ≡ Some None) (within : AreStretches xs stretches) where
   abbrev new : Option Ends
@@ -59,11 +68,15 @@ module _ (xs ys : List ℕ) (stretches : List (Option Ends)) (place : ℕ) (free
   kept p (Some None) h = refl
   kept p (Some (Some ends)) h = let w = within p ends.0 ends.1 h in range_kept xs ys ends.0 ends.1 w.0 w.1
 
+  -- another place keeps its stretch
+  pub same_stretch : (p : ℕ) → (p ≡ place → ⊥) → stretch_at (xs ++ ys) now p ≡ stretch_at xs stretches p
+  same_stretch p ne = ap (stretch_found (xs ++ ys)) (set_other stretches place p new ne) ∙ kept p (slice_get stretches p) refl
+
   -- what stood at a place still does: it was not at the free one, where nothing stood
   pub stays : (p k : ℕ) → is_among (stretch_at xs stretches p) k ≡ true → is_among (stretch_at (xs ++ ys) now p) k ≡ true
   stays p k h = elim (cases_eq p place) [
     | inl same ↦ absurd (nothing (subst (λ o. is_among (stretch_found xs o) k ≡ true) (ap (slice_get stretches) same ∙ free) h))
-    | inr ne ↦ subst (λ ws. is_among ws k ≡ true) (sym (ap (stretch_found (xs ++ ys)) (set_other stretches place p new ne) ∙ kept p (slice_get stretches p) refl)) h
+    | inr ne ↦ subst (λ ws. is_among ws k ≡ true) (sym (same_stretch p ne)) h
   ]
     where
       nothing : is_among [] k ≡ true → ⊥

@@ -14,9 +14,10 @@ use Rattle.merge_set_table.specs.Names.{AreApart}
 use Rattle.merge_set_table.specs.Once.{is_among}
 use Rattle.merge_set_table.specs.Table.{Numbered, numbered, Falling}
 use Rattle.merge_set_table.specs.Represents.{IsSetOf}
+use Rattle.merge_set_table.specs.Inside.{IsInside}
 use Rattle.merge_set_table.specs.Adding.{AddsSet}
 use Rattle.merge_graph.specs.declared.building.Building.{Building}
-use Rattle.merge_graph.specs.SetsIn.{IsSetIn, IsFieldIn}
+use Rattle.merge_graph.specs.SetsIn.{IsSetIn, IsNodeIn, HasKnownConditions}
 use Rattle.merge_graph.specs.Definitions.{type_round, selections_of, IsLast}
 
 -- The number of a fragment: its place in the order in which the search for cycles finished the fragments.
@@ -49,6 +50,12 @@ module _ {S C : Type 0} where
   -- The set of the number is that of the definition.
   abbrev pub IsSetOfDefinition : Catalog S C → (List ℕ → Option ℕ) → Numbered S C → ℕ → Definition S → Type 0
   IsSetOfDefinition schema numbers m s d = IsSetOf schema numbers m s (type_round schema d) (selections_of d)
+
+  -- Each set inside the definition has a number in the order of the place.
+  abbrev pub AreSetsAt : Catalog S C → (List ℕ → Option ℕ) → ℕ → Definition S → Building S C → Type 0
+  AreSetsAt schema numbers place d b =
+      (q : Option (MetaTypeOf S C)) (inner : List (Selection S)) → IsInside schema (type_round schema d) (selections_of d) q inner
+      → (k : ℕ) × (is_among (order_at b place) k ≡ true) × IsSetOf schema numbers (numbered b.table) k q inner
 
   -- The fragment of the number has the set of its last definition.
   pub record IsFragment (schema : Catalog S C) (document : List (Definition S)) (numbers : List ℕ → Option ℕ) (m : Numbered S C) (fragments : List ℕ) (name : List ℕ) (g : ℕ) : Type 0 where
@@ -96,8 +103,8 @@ module _ {S C : Type 0} where
   abbrev pub HasOrigin : Catalog S C → List (Definition S) → (List ℕ → Option ℕ) → Numbered S C → ℕ → Type 0
   HasOrigin schema document numbers m k = (p : Option (MetaTypeOf S C)) × (set : List (Selection S)) × IsSetIn schema document p set × IsSetOf schema numbers m k p set
 
-  -- What was added is right: each set stands at some place, each place with a stretch has its definition's, and the fragments
-  -- that are there have their numbers and their sets.
+  -- What was added is right: each place with a stretch has the sets of its definition, and each set stands at some place where
+  -- conditions are known. The fragments that are there have their numbers and their sets, which stand at some place.
   pub record Built (schema : Catalog S C) (document : List (Definition S)) (numbers : List ℕ → Option ℕ) (b : Building S C) : Type 0 where
     pub apart : AreApart b.table.responses
     pub order : b.table.order.items ≡ []
@@ -105,12 +112,13 @@ module _ {S C : Type 0} where
     pub low : (g : ℕ) → g < length b.fragments.items → get_or b.fragments.items g 0 < length b.table.sets.items
     pub sized : length b.stretches.items ≡ length document
     pub within : AreStretches b.order.items b.stretches.items
-    pub whole : (k : ℕ) → k < length b.table.sets.items → (p : ℕ) × (is_among (order_at b p) k ≡ true)
+    pub whole : HasKnownConditions schema document → (k : ℕ) → k < length b.table.sets.items → (p : ℕ) × (is_among (order_at b p) k ≡ true)
     pub added : (p : ℕ) (ends : ℕ × ℕ) (d : Definition S) → slice_get b.stretches.items p ≡ Some (Some ends) → slice_get document p ≡ Some d
-        → (s : ℕ) × IsSetOfDefinition schema numbers (numbered b.table) s d
+        → AreSetsAt schema numbers p d b
     pub fragments : (name : List ℕ) (g : ℕ) → numbers name ≡ Some g → g < length b.fragments.items → IsFragment schema document numbers (numbered b.table) b.fragments.items name g
     -- each number of a fragment is that of a name
     pub named : (g : ℕ) → g < length b.fragments.items → (name : List ℕ) × (numbers name ≡ Some g)
-    -- where the sets and fields come from
-    pub sets_from : (k : ℕ) → k < length b.table.sets.items → HasOrigin schema document numbers (numbered b.table) k
-    pub fields_from : (k : ℕ) (a : PlainEntry S C) → slice_get (map plain b.table.fields.items) k ≡ Some a → IsFieldIn schema document a
+    pub listed : (g : ℕ) → g < length b.fragments.items → (p : ℕ) × (is_among (order_at b p) (get_or b.fragments.items g 0) ≡ true)
+    -- where the sets of the places and the fields come from
+    pub sets_from : (k p : ℕ) → is_among (order_at b p) k ≡ true → HasOrigin schema document numbers (numbered b.table) k
+    pub fields_from : (k : ℕ) (a : PlainEntry S C) → slice_get (map plain b.table.fields.items) k ≡ Some a → IsNodeIn schema document a

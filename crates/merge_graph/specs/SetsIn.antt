@@ -8,7 +8,7 @@ use Rattle.meta.specs.declared.kinds.MetaTypeOf.{MetaTypeOf}
 use Rattle.schema.specs.Catalog.{Catalog}
 use Rattle.merge_field_pairs.specs.Entries.{PlainEntry}
 use Rattle.merge_field_pairs.specs.OwnFields.{entry_under}
-use Rattle.merge_set_table.specs.Inside.{IsInside}
+use Rattle.merge_set_table.specs.Inside.{IsInside, AreConditionsKnown}
 use Rattle.merge_graph.specs.Definitions.{type_round, selections_of}
 
 module _ {S C : Type 0} (schema : Catalog S C) (document : List (Definition S)) where
@@ -19,3 +19,11 @@ module _ {S C : Type 0} (schema : Catalog S C) (document : List (Definition S)) 
   -- The field stands in some set of the document.
   abbrev pub IsFieldIn : PlainEntry S C → Type 0
   IsFieldIn a = (p : Option (MetaTypeOf S C)) × (set : List (Selection S)) × IsSetIn p set × Contains set (selection.Field a.field) × (a ≡ entry_under p a.field)
+
+  -- The field stands in some set of the document, under whatever type.
+  abbrev pub IsNodeIn : PlainEntry S C → Type 0
+  IsNodeIn a = (p : Option (MetaTypeOf S C)) × (set : List (Selection S)) × IsSetIn p set × Contains set (selection.Field a.field)
+
+  -- The type condition of each inline fragment of the document names a type of the schema.
+  abbrev pub HasKnownConditions : Type 0
+  HasKnownConditions = (d : Definition S) → Contains document d → AreConditionsKnown schema (type_round schema d) (selections_of d)

@@ -12,7 +12,7 @@ ghost use Rattle.merge_graph.specs.Building.{rank_in, AreKnown, AreStretches, st
 ghost use Rattle.merge_graph.specs.TableGraph.{IsGraphOfTable};
 ghost use Rattle.merge_graph.specs.Judging.{judgement_of};
 ghost use Rattle.merge_graph.specs.DocumentGraph.{IsGraphOf};
-ghost use Rattle.merge_graph.specs.Assembly.{AreRanked, AreInPlaces, AreFree, KnowsAll, AddsMissing, AddsOthers, IsComplete};
+ghost use Rattle.merge_graph.specs.Assembly.{AreRanked, AreInPlaces, joined_order, AreFree, KnowsAll, AddsMissing, AddsOthers, IsComplete};
 
 use crate::building::{Building, add_definition, add_fragment, no_building};
 use crate::definitions::last_places;
@@ -189,8 +189,9 @@ fn graph_of_building<'a, S: ScalarValue, C>(
 ) -> Result<Graph<FieldJudge<'a, S, C>>, AllocError>
     requires falling { Falling building.table.sets.items building.fragments.items }
     requires within { AreStretches building.order.items building.stretches.items }
-    requires whole { AreInPlaces building }
-    ensures { IfOk result (IsGraphOfTable schema.now (numbered building.entry.table) building.entry.fragments.items) }
+    requires listed { AreInPlaces building }
+    ensures { IfOk result (IsGraphOfTable schema.now (numbered building.entry.table) building.entry.fragments.items
+        (joined_order building.entry)) }
 {
     let order = joined_orders(
         alloc,

@@ -2,7 +2,7 @@
 ghost use Rattle.std.specs.Prelude.{◌≡◌, IfOk, map};
 ghost use Rattle.merge_set_table.specs.Table.{Falling, numbered};
 ghost use Rattle.merge_graph.specs.Sets.{plain_row, plain_node};
-ghost use Rattle.merge_graph.specs.TableGraph.{IsWhole, IsGraphOfTable};
+ghost use Rattle.merge_graph.specs.TableGraph.{AreListed, IsGraphOfTable};
 
 use crate::judge::{FieldJudge, judge_fields};
 use language::scalar::ScalarValue;
@@ -31,7 +31,7 @@ fn searched_sets(alloc: Global, sets: Vec<NumberedSet>) -> Result<Vec<SetNode>, 
     Ok(nodes)
 }
 
-/// The graph of a table, with the sets of its fragments and an order of its sets.
+/// The graph of a table, with the sets of its fragments and an order of those that are searched.
 ///
 /// # Errors
 ///
@@ -44,8 +44,8 @@ pub fn graph_of_table<'a, S: ScalarValue, C>(
     order: Vec<usize>,
 ) -> Result<Graph<FieldJudge<'a, S, C>>, AllocError>
     requires falling { Falling table.sets.items fragments.items }
-    requires whole { IsWhole table.sets.items order.items }
-    ensures { IfOk result (IsGraphOfTable schema.now (numbered table.entry) fragments.items) }
+    requires listed { AreListed fragments.items order.items }
+    ensures { IfOk result (IsGraphOfTable schema.now (numbered table.entry) fragments.items order.items) }
 {
     let sets = searched_sets(alloc, table.sets)?;
     Ok(Graph {

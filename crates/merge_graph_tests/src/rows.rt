@@ -88,7 +88,7 @@ const PETS: [(&str, &str); 18] = [
     ),
 ];
 
-const BOXES: [(&str, &str); 3] = [
+const BOXES: [(&str, &str); 5] = [
     (
         "{ a: someBox { ... on IntBox { deepBox { ...X } } } a: someBox { ... on StringBox { deepBox { ...Y } } } b: someBox { ...X } b: someBox { ...Y } } fragment X on SomeBox { otherField } fragment Y on SomeBox { otherField: unrelatedField }",
         "compared 2\n171 and 208\n105 and 125 for 1\n",
@@ -100,6 +100,16 @@ const BOXES: [(&str, &str); 3] = [
     (
         "{ someBox { ... on NonNullStringBox1 { scalar scalar } ... on StringBox { scalar } } }",
         "compared 0\n39 and 74\n46 and 74\n",
+    ),
+    // The set of an inline fragment of an unknown type has no type, and so have those below its fields. In the sets
+    // around it its fields have the type around it.
+    (
+        "{ someBox { ... on StringBox { ... on Nope { x: scalar ... on IntBox { x: scalar } } } } }",
+        "compared 0\n45 and 71\n45 and 71\n",
+    ),
+    (
+        "{ someBox { ... on StringBox { ... on Nope { deepBox { x: scalar ... on IntBox { x: scalar } } } } } }",
+        "compared 0\n",
     ),
 ];
 
