@@ -1,6 +1,9 @@
 -- What a search of a document's graph says of the document.
 use Rattle.std.proofs.Common.{◌≡◌, ◌≤◌, ◌*◌, ◌-◌, ℕ, List, Bool, Option, Some, IfSome, map, length, sym, ap, subst, ◌∙◌, arith}
+use Rattle.std.specs.List.{Contains}
 use Rattle.language.specs.declared.tree.Definition.{Definition}
+use Rattle.language.specs.declared.tree.Selection.{Selection}
+use Rattle.meta.specs.declared.kinds.MetaTypeOf.{MetaTypeOf}
 use Rattle.schema.specs.Catalog.{Catalog}
 use Rattle.merge_field_pairs.specs.Entries.{plain}
 use Rattle.merge_field_pairs.specs.Numbered.{AreTidy}
@@ -13,13 +16,15 @@ use Rattle.merge_graph.specs.declared.judge.FieldJudge.{FieldJudge}
 use Rattle.merge_graph.specs.Building.{IsFragment}
 use Rattle.merge_graph.specs.Definitions.{fragment_count}
 use Rattle.merge_graph.specs.DocumentGraph.{IsGraphOf, AreOrigins}
+use Rattle.merge_graph.specs.SetsIn.{IsSetIn}
+use Rattle.merge_set_table.specs.Represents.{IsSetOf}
 use Rattle.merge_graph.specs.Judging.{judgement_by, judgement_of}
-use Rattle.merge_graph.proofs.SetLaws.{own_same, spreads_same}
+use Rattle.merge_graph.proofs.SetLaws.{equally_many, own_same, spreads_same}
 use Rattle.merge_conflicts.specs.Reports.{AreReportsOf}
 use Rattle.merge_document.specs.declared.search.FoundConflicts.{FoundConflicts}
 use Rattle.merge_document.specs.Found.{IsJudged, AreTogether}
 use Rattle.merge_document.proofs.Sets.{IsWorldOf}
-use Rattle.merge_document.proofs.Finding.{made, is_real, is_all, are_tidy}
+use Rattle.merge_document.proofs.Finding.{made, is_real, is_told, is_all, are_tidy}
 use Rattle.merge_document.proofs.Counting.{pairs_grow, more_times, together_all, as_many}
 
 -- what holds of the value that is there
@@ -33,6 +38,7 @@ module _ {S C : Type 0} (E : S → S → Bool) (schema : Catalog S C) (document 
   pub world_is : IsWorldOf E schema document is.numbers is.table its_world
   world_is = record {
     judges = ap (λ s. judgement_by E s (map plain g.judge.fields.items)) (is.is).judged_under ∙ ap (λ f. judgement_by E schema f) (is.is).fields;
+    many = equally_many g.sets.items (is.table).sets (is.is).sets;
     own = own_same g.sets.items (is.table).sets (is.is).sets;
     spreads = spreads_same g.sets.items (is.table).sets (is.is).sets;
     apart = is.apart;
@@ -41,21 +47,28 @@ module _ {S C : Type 0} (E : S → S → Bool) (schema : Catalog S C) (document 
     fragments = λ name f h. subst (λ (z : List ℕ). IsFragment schema document is.numbers is.table z name f) (sym (is.is).fragments_are) (is.fragments name f h);
   }
 
-  origins : AreOrigins schema document is.numbers is.table g.fragments.items
-  origins = subst (λ (z : List ℕ). AreOrigins schema document is.numbers is.table z) (sym (is.is).fragments_are) is.origins
+  origins : AreOrigins schema document is.numbers is.table g.fragments.items g.order.items
+  origins =
+      subst (λ (z : List ℕ). AreOrigins schema document is.numbers is.table z g.order.items) (sym (is.is).fragments_are)
+      (subst (λ (z : List ℕ). AreOrigins schema document is.numbers is.table is.fragment_sets z) (sym (is.is).order_is) is.origins)
 
-  pub judged : (f : FoundConflicts S C) → f.fields ≡ g.judge.fields → Judged its_world f.found.items → (AreTidy (map plain g.judge.fields.items) → Lawful (judgement_of E g.judge)) → IsJudged E schema document f
+  sets : (p : Option (MetaTypeOf S C)) (set : List (Selection S)) → IsSetIn schema document p set → (s : ℕ) × Contains g.order.items s × IsSetOf schema is.numbers is.table s p set
+  sets p set i = let h = is.sets p set i in (h.0, subst (λ (z : List ℕ). Contains z h.0) (sym (is.is).order_is) h.1, h.2)
+
+  pub judged : (f : FoundConflicts S C) → f.fields ≡ g.judge.fields → Judged its_world g.order.items f.found.items → (AreTidy (map plain g.judge.fields.items) → Lawful (judgement_of E g.judge)) → IsJudged E schema document f
   judged f same j lawful =
-      let t = made E schema document is.numbers is.table its_world world_is origins is.definitions f.found.items j.real in
+      let t = made E schema document is.numbers is.table its_world world_is g.order.items origins sets f.found.items j.real in
       let fields : map plain f.fields.items ≡ (is.table).fields = ap (λ v. map plain v.items) same ∙ (is.is).fields in
       record {
         numbered = t.numbered;
         reports = t.reports;
         found = (j.real).grown ∙ sym t.writes;
         are = subst (λ z. AreReportsOf z t.numbered t.reports) (sym fields) t.are;
-        real = is_real E schema document is.numbers is.table its_world world_is origins is.definitions f.found.items j.real;
-        all = λ tidy. is_all E schema document is.numbers is.table its_world world_is origins is.definitions f.found.items j.real
-            (j.complete (lawful (subst AreTidy (sym (is.is).fields) (are_tidy E schema document is.numbers is.table its_world world_is origins is.definitions tidy))));
+        real = is_real E schema document is.numbers is.table its_world world_is g.order.items origins sets f.found.items j.real;
+        told = λ tidy. is_told E schema document is.numbers is.table its_world world_is g.order.items origins sets f.found.items j.real
+            (j.complete (lawful (subst AreTidy (sym (is.is).fields) (are_tidy E schema document is.numbers is.table its_world world_is g.order.items origins sets tidy))));
+        all = λ tidy. is_all E schema document is.numbers is.table its_world world_is g.order.items origins sets f.found.items j.real
+            (j.complete (lawful (subst AreTidy (sym (is.is).fields) (are_tidy E schema document is.numbers is.table its_world world_is g.order.items origins sets tidy))));
       }
 
   pub few : (compared : ℕ) → compared ≤ length g.fragments.items * (length g.fragments.items - 1) → compared ≤ fragment_count document * (fragment_count document - 1)
@@ -65,7 +78,7 @@ module _ {S C : Type 0} (E : S → S → Bool) (schema : Catalog S C) (document 
   opens opened lists l =
       let more = more_times (length g.fragments.items) (fragment_count document) lists origins.few in omega (arith, l, more)
 
-  pub enough : (compared : ℕ) → ((ps : List (ℕ × ℕ)) → Together its_world ps → length ps ≤ compared) → (ps : List (List ℕ × List ℕ)) → AreTogether schema document ps → length ps ≤ compared
+  pub enough : (compared : ℕ) → ((ps : List (ℕ × ℕ)) → Together its_world g.order.items ps → length ps ≤ compared) → (ps : List (List ℕ × List ℕ)) → AreTogether schema document ps → length ps ≤ compared
   enough compared h ps t =
-      let l = h _ (together_all E schema document is.numbers is.table its_world world_is is.definitions ps t) in
-      let same = as_many E schema document is.numbers is.table its_world world_is is.definitions ps in omega (arith, l, same)
+      let l = h _ (together_all E schema document is.numbers is.table its_world world_is g.order.items sets ps t) in
+      let same = as_many E schema document is.numbers is.table its_world world_is g.order.items sets ps in omega (arith, l, same)

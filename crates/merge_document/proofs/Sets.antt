@@ -1,5 +1,5 @@
 -- Sets of a document, and their numbers in the graph of a search.
-use Rattle.std.proofs.Common.{◌≡◌, ◌==◌, ℕ, List, [], Bool, true, Option, Some, slice_get, refl, sym, ap, subst, ◌∙◌, arith}
+use Rattle.std.proofs.Common.{◌≡◌, ◌==◌, ℕ, List, [], length, Bool, true, Option, Some, slice_get, refl, sym, ap, subst, ◌∙◌, arith}
 use Rattle.std.specs.List.{Contains}
 use Rattle.std.proofs.lemmas.Bool.{eqb-true}
 use Rattle.std.proofs.lemmas.Map.Views.{Contains-from_any}
@@ -29,6 +29,7 @@ use Rattle.merge_document.proofs.Fields.{IsEntryOf, field_got, number_got}
 -- A search's world is that of a document's sets by number.
 pub record IsWorldOf {S C : Type 0} (E : S → S → Bool) (schema : Catalog S C) (document : List (Definition S)) (numbers : List ℕ → Option ℕ) (m : Numbered S C) (w : World) : Type 0 where
   pub judges : w.judgement ≡ judgement_by E schema m.fields
+  pub many : length w.sets ≡ length m.sets
   pub own : (s : ℕ) → own_of w s ≡ own_at m.sets s
   pub spreads : (s : ℕ) → spreads_of w s ≡ spreads_at m.sets s
   pub apart : AreApart m.responses

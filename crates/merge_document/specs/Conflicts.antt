@@ -55,6 +55,16 @@ module _ {S C : Type 0} (E : S → S → Bool) (schema : Catalog S C) (document 
   abbrev pub Meet : PlainEntry S C → PlainEntry S C → Type 0
   Meet a b = (p : Option (MetaTypeOf S C)) × (set : List (Selection S)) × IsSetIn schema document p set × Stands schema document p set a × Stands schema document p set b × Same a b
 
+  -- What two fields of one set have between them is reported.
+  pub record AreTold (reports : Reports (PlainEntry S C)) : Type 0 where
+    -- nothing where the document merges
+    pub silent : DocumentMerges E schema document → reports ≡ none
+    -- two fields of a set that conflict by themselves, at the top or below
+    pub failing : (a b : PlainEntry S C) → Meet a b → Fails E schema false a b → TellsEither reports false a b
+    -- at the top, where one of them is an own field of the set
+    pub at_the_top : (p : Option (MetaTypeOf S C)) (set : List (Selection S)) (a b : PlainEntry S C) → IsSetIn schema document p set
+        → Contains (own_fields schema p set) a → Stands schema document p set b → Same a b → Fails E schema false a b → AtTheTop reports a b
+
   -- No conflict is missed.
   pub record AreAll (reports : Reports (PlainEntry S C)) : Type 0 where
     -- nothing is reported if and only if the document merges

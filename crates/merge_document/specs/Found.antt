@@ -9,20 +9,21 @@ use Rattle.fragment_graph.specs.Numbers.{Defines}
 use Rattle.merge_field_pairs.specs.Entries.{PlainEntry, plain}
 use Rattle.merge_field_pairs.specs.OwnFields.{own_spreads}
 use Rattle.merge_search.specs.declared.node.Entry.{Entry}
-use Rattle.merge_graph.specs.SetsIn.{IsSetIn}
+use Rattle.merge_graph.specs.SetsIn.{IsSetIn, HasKnownConditions}
 use Rattle.merge_conflicts.specs.Reports.{Reports, postfix, AreReportsOf}
-use Rattle.merge_document.specs.Conflicts.{AreReal, AreAll, IsTidyDocument}
+use Rattle.merge_document.specs.Conflicts.{AreReal, AreTold, AreAll, IsTidyDocument}
 use Rattle.merge_document.specs.declared.search.FoundConflicts.{FoundConflicts}
 
--- What was found are conflicts of the document, each a true one. Where no field repeats an argument, nor a key in one, none
--- is missed.
+-- What was found are conflicts of the document, each a true one. Where no field repeats an argument, nor a key in one, what
+-- two fields of one set have between them is told; and none is missed, if the conditions of inline fragments are known, too.
 pub record IsJudged {S C : Type 0} (E : S → S → Bool) (schema : Catalog S C) (document : List (Definition S)) (f : FoundConflicts S C) : Type 0 where
   pub numbered : Reports Entry
   pub reports : Reports (PlainEntry S C)
   pub found : f.found.items ≡ postfix numbered
   pub are : AreReportsOf (map plain f.fields.items) numbered reports
   pub real : AreReal E schema document reports
-  pub all : IsTidyDocument schema document → AreAll E schema document reports
+  pub told : IsTidyDocument schema document → AreTold E schema document reports
+  pub all : IsTidyDocument schema document → HasKnownConditions schema document → AreAll E schema document reports
 
 -- The same two names, in either order.
 abbrev pub SameNames : List ℕ × List ℕ → List ℕ × List ℕ → Type 0

@@ -16,7 +16,7 @@ graph_is g c = at_some (IsGraphOf c.args.schema.now c.args.document.now) c.in_ok
 pub returns-in_ok-search-in-Some-clause-judged : goal.returns-in_ok-search-in-Some-clause-judged
 returns-in_ok-search-in-Some-clause-judged g c =
     judged g.S.PartialEq.eq c.args.schema.now c.args.document.now c.in-Some.graph (graph_is g c) c.found_in.result c.found_in.ensures.fields
-    (subst (λ v. Judged (world (judgement_of g.S.PartialEq.eq) c.in-Some.graph) v.items) (sym c.found_in.ensures.found) c.in_ok-search-in-Some.ensures.judged)
+    (subst (λ v. Judged (world (judgement_of g.S.PartialEq.eq) c.in-Some.graph) c.in-Some.graph.order.items v.items) (sym c.found_in.ensures.found) c.in_ok-search-in-Some.ensures.judged)
     (at_some (λ x. AreTidy (map plain x.judge.fields.items) → Lawful (judgement_of g.S.PartialEq.eq x.judge)) c.in_ok-graph.field-0 c.in-Some.graph c.in-Some.is c.in_ok-graph.ensures.lawful)
 
 pub returns-in_ok-search-in-Some-clause-few : goal.returns-in_ok-search-in-Some-clause-few
