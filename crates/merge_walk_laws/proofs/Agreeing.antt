@@ -15,14 +15,13 @@ use Rattle.language.specs.declared.tree.Field.{Field}
 use Rattle.language.specs.declared.tree.Selection.{Selection}
 use Rattle.events.specs.Occurrence.{is_document}
 use Rattle.events.specs.Outline.{outline_of_set, outline_of_field}
-use Rattle.merge_walk_laws.specs.Occurring.{AreConditionsKnown}
-use Rattle.events.specs.Node.{Placed, field, selection_set}
-use Rattle.events.specs.Typing.{Typing, at_set, at_field}
-use Rattle.events.proofs.SelectionOutlines.{of_field}
-use Rattle.merge_walk_laws.specs.Laws.{FieldsOccur, SetsOccur, FieldsAreTidy, SetsAgree, FieldsAgree, TidyArguments}
-use Rattle.merge_walk_laws.proofs.Finding.{IsKnown, IsPart, whole, part_of_set, set_stands}
+use Rattle.events.specs.Node.{Placed, field, selection_set, inline_fragment}
+use Rattle.events.specs.Typing.{Typing, at_set, at_field, at_inline}
+use Rattle.events.proofs.SelectionOutlines.{of_field, of_inline}
+use Rattle.merge_walk_laws.specs.Laws.{FieldsOccur, SetsOccur, InlinesOccur, FieldsAreTidy, SetsAgree, FieldsAgree, TidyArguments}
+use Rattle.merge_walk_laws.proofs.Finding.{IsPart, whole, part_of_set, set_stands}
 use Rattle.merge_walk_laws.proofs.Placing.{parts_told}
-use Rattle.merge_walk_laws.proofs.Standing.{Holds, contains_in, in_contains, stands_contains, contains_stands}
+use Rattle.merge_walk_laws.proofs.Standing.{contains_in, in_contains, stands_contains, contains_stands}
 
 module _ {S C : Type 0} where
   pub sets_occur : SetsOccur S C
@@ -45,32 +44,34 @@ module _ {S C : Type 0} where
   pub fields_are_tidy : FieldsAreTidy S C
   fields_are_tidy schema t document tidy a is = tidy a.field (fields_occur schema t document a is)
 
-  -- what is supposed of the document, of its outline
-  all_known : (schema : Catalog S C) (t : Typing S C) (document : List (Definition S)) → AreConditionsKnown schema t document → Holds (IsKnown schema) (whole schema t document)
-  all_known schema t document known o h i same name e = known i (o, stands_contains (whole schema t document) o h, same) name e
+  pub inlines_occur : InlinesOccur S C
+  inlines_occur schema t document parent set is i c =
+      let outline = whole schema t document in
+      let (u, part, meets) = set_stands schema t document parent set is in
+      let here = subst (IsPart schema outline) (of_inline schema (at_set u) i)
+      (part_of_set schema outline u set (selection.InlineFragment i) (contains_in set (selection.InlineFragment i) c) part) in
+      (record { node = inline_fragment i; types = at_inline schema (at_set u) i.item }, stands_contains outline _ (here _ (inl refl)), refl)
 
   pub sets_agree : SetsAgree S C
-  sets_agree schema t document known parent set =
-      let outline = whole schema t document in
-      let each_known = all_known schema t document known in (
+  sets_agree schema t document parent set =
+      let outline = whole schema t document in (
         λ is. let (u, part, meets) = set_stands schema t document parent set is in
-            (record { node = selection_set set; types = at_set u }, stands_contains outline _ (part _ (inl refl)), refl, meets each_known),
+            (record { node = selection_set set; types = at_set u }, stands_contains outline _ (part _ (inl refl)), refl, meets),
         λ there. let (o, c, same, e) = there in
-            let (d, has, placed) = parts_told schema t document each_known o (contains_stands outline o c) (ap is_document same) in
+            let (d, has, placed) = parts_told schema t document o (contains_stands outline o c) (ap is_document same) in
             (d, has, subst (λ p. IsInside schema (type_round schema d) (selections_of d) p set) e (placed.0 set same)),
       )
 
   pub fields_agree : FieldsAgree S C
-  fields_agree schema t document known a =
-      let outline = whole schema t document in
-      let each_known = all_known schema t document known in (
+  fields_agree schema t document a =
+      let outline = whole schema t document in (
         λ is. let (parent, set, inside, c, e) = is in
             let (u, part, meets) = set_stands schema t document parent set inside in
             let same : parent ≡ a.parent = sym (ap (λ z. z.parent) e) in
             let here = field_stands schema t document u set a.field c part in
-            ((record { node = field a.field; types = at_field schema (at_set u) a.field.item }, stands_contains outline _ (here _ (inl refl)), refl, meets each_known ∙ same), subst (λ p. a ≡ entry_under p a.field) same e),
+            ((record { node = field a.field; types = at_field schema (at_set u) a.field.item }, stands_contains outline _ (here _ (inl refl)), refl, meets ∙ same), subst (λ p. a ≡ entry_under p a.field) same e),
         λ there. let (o, c, same, e) = there.0 in
-            let (d, has, placed) = parts_told schema t document each_known o (contains_stands outline o c) (ap is_document same) in
+            let (d, has, placed) = parts_told schema t document o (contains_stands outline o c) (ap is_document same) in
             let (set, inside, among) = placed.1 a.field same in
             (a.parent, set, (d, has, subst (λ p. IsInside schema (type_round schema d) (selections_of d) p set) e inside), among, there.1),
       )

@@ -1,5 +1,5 @@
 -- Each set of a document stands in its outline.
-use Rattle.std.proofs.Common.{◌≡◌, List, Option, Some, inl, inr, refl, sym, subst}
+use Rattle.std.proofs.Common.{◌≡◌, List, Option, Some, inl, inr, sym, subst}
 use Rattle.std.specs.declared.vec.Vec.{Vec}
 use Rattle.std.specs.declared.alloc.Global.{Global}
 use Rattle.language.proofs.Members.{In}
@@ -10,12 +10,11 @@ use Rattle.language.specs.declared.tree.InlineFragment.{InlineFragment}
 use Rattle.language.specs.declared.tree.Selection.{Selection}
 use Rattle.language.specs.declared.tree.Selection.TheVariants as selection
 use Rattle.meta.specs.declared.kinds.MetaTypeOf.{MetaTypeOf}
-use Rattle.schema.specs.Catalog.{Catalog, type_in}
+use Rattle.schema.specs.Catalog.{Catalog}
 use Rattle.merge_set_table.specs.Inside.{IsInside, itself, below_field, of_inline}
 use Rattle.merge_graph.specs.Definitions.{selections_of}
 use Rattle.merge_graph.specs.SetsIn.{IsSetIn}
-use Rattle.events.specs.Node.{Name, Placed, inline_fragment}
-use Rattle.events.specs.Occurrence.{Occurrence}
+use Rattle.events.specs.Node.{Placed}
 use Rattle.events.specs.Outline.{Outline, beside, outline_of_arguments, outline_of_directives, outline_of_variable_definitions, outline_of_selection, outline_of_set, outline_of_set_if_there, outline_of_field, outline_of_inline, outline_of_definition, outline_of_document}
 use Rattle.events.specs.SchemaView.{field_arguments}
 use Rattle.events.specs.Typing.{Typing, at_set, at_field, at_inline, at_operation, at_fragment}
@@ -25,12 +24,6 @@ use Rattle.merge_walk_laws.proofs.Meeting.{at_definition, meets_definition, meet
 use Rattle.merge_walk_laws.proofs.Standing.{StandsIn, Holds, contains_in, stands_right, stands_each}
 
 module _ {S C : Type 0} (schema : Catalog S C) where
-  -- if the node is an inline fragment, its type condition is known
-  abbrev pub IsKnown : Occurrence S C → Type 0
-  IsKnown o =
-      (i : Placed (InlineFragment S)) → o.node ≡ inline_fragment i → (name : Name) → i.item.type_condition ≡ Some name
-      → (m : MetaTypeOf S C) × (type_in name.item.now schema ≡ Some m)
-
   module _ (whole : Outline S C) where
     -- all of the one stands in the other
     abbrev pub IsPart : Outline S C → Type 0
@@ -55,18 +48,18 @@ module _ {S C : Type 0} (schema : Catalog S C) where
     -- a set inside a part is a part, at the type round it
     module _ (p : Option (MetaTypeOf S C)) (set : List (Selection S)) (u : Typing S C) (part : IsPart (outline_of_set schema u set)) where
       abbrev Stands : Option (MetaTypeOf S C) → List (Selection S) → Type 0
-      Stands q inner = (v : Typing S C) × IsPart (outline_of_set schema v inner) × (Holds IsKnown whole → u.current ≡ p → v.current ≡ q)
+      Stands q inner = (v : Typing S C) × IsPart (outline_of_set schema v inner) × (u.current ≡ p → v.current ≡ q)
 
       pub inside_stands : {q : Option (MetaTypeOf S C)} {inner : List (Selection S)} → IsInside schema p set q inner → Stands q inner
-      inside_stands itself = (u, part, λ k e. e)
+      inside_stands itself = (u, part, λ e. e)
       inside_stands (below_field {q = q} {inner = inner} f w inside c e) =
           let (v, h, meets) = inside_stands inside in
           let field_part = subst IsPart (of_field schema (at_set v) f) (part_of_set v inner (selection.Field f) (contains_in inner (selection.Field f) c) h) in
-          (at_field schema (at_set v) f.item, set_of_field (at_set v) f w e field_part, λ k same. meets_field schema q (at_set v) f (meets k same))
+          (at_field schema (at_set v) f.item, set_of_field (at_set v) f w e field_part, λ same. meets_field schema q (at_set v) f (meets same))
       inside_stands (of_inline {q = q} {inner = inner} i inside c) =
           let (v, h, meets) = inside_stands inside in
           let inline_part = subst IsPart (SelectionOutlines.of_inline schema (at_set v) i) (part_of_set v inner (selection.InlineFragment i) (contains_in inner (selection.InlineFragment i) c) h) in
-          (at_inline schema (at_set v) i.item, set_of_inline (at_set v) i inline_part, λ k same. meets_inline schema q (at_set v) i.item.type_condition (meets k same) (k _ (inline_part _ (inl refl)) i refl))
+          (at_inline schema (at_set v) i.item, set_of_inline (at_set v) i inline_part, λ same. meets_inline schema q (at_set v) i.item.type_condition (meets same))
 
   module _ (t : Typing S C) (document : List (Definition S)) where
     abbrev pub whole : Outline S C
@@ -84,7 +77,7 @@ module _ {S C : Type 0} (schema : Catalog S C) where
 
     -- so a set of the document is a part of its outline
     pub set_stands : (p : Option (MetaTypeOf S C)) (set : List (Selection S)) → IsSetIn schema document p set
-        → (v : Typing S C) × IsPart whole (outline_of_set schema v set) × (Holds IsKnown whole → v.current ≡ p)
+        → (v : Typing S C) × IsPart whole (outline_of_set schema v set) × (v.current ≡ p)
     set_stands p set (d, c, inside) =
         let root = set_of_definition d (λ o k. inr (inl (stands_each (outline_of_definition schema t) document d o (contains_in document d c) k))) in
-        let (v, h, meets) = inside_stands whole _ (selections_of d) (at_definition schema t d) root inside in (v, h, λ k. meets k (meets_definition schema t d))
+        let (v, h, meets) = inside_stands whole _ (selections_of d) (at_definition schema t d) root inside in (v, h, meets (meets_definition schema t d))

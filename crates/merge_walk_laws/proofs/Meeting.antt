@@ -1,6 +1,6 @@
 -- The types of a walk are those that the search takes.
 use Rattle.std.proofs.Common.{◌≡◌, ℕ, List, Option, Some, None, true, false, refl, ap, sym, ◌∙◌, option_and_then}
-use Rattle.std.specs.Option.{option_map, option_map_or, option_or}
+use Rattle.std.specs.Option.{option_map, option_map_or}
 use Rattle.std.specs.Str.{bytes_eq}
 use Rattle.language.proofs.Members.{bytes_eq-same}
 use Rattle.language.specs.Types.{shape, non_null_named}
@@ -15,7 +15,8 @@ use Rattle.meta.specs.Kinds.{name_of_meta}
 use Rattle.schema_validation.specs.Accepted.{is_named}
 use Rattle.schema.specs.Catalog.{Catalog, type_in, root_in, root_type}
 use Rattle.schema_validation.proofs.Finds.{found-passes}
-use Rattle.merge_field_pairs.specs.OwnFields.{entry_under, metadata_under, type_inside, type_below}
+use Rattle.merge_field_pairs.specs.OwnFields.{entry_under, metadata_under, type_below}
+use Rattle.merge_set_table.specs.Inside.{type_entered}
 use Rattle.merge_graph.specs.Definitions.{type_round}
 use Rattle.events.specs.Node.{Name, Placed}
 use Rattle.events.specs.SchemaView.{named_type, field_literal, root_literal}
@@ -60,7 +61,7 @@ module _ {S C : Type 0} (schema : Catalog S C) where
       ap (λ r. named_type schema (field_literal r f.item.name.item.now)) e ∙ of_field_type (metadata_under q f.item.name.item.now)
 
   -- in an inline fragment
-  pub meets_inline : (q : Option (MetaTypeOf S C)) (u : Typing S C) (condition : Option Name) → u.current ≡ q → ((name : Name) → condition ≡ Some name → (m : MetaTypeOf S C) × (type_in name.item.now schema ≡ Some m))
-      → (at_condition schema u (option_map (λ c. c.item.now) condition)).current ≡ type_inside schema q condition
-  meets_inline q u None e known = e
-  meets_inline q u (Some name) e known = let (m, k) = known name refl in k ∙ sym (ap (λ r. option_or r q) k)
+  pub meets_inline : (q : Option (MetaTypeOf S C)) (u : Typing S C) (condition : Option Name) → u.current ≡ q
+      → (at_condition schema u (option_map (λ c. c.item.now) condition)).current ≡ type_entered schema q condition
+  meets_inline q u None e = e
+  meets_inline q u (Some name) e = refl

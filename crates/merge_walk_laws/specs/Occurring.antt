@@ -4,11 +4,10 @@ use Rattle.std.specs.List.{Contains}
 use Rattle.language.specs.declared.tree.Arguments.{Arguments}
 use Rattle.language.specs.declared.tree.Definition.{Definition}
 use Rattle.language.specs.declared.tree.Field.{Field}
-use Rattle.language.specs.declared.tree.InlineFragment.{InlineFragment}
 use Rattle.meta.specs.declared.kinds.MetaTypeOf.{MetaTypeOf}
-use Rattle.schema.specs.Catalog.{Catalog, type_in}
+use Rattle.schema.specs.Catalog.{Catalog}
 use Rattle.merge_field_pairs.specs.SameArguments.{Given, are_tidy}
-use Rattle.events.specs.Node.{Node, Name, Placed, field, inline_fragment}
+use Rattle.events.specs.Node.{Node, Placed, field}
 use Rattle.events.specs.Occurrence.{Occurrence, occurrences}
 use Rattle.events.specs.Typing.{Typing}
 
@@ -30,9 +29,3 @@ module _ {S C : Type 0} (schema : Catalog S C) (t : Typing S C) (document : List
   -- no field that occurs repeats an argument, nor a key in one
   abbrev pub AreFieldsTidy : Type 0
   AreFieldsTidy = (f : Placed (Field S)) → Occurs (field f) → are_tidy f.item.arguments ≡ true
-
-  -- the type condition of each inline fragment names a type of the schema
-  abbrev pub AreConditionsKnown : Type 0
-  AreConditionsKnown =
-      (i : Placed (InlineFragment S)) → Occurs (inline_fragment i) → (name : Name) → i.item.type_condition ≡ Some name
-      → (m : MetaTypeOf S C) × (type_in name.item.now schema ≡ Some m)
