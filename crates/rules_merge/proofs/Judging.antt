@@ -26,6 +26,7 @@ module _ {S C : Type 0} (E : S → S → Bool) (schema : Catalog S C) (document 
         told = IsPermutation-refl [];
         real = record { true_ones = true_none; in_one_set = All-nil _ };
         cyclic = λ c. (refl, compared);
+        told_of_sets = λ acyclic. absurd (cyclic acyclic);
         all = λ acyclic. absurd (cyclic acyclic);
         few = subst (λ (k : ℕ). k ≤ fragment_count document * (fragment_count document - 1)) (sym compared) (omega arith);
         enough = λ acyclic. absurd (cyclic acyclic);
@@ -45,6 +46,7 @@ module _ {S C : Type 0} (E : S → S → Bool) (schema : Catalog S C) (document 
         told = IsPermutation-refl (map error_value (errors_of E schema j.reports));
         real = j.real;
         cyclic = λ c. absurd (c acyclic);
+        told_of_sets = λ h. j.told;
         all = λ h. j.all;
         few = subst (λ (k : ℕ). k ≤ fragment_count document * (fragment_count document - 1)) (sym compared) few;
         enough = λ h ps together. let l = enough ps together in omega (arith, l, compared);

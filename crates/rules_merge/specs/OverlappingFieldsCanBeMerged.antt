@@ -5,9 +5,10 @@ use Rattle.schema.specs.Catalog.{Catalog}
 use Rattle.fragment_graph.specs.DocumentCycles.{HasNoCycle}
 use Rattle.merge_field_pairs.specs.Entries.{PlainEntry}
 use Rattle.merge_graph.specs.Definitions.{fragment_count}
+use Rattle.merge_graph.specs.SetsIn.{HasKnownConditions}
 use Rattle.merge_conflicts.specs.Reports.{Reports, none}
 use Rattle.merge_conflicts.specs.Texts.{ConflictValue, errors_of}
-use Rattle.merge_document.specs.Conflicts.{AreReal, AreAll, IsTidyDocument}
+use Rattle.merge_document.specs.Conflicts.{AreReal, AreTold, AreAll, IsTidyDocument}
 use Rattle.merge_document.specs.Found.{AreTogether}
 use Rattle.walk.specs.ContextState.{DocumentScope}
 use Rattle.walk.specs.ErrorValue.{ErrorValue}
@@ -17,14 +18,16 @@ abbrev pub error_value : ConflictValue → ErrorValue
 error_value c = record { locations = c.places; message = c.message }
 
 -- The errors of conflicts, each of them a true one. If the fragments form a cycle there are none, and nothing was compared. If they form
--- no cycle, and no field repeats an argument or a key in one, no conflict is missed. At most n (n - 1) pairs of n definitions of
--- fragments were compared, and at least those that some set spreads both of. No search opened more than n.
+-- no cycle, and no field repeats an argument or a key in one, what two fields of one set have between them is told; and no conflict is
+-- missed if the conditions of inline fragments are known, too. At most n (n - 1) pairs of n definitions of fragments were compared, and at
+-- least those that some set spreads both of. No search opened more than n.
 pub record MergeErrors {S C : Type 0} (E : S → S → Bool) (schema : Catalog S C) (document : List (Definition S)) (end : OverlappingFieldsCanBeMerged) (es : List ErrorValue) : Type 0 where
   pub reports : Reports (PlainEntry S C)
   pub told : IsPermutation (map error_value (errors_of E schema reports)) es
   pub real : AreReal E schema document reports
   pub cyclic : (HasNoCycle document → ⊥) → (reports ≡ none) × (end.compared ≡ 0)
-  pub all : HasNoCycle document → IsTidyDocument schema document → AreAll E schema document reports
+  pub told_of_sets : HasNoCycle document → IsTidyDocument schema document → AreTold E schema document reports
+  pub all : HasNoCycle document → IsTidyDocument schema document → HasKnownConditions schema document → AreAll E schema document reports
   pub few : end.compared ≤ fragment_count document * (fragment_count document - 1)
   pub enough : HasNoCycle document → (ps : List (List ℕ × List ℕ)) → AreTogether schema document ps → length ps ≤ end.compared
   pub opened : end.opened ≤ fragment_count document * end.lists
