@@ -1,13 +1,12 @@
 -- What a search found says of its document: real conflicts, and none is missed.
-use Rattle.std.proofs.Common.{◌≡◌, ◌<◌, ℕ, List, [], ◌∷◌, Bool, false, Option, Some, None, length, get_or, slice_get, refl, sym, ap, subst, ◌∙◌, inl, inr, ◌⊎◌, arith}
+use Rattle.std.proofs.Common.{◌≡◌, ◌<◌, ℕ, List, [], Bool, false, Option, length, get_or, refl, sym, ap, subst, ◌∙◌, inl, inr, arith}
 use Rattle.std.specs.List.{Contains}
 use Rattle.std.specs.Option.{is_some}
-use Rattle.std.proofs.lemmas.List.Elements.{All-weaker, All-contains, Contains-append_cases, Contains-get_or}
+use Rattle.std.proofs.lemmas.List.Elements.{All-weaker, All-contains, Contains-get_or}
 use Rattle.language.specs.declared.tree.Selection.{Selection}
 use Rattle.language.specs.declared.tree.Definition.{Definition}
 use Rattle.meta.specs.declared.kinds.MetaTypeOf.{MetaTypeOf}
 use Rattle.schema.specs.Catalog.{Catalog}
-use Rattle.fragment_graph.proofs.Lists.{same_some}
 use Rattle.merge_field_pairs.specs.Entries.{PlainEntry, exclusive_of}
 use Rattle.merge_field_pairs.specs.OwnFields.{entry_under}
 use Rattle.merge_field_pairs.specs.DirectReason.{direct_of}
@@ -15,7 +14,7 @@ use Rattle.merge_field_pairs.specs.Numbered.{AreTidy}
 use Rattle.merge_search.specs.declared.node.Entry.{Entry}
 use Rattle.merge_search.specs.declared.state.Finding.{Finding}
 use Rattle.merge_search.specs.declared.state.Finding.TheVariants.{Direct}
-use Rattle.merge_search.specs.World.{World, own_of, spreads_of}
+use Rattle.merge_search.specs.World.{World}
 use Rattle.merge_search.specs.Merging as graph
 use Rattle.merge_search.specs.Reports.{Root, AtSearched, Real, Complete}
 use Rattle.merge_search.specs.Graph.{IsWhole}

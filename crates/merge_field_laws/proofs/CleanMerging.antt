@@ -8,7 +8,7 @@ use Rattle.merge_field_pairs.specs.Entries.{PlainEntry}
 use Rattle.merge_graph.specs.SetsIn.{IsFieldIn}
 use Rattle.merge_document.specs.Merging.{DocumentMerges, Merges}
 use Rattle.rules_first_stage.specs.CleanStage.{CleanDocument}
-use Rattle.validation.proofs.Stages.{tidy_where_clean}
+use Rattle.validation.proofs.Stages.{tidy_where_clean, known_where_clean}
 use Rattle.merge_field_laws.specs.Clean.{MergesFairly}
 use Rattle.merge_field_laws.proofs.Merging.{either_order, where_exclusive, with_itself, each_with_itself}
 
@@ -24,4 +24,4 @@ module _ {S C : Type 0} (E : S → S → Bool) (laws : IsEquivalence E) (schema 
 
   pub clean_merges_with_itself : CleanDocument schema t document → DocumentMerges E schema document → (a : PlainEntry S C) → IsFieldIn schema document a → (e : Bool) → Merges E schema document e a a
   clean_merges_with_itself c merges a i e =
-      each_with_itself schema document E laws (tidy_where_clean schema t document c) c.no_cycle merges a i e
+      each_with_itself schema document E laws (tidy_where_clean schema t document c) c.no_cycle (known_where_clean schema t document c) merges a i e

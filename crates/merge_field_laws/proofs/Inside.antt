@@ -1,6 +1,8 @@
 -- What stands in the sets of a document is the document's.
-use Rattle.std.proofs.Common.{◌≡◌, ℕ, List, [], ◌∷◌, Option, Some, None, slice_get, refl, sym, subst}
+use Rattle.std.proofs.Common.{◌≡◌, ℕ, List, [], ◌∷◌, Option, Some, None, slice_get, refl, sym, ap, subst, ◌∙◌}
 use Rattle.std.specs.List.{Contains, flat_map}
+use Rattle.std.specs.Option.{option_or}
+use denote.Ref.{Bor}
 use Rattle.std.specs.declared.vec.Vec.{Vec}
 use Rattle.std.specs.declared.alloc.Global.{Global}
 use Rattle.language.specs.Each.{Each, EachIfThere}
@@ -20,7 +22,7 @@ use Rattle.fragment_graph.proofs.Placed.{placed-Spread, placed-Inline}
 use Rattle.merge_field_pairs.specs.Entries.{PlainEntry}
 use Rattle.merge_field_pairs.specs.OwnFields.{Placed, entry_under, type_inside, type_below, own_fields_of, own_fields, own_spreads_of, own_spreads}
 use Rattle.merge_field_pairs.proofs.OwnFieldLaws.{own_fields_of-Field, own_fields_of-Spread, own_fields_of-Inline, own_spreads_of-Field, own_spreads_of-Spread, own_spreads_of-Inline}
-use Rattle.merge_set_table.specs.Inside.{IsInside, below_field, of_inline}
+use Rattle.merge_set_table.specs.Inside.{type_entered, IsInside, below_field, of_inline, IsConditionKnown}
 use Rattle.merge_graph.proofs.Renumbering.{in_flat}
 use Rattle.merge_field_laws.proofs.NoCycle.{at_in}
 
@@ -34,42 +36,54 @@ module _ {S C : Type 0} (schema : Catalog S C) (root : Option (MetaTypeOf S C)) 
   abbrev In : Option (MetaTypeOf S C) → List (Selection S) → Type 0
   In p set = IsInside schema root whole p set
 
-  module _ (P : PlainEntry S C → Type 0)
-      (step : (p : Option (MetaTypeOf S C)) (set : List (Selection S)) (f : Placed (Field S)) → In p set → Contains set (selection.Field f)
+  -- R is what the types of own fields have to do with those under which a walk enters their sets.
+  module _ (R : Option (MetaTypeOf S C) → Option (MetaTypeOf S C) → Type 0)
+      (in_field : (p q : Option (MetaTypeOf S C)) (f : Placed (Field S)) → R p q → R (type_below schema (entry_under p f)) (type_below schema (entry_under q f)))
+      (in_inline : (p q : Option (MetaTypeOf S C)) (set : List (Selection S)) (f : Placed (InlineFragment S)) → In q set → Contains set (selection.InlineFragment f) → R p q
+      → R (type_inside schema p f.item.type_condition) (type_entered schema q f.item.type_condition))
+      (P : PlainEntry S C → Type 0)
+      (step : (p q : Option (MetaTypeOf S C)) (set : List (Selection S)) (f : Placed (Field S)) → R p q → In q set → Contains set (selection.Field f)
       → ((w : Vec (Selection S) Global) → f.item.selection_set ≡ Some w → (a : PlainEntry S C) → Contains (own_fields schema (type_below schema (entry_under p f)) w.items) a → P a)
       → P (entry_under p f)) where
     -- the own fields of the selection, wherever it stands
     abbrev Holds : Selection S → Type 0
-    Holds s = (p : Option (MetaTypeOf S C)) (set : List (Selection S)) → In p set → Contains set s → (a : PlainEntry S C) → Contains (own_fields_of schema p s) a → P a
+    Holds s = (p q : Option (MetaTypeOf S C)) (set : List (Selection S)) → R p q → In q set → Contains set s → (a : PlainEntry S C) → Contains (own_fields_of schema p s) a → P a
 
-    of_set : (p : Option (MetaTypeOf S C)) (set : List (Selection S)) → In p set → Each Holds set → (a : PlainEntry S C) → Contains (own_fields schema p set) a → P a
-    of_set p set i each a c =
+    of_set : (p q : Option (MetaTypeOf S C)) (set : List (Selection S)) → R p q → In q set → Each Holds set → (a : PlainEntry S C) → Contains (own_fields schema p set) a → P a
+    of_set p q set r i each a c =
         let s = in_some (own_fields_of schema p) set a c in
-        Each-In Holds set s.0 each (at_in set s.1.0 s.0 s.1.1) p set i (contains_at set s.1.0 s.0 s.1.1) a s.2
+        Each-In Holds set s.0 each (at_in set s.1.0 s.0 s.1.1) p q set r i (contains_at set s.1.0 s.0 s.1.1) a s.2
 
     set_there : (o : Option (Vec (Selection S) Global)) (w : Vec (Selection S) Global) → o ≡ Some w → EachIfThere Holds o → Each Holds w.items
     set_there None w e each = absurd (none_some w e)
     set_there (Some v) w e each = subst (λ (u : Vec (Selection S) Global). Each Holds u.items) (same_some v w e) each
 
     of_field : (f : Placed (Field S)) → EachIfThere Holds f.item.selection_set → Holds (selection.Field f)
-    of_field f each p set i c a h =
+    of_field f each p q set r i c a h =
         subst P (contains_one (entry_under p f) a (subst (λ z. Contains z a) (own_fields_of-Field schema p f) h))
-        (step p set f i c (λ w e. of_set (type_below schema (entry_under p f)) w.items (below_field f w i c e) (set_there f.item.selection_set w e each)))
+        (step p q set f r i c (λ w e. of_set (type_below schema (entry_under p f)) (type_below schema (entry_under q f)) w.items (in_field p q f r) (below_field f w i c e) (set_there f.item.selection_set w e each)))
 
     of_spread : (s : Placed (FragmentSpread S)) → Holds (selection.FragmentSpread s)
-    of_spread s p set i c a h = absurd (contains_none a (subst (λ z. Contains z a) (own_fields_of-Spread schema p s) h))
+    of_spread s p q set r i c a h = absurd (contains_none a (subst (λ z. Contains z a) (own_fields_of-Spread schema p s) h))
 
     of_inline_fragment : (f : Placed (InlineFragment S)) → Each Holds f.item.selection_set.items → Holds (selection.InlineFragment f)
-    of_inline_fragment f each p set i c a h =
-        of_set (type_inside schema p f.item.type_condition) f.item.selection_set.items (of_inline f i c) each a (subst (λ z. Contains z a) (own_fields_of-Inline schema p f) h)
+    of_inline_fragment f each p q set r i c a h =
+        of_set (type_inside schema p f.item.type_condition) (type_entered schema q f.item.type_condition) f.item.selection_set.items (in_inline p q set f i c r) (of_inline f i c) each a
+        (subst (λ z. Contains z a) (own_fields_of-Inline schema p f) h)
 
     each_holds : (set : List (Selection S)) → Each Holds set
     each_holds [] = tt
     each_holds (s ∷ set) = (selection_induction Holds of_field of_spread of_inline_fragment s, each_holds set)
 
     -- what holds of a field where it holds of the own fields below it holds of all own fields
-    pub own_induction : (p : Option (MetaTypeOf S C)) (set : List (Selection S)) → In p set → (a : PlainEntry S C) → Contains (own_fields schema p set) a → P a
-    own_induction p set i = of_set p set i (each_holds set)
+    pub own_induction : (p q : Option (MetaTypeOf S C)) (set : List (Selection S)) → R p q → In q set → (a : PlainEntry S C) → Contains (own_fields schema p set) a → P a
+    own_induction p q set r i = of_set p q set r i (each_holds set)
+
+-- where the condition is known a walk enters the set under the type of its fields
+pub same_inside : {S C : Type 0} (schema : Catalog S C) (p : Option (MetaTypeOf S C)) (condition : Option (Placed (Bor (List ℕ)))) → IsConditionKnown schema condition
+    → type_inside schema p condition ≡ type_entered schema p condition
+same_inside schema p None known = refl
+same_inside schema p (Some name) known = let (m, is) = known name refl in ap (λ r. option_or r p) is ∙ sym is
 
 module _ {S : Type 0} where
   -- the names that a selection spreads itself are spread at some depth

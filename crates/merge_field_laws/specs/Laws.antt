@@ -9,7 +9,7 @@ use Rattle.schema.specs.Catalog.{Catalog}
 use Rattle.fragment_graph.specs.DocumentCycles.{HasNoCycle}
 use Rattle.merge_field_pairs.specs.Entries.{PlainEntry}
 use Rattle.merge_field_pairs.specs.OwnFields.{type_below}
-use Rattle.merge_graph.specs.SetsIn.{IsFieldIn}
+use Rattle.merge_graph.specs.SetsIn.{IsFieldIn, HasKnownConditions}
 use Rattle.merge_document.specs.WrittenOut.{Stands}
 use Rattle.merge_document.specs.Merging.{Merges, SetMerges, DocumentMerges}
 use Rattle.merge_document.specs.Conflicts.{IsTidyDocument}
@@ -42,8 +42,8 @@ module _ (S C : Type 0) (E : S → S → Bool) where
       → ((p : Option (MetaTypeOf S C)) (set : List (Selection S)) → IsBelow schema document a p set → SetMerges E schema document p set)
       → (e : Bool) → Merges E schema document e a a
 
-  -- So where the document merges, each of its fields merges with itself.
+  -- So where the document merges, and the conditions of its inline fragments are known, each of its fields merges with itself.
   abbrev pub EachMergesWithItself : Type 0
   EachMergesWithItself =
-      (schema : Catalog S C) (document : List (Definition S)) → IsTidyDocument schema document → HasNoCycle document → DocumentMerges E schema document
+      (schema : Catalog S C) (document : List (Definition S)) → IsTidyDocument schema document → HasKnownConditions schema document → HasNoCycle document → DocumentMerges E schema document
       → (a : PlainEntry S C) → IsFieldIn schema document a → (e : Bool) → Merges E schema document e a a

@@ -16,7 +16,8 @@ pub fn merges_where_exclusive<S: ScalarValue, C>()
 {}
 
 /// Where no field of a document repeats an argument, nor a key in one, and no fragment leads back to itself, a field merges with itself
-/// once all sets below it merge; so each field does where the document merges.
+/// once all sets below it merge. So each field does where the document merges, if the conditions of its inline
+/// fragments are known.
 pub fn merges_with_itself<S: ScalarValue, C>()
     ensures below { MergesWithItself S C S.eq }
     ensures all { EachMergesWithItself S C S.eq }

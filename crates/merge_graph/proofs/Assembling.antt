@@ -1,6 +1,6 @@
 -- How a document's sets are put together.
 use Rattle.std.proofs.Common.{◌≡◌, ◌==◌, ◌<◌, ◌≤◌, ◌+◌, ℕ, List, [], ◌∷◌, length, length-append, map, get_or, Option, Some, None, is_some, true, cond, slice_get, option_and_then, refl, sym, ap, subst, ◌∙◌, inl, inr, arith}
-use Rattle.std.specs.List.{Contains, flat_map}
+use Rattle.std.specs.List.{Contains}
 use Rattle.std.proofs.lemmas.Bool.{cases_order, eqb-true}
 use Rattle.std.proofs.lemmas.Map.Views.{Contains-from_any}
 use Rattle.std.proofs.lemmas.List.Elements.{All-nil}
@@ -22,7 +22,7 @@ use Rattle.merge_set_table.proofs.Lists.{among_from_get}
 use Rattle.merge_set_table.proofs.Representing.{extends_self}
 use Rattle.merge_graph.specs.declared.building.Building.{Building}
 use Rattle.merge_graph.specs.declared.judge.FieldJudge.{FieldJudge}
-use Rattle.merge_graph.specs.Definitions.{type_round, selections_of, IsLast}
+use Rattle.merge_graph.specs.Definitions.{selections_of, IsLast}
 use Rattle.merge_graph.specs.Building.{rank_in, stretch_of, order_at, AreSetsAt, AreKnown, AddsDefinition, AddsFragment, IsNothing, Built}
 use Rattle.merge_graph.specs.TableGraph.{AreListed, IsGraphOfTable}
 use Rattle.merge_graph.specs.DocumentGraph.{IsGraphOf}

@@ -5,7 +5,7 @@ use crate::node::SetNode;
 
 /// The sets of a document by number, the set of each fragment, and an order of the sets that are searched.
 ///
-/// A set refers to smaller sets alone. The sets of the fragments are searched; another one may only stand below a field.
+/// A set refers to smaller sets alone. The sets of the fragments are searched; another may only stand below a field.
 #[derive(Drop)]
 pub struct Graph<J> {
     pub judge: J,

@@ -1,5 +1,5 @@
 -- The type under which a walk enters an inline fragment, and that of its fields in the set around it.
-use Rattle.std.proofs.Common.{◌≡◌, ◌&&◌, List, ℕ, Bool, true, false, not, Option, Some, None, option_copied, refl, sym, ap, subst, ◌∙◌}
+use Rattle.std.proofs.Common.{◌≡◌, ◌&&◌, List, ℕ, true, false, not, Option, Some, None, option_copied, refl, ap, subst, ◌∙◌}
 use Rattle.std.specs.Option.{is_some, option_or}
 use denote.Ref.{Bor}
 use Rattle.meta.specs.declared.kinds.MetaTypeOf.{MetaTypeOf}

@@ -1,5 +1,5 @@
 -- Selections of one kind are none of another, and hold one node.
-use Rattle.std.proofs.Common.{◌≡◌, [], ◌∷◌, Option, Some, None, sym, ap, ◌∙◌, zero, suc, List, arith}
+use Rattle.std.proofs.Common.{◌≡◌, [], ◌∷◌, Option, Some, None, sym, ap, ◌∙◌, zero, suc, arith}
 use Rattle.std.specs.List.{Contains}
 use Rattle.language.specs.declared.tree.Selection.{Selection, out-Selection, out-roll-Selection}
 use Rattle.language.specs.declared.tree.Selection.TheOpen as opened

@@ -1,5 +1,5 @@
 -- Where added sets and fields come from.
-use Rattle.std.proofs.Common.{◌≡◌, ◌==◌, ℕ, ◌+◌, ◌<◌, ◌≤◌, List, [], ◌∷◌, ◌++◌, length, get_or, map, Option, Some, slice_get, sym, ap, subst, ◌∙◌, arith, inl, inr, true}
+use Rattle.std.proofs.Common.{◌≡◌, ◌==◌, ℕ, ◌+◌, ◌<◌, List, [], ◌++◌, length, get_or, map, Option, Some, slice_get, sym, ap, subst, ◌∙◌, arith, inl, inr}
 use Rattle.std.specs.List.{Contains}
 use Rattle.std.proofs.lemmas.List.{length-map}
 use Rattle.std.proofs.lemmas.Option.{slice_get_within, slice_get-get_or}
@@ -19,7 +19,6 @@ use Rattle.merge_set_table.specs.declared.table.NumberedSet.{NumberedSet}
 use Rattle.merge_set_table.specs.declared.table.Table.{Table}
 use Rattle.merge_set_table.specs.Table.{numbered, Extends}
 use Rattle.merge_set_table.specs.Once.{is_among}
-use Rattle.merge_set_table.specs.Represents.{IsSetOf}
 use Rattle.merge_set_table.specs.Inside.{type_entered, IsInside, itself, below_field, of_inline, IsFieldInside, AreConditionsKnown, IsDeeper, of_field, of_fragment}
 use Rattle.merge_set_table.specs.Adding.{FieldsFrom, ComesFrom, PushesField}
 use Rattle.merge_set_table.proofs.Lists.{get_snoc}

@@ -1,5 +1,5 @@
 -- Each set of a document stands in its outline.
-use Rattle.std.proofs.Common.{◌≡◌, List, Option, Some, inl, inr, refl, sym, subst}
+use Rattle.std.proofs.Common.{◌≡◌, List, Option, Some, inl, inr, sym, subst}
 use Rattle.std.specs.declared.vec.Vec.{Vec}
 use Rattle.std.specs.declared.alloc.Global.{Global}
 use Rattle.language.proofs.Members.{In}

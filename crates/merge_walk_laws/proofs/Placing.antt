@@ -21,7 +21,7 @@ use Rattle.merge_set_table.specs.Inside.{IsInside, itself, below_field, of_inlin
 use Rattle.merge_graph.specs.Definitions.{type_round, selections_of}
 use Rattle.events.specs.Node.{Node, Placed}
 use Rattle.events.specs.Occurrence.{Occurrence, is_document}
-use Rattle.events.specs.Outline.{beside, each, outline_of_arguments, outline_of_directives, outline_of_variable_definitions, outline_of_selection, outline_of_set, outline_of_set_if_there, outline_of_field, outline_of_inline, outline_of_definition}
+use Rattle.events.specs.Outline.{beside, each, outline_of_arguments, outline_of_directives, outline_of_variable_definitions, outline_of_selection, outline_of_set, outline_of_set_if_there, outline_of_definition}
 use Rattle.events.specs.SchemaView.{field_arguments}
 use Rattle.events.specs.Typing.{Typing, at_set, at_field, at_inline, at_operation, at_fragment}
 use Rattle.events.proofs.SelectionOutlines

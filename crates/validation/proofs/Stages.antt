@@ -9,6 +9,7 @@ use Rattle.fragment_graph.specs.DocumentCycles.{HasNoCycle}
 use Rattle.events.specs.Typing.{Typing}
 use Rattle.merge_field_pairs.specs.Entries.{PlainEntry}
 use Rattle.merge_graph.specs.Definitions.{fragment_count}
+use Rattle.merge_graph.specs.SetsIn.{HasKnownConditions}
 use Rattle.merge_conflicts.specs.Reports.{Reports, none, direct, nested}
 use Rattle.merge_conflicts.specs.Texts.{errors_of}
 use Rattle.merge_document.specs.Merging.{DocumentMerges}
@@ -19,8 +20,8 @@ use Rattle.walk.specs.ContextState.{ContextState, DocumentScope, has_some, scope
 use Rattle.walk.specs.ErrorValue.{ErrorValue}
 use Rattle.walk.specs.Rule.{AppendsAllowed, Meets}
 use Rattle.rules_first_stage.specs.CleanStage.{CleanDocument, IsCleanWhere}
-use Rattle.events.specs.Node.{field}
-use Rattle.merge_walk_laws.proofs.Agreeing.{fields_are_tidy, tidy_arguments}
+use Rattle.events.specs.Node.{field, inline_fragment}
+use Rattle.merge_walk_laws.proofs.Agreeing.{inlines_occur, fields_are_tidy, tidy_arguments}
 use Rattle.rules_first_stage.proofs.Distinct.{left_none}
 use Rattle.validation.specs.Stages.{AppendsReported, IsValid, IsValidIn, Reported, Rules, of_stage_one, of_stage_two}
 
@@ -44,6 +45,11 @@ pub tidy_where_clean : {S C : Type 0} (schema : Catalog S C) (t : Typing S C) (d
 tidy_where_clean schema t document c =
     fields_are_tidy schema t document (λ f is. (tidy_arguments f.item.arguments).1 (c.arguments (field f) is, c.values (field f) is))
 
+-- and the conditions of its inline fragments are known
+pub known_where_clean : {S C : Type 0} (schema : Catalog S C) (t : Typing S C) (document : List (Definition S)) → CleanDocument schema t document → HasKnownConditions schema document
+known_where_clean schema t document c d there q inner inside i stands name is =
+    c.conditions (inline_fragment i) (inlines_occur schema t document q inner (d, there, inside) i stands) name is
+
 module _ {S C : Type 0} (E : S → S → Bool) (schema : Catalog S C) where
   -- conflicts have errors
   no_conflict : (reports : Reports (PlainEntry S C)) → map error_value (errors_of E schema reports) ≡ [] → reports ≡ none
@@ -51,11 +57,11 @@ module _ {S C : Type 0} (E : S → S → Bool) (schema : Catalog S C) where
   no_conflict (direct a b f rest) e = absurd (not_none _ refl e)
   no_conflict (nested a b below rest) e = absurd (not_none _ refl e)
 
-  -- where nothing repeats and no fragment leads back to itself there are no errors if and only if the document merges
-  pub merges_iff : (document : List (Definition S)) (end : OverlappingFieldsCanBeMerged) (es : List ErrorValue) → HasNoCycle document → IsTidyDocument schema document
+  -- where nothing repeats, conditions are known and no fragment leads back to itself there are no errors if and only if the document merges
+  pub merges_iff : (document : List (Definition S)) (end : OverlappingFieldsCanBeMerged) (es : List ErrorValue) → HasNoCycle document → IsTidyDocument schema document → HasKnownConditions schema document
       → MergeErrors E schema document end es → (es ≡ []) ↔ DocumentMerges E schema document
-  merges_iff document end es acyclic tidy m =
-      let exact = (m.all acyclic tidy).exact in
+  merges_iff document end es acyclic tidy known m =
+      let exact = (m.all acyclic tidy known).exact in
       let errors : Reports (PlainEntry S C) → List ErrorValue = λ rs. map error_value (errors_of E schema rs) in (
         λ e. exact.0 (no_conflict m.reports (permuted_none _ (IsPermutation-sym _ _ (subst (IsPermutation (errors m.reports)) e m.told)))),
         λ merges. permuted_none es (subst (λ rs. IsPermutation (errors rs) es) (exact.1 merges) m.told),
@@ -86,7 +92,7 @@ module _ {S C : Type 0} (rules : Rules S C) where
         let here : MergeErrors rules.same old.schema document end es = subst (λ z. MergeErrors rules.same z document end es) (ap (λ w. w.schema) e) told in
         let found = silent.0 (none_now ∙ sym none_before) in
         let c = clean old.schema (typing old) document found in
-        let reported = of_stage_two none_before found here (here.all c.no_cycle (tidy_where_clean old.schema (typing old) document c)) in (
+        let reported = of_stage_two none_before found here (here.all c.no_cycle (tidy_where_clean old.schema (typing old) document c) (known_where_clean old.schema (typing old) document c)) in (
           es,
           subst (λ n. Reported rules old.errors (scope_of old.schema document) (typing old) document es n) counted reported,
           e' ∙ ap (λ w. with_errors w es) e ∙ ap (λ zs. record old { errors = zs ++ es }) (sym (ap (λ w. w.errors) e) ∙ none_now ∙ sym none_before),
@@ -100,7 +106,7 @@ module _ {S C : Type 0} (rules : Rules S C) where
         (λ e. absurd (nothing e), λ v. absurd (nothing (silent.1 v.stage_one)))
     none_iff before es pairs empty (of_stage_two {end = end} none_before found told all) =
         let c = clean schema t document found in
-        let judged = merges_iff rules.same schema document end es c.no_cycle (tidy_where_clean schema t document c) told in
+        let judged = merges_iff rules.same schema document end es c.no_cycle (tidy_where_clean schema t document c) (known_where_clean schema t document c) told in
         (λ e. record { stage_one = found; merges = judged.0 e }, λ v. judged.1 v.merges)
 
 -- conflicts in another order
@@ -113,6 +119,7 @@ merge_permuted E schema document end fs gs es m none_else p =
       told = IsPermutation-trans _ _ _ m.told (subst (λ z. IsPermutation z es) all p);
       real = m.real;
       cyclic = m.cyclic;
+      told_of_sets = m.told_of_sets;
       all = m.all;
       few = m.few;
       enough = m.enough;

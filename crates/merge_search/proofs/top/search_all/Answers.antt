@@ -1,4 +1,4 @@
-use Rattle.std.proofs.Common.{ℕ, ◌^◌, ◌<◌, [], length, get_or, sym, subst, arith, false}
+use Rattle.std.proofs.Common.{◌^◌, ◌<◌, [], length, get_or, sym, subst, arith, false}
 use Rattle.std.proofs.lemmas.List.Elements.{Contains-get_or}
 use Rattle.merge_search.specs.World.{world}
 use Rattle.merge_search.specs.Reports.{AddsAll, AtSearched}

@@ -1,4 +1,4 @@
-use Rattle.std.proofs.Common.{◌≡◌, ℕ, [], length, false}
+use Rattle.std.proofs.Common.{◌≡◌, [], length, false}
 use Rattle.merge_search.specs.World.{world}
 use Rattle.merge_search.specs.Counts.{Tally}
 use Rattle.merge_search.specs.Work.{pair_in}
