@@ -4,12 +4,14 @@
 use lint_app::failure::Failure;
 use lint_app::machine;
 use lint_app::program::tell_failure;
+use std::io::IsTerminal;
 use std::process::ExitCode;
 
 fn main(rt: HostRuntime) -> ExitCode {
     let (mut output, mut errors) = (rt.stdout(), rt.stderr());
+    let colours = machine::colours_of(&rt, output.is_terminal(), errors.is_terminal());
     let status = match machine::words(&rt) {
-        Ok(words) => machine::run(&rt, words.as_slice(), &mut output, &mut errors),
+        Ok(words) => machine::run(&rt, colours, words.as_slice(), &mut output, &mut errors),
         Err(error) => tell_failure(Failure::from(error), &mut errors),
     };
     ExitCode::from(status)

@@ -8,7 +8,7 @@ use Rattle.clap.specs.declared.error.Error.{Error}
 use Rattle.clap.specs.declared.error.kind.ErrorKind.{ErrorKind}
 use Rattle.lint_app.specs.declared.program.Told.{Told}
 use Rattle.lint_app.specs.Tasks.{TellsTask}
-use Rattle.lint_app.specs.Told.{Files}
+use Rattle.lint_app.specs.Host.{Host}
 use Rattle.lint_args.specs.Asks.{AsksFor, IsRefusal, IsRequest, input_count, word_texts}
 use Rattle.lint_args.specs.declared.task.Form.{Form}
 use Rattle.lint_args.specs.declared.task.Form.TheVariants as form
@@ -50,12 +50,12 @@ IsRefused words text = (error : Error) × IsRefusal words error × IsShown (kind
 module _ (rules : Rules SourceScalar SourceCheck) where
   -- of a task: it names the standard input twice; it ends early; or what is told of its files was not all written, or
   -- not all of them were judged
-  abbrev pub EndsTask : Files → Task → List ℕ → Type 0
-  EndsTask files task text =
+  abbrev pub EndsTask : Host → Task → List ℕ → Type 0
+  EndsTask host task text =
       ((1 < input_count task) × (text ≡ []))
       ⊎ (((faults : List Fault) × EndsEarly task.form faults text)
-      ⊎ ((told : Told) × TellsTask rules files task told × (text ≡ string_bytes told.text)))
+      ⊎ ((told : Told) × TellsTask rules host task told × (text ≡ string_bytes told.text)))
 
   -- of a command line: its words are refused, help or the version could not be written, or its task ends so
-  abbrev pub Ends : List (String Global) → Files → Option (List ℕ) → Option (List ℕ) → Type 0
-  Ends words files = WritesSome (λ text. IsRefused (word_texts words) text ⊎ ((task : Task) × AsksFor (word_texts words) task × EndsTask files task text))
+  abbrev pub Ends : List (String Global) → Host → Option (List ℕ) → Option (List ℕ) → Type 0
+  Ends words host = WritesSome (λ text. IsRefused (word_texts words) text ⊎ ((task : Task) × AsksFor (word_texts words) task × EndsTask host task text))

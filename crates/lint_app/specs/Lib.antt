@@ -1,4 +1,6 @@
 pub mod Ended
+pub mod Host
+pub mod Paths
 pub mod Rules
 pub mod Tasks
 pub mod Told

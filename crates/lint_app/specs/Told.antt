@@ -1,12 +1,14 @@
 -- What is told of files of queries.
-use denote.Ref.{Bor}
-use Rattle.std.specs.Prelude.{◌≡◌, ◌↔◌, ◌<◌, ⊤, Bool, true, false, ℕ, ◌+◌, List, [], ◌∷◌, ◌++◌, Option, Some, None, IsPermutation, IsSorted, IfSome, if◌then◌else◌, count_by, is_some, length, string_bytes}
+use Rattle.std.specs.Prelude.{◌≡◌, ◌↔◌, ◌<◌, ⊤, Bool, true, false, ℕ, ◌+◌, List, [], ◌∷◌, ◌++◌, Option, Some, None, IsPermutation, IsSorted, IfSome, if◌then◌else◌, count_by, is_some, length, String, string_bytes}
+use Rattle.std.specs.declared.alloc.Global.{Global}
 use Rattle.std.specs.List.{AllZip, flat_map}
 use Rattle.std.specs.Option.{option_to_list}
 use Rattle.language.specs.declared.tree.Definition.{Definition}
 use Rattle.language.specs.declared.tree.Definition.TheVariants as definition
 use Rattle.language.specs.declared.tree.Operation.{Operation}
 use Rattle.lint_app.specs.declared.documents.Report.{Report}
+use Rattle.lint_app.specs.Host.{Host}
+use Rattle.lint_app.specs.Paths.{Paths}
 use Rattle.lint_report.specs.declared.issues.Issue.{Issue}
 use Rattle.lint_report.specs.declared.sources.Joined.{Joined}
 use Rattle.lint_report.specs.declared.sources.Source.{Source}
@@ -55,29 +57,21 @@ pub record AddsIf (is_document : Bool) (P : List Issue → Type 0) (old new : Li
   pub is : is_document ≡ is_some outcome
   pub all : new ≡ old ++ issues_of outcome
 
--- the bytes of the file of a name, where they are known
-abbrev pub Files : Type 0
-Files = List ℕ → Option (List ℕ)
-
--- where none are known
-abbrev pub unknown_files : Files
-unknown_files path = None
-
 -- a file has this name and these bytes
 abbrev pub HasText : List ℕ → List ℕ → Source → Type 0
 HasText path bytes source = (string_bytes source.path ≡ path) × (string_bytes source.text ≡ bytes)
 
 -- a file has this name, and its bytes where they are known
-abbrev pub IsFileOf : Files → List ℕ → Source → Type 0
-IsFileOf files path source = (string_bytes source.path ≡ path) × IfSome (files path) (λ bytes. string_bytes source.text ≡ bytes)
+abbrev pub IsFileOf : Host → List ℕ → Source → Type 0
+IsFileOf host path source = (string_bytes source.path ≡ path) × IfSome (host.file path) (λ bytes. string_bytes source.text ≡ bytes)
 
 -- what is read of a path: the file of this name, or nothing
-abbrev pub IsReadOf : Files → ℕ → Bor (List ℕ) → List Source → Type 0
-IsReadOf files index path sources = (read : Option Source) × (sources ≡ option_to_list read) × IfSome read (IsFileOf files path.now)
+abbrev pub IsReadOf : Host → ℕ → String Global → List Source → Type 0
+IsReadOf host index path sources = (read : Option Source) × (sources ≡ option_to_list read) × IfSome read (IsFileOf host (string_bytes path))
 
 -- what is read of each path in turn
-abbrev pub AreReadOf : Files → List (Bor (List ℕ)) → List Source → Type 0
-AreReadOf files = InTurn (IsReadOf files) 0
+abbrev pub AreReadOf : Host → Paths → List Source → Type 0
+AreReadOf host = InTurn (IsReadOf host) 0
 
 -- a text with these files behind it, whose numbers count from this
 abbrev pub JoinsFiles : ℕ → List Source → Joined → Joined → Type 0

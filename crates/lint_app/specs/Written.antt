@@ -6,7 +6,7 @@ use Rattle.std.specs.List.{list_any, starts_with}
 use Rattle.std.specs.Str.{bytes_eq}
 use Rattle.lint_app.specs.declared.program.Told.{Told}
 use Rattle.lint_app.specs.Tasks.{TellsTask}
-use Rattle.lint_app.specs.Told.{Files}
+use Rattle.lint_app.specs.Host.{Host}
 use Rattle.lint_args.specs.Asks.{AsksFor, word_texts}
 use Rattle.lint_args.specs.declared.task.Task.{Task}
 use Rattle.sdl_scalars.specs.declared.check.SourceCheck.{SourceCheck}
@@ -24,13 +24,13 @@ asks_for_text = list_any (λ word. begins_request (string_bytes word))
 -- By what is known of all rules.
 module _ (rules : Rules SourceScalar SourceCheck) where
   -- what is told of a task's files was written in one piece, every file was judged, and the status says whether there are errors
-  pub record WritesTask (files : Files) (task : Task) (old new : Option (List ℕ)) (status : ℕ) : Type 0 where
+  pub record WritesTask (host : Host) (task : Task) (old new : Option (List ℕ)) (status : ℕ) : Type 0 where
     pub told : Told
-    pub tells : TellsTask rules files task told
+    pub tells : TellsTask rules host task told
     pub whole : told.is_whole ≡ true
     pub status_is : status ≡ (if told.has_errors then 1 else 0)
     pub written : Appends old new (string_bytes told.text)
 
   -- of the task that the words ask for
-  abbrev pub WritesAsked : List (String Global) → Files → Option (List ℕ) → Option (List ℕ) → ℕ → Type 0
-  WritesAsked words files old new status = (task : Task) × AsksFor (word_texts words) task × WritesTask files task old new status
+  abbrev pub WritesAsked : List (String Global) → Host → Option (List ℕ) → Option (List ℕ) → ℕ → Type 0
+  WritesAsked words host old new status = (task : Task) × AsksFor (word_texts words) task × WritesTask host task old new status

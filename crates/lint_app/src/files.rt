@@ -3,20 +3,25 @@ ghost use Rattle.std.specs.Prelude.{◌≡◌, ◌++◌, IfOk, IfSome, OnOk};
 ghost use Rattle.std.specs.Option.{option_to_list};
 ghost use Rattle.lint_app.specs.Told.{AreReadOf, HasText, IsFileOf, IsJoined};
 
+use crate::colours::Colours;
 use crate::failure::Failure;
 use lint_report::faults::Fault;
 use lint_report::sources::{Joined, Place, Source};
 use lint_report::text_places::position_at;
-use std::alloc::Global;
+use std::alloc::{AllocError, Global};
 use std::{fmt, io, str};
 use validation::OutOfMemory;
 
-/// Where files come from.
-pub trait Inputs {
-    ghost use Rattle.std.specs.Prelude.{ℕ, List, None, Option};
+const WITHOUT_FILES: &str = "no .graphql or .gql files, or the directory can't be listed";
 
-    // The bytes of the file at a path, if they are known.
-    ghost file: { Self → List ℕ → Option (List ℕ) } = { λ _ _. None };
+/// What a run finds outside: files, and which streams show colours.
+pub trait Inputs {
+    ghost use Rattle.std.specs.Prelude.{option_map};
+    ghost use Rattle.lint_args.specs.Asks.{word_texts};
+    ghost use Rattle.lint_app.specs.Host.{Host, no_colours, unknown_host};
+
+    // What is known of it.
+    ghost host: { Self → Host } = { λ _. unknown_host no_colours };
 
     /// The bytes of the file at a path.
     ///
@@ -24,7 +29,21 @@ pub trait Inputs {
     ///
     /// The file can't be read, or out of memory.
     fn read(&self, alloc: Global, path: &str) -> io::Result<Vec<u8>>
-        ensures { IfOk result (λ bytes. IfSome (file self.now path.now) (λ known. bytes.items ≡ known)) };
+        ensures { IfOk result (λ bytes. IfSome ((host self.now).file path.now) (λ known. bytes.items ≡ known)) };
+
+    /// The paths of all `.graphql` and `.gql` files below a directory, in any order, or `None` if the path is no
+    /// directory. A directory that can't be listed is among them.
+    ///
+    /// # Errors
+    ///
+    /// Out of memory.
+    fn list(&self, alloc: Global, path: &str) -> Result<Option<Vec<String>>, AllocError>
+        ensures { IfOk result (λ listed. IfSome ((host self.now).below path.now)
+            (λ known. option_map (λ paths. word_texts paths.items) listed ≡ known)) };
+
+    /// Which streams show colours.
+    fn colours(&self) -> Colours
+        ensures { result ≡ (host self.now).colours };
 }
 
 /// The files at these paths that can be read. Why the others can't be read goes to `faults`.
@@ -35,14 +54,14 @@ pub trait Inputs {
 pub fn read_sources<I: Inputs>(
     alloc: Global,
     inputs: &I,
-    paths: &[&str],
+    paths: &[String],
     faults: &mut Vec<Fault>,
 ) -> Result<Vec<Source>, Failure>
-    ensures { IfOk result (λ sources. AreReadOf (I.file inputs.now) paths.now sources.items) }
+    ensures { IfOk result (λ sources. AreReadOf (I.host inputs.now) paths.now sources.items) }
 {
     let mut sources = Vec::new(alloc);
     for path in paths {
-        let read = read_source(alloc, inputs, path, faults)?;
+        let read = read_source(alloc, inputs, path.as_str(), faults)?;
         add_read(&mut sources, read)?;
     }
     Ok(sources)
@@ -68,27 +87,38 @@ pub fn read_file<I: Inputs>(
     path: &str,
     faults: &mut Vec<Fault>,
 ) -> Result<Source, Failure> {
-    match read_source(alloc, inputs, path, faults)? {
-        Some(source) => Ok(source),
-        None => Err(Failure::Told),
+    match inputs.read(alloc, path) {
+        Ok(bytes) => match source_of(alloc, path, bytes.as_slice(), faults)? {
+            Some(source) => Ok(source),
+            None => Err(Failure::Told),
+        },
+        Err(error) => Err(told_file_fault(alloc, path, &error, faults)),
     }
 }
 
-// The file at this path, if it can be read.
+// The file at a path that an argument stands for, if it can be read.
 fn read_source<I: Inputs>(
     alloc: Global,
     inputs: &I,
     path: &str,
     faults: &mut Vec<Fault>,
 ) -> Result<Option<Source>, Failure>
-    ensures { IfOk result (λ read. IfSome read (IsFileOf (I.file inputs.now) path.now)) }
+    ensures { IfOk result (λ read. IfSome read (IsFileOf (I.host inputs.now) path.now)) }
 {
     match inputs.read(alloc, path) {
         Ok(bytes) => source_of(alloc, path, bytes.as_slice(), faults),
         Err(error) => {
-            faults.push(Fault::new(alloc, path, "", None, &error)?)?;
+            faults.push(Fault::new(alloc, path, "", None, &unread(error))?)?;
             Ok(None)
         }
+    }
+}
+
+// Why a file can't be read. A directory is only read where it has no files to list, or can't be listed.
+fn unread(error: io::Error) -> io::Error {
+    match error.kind() {
+        io::ErrorKind::IsADirectory => io::Error::new(error.kind(), WITHOUT_FILES),
+        _ => error,
     }
 }
 

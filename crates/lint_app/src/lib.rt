@@ -5,14 +5,18 @@
 //! nothing else. It has an issue for each error that `RootNode::validate` reports of the trees that were read. A
 //! document without errors has an issue for each fault of given values instead. Issues are in order, with their
 //! positions mapped back to the files. The files and options are those of the command line, by the contract of
-//! `lint_args`. A run that ends with 2 has a reason, and wrote at most a beginning of such a report or of faults. That
-//! the trees and the schema are those of the texts is only tested.
+//! `lint_args`, where a directory stands for the files that are listed of it. A run that ends with 2 has a reason, and
+//! wrote at most a beginning of such a report or of faults. That the trees and the schema are those of the texts is
+//! only tested.
 #![tactic(auto)]
 
+pub mod colours;
 pub mod documents;
 pub mod failure;
 pub mod files;
+pub mod folders;
 pub mod machine;
+pub mod paths;
 pub mod program;
 pub mod rules;
 pub mod schemas;

@@ -1,5 +1,5 @@
 //! The program's work, over any source of files and any writers.
-ghost use Rattle.std.specs.Prelude.{◌≡◌, ◌==◌, ◌≤◌, ◌<◌, ◌⊎◌, ◌&&◌, ⊤, [], IfOk, Some, length, string_bytes, true, false, if◌then◌else◌, vec_len};
+ghost use Rattle.std.specs.Prelude.{◌≡◌, ◌==◌, ◌≤◌, ◌<◌, ◌⊎◌, ◌&&◌, ⊤, [], IfOk, Some, length, string_bytes, true, false, if◌then◌else◌};
 ghost use Rattle.std.specs.Io.KnownBytes.{Appends};
 ghost use Rattle.std.specs.Option.{option_copied};
 ghost use Rattle.clap.specs.Values.{kind_of};
@@ -9,9 +9,11 @@ ghost use Rattle.lint_app.specs.Told.{GivenValues, IsReport};
 ghost use Rattle.lint_app.specs.Tasks.{IsTextOf, IsToldOf, TellsBy, TellsQueries, TellsTask};
 ghost use Rattle.lint_app.specs.Written.{WritesAsked, WritesTask, asks_for_text, begins_request};
 
+use crate::colours::Colours;
 use crate::documents::{Judge, Report};
 use crate::failure::Failure;
 use crate::files::{Inputs, read_sources};
+use crate::paths::paths_of;
 use crate::rules::LintRules;
 use crate::schemas::read_root;
 use crate::values::values_of_file;
@@ -58,14 +60,14 @@ pub fn run<I: Inputs, W: Write, E: Write>(
 ) -> u8
     ensures status { result ≤ 2 }
     ensures told { asks_for_text words.now ≡ false → result ≤ 1
-        → WritesAsked ⟦<SourceScalar as LintRules>⟧.rules words.now (I.file inputs.now) (W.contents output.old)
+        → WritesAsked ⟦<SourceScalar as LintRules>⟧.rules words.now (I.host inputs.now) (W.contents output.old)
         (W.contents output.new) result }
     ensures answered { result ≤ 1
         → WantsText (word_texts words.now) ⊎ WritesAsked ⟦<SourceScalar as LintRules>⟧.rules words.now
-        (I.file inputs.now) (W.contents output.old) (W.contents output.new) result }
+        (I.host inputs.now) (W.contents output.old) (W.contents output.new) result }
     ensures quiet { result ≤ 1 → errors.new ≡ errors.old }
     ensures ended { result ≡ 2
-        → Ends ⟦<SourceScalar as LintRules>⟧.rules words.now (I.file inputs.now) (W.contents output.old)
+        → Ends ⟦<SourceScalar as LintRules>⟧.rules words.now (I.host inputs.now) (W.contents output.old)
         (W.contents output.new) }
 {
     match Task::of(alloc, words) {
@@ -152,11 +154,11 @@ pub fn run_task<I: Inputs, W: Write, E: Write>(
 ) -> u8
     ensures status { result ≤ 2 }
     ensures told { result ≤ 1
-        → WritesTask ⟦<SourceScalar as LintRules>⟧.rules (I.file inputs.now) task.now (W.contents output.old)
+        → WritesTask ⟦<SourceScalar as LintRules>⟧.rules (I.host inputs.now) task.now (W.contents output.old)
         (W.contents output.new) result }
     ensures quiet { result ≤ 1 → errors.new ≡ errors.old }
     ensures ended { result ≡ 2
-        → WritesSome (EndsTask ⟦<SourceScalar as LintRules>⟧.rules (I.file inputs.now) task.now)
+        → WritesSome (EndsTask ⟦<SourceScalar as LintRules>⟧.rules (I.host inputs.now) task.now)
         (W.contents output.old) (W.contents output.new) }
 {
     if task.inputs() > 1 {
@@ -174,17 +176,29 @@ fn judge_task<I: Inputs, W: Write, E: Write>(
 ) -> u8
     ensures status { result ≤ 2 }
     ensures told { result ≤ 1
-        → WritesTask ⟦<SourceScalar as LintRules>⟧.rules (I.file inputs.now) task.now (W.contents output.old)
+        → WritesTask ⟦<SourceScalar as LintRules>⟧.rules (I.host inputs.now) task.now (W.contents output.old)
         (W.contents output.new) result }
     ensures quiet { result ≤ 1 → errors.new ≡ errors.old }
     ensures ended { result ≡ 2
-        → WritesSome (EndsTask ⟦<SourceScalar as LintRules>⟧.rules (I.file inputs.now) task.now)
+        → WritesSome (EndsTask ⟦<SourceScalar as LintRules>⟧.rules (I.host inputs.now) task.now)
         (W.contents output.old) (W.contents output.new) }
 {
     let mut faults = Vec::new(alloc);
     match judge_all(alloc, task, inputs, &mut faults) {
         Ok(told) => tell(&told, output, errors),
-        Err(failure) => tell_early(alloc, task.form, failure, faults.as_slice(), output, errors),
+        Err(failure) => {
+            let is_coloured = inputs.colours().errors;
+            let faults = faults.as_slice();
+            tell_early(
+                alloc,
+                is_coloured,
+                task.form,
+                failure,
+                faults,
+                output,
+                errors,
+            )
+        }
     }
 }
 
@@ -241,6 +255,7 @@ fn status_of(told: &Told) -> u8
 // Writes the faults for which no file could be judged, and else why the program ends early. Returns the exit status 2.
 fn tell_early<W: Write, E: Write>(
     alloc: Global,
+    is_coloured: bool,
     form: Form,
     failure: Failure,
     faults: &[Fault],
@@ -253,7 +268,7 @@ fn tell_early<W: Write, E: Write>(
     if faults.is_empty() {
         return tell_failure(failure, errors);
     }
-    match write_faults(alloc, form, faults, output, errors) {
+    match write_faults(alloc, is_coloured, form, faults, output, errors) {
         Ok(()) => tell_rest(failure, errors),
         Err(failure) => tell_failure(failure, errors),
     }
@@ -271,6 +286,7 @@ fn tell_rest<E: Write>(failure: Failure, errors: &mut E) -> u8
 
 fn write_faults<W: Write, E: Write>(
     alloc: Global,
+    is_coloured: bool,
     form: Form,
     faults: &[Fault],
     output: &mut W,
@@ -280,7 +296,7 @@ fn write_faults<W: Write, E: Write>(
 {
     let text = fault_report(alloc, form, faults)?;
     write_text(output, text.as_str())?;
-    let text = faults_for_errors(alloc, form, faults)?;
+    let text = faults_for_errors(alloc, is_coloured, form, faults)?;
     write_text(errors, text.as_str())?;
     Ok(())
 }
@@ -297,9 +313,14 @@ fn fault_report(alloc: Global, form: Form, faults: &[Fault]) -> Result<String, O
 }
 
 // What the errors have of faults.
-fn faults_for_errors(alloc: Global, form: Form, faults: &[Fault]) -> Result<String, OutOfMemory> {
+fn faults_for_errors(
+    alloc: Global,
+    is_coloured: bool,
+    form: Form,
+    faults: &[Fault],
+) -> Result<String, OutOfMemory> {
     match form {
-        Form::Text => faults_text(alloc, faults),
+        Form::Text => faults_text(alloc, is_coloured, faults),
         Form::Json | Form::Github => Ok(String::new(alloc)),
     }
 }
@@ -320,7 +341,7 @@ fn judge_all<I: Inputs>(
     inputs: &I,
     faults: &mut Vec<Fault>,
 ) -> Result<Told, Failure>
-    ensures { IfOk result (TellsTask ⟦<SourceScalar as LintRules>⟧.rules (I.file inputs.now) task.now) }
+    ensures { IfOk result (TellsTask ⟦<SourceScalar as LintRules>⟧.rules (I.host inputs.now) task.now) }
 {
     let root = read_root(alloc, task, inputs, faults)?;
     judge_by(alloc, task, inputs, &root, faults)
@@ -334,7 +355,7 @@ fn judge_by<I: Inputs>(
     root: &RootNode<SourceScalar>,
     faults: &mut Vec<Fault>,
 ) -> Result<Told, Failure>
-    ensures { IfOk result (TellsBy ⟦<SourceScalar as LintRules>⟧.rules (I.file inputs.now) task.now root.now) }
+    ensures { IfOk result (TellsBy ⟦<SourceScalar as LintRules>⟧.rules (I.host inputs.now) task.now root.now) }
 {
     match task.variables {
         Some(path) => judge_with(alloc, task, inputs, root, path, faults),
@@ -351,7 +372,7 @@ fn judge_with<I: Inputs>(
     faults: &mut Vec<Fault>,
 ) -> Result<Told, Failure>
     ensures { IfOk result (λ told. (values : GivenValues)
-        × TellsQueries ⟦<SourceScalar as LintRules>⟧.rules (I.file inputs.now) task.now root.now (Some values) told) }
+        × TellsQueries ⟦<SourceScalar as LintRules>⟧.rules (I.host inputs.now) task.now root.now (Some values) told) }
 {
     let values = values_of_file(alloc, inputs, path, faults)?;
     judge_queries(alloc, task, inputs, root, Some(&values), faults)
@@ -365,26 +386,33 @@ fn judge_queries<I: Inputs>(
     values: Option<&Variables<SourceScalar>>,
     faults: &mut Vec<Fault>,
 ) -> Result<Told, Failure>
-    ensures { IfOk result (TellsQueries ⟦<SourceScalar as LintRules>⟧.rules (I.file inputs.now) task.now root.now
+    ensures { IfOk result (TellsQueries ⟦<SourceScalar as LintRules>⟧.rules (I.host inputs.now) task.now root.now
         (option_copied values.entry)) }
 {
-    let read = read_sources(alloc, inputs, task.queries.as_slice(), faults)?;
+    let queries = task.queries.as_slice();
+    let paths = paths_of(alloc, inputs, queries)?;
+    let named = paths.as_slice();
+    let read = read_sources(alloc, inputs, named, faults)?;
     let sources = read.as_slice();
     let judge = Judge {
         root,
         values,
         sources,
     };
-    let report = report_of(alloc, task, &judge, faults)?;
-    let told = told_of(alloc, task, faults.as_slice(), sources, &report)?;
+    let files = named.len();
+    let report = report_of(alloc, task, &judge, files, faults)?;
+    let colours = inputs.colours();
+    let faults = faults.as_slice();
+    let told = told_of(alloc, task, colours, files, faults, sources, &report)?;
     Ok(told)
 }
 
-// With `--together`, all files must have been read.
+// With `--together`, all files must have been read, whose number this is.
 fn report_of(
     alloc: Global,
     task: &Task<'_>,
     judge: &Judge<'_>,
+    files: usize,
     faults: &mut Vec<Fault>,
 ) -> Result<Report, Failure>
     ensures { IfOk result (IsReport ⟦<SourceScalar as LintRules>⟧.rules task.now.is_together judge.now.root.now
@@ -394,7 +422,7 @@ fn report_of(
         let report = judge.each(alloc, faults)?;
         return Ok(report);
     }
-    if judge.sources.len() < task.queries.len() {
+    if judge.sources.len() < files {
         return Ok(Report::empty(alloc));
     }
     let report = judge.together(alloc, faults)?;
@@ -404,42 +432,46 @@ fn report_of(
 fn told_of(
     alloc: Global,
     task: &Task<'_>,
+    colours: Colours,
+    files: usize,
     faults: &[Fault],
     sources: &[Source],
     report: &Report,
 ) -> Result<Told, OutOfMemory>
-    ensures { IfOk result (IsToldOf task.now faults.now sources.now report.now) }
+    ensures { IfOk result (IsToldOf colours.output task.now files faults.now sources.now report.now) }
 {
-    let text = text_of(alloc, task, faults, sources, report)?;
-    let shown = faults_for_errors(alloc, task.form, faults)?;
+    let text = text_of(alloc, task, colours.output, files, faults, sources, report)?;
+    let shown = faults_for_errors(alloc, colours.errors, task.form, faults)?;
     Ok(Told {
         text,
         faults: shown,
         has_errors: !report.issues.is_empty(),
-        is_whole: is_whole(task, faults, report),
+        is_whole: is_whole(files, faults, report),
     })
 }
 
 // Whether there is no fault, and all files were judged.
-fn is_whole(task: &Task<'_>, faults: &[Fault], report: &Report) -> bool
-    ensures { result ≡ ((length faults.now == 0) && (report.now.judged == vec_len task.now.queries)) }
+fn is_whole(files: usize, faults: &[Fault], report: &Report) -> bool
+    ensures { result ≡ ((length faults.now == 0) && (report.now.judged == files)) }
 {
-    faults.is_empty() && report.judged == task.queries.len()
+    faults.is_empty() && report.judged == files
 }
 
 fn text_of(
     alloc: Global,
     task: &Task<'_>,
+    is_coloured: bool,
+    files: usize,
     faults: &[Fault],
     sources: &[Source],
     report: &Report,
 ) -> Result<String, OutOfMemory>
-    ensures { IfOk result (λ text. IsTextOf task.now faults.now sources.now report.now (string_bytes text)) }
+    ensures { IfOk result (λ text. IsTextOf is_coloured task.now files faults.now sources.now report.now (string_bytes text)) }
 {
     let issues = report.issues.as_slice();
-    let unjudged = task.queries.len().saturating_sub(report.judged);
+    let unjudged = files.saturating_sub(report.judged);
     match task.form {
-        Form::Text => text_report(alloc, sources, issues, report.judged, unjudged),
+        Form::Text => text_report(alloc, is_coloured, sources, issues, report.judged, unjudged),
         Form::Json => json_report(alloc, faults, sources, issues),
         Form::Github => github_report(alloc, faults, sources, issues),
     }

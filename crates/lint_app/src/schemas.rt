@@ -3,6 +3,7 @@ ghost use Rattle.std.specs.Prelude.{◌≡◌, IfOk};
 
 use crate::failure::Failure;
 use crate::files::{Inputs, add_fault, joined_of, read_sources, told_fault, told_file_fault};
+use crate::paths::paths_of;
 use graphql_reader::{ReadError, SourceScalar, read_type_system};
 use introspection::{IntrospectionError, schema_text};
 use lint_args::task::Task;
@@ -26,7 +27,8 @@ pub fn read_root<I: Inputs>(
 ) -> Result<RootNode<SourceScalar>, Failure>
     ensures { IfOk result (λ root. root.introspection_disabled ≡ task.now.is_closed) }
 {
-    let sources = read_sources(alloc, inputs, task.schemas.as_slice(), faults)?;
+    let paths = paths_of(alloc, inputs, task.schemas.as_slice())?;
+    let sources = read_sources(alloc, inputs, paths.as_slice(), faults)?;
     if !faults.is_empty() {
         return Err(Failure::Told);
     }

@@ -1,4 +1,7 @@
 //! Files in memory, and a writer that fails.
+ghost use Rattle.lint_app.specs.Host.{unknown_host};
+
+use lint_app::colours::Colours;
 use lint_app::files::Inputs;
 use lint_app::program::run;
 use std::alloc::{AllocError, Global};
@@ -74,15 +77,38 @@ const FILES: &[(&str, &str)] = &[
     ("values.json", "{\"id\": \"7\"}"),
     ("null.json", "{\"id\": null}"),
     ("-", "{ item(id: 1) { name } }"),
+    ("team/a.graphql", "{ item(id: 1) { nme } }\n"),
+    ("team/b/c.gql", "{ item(id: 1) { nam } }\n"),
+    ("team/b/d.graphql", "{ item(id: 1) { name } }\n"),
 ];
+
+// Directories, and what is listed of each.
+const FOLDERS: &[(&str, &[&str])] = &[
+    (
+        "team",
+        &["team/b/d.graphql", "team/b/c.gql", "team/a.graphql"],
+    ),
+    ("shop", &["item.graphql", "shop.graphql"]),
+    ("part", &["part/closed", "good.graphql"]),
+    ("empty", &[]),
+];
+
+/// No stream shows colours.
+pub const PLAIN: Colours = Colours {
+    output: false,
+    errors: false,
+};
 
 /// Files in memory, of which one can't be read.
 #[derive(Clone, Copy, Debug)]
 pub struct Memory<'b> {
     pub broken: &'b str,
+    pub colours: Colours,
 }
 
 impl Inputs for Memory<'_> {
+    ghost host = { λ m. unknown_host m.colours };
+
     fn read(&self, alloc: Global, path: &str) -> io::Result<Vec<u8>> {
         if path == self.broken {
             return Err(io::Error::from(io::ErrorKind::PermissionDenied));
@@ -93,27 +119,71 @@ impl Inputs for Memory<'_> {
                 return Ok(bytes);
             }
         }
+        if FOLDERS.iter().any(|folder| folder.0 == path) {
+            return Err(io::Error::from(io::ErrorKind::IsADirectory));
+        }
         Err(io::Error::from(io::ErrorKind::NotFound))
+    }
+
+    fn list(&self, alloc: Global, path: &str) -> Result<Option<Vec<String>>, AllocError> {
+        for (folder, names) in FOLDERS {
+            if *folder == path {
+                return Ok(Some(texts_of(alloc, names)?));
+            }
+        }
+        Ok(None)
+    }
+
+    fn colours(&self) -> Colours {
+        self.colours
     }
 }
 
-/// Takes `left` bytes, and then fails.
+fn texts_of(alloc: Global, names: &[&str]) -> Result<Vec<String>, AllocError> {
+    let mut texts = Vec::new(alloc);
+    for name in names {
+        texts.push(String::from_str(alloc, name)?)?;
+    }
+    Ok(texts)
+}
+
+/// Takes `left` bytes, one at a time, and then fails, also at a flush. Every other write is interrupted.
 #[derive(Drop)]
 pub struct BrokenWriter {
     pub left: usize,
+    pub taken: Vec<u8>,
+    pub is_interrupted: bool,
+}
+
+impl BrokenWriter {
+    /// One that has taken nothing yet.
+    pub fn new(alloc: Global, left: usize) -> BrokenWriter {
+        BrokenWriter {
+            left,
+            taken: Vec::new(alloc),
+            is_interrupted: false,
+        }
+    }
 }
 
 impl Write for BrokenWriter {
     fn write(&mut self, buf: &[u8]) -> io::Result<usize> {
-        let taken = self.left.min(buf.len());
-        if taken == 0 {
-            return Err(io::Error::from(io::ErrorKind::StorageFull));
+        self.is_interrupted = !self.is_interrupted;
+        if self.is_interrupted {
+            return Err(io::Error::from(io::ErrorKind::Interrupted));
         }
-        self.left -= taken;
-        Ok(taken)
+        let (Some(first), true) = (buf.first(), self.left > 0) else {
+            return Err(io::Error::from(io::ErrorKind::StorageFull));
+        };
+        self.taken.push(*first)?;
+        self.left -= 1;
+        Ok(1)
     }
 
     fn flush(&mut self) -> io::Result<()> {
+        if self.left == 0 {
+            return Err(io::Error::from(io::ErrorKind::StorageFull));
+        }
         Ok(())
     }
 }
@@ -138,11 +208,19 @@ pub struct Run {
 
 /// A run with these arguments, where one file can't be read.
 pub fn run_broken(alloc: Global, line: &str, broken: &str) -> Result<Run, AllocError> {
+    let files = Memory {
+        broken,
+        colours: PLAIN,
+    };
+    run_over(alloc, line, &files)
+}
+
+/// A run with these arguments over these files.
+pub fn run_over(alloc: Global, line: &str, files: &Memory<'_>) -> Result<Run, AllocError> {
     let words = words_of(alloc, line)?;
     let mut output = Vec::new(alloc);
     let mut errors = Vec::new(alloc);
-    let files = Memory { broken };
-    let status = run(alloc, words.as_slice(), &files, &mut output, &mut errors);
+    let status = run(alloc, words.as_slice(), files, &mut output, &mut errors);
     Ok(Run {
         status,
         output,

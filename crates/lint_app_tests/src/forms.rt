@@ -1,5 +1,6 @@
 //! Runs over files in memory.
-use crate::fakes::run_broken;
+use crate::fakes::{Memory, run_broken, run_over};
+use lint_app::colours::Colours;
 
 // The errors of two documents. A schema has one meaning, as type definitions and as an introspection result.
 const KENNEL_ERRORS: &str =
@@ -66,6 +67,22 @@ const FAULTS_JSON: &str = "[
 const FAULTS_GITHUB: &str = "::error file=absent.graphql::entity not found
 ::error file=empty.graphql,line=2,col=1::expected an operation or a fragment, found the end of the text
 ::error file=bad.graphql,line=3,col=3::Unknown field \"nme\" on type \"Item\"
+";
+
+// A directory stands for its files in ascending order, and a file that is named again is judged once.
+const TEAM_ERRORS: &str = "team/a.graphql:1:17: error: Unknown field \"nme\" on type \"Item\"
+{ item(id: 1) { nme } }
+                ^
+team/b/c.gql:1:17: error: Unknown field \"nam\" on type \"Item\"
+{ item(id: 1) { nam } }
+                ^
+2 errors in 2 of 4 files
+";
+
+const TEAM_GITHUB: &str =
+    "::error file=empty::no .graphql or .gql files, or the directory can't be listed
+::error file=team/a.graphql,line=1,col=17::Unknown field \"nme\" on type \"Item\"
+::error file=team/b/c.gql,line=1,col=17::Unknown field \"nam\" on type \"Item\"
 ";
 
 // Arguments, the exit status, the output, and the errors.
@@ -184,6 +201,30 @@ const RUNS: &[(&str, u8, &str, &str)] = &[
         "bad.graphql:3:3: error: Unknown field \"nme\" on type \"Item\"\n\t\tnme\n\t\t^\n1 error in 1 of 2 files\n",
         "",
     ),
+    (
+        "--schema shop team good.graphql team/a.graphql",
+        1,
+        TEAM_ERRORS,
+        "",
+    ),
+    (
+        "--schema shop --format github team/a.graphql team empty",
+        2,
+        TEAM_GITHUB,
+        "",
+    ),
+    (
+        "--schema shop empty part",
+        2,
+        "no errors in 1 file, 2 files not checked\n",
+        "empty: error: no .graphql or .gql files, or the directory can't be listed\npart/closed: error: entity not found\n",
+    ),
+    (
+        "--schema empty good.graphql",
+        2,
+        "",
+        "empty: error: no .graphql or .gql files, or the directory can't be listed\n",
+    ),
     ("--version", 0, "lint 0.1.0\n", ""),
     ("-V", 0, "lint 0.1.0\n", ""),
 ];
@@ -220,6 +261,42 @@ fn runs(rt: HostRuntime) {
     for (line, status, output, errors) in RUNS {
         let run = run_broken(rt.alloc(), line, "").expect(&rt, "memory");
         assert_eq!(rt; run.status, *status);
+        assert_eq!(rt; run.output.as_slice(), output.as_bytes());
+        assert_eq!(rt; run.errors.as_slice(), errors.as_bytes());
+    }
+}
+
+// The streams that show colours, and both with them.
+const COLOURED: &[(Colours, &str, &str)] = &[
+    (
+        Colours {
+            output: true,
+            errors: false,
+        },
+        "\x1b[1mteam/a.graphql\x1b[0m:1:17: \x1b[1;31merror:\x1b[0m Unknown field \"nme\" on type \"Item\"\n{ item(id: 1) { nme } }\n                \x1b[1;31m^\x1b[0m\n1 error in 1 of 1 file, 1 file not checked\n",
+        "absent: error: entity not found\n",
+    ),
+    (
+        Colours {
+            output: false,
+            errors: true,
+        },
+        "team/a.graphql:1:17: error: Unknown field \"nme\" on type \"Item\"\n{ item(id: 1) { nme } }\n                ^\n1 error in 1 of 1 file, 1 file not checked\n",
+        "\x1b[1mabsent\x1b[0m: \x1b[1;31merror:\x1b[0m entity not found\n",
+    ),
+];
+
+#[test]
+fn each_stream_has_its_colours(rt: HostRuntime) {
+    for (colours, output, errors) in COLOURED {
+        let files = Memory {
+            broken: "",
+            colours: *colours,
+        };
+        let run = run_over(rt.alloc(), "--schema shop team/a.graphql absent", &files).expect(
+            &rt, "memory",
+        );
+        assert_eq!(rt; run.status, 2);
         assert_eq!(rt; run.output.as_slice(), output.as_bytes());
         assert_eq!(rt; run.errors.as_slice(), errors.as_bytes());
     }

@@ -13,7 +13,9 @@ const VERSION: &str = "0.1.0";
 const ABOUT: &str = "Validates GraphQL queries (October 2021) against a schema.";
 
 const AFTER: &str =
-    "A file may be - for the standard input, which can be named once. A file that is named twice is judged once.
+    "A file may be - for the standard input, which can be named once. A directory stands for all .graphql and .gql files
+below it, in ascending order of their paths; links to directories are not followed. A file that is named twice is
+judged once. On a terminal text is coloured, unless the environment variable NO_COLOR is set and not empty.
 Lines and columns count from 1, columns in characters. In a file of variables a string may also be an enum value,
 and a number without fraction and exponent is an integer.
 With --together, JSON has only those locations of an error that are in the file of its first one.

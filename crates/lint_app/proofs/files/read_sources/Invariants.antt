@@ -4,4 +4,4 @@ use Rattle.lint_app.proofs.files.read_sources.Given as goal
 
 -- the paths so far were read
 abbrev pub invariant-loop-path : goal.invariant-loop-path
-invariant-loop-path g l = Done (IsReadOf (g.I.Inputs.file l.inputs)) l.paths l.path-index l.sources.items
+invariant-loop-path g l = Done (IsReadOf (g.I.Inputs.host l.inputs)) l.paths l.path-index l.sources.items
