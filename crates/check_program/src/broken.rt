@@ -11,22 +11,22 @@ const NO_MEMORY: &str = "check: out of memory\n";
 
 const USAGE: &str = "check: usage: check demo or check <pets, boxes> [merge, closed]\n";
 
-/// Gives `left` braces, one byte at a time, and then fails.
+/// Gives a text, one byte at a time, and then fails.
 #[derive(Drop)]
 struct BrokenReader {
-    left: usize,
+    text: &'static [u8],
     kind: io::ErrorKind,
 }
 
 impl Read for BrokenReader {
     fn read(&mut self, buf: &mut [u8]) -> io::Result<usize> {
-        if self.left == 0 {
+        let Some((first, rest)) = self.text.split_first() else {
             return Err(io::Error::from(self.kind));
-        }
-        self.left -= 1;
+        };
         match buf.first_mut() {
             Some(byte) => {
-                *byte = b'{';
+                *byte = *first;
+                self.text = rest;
                 Ok(1)
             }
             None => Ok(0),
@@ -34,24 +34,33 @@ impl Read for BrokenReader {
     }
 }
 
-/// Takes `left` bytes and then fails, or fails when it is flushed.
+/// Takes `left` bytes, one at a time, and then fails, also when it is flushed.
 #[derive(Drop)]
 struct BrokenWriter {
     left: usize,
+    taken: Vec<u8>,
 }
 
 impl Write for BrokenWriter {
     fn write(&mut self, buf: &[u8]) -> io::Result<usize> {
-        let taken = self.left.min(buf.len());
-        if taken == 0 {
+        let (Some(first), true) = (buf.first(), self.left > 0) else {
             return Err(io::Error::from(io::ErrorKind::StorageFull));
-        }
-        self.left -= taken;
-        Ok(taken)
+        };
+        self.taken.push(*first)?;
+        self.left -= 1;
+        Ok(1)
     }
 
     fn flush(&mut self) -> io::Result<()> {
         Err(io::Error::from(io::ErrorKind::StorageFull))
+    }
+}
+
+// One that has taken nothing yet.
+fn broken_writer(alloc: Global, left: usize) -> BrokenWriter {
+    BrokenWriter {
+        left,
+        taken: Vec::new(alloc),
     }
 }
 
@@ -77,6 +86,13 @@ fn words_that_are_no_text_are_told(rt: HostRuntime) -> Result<(), Fail> {
     Ok(())
 }
 
+// A document with errors, and its report.
+const TEXT: &[u8] = b"query Q { dog { ...A } } query Q { dog { name } }";
+
+const TOLD: &str =
+    "There can only be one operation named Q. At 0:0, 0:25\nUnknown fragment: \"A\". At 0:19\ncompared 0\n";
+
+/// Each read fails in turn.
 #[test]
 fn a_failed_read_is_told(rt: HostRuntime) -> Result<(), Fail> {
     let alloc = rt.alloc();
@@ -86,8 +102,9 @@ fn a_failed_read_is_told(rt: HostRuntime) -> Result<(), Fail> {
         (io::ErrorKind::OutOfMemory, 3, NO_MEMORY),
     ];
     for (kind, wanted, line) in kinds {
-        for left in [0, 3, 100] {
-            let mut input = BrokenReader { left, kind };
+        for left in 0..=TEXT.len() {
+            let text = TEXT.get(..left).unwrap_or(TEXT);
+            let mut input = BrokenReader { text, kind };
             let mut output = Vec::new(alloc);
             let mut faults = Vec::new(alloc);
             let status = run(
@@ -105,34 +122,41 @@ fn a_failed_read_is_told(rt: HostRuntime) -> Result<(), Fail> {
     Ok(())
 }
 
+/// Each write of the report fails in turn, and last the flush: what was taken is a beginning of the report.
 #[test]
 fn a_failed_write_is_told(rt: HostRuntime) -> Result<(), Fail> {
     let alloc = rt.alloc();
-    let words = one_word(alloc, "demo")?;
-    for left in [0, 5, 1000] {
-        let mut output = BrokenWriter { left };
+    let words = one_word(alloc, "pets")?;
+    for left in 0..=TOLD.len() {
+        let mut input = TEXT;
+        let mut output = broken_writer(alloc, left);
         let mut faults = Vec::new(alloc);
         let status = run(
             alloc,
             words.as_slice(),
-            &mut io::empty(),
+            &mut input,
             &mut output,
             &mut faults,
         );
         assert_eq!(rt; status, 5);
         assert_eq!(rt; faults.as_slice(), FAILED.as_bytes());
+        assert_eq!(rt; Some(output.taken.as_slice()), TOLD.as_bytes().get(..left));
     }
     Ok(())
 }
 
+/// Each write of the line of faults fails in turn, and last the flush.
 #[test]
 fn a_failed_line_of_faults_ends_with_5(rt: HostRuntime) -> Result<(), Fail> {
     let alloc = rt.alloc();
-    for (word, text) in [("nope", b"".as_slice()), ("pets", b"}".as_slice())] {
+    for (word, text, line) in [
+        ("nope", b"".as_slice(), USAGE),
+        ("pets", b"}".as_slice(), "check: syntax at 0:0\n"),
+    ] {
         let words = one_word(alloc, word)?;
-        for left in [0, 5, 1000] {
+        for left in 0..=line.len() {
             let mut output = Vec::new(alloc);
-            let mut faults = BrokenWriter { left };
+            let mut faults = broken_writer(alloc, left);
             let mut input = text;
             let status = run(
                 alloc,
@@ -143,6 +167,7 @@ fn a_failed_line_of_faults_ends_with_5(rt: HostRuntime) -> Result<(), Fail> {
             );
             assert_eq!(rt; status, 5);
             assert!(rt; output.is_empty());
+            assert_eq!(rt; Some(faults.taken.as_slice()), line.as_bytes().get(..left));
         }
     }
     Ok(())
@@ -150,10 +175,7 @@ fn a_failed_line_of_faults_ends_with_5(rt: HostRuntime) -> Result<(), Fail> {
 
 /// Documents with errors of several kinds, and their reports.
 const REFUSED: [(&[u8], &str); 4] = [
-    (
-        b"query Q { dog { ...A } } query Q { dog { name } }",
-        "There can only be one operation named Q. At 0:0, 0:25\nUnknown fragment: \"A\". At 0:19\ncompared 0\n",
-    ),
+    (TEXT, TOLD),
     (
         b"{ dog { name(surname: true, surname: 1) } }",
         "There can only be one argument named \"surname\". At 0:13, 0:28\nInvalid value for argument \"surname\", reason: Invalid value \"1\" for type \"Boolean\". At 0:37\ncompared 0\n",
