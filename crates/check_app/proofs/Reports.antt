@@ -1,20 +1,17 @@
--- A report that is written.
-use Rattle.std.proofs.Common.{◌≡◌, ◌∙◌, ℕ, List, Option, IsPermutation, subst, sym, ap, if◌then◌else◌, string_bytes}
-use Rattle.std.specs.Io.KnownBytes.{Appends}
-use Rattle.check_app.specs.Report.{TellsReport}
-use Rattle.check_app.specs.Told.{IsReport}
+-- The errors of a report.
+use Rattle.std.proofs.Common.{◌≡◌, Bool, List, IsPermutation, subst, sym}
+use Rattle.check_app.specs.Told.{IsReportBy}
+use Rattle.check_app.specs.declared.program.Mode.{Mode}
 use Rattle.check_app.specs.declared.report.Report.{Report}
-
--- a report whose text was written is told
-pub tells : (report : Report) (old new : Option (List ℕ)) (status : ℕ) → IsReport report → Appends old new (string_bytes report.text) → status ≡ (if report.is_clean then 0 else 1) → TellsReport old new status
-tells report old new status is written value = record {
-  errors = is.errors;
-  pairs = is.pairs;
-  sorted = is.sorted;
-  written = subst (Appends old new) is.text written;
-  status_is = value ∙ ap (λ b. if b then 0 else 1) is.is_clean;
-}
+use Rattle.language.specs.declared.tree.Definition.{Definition}
+use Rattle.schema.specs.Catalog.{Catalog}
+use Rattle.validation.specs.Stages.{Rules}
 
 -- the same list, where it is seen otherwise
 pub permuted_as : {X : Type 0} (xs ys zs : List X) → IsPermutation xs ys → zs ≡ ys → IsPermutation xs zs
 permuted_as xs ys zs p e = subst (λ l. IsPermutation xs l) (sym e) p
+
+-- what a mode makes of a document, where the mode is known
+pub by_mode : {S C : Type 0} (rules : Rules S C) (E : S → S → Bool) (asked mode : Mode) (schema : Catalog S C) (document : List (Definition S)) (report : Report)
+    → asked ≡ mode → IsReportBy rules E mode schema document report → IsReportBy rules E asked schema document report
+by_mode rules E asked mode schema document report is h = subst (λ m. IsReportBy rules E m schema document report) (sym is) h

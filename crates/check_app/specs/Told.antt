@@ -1,6 +1,10 @@
 -- What a report holds.
-use Rattle.std.specs.Prelude.{◌≡◌, ◌==◌, Bool, ℕ, List, Option, Some, None, length, string_bytes, IsSorted}
+use Rattle.std.specs.Prelude.{◌≡◌, ◌==◌, Bool, true, false, ℕ, List, Option, Some, None, if◌then◌else◌, length, string_bytes, IsSorted}
+use Rattle.std.specs.Io.KnownBytes.{Appends}
 use Rattle.check_app.specs.Report.{report_text}
+use Rattle.check_app.specs.declared.program.Mode.{Mode}
+use Rattle.check_app.specs.declared.program.Mode.TheVariants as m
+use Rattle.check_app.specs.declared.program.Task.{Task}
 use Rattle.check_app.specs.declared.report.Report.{Report}
 use Rattle.language.specs.declared.tree.Definition.{Definition}
 use Rattle.rules_merge.specs.declared.overlapping_fields_can_be_merged.OverlappingFieldsCanBeMerged.{OverlappingFieldsCanBeMerged}
@@ -32,3 +36,26 @@ pub record IsMergeReport {S C : Type 0} (E : S → S → Bool) (schema : Catalog
   pub end : OverlappingFieldsCanBeMerged
   pub told : MergeErrors E schema document end is_report.errors
   pub pairs : is_report.pairs ≡ None
+
+-- By what is known of all rules, and of which scalars are equal.
+module _ {S C : Type 0} (rules : Rules S C) (E : S → S → Bool) where
+  -- what a mode makes of a document: the report on it
+  abbrev pub IsReportBy : Mode → Catalog S C → List (Definition S) → Report → Type 0
+  IsReportBy m.Plain = IsReportOn rules false
+  IsReportBy m.Closed = IsReportOn rules true
+  IsReportBy m.Merge = IsMergeReport E
+
+  -- the report on a document, by a schema
+  abbrev pub IsReportOnSome : Mode → Report → Type 0
+  IsReportOnSome mode report = (schema : Catalog S C) × (document : List (Definition S)) × IsReportBy mode schema document report
+
+  -- the report that the task asks for, if one is asked for
+  abbrev pub IsReportAsked : Option Task → Report → Type 0
+  IsReportAsked asked report = (task : Task) × (asked ≡ Some task) × IsReportOnSome task.mode report
+
+  -- it was written, and the status says whether it has errors
+  pub record TellsReport (asked : Option Task) (old new : Option (List ℕ)) (status : ℕ) : Type 0 where
+    pub report : Report
+    pub is_asked : IsReportAsked asked report
+    pub written : Appends old new (string_bytes report.text)
+    pub status_is : status ≡ (if report.is_clean then 0 else 1)

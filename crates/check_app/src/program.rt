@@ -2,25 +2,19 @@
 ghost use Rattle.std.specs.Prelude.{◌≡◌, ◌≤◌, ◌⊎◌, Err, IfErr, IfOk, None, OnOk, Some, false, true, if◌then◌else◌, map, string_bytes};
 ghost use Rattle.std.specs.Io.KnownBytes.{Appends};
 ghost use Rattle.check_app.specs.Failures.{TellsFailure};
-ghost use Rattle.check_app.specs.Report.{TellsReport};
 ghost use Rattle.check_app.specs.Statuses.{status_of};
-ghost use Rattle.check_app.specs.Told.{IsReport};
+ghost use Rattle.check_app.specs.Told.{IsReportAsked, IsReportBy, IsReportOnSome, TellsReport};
 ghost use Rattle.check_app.specs.Words.{is_read, is_usage, mode_named, other_task, plain_task, reads_input, sample_named, task_asked};
 
 use crate::failure::Failure;
 use crate::report::Report;
 use sample_reader::read_document;
 use samples::build::Checks;
-use samples::checks::{
-    check_boolean, check_complex_input, check_dog_command, check_id, check_int, check_pair_input,
-    check_string, refuse_token,
-};
 use samples::{boxes, demo, pets};
 use std::alloc::Global;
 use std::io::{self, Read, Write};
 use validation::ast::Definition;
-use validation::meta::default_check::DefaultCheck;
-use validation::{DefaultScalarValue, SchemaType};
+use validation::{AllRules, DefaultScalarValue, ScalarValue, SchemaType};
 
 /// A sample schema.
 #[derive(Clone, Copy, Debug, PartialEq, Eq)]
@@ -45,7 +39,8 @@ struct Task {
     mode: Mode,
 }
 
-/// Does what the arguments ask for, and returns the exit status. The words are those after the program's own name.
+/// Does what the arguments ask for, and returns the exit status. The words are those after the program's own name, and
+/// the checks are those of the sample schemas.
 ///
 /// `demo` reads nothing; `pets` and `boxes` read the input to its end, as a document. A second word `merge` runs only
 /// the rule `overlapping_fields_can_be_merged`, and `closed` reports introspection. The report goes to `output`, in
@@ -57,16 +52,18 @@ struct Task {
 /// - 3: out of memory;
 /// - 4: invalid arguments;
 /// - 5: a read or a write failed.
-#[tactic(auto, using(crate::proofs::Reports::tells))]
 pub fn run<R: Read, W: Write, E: Write>(
     alloc: Global,
+    checks: Checks,
     words: &[String],
     input: &mut R,
     output: &mut W,
     faults: &mut E,
 ) -> u8
     ensures status { result ≤ 5 }
-    ensures told { result ≤ 1 → TellsReport (W.contents output.old) (W.contents output.new) result }
+    ensures told { result ≤ 1
+        → TellsReport ⟦<DefaultScalarValue as AllRules<'static>>⟧.rules ⟦<DefaultScalarValue as ScalarValue>⟧.eq
+        (task_asked (map string_bytes words.now)) (W.contents output.old) (W.contents output.new) result }
     ensures quiet { result ≤ 1 → faults.new ≡ faults.old }
     ensures silent { 2 ≤ result → result ≤ 4 → output.new ≡ output.old }
     ensures unread { reads_input (task_asked (map string_bytes words.now)) ≡ false → input.new ≡ input.old }
@@ -74,7 +71,7 @@ pub fn run<R: Read, W: Write, E: Write>(
     ensures unknown { task_asked (map string_bytes words.now) ≡ None → 4 ≤ result }
     ensures usage { result ≡ 4 → task_asked (map string_bytes words.now) ≡ None }
 {
-    match report_on(alloc, words, input) {
+    match report_on(alloc, checks, words, input) {
         Ok(report) => write_report(&report, output, faults),
         Err(failure) => tell(failure, faults),
     }
@@ -115,8 +112,15 @@ pub fn tell<E: Write>(failure: Failure, faults: &mut E) -> u8
     failure.status()
 }
 
-fn report_on<R: Read>(alloc: Global, words: &[String], input: &mut R) -> Result<Report, Failure>
-    ensures report { IfOk result IsReport }
+fn report_on<R: Read>(
+    alloc: Global,
+    checks: Checks,
+    words: &[String],
+    input: &mut R,
+) -> Result<Report, Failure>
+    ensures report { IfOk result
+        (IsReportAsked ⟦<DefaultScalarValue as AllRules<'static>>⟧.rules ⟦<DefaultScalarValue as ScalarValue>⟧.eq
+        (task_asked (map string_bytes words.now))) }
     ensures unknown { task_asked (map string_bytes words.now) ≡ None → IfOk result (λ _. ⊥) }
     ensures usage { task_asked (map string_bytes words.now) ≡ None → IfErr result (λ e. is_usage e ≡ true) }
     ensures other { IfErr result (λ e. is_usage e ≡ true → task_asked (map string_bytes words.now) ≡ None) }
@@ -124,7 +128,7 @@ fn report_on<R: Read>(alloc: Global, words: &[String], input: &mut R) -> Result<
 {
     let task = task_of(words).ok_or(Failure::Usage)?;
     let text = text_for(alloc, task.sample, input)?;
-    check(alloc, task, text)
+    check(alloc, checks, task, text)
 }
 
 /// The whole input, which `demo` doesn't read.
@@ -207,19 +211,12 @@ fn sample_named(word: &str) -> Option<Sample>
 }
 
 /// Validates the document of a text against a sample schema. The document of `demo` is built in code.
-fn check(alloc: Global, task: Task, text: Vec<u8>) -> Result<Report, Failure>
-    ensures report { IfOk result IsReport }
+fn check(alloc: Global, checks: Checks, task: Task, text: Vec<u8>) -> Result<Report, Failure>
+    ensures report { IfOk result
+        (IsReportOnSome ⟦<DefaultScalarValue as AllRules<'static>>⟧.rules ⟦<DefaultScalarValue as ScalarValue>⟧.eq
+        task.mode) }
     ensures other { IfErr result (λ e. is_usage e ≡ false) }
 {
-    let checks = Checks {
-        int: DefaultCheck::with_token(check_int, refuse_token),
-        string: DefaultCheck::with_token(check_string, refuse_token),
-        boolean: DefaultCheck::with_token(check_boolean, refuse_token),
-        id: DefaultCheck::with_token(check_id, refuse_token),
-        dog_command: DefaultCheck::new(check_dog_command),
-        complex_input: DefaultCheck::new(check_complex_input),
-        pair_input: DefaultCheck::new(check_pair_input),
-    };
     let types = match task.sample {
         Sample::Demo => demo::types(alloc, checks)?,
         Sample::Pets => pets::types(alloc, checks)?,
@@ -244,15 +241,25 @@ fn report_of<'a>(
     document: &'a [Definition<'_, DefaultScalarValue>],
     mode: Mode,
 ) -> Result<Report, Failure>
-    ensures report { IfOk result IsReport }
+    ensures report { IfOk result
+        (IsReportBy ⟦<DefaultScalarValue as AllRules<'static>>⟧.rules ⟦<DefaultScalarValue as ScalarValue>⟧.eq mode
+        schema.now document.now) }
     ensures other { IfErr result (λ e. is_usage e ≡ false) }
 {
-    let report = match mode {
-        Mode::Plain => Report::on(alloc, schema, document, false)?,
-        Mode::Merge => Report::on_merging(alloc, schema, document)?,
-        Mode::Closed => Report::on(alloc, schema, document, true)?,
-    };
-    Ok(report)
+    match mode {
+        Mode::Plain => {
+            let plain = Report::on(alloc, schema, document, false)?;
+            Ok(plain)
+        }
+        Mode::Merge => {
+            let merging = Report::on_merging(alloc, schema, document)?;
+            Ok(merging)
+        }
+        Mode::Closed => {
+            let closed = Report::on(alloc, schema, document, true)?;
+            Ok(closed)
+        }
+    }
 }
 
 fn document_for(
