@@ -1,9 +1,10 @@
 //! Reads values of variables from a file.
 use crate::failure::Failure;
-use crate::files::{Inputs, read_file};
-use crate::schemas::told_json;
+use crate::files::{Inputs, read_file, told_fault};
 use graphql_reader::SourceScalar;
 use lint_report::faults::Fault;
+use lint_report::json_text::JsonError;
+use lint_report::sources::{Place, Source};
 use lint_report::variables::read_variables;
 use std::alloc::Global;
 use std::slice;
@@ -24,5 +25,18 @@ pub fn values_of_file<I: Inputs>(
     match read_variables(alloc, source.text.as_str()) {
         Ok(values) => Ok(values),
         Err(error) => Err(told_json(alloc, slice::from_ref(&source), error, faults)),
+    }
+}
+
+// Tells why the first file is not the JSON that is expected, and returns that it was told, or out of memory.
+fn told_json(
+    alloc: Global,
+    sources: &[Source],
+    error: JsonError,
+    faults: &mut Vec<Fault>,
+) -> Failure {
+    match error.position() {
+        Some(position) => told_fault(alloc, sources, Place { file: 0, position }, &error, faults),
+        None => Failure::OutOfMemory,
     }
 }

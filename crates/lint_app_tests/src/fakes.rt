@@ -74,6 +74,18 @@ const FILES: &[(&str, &str)] = &[
         "far.graphql",
         "{\n  pets(like: {fod: []}) @far {\n    ... on Cat { lives }\n  }\n  dog(name: \"Rex\") @near {\n    name { first }\n  }\n}\n",
     ),
+    (
+        "client.graphql",
+        "directive @far on FIELD\n\nextend type Dog {\n  lives: Int\n}\n",
+    ),
+    (
+        "wrong.graphql",
+        "extend type Dgo {\n  lives: Int\n}\n\nextend type Dog {\n  fur: Fur\n  name: String\n}\n",
+    ),
+    (
+        "own.graphql",
+        "{\n  dog(name: \"Rex\") @far {\n    lives\n  }\n}\n",
+    ),
     ("values.json", "{\"id\": \"7\"}"),
     ("null.json", "{\"id\": null}"),
     ("-", "{ item(id: 1) { name } }"),

@@ -229,6 +229,149 @@ const RUNS: &[(&str, u8, &str, &str)] = &[
     ("-V", 0, "lint 0.1.0\n", ""),
 ];
 
+// The faults of a schema over two files.
+const SCHEMA_JSON: &str = "[
+  {
+    \"path\": \"shop.graphql\",
+    \"message\": \"the type \\\"Item\\\" is not defined\",
+    \"locations\": [
+      {
+        \"line\": 2,
+        \"column\": 18
+      }
+    ]
+  },
+  {
+    \"path\": \"wrong.graphql\",
+    \"message\": \"the type \\\"Dgo\\\" is extended but not defined\",
+    \"locations\": [
+      {
+        \"line\": 1,
+        \"column\": 13
+      }
+    ]
+  },
+  {
+    \"path\": \"wrong.graphql\",
+    \"message\": \"the type \\\"Dog\\\" is extended but not defined\",
+    \"locations\": [
+      {
+        \"line\": 5,
+        \"column\": 13
+      }
+    ]
+  },
+  {
+    \"path\": \"wrong.graphql\",
+    \"message\": \"the type \\\"Fur\\\" is not defined\",
+    \"locations\": [
+      {
+        \"line\": 6,
+        \"column\": 8
+      }
+    ]
+  }
+]
+";
+
+const SCHEMA_GITHUB: &str =
+    "::error file=shop.graphql,line=2,col=18::the type \"Item\" is not defined
+::error file=wrong.graphql,line=1,col=13::the type \"Dgo\" is extended but not defined
+::error file=wrong.graphql,line=5,col=13::the type \"Dog\" is extended but not defined
+::error file=wrong.graphql,line=6,col=8::the type \"Fur\" is not defined
+";
+
+// Schemas of several files, in the same form.
+const SCHEMAS: &[(&str, u8, &str, &str)] = &[
+    (
+        "--schema kennel.json --schema client.graphql own.graphql",
+        0,
+        "no errors in 1 file\n",
+        "",
+    ),
+    (
+        "--schema client.graphql --schema kennel.json own.graphql",
+        0,
+        "no errors in 1 file\n",
+        "",
+    ),
+    (
+        "--schema client.graphql --schema kennel.graphql own.graphql",
+        0,
+        "no errors in 1 file\n",
+        "",
+    ),
+    (
+        "--schema kennel.json --schema wrong.graphql own.graphql",
+        2,
+        "",
+        "wrong.graphql:1:13: error: the type \"Dgo\" is extended but not defined
+extend type Dgo {
+            ^
+wrong.graphql:6:8: error: the type \"Fur\" is not defined
+  fur: Fur
+       ^
+wrong.graphql:7:3: error: the field \"name\" is defined twice
+  name: String
+  ^
+",
+    ),
+    (
+        "--schema shop.graphql --schema kennel.json own.graphql",
+        2,
+        "",
+        "shop.graphql:2:18: error: the type \"Item\" is not defined
+  item(id: ID!): Item
+                 ^
+kennel.json: error: the type \"Query\" is defined twice
+",
+    ),
+    (
+        "--schema kennel.graphql --schema shop.graphql own.graphql",
+        2,
+        "",
+        "shop.graphql:1:6: error: the type \"Query\" is defined twice
+type Query {
+     ^
+shop.graphql:2:18: error: the type \"Item\" is not defined
+  item(id: ID!): Item
+                 ^
+",
+    ),
+    (
+        "--schema kennel.json --schema null.json own.graphql",
+        2,
+        "",
+        "null.json: error: __schema: missing\n",
+    ),
+    (
+        "--schema absent.graphql --schema names.graphql --schema null.json --schema good.graphql own.graphql",
+        2,
+        "",
+        "absent.graphql: error: entity not found
+names.graphql:1:1: error: expected a definition of a schema, a type or a directive, found \"fragment\"
+fragment Names on Item {
+^
+null.json: error: __schema: missing
+good.graphql:1:1: error: expected a definition of a schema, a type or a directive, found \"query\"
+query Good($id: ID!) {
+^
+",
+    ),
+    (
+        "--schema shop.graphql --schema wrong.graphql --format json own.graphql",
+        2,
+        SCHEMA_JSON,
+        "",
+    ),
+    (
+        "--schema shop.graphql --schema wrong.graphql --format github own.graphql",
+        2,
+        SCHEMA_GITHUB,
+        "",
+    ),
+];
+
 // Arguments and exit statuses: errors whose texts are tested elsewhere, and faults.
 const STATUSES: &[(&str, u8)] = &[
     (
@@ -255,6 +398,16 @@ const STATUSES: &[(&str, u8)] = &[
     ("--format xml", 2),
     ("", 2),
 ];
+
+#[test]
+fn reads_schemas_of_several_files(rt: HostRuntime) {
+    for (line, status, output, errors) in SCHEMAS {
+        let run = run_broken(rt.alloc(), line, "").expect(&rt, "memory");
+        assert_eq!(rt; run.status, *status);
+        assert_eq!(rt; run.output.as_slice(), output.as_bytes());
+        assert_eq!(rt; run.errors.as_slice(), errors.as_bytes());
+    }
+}
 
 #[test]
 fn runs(rt: HostRuntime) {

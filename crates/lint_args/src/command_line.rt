@@ -52,7 +52,7 @@ fn schema_argument<'w>(alloc: Global) -> Arg<'w>
         .long("schema")
         .value_name("FILE")
         .help(
-            "Type definitions, which may be spread over several files, or the JSON result of an introspection query",
+            "Type definitions or the JSON result of an introspection query; several files make one schema",
         )
         .action(ArgAction::Append)
         .required(true)
