@@ -1,4 +1,5 @@
 """The families of texts that ./bench measures: each is a text of any size, and what its growth shows."""
+import json
 
 
 def fill(size, piece, before="", after=""):
@@ -175,6 +176,78 @@ def all_later(size):
     return each_later(count)
 
 
+# The ten fields of each type of a schema: a name, arguments with their types, and a type. {0} is the number of the type
+# that comes next.
+TEN_FIELDS = [
+    ("id", [], "ID!"),
+    ("title", [("language", "String"), ("limit", "Int")], "String!"),
+    ("size", [("unit", "String")], "Float"),
+    ("count", [], "Int!"),
+    ("isOpen", [], "Boolean"),
+    ("tags", [], "[String!]!"),
+    ("owner", [], "Type{0}"),
+    ("parts", [("first", "Int"), ("after", "ID")], "[Type{0}!]!"),
+    ("part", [("id", "ID!")], "Type{0}"),
+    ("note", [], "String"),
+]
+
+
+def typed(count):
+    """The names of a query root and so many types, each with its ten fields."""
+    last = FIRST + count - 1
+    names = [("Query", FIRST)] + [(f"Type{it}", FIRST if it == last else it + 1) for it in range(FIRST, last + 1)]
+    for name, number in names:
+        yield name, [(field, arguments, text.format(number)) for field, arguments, text in TEN_FIELDS]
+
+
+def schema(count):
+    """The definitions of so many types."""
+    lines = []
+    for name, fields in typed(count):
+        lines.append(f"type {name} {{\n")
+        for field, arguments, text in fields:
+            listed_arguments = ", ".join(f"{argument}: {it}" for argument, it in arguments)
+            lines.append(f"  {field}({listed_arguments}): {text}\n" if arguments else f"  {field}: {text}\n")
+        lines.append("}\n")
+    return "".join(lines)
+
+
+def reference(text):
+    """A type as an introspection result has it."""
+    if text.endswith("!"):
+        return {"kind": "NON_NULL", "name": None, "ofType": reference(text[:-1])}
+    if text.startswith("["):
+        return {"kind": "LIST", "name": None, "ofType": reference(text[1:-1])}
+    return {"kind": "OBJECT" if text.startswith("Type") else "SCALAR", "name": text, "ofType": None}
+
+
+def introspected(name, fields):
+    """An object type as an introspection result has it."""
+    members = [
+        {
+            "name": field,
+            "description": None,
+            "args": [
+                {"name": argument, "description": None, "type": reference(it), "defaultValue": None}
+                for argument, it in arguments
+            ],
+            "type": reference(text),
+            "isDeprecated": False,
+            "deprecationReason": None,
+        }
+        for field, arguments, text in fields
+    ]
+    own = {"kind": "OBJECT", "name": name, "description": None, "fields": members, "interfaces": []}
+    return {**own, "inputFields": None, "enumValues": None, "possibleTypes": None}
+
+
+def introspection(count):
+    """The introspection result of a schema of so many types."""
+    types = [introspected(name, fields) for name, fields in typed(count)]
+    roots = {"queryType": {"name": "Query"}, "mutationType": None, "subscriptionType": None}
+    return json.dumps({"data": {"__schema": {**roots, "types": types, "directives": []}}}, separators=(",", ":"))
+
+
 # What stands round the items of an argument, and behind the keys of a default.
 LIST_ARGUMENT, ITEMS = "{ complicatedArgs { stringListArgField(stringListArg: [", "]) } }"
 WIDE = "}) { wide(input: $input) }"
@@ -218,13 +291,17 @@ FAMILIES = [
     ("values that don't fit", listed("query ($list: [String] = [", "{0}", LISTED), 10_000, "pets"),
     ("SDL, 1 MB", type_system, 1_000_000, "sdl"),
     ("queries, 1 MB", realistic, 1_000_000, "queries"),
+    ("schema, 800 types", schema, 800, "schema"),
+    ("schema, 1,600 types", schema, 1_600, "schema"),
+    ("introspection, 800", introspection, 800, "introspection"),
+    ("introspection, 1,600", introspection, 1_600, "introspection"),
 ]
 
 # The values of their variables, which stand in the document as defaults, are judged, too.
 VALUED = ("list of values", "keys of a wide input", "values that don't fit")
 
-# The readers of a team's texts.
-READERS = ("sdl", "queries")
+# The readers of a team's texts. The last two also make a schema.
+READERS = ("sdl", "queries", "schema", "introspection")
 
 # What is measured of a text.
 PHASES = ("read", "walk", "values")

@@ -1,5 +1,7 @@
 //! Why nothing is measured.
+use introspection::IntrospectionError;
 use sample_reader::ReadError;
+use sdl_reader::SchemaReadError;
 use std::alloc::{AllocError, AllocFailed};
 use std::{fmt, io};
 use validation::{OutOfMemory, SchemaError};
@@ -9,6 +11,8 @@ use validation::{OutOfMemory, SchemaError};
 pub enum Failure {
     /// The input is not a document.
     Syntax,
+    /// The input is not a schema.
+    Schema,
     /// The first definition is not an operation, or one of its variables has no input type.
     NoVariables,
     /// Invalid arguments.
@@ -23,10 +27,11 @@ impl fmt::Display for Failure {
     fn fmt<W: fmt::Write>(&self, f: &mut fmt::Formatter<W>) -> fmt::Result {
         f.write_str(match self {
             Failure::Syntax => "the input is no document",
+            Failure::Schema => "the input is no schema",
             Failure::NoVariables =>
                 "the input begins with no operation whose variables have input types",
             Failure::Usage =>
-                "usage: bench [--through MEGABYTES] <pets, number of input fields> READS WALKS VALUES, or <sdl, queries> READS",
+                "usage: bench [--through MEGABYTES] <pets, number of input fields> READS WALKS VALUES, or <sdl, queries, schema, introspection> READS",
             Failure::OutOfMemory => "out of memory",
             Failure::InputOutput => "input, output or the clock failed",
         })
@@ -71,6 +76,24 @@ impl From<graphql_reader::ReadError<'_>> for Failure {
         match error {
             graphql_reader::ReadError::Syntax(_) => Failure::Syntax,
             graphql_reader::ReadError::OutOfMemory => Failure::OutOfMemory,
+        }
+    }
+}
+
+impl From<SchemaReadError<'_>> for Failure {
+    fn from(error: SchemaReadError<'_>) -> Self {
+        match error {
+            SchemaReadError::OutOfMemory => Failure::OutOfMemory,
+            _ => Failure::Schema,
+        }
+    }
+}
+
+impl From<IntrospectionError> for Failure {
+    fn from(error: IntrospectionError) -> Self {
+        match error {
+            IntrospectionError::OutOfMemory => Failure::OutOfMemory,
+            _ => Failure::Schema,
         }
     }
 }

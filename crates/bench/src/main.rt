@@ -7,7 +7,8 @@
 //!   SCHEMA is `pets`, or a number N: a schema whose field `wide` takes an input object of N fields `k0: Int`, `k1: Int`
 //!   and so on.
 //! - `bench sdl READS` and `bench queries READS` read the standard input READS times by `graphql_reader`, as a type
-//!   system document or as an executable document.
+//!   system document or as an executable document. `bench schema READS` makes a schema of type definitions READS times,
+//!   and `bench introspection READS` of an introspection result.
 //!
 //! With `--through MEGABYTES` before these, the program goes through so much memory before each pass, so that the pass
 //! finds a cold cache.
