@@ -13,7 +13,7 @@ use schema::model::SchemaType;
 use std::alloc::Global;
 
 /// The check of each type.
-fn checks() -> Checks {
+pub fn checks() -> Checks {
     Checks {
         int: DefaultCheck::with_token(check_int, refuse_token),
         string: DefaultCheck::with_token(check_string, refuse_token),

@@ -1,7 +1,7 @@
 //! What each document is told by all rules, and by those that a linter chose.
 
 use crate::pets::schema;
-use sample_reader::{ReadError, read_document};
+use sample_reader::read_document;
 use std::alloc::Global;
 use validation::ast::Definition;
 use validation::{CheckedScalar, OutOfMemory, SchemaType, ValidatorContext};
@@ -74,22 +74,4 @@ fn a_document_with_no_definitions(rt: HostRuntime) {
     let schema = schema(alloc).expect(&rt, "the list is accepted");
     let told = told_by_all(alloc, &schema, &[]).expect(&rt, "memory");
     assert_eq!(rt; told.as_str(), "0");
-}
-
-// What the first row is told.
-fn first_row(alloc: Global) -> Result<String, ReadError> {
-    let Ok(schema) = schema(alloc) else {
-        return Err(ReadError::OutOfMemory);
-    };
-    let document = read_document(alloc, b"{ dog { ...A } }")?;
-    Ok(told_by_all(alloc, &schema, document.as_slice())?)
-}
-
-/// Run with each request for memory refused in turn, the answer is the same or tells of the refusal.
-#[test]
-fn a_refused_request_changes_no_row(rt: HostRuntime) {
-    match first_row(rt.alloc()) {
-        Ok(told) => assert_eq!(rt; told.as_str(), "Unknown fragment: \"A\". At 0:11\n0"),
-        Err(refused) => assert!(rt; matches!(refused, ReadError::OutOfMemory)),
-    }
 }

@@ -24,12 +24,14 @@ const ROWS: [(&str, &str); 3] = [
     ),
 ];
 
-fn said<S: CheckedScalar>(
+/// What is said of values for the first operation of a document.
+pub fn said<S: CheckedScalar>(
     alloc: Global,
     schema: &SchemaType<S>,
     document: &[Definition<'_, S>],
+    values: &Variables<S>,
 ) -> Result<String, OutOfMemory> {
-    match values_after(alloc, schema, document, &Variables::new(alloc))? {
+    match values_after(alloc, schema, document, values)? {
         Some(errors) => lines(alloc, errors),
         None => Ok(String::from_str(alloc, "it has errors")?),
     }
@@ -41,7 +43,8 @@ fn values_after_a_validation(rt: HostRuntime) {
     let schema = schema(alloc).expect(&rt, "the list is accepted");
     for (text, want) in ROWS {
         let document = read_document(alloc, text.as_bytes()).expect(&rt, "it is a document");
-        let said = said(alloc, &schema, document.as_slice()).expect(&rt, "memory");
+        let none = Variables::new(alloc);
+        let said = said(alloc, &schema, document.as_slice(), &none).expect(&rt, "memory");
         assert_eq!(rt; said.as_str(), want);
     }
 }
