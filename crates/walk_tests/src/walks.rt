@@ -290,13 +290,11 @@ fn late() -> SourcePosition {
 }
 
 /// Two errors of a caller.
-fn two_more(rt: &impl Abort, alloc: Global) -> Vec<RuleError> {
+fn two_more(alloc: Global) -> Result<Vec<RuleError>, OutOfMemory> {
     let mut more = Vec::new(alloc);
-    let last = RuleError::new(alloc, "late", &[late()]).expect(rt, "memory");
-    more.push(last).expect(rt, "memory");
-    let first = RuleError::new(alloc, "before", &[early()]).expect(rt, "memory");
-    more.push(first).expect(rt, "memory");
-    more
+    more.push(RuleError::new(alloc, "late", &[late()])?)?;
+    more.push(RuleError::new(alloc, "before", &[early()])?)?;
+    Ok(more)
 }
 
 /// Four errors, in a context that two rules walked with that report nothing.
@@ -312,7 +310,8 @@ fn reported(
     visit_rules(&mut rules, &mut ctx, &[]).expect(rt, "memory");
     ctx.report_error("late", &[late()]).expect(rt, "memory");
     ctx.report_error("early", &[early()]).expect(rt, "memory");
-    ctx.append_errors(two_more(rt, alloc)).expect(rt, "memory");
+    let more = two_more(alloc).expect(rt, "memory");
+    ctx.append_errors(more).expect(rt, "memory");
     ctx.into_errors().expect(rt, "memory")
 }
 
@@ -342,4 +341,40 @@ fn a_context_sorts_its_errors(rt: HostRuntime) {
         assert_eq!(rt; messages.next(), Some(want));
     }
     assert_eq!(rt; messages.next(), None);
+}
+
+/// Reports an error and more, and pushes types.
+fn report_and_push(ctx: &mut Context<'_>, more: Vec<RuleError>) -> Result<(), OutOfMemory> {
+    ctx.append_errors(more)?;
+    ctx.report_error("early", &[early()])?;
+    ctx.with_pushed_type(None, |_ctx| ())?;
+    ctx.with_pushed_parent_type(|_ctx| ())?;
+    ctx.with_pushed_input_type(None, |_ctx| ())
+}
+
+/// Whether a fresh context returns all errors, or refuses each call after the one that was refused.
+fn keeps_all_or_refuses(
+    alloc: Global,
+    schema: &SchemaType<DefaultScalarValue>,
+    more: Vec<RuleError>,
+) -> bool {
+    let Ok(mut ctx) = ValidatorContext::new(alloc, schema, &[]) else {
+        return true;
+    };
+    if report_and_push(&mut ctx, more).is_err() {
+        return refuses_all(alloc, ctx, &[]);
+    }
+    match ctx.into_errors() {
+        Ok(errors) => errors.len() == 3,
+        Err(_) => true,
+    }
+}
+
+/// Run with each request for memory refused in turn, a context returns all errors or it has failed.
+#[test]
+fn a_refused_request_fails_a_context(rt: HostRuntime) {
+    let alloc = rt.alloc();
+    if let (Ok(schema), Ok(more)) = (sample_schema(alloc), two_more(alloc)) {
+        assert!(rt; keeps_all_or_refuses(alloc, &schema, more));
+    }
 }
