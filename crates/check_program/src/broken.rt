@@ -1,6 +1,6 @@
 //! Runs in which an allocation, a read or a write fails.
-use crate::words_failure;
-use check_app::program::{run, tell};
+use crate::{run, words_failure};
+use check_app::program::tell;
 use std::alloc::{AllocError, Global};
 use std::io::{self, Read, Write};
 use std::test::Fail;

@@ -1,7 +1,7 @@
 //! What the program writes for its arguments and its input, over memory.
 use crate::merge_rows::{CONFLICTS, DEEP, OWN, TYPES, WORKED};
 use crate::rows::{ANSWERS, NAMES, PARTS, RULES, STRINGS, TEXTS, VALUES, VARIABLES, WORDS};
-use check_app::program::run;
+use crate::run;
 use std::alloc::{AllocError, Global};
 use std::process::Abort;
 use std::test::Fail;
