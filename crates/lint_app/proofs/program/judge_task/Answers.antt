@@ -16,4 +16,4 @@ returns-in-Ok-clause-ended g c = λ early. (string_bytes c.in-Ok.told.text, inr 
 
 -- faults were told, or memory was refused
 pub returns-clause-ended : goal.returns-clause-ended
-returns-clause-ended g c = λ early. let (text, ends, part) = c.tell_early.ensures.ended in (text, inr (inl (c.as_slice.result.now, ends)), part)
+returns-clause-ended g c = λ early. let (text, ends, part) = c.tell_early.ensures.ended in (text, inr (inl (c.as_slice-faults.result.now, ends)), part)

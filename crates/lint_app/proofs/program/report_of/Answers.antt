@@ -11,8 +11,8 @@ returns-then-not-task c =
     subst (λ together. IsReport rules-value.it together judge.root.now (option_copied judge.values) judge.sources.now c.in_ok-report.report) (sym c.if-not-task.true) c.in_ok-report.ensures
 
 -- not all are read
-pub returns-then-judge-len : goal.returns-then-judge-len
-returns-then-judge-len c =
+pub returns-then-judge-files : goal.returns-then-judge-files
+returns-then-judge-files c =
     let judge = c.args.judge.now in
     subst (λ together. IsReport rules-value.it together judge.root.now (option_copied judge.values) judge.sources.now c.empty.result) (sym c.if-not-task.false)
     (record { outcome = None; all = tt; issues = c.empty.ensures.issues; judged = c.empty.ensures.judged })
