@@ -9,6 +9,7 @@ use crate::lines::Lines;
 use sample_reader::{read_document, read_type, read_value};
 use std::alloc::Global;
 use std::collections::BTreeMap;
+use std::mem;
 use validation::ast::{Operation, VariableDefinition};
 use validation::parser::Spanning;
 use validation::{
@@ -105,8 +106,9 @@ fn retype_one(
 
 fn variables(alloc: Global, text: &[u8]) -> Result<Variables, Failure> {
     let mut variables = BTreeMap::new(alloc);
-    if let InputValue::Object(entries) = read_value(alloc, text)?.item {
-        for (name, value) in entries {
+    let mut value = read_value(alloc, text)?.item;
+    if let InputValue::Object(entries) = &mut value {
+        for (name, value) in mem::replace(entries, Vec::new(alloc)) {
             variables.insert(name.item, value.item)?;
         }
     }
