@@ -3,6 +3,7 @@ use crate::{run, words_failure};
 use check_app::program::tell;
 use std::alloc::{AllocError, Global};
 use std::io::{self, Read, Write};
+use std::process::Abort;
 use std::test::Fail;
 
 const FAILED: &str = "check: input or output failed\n";
@@ -145,32 +146,38 @@ fn a_failed_write_is_told(rt: HostRuntime) -> Result<(), Fail> {
     Ok(())
 }
 
-/// Each write of the line of faults fails in turn, and last the flush.
+// Each write of the line of faults fails in turn, and last the flush.
+fn ends_with_5(
+    rt: &impl Abort,
+    alloc: Global,
+    word: &str,
+    text: &[u8],
+    line: &str,
+) -> Result<(), Fail> {
+    let words = one_word(alloc, word)?;
+    for left in 0..=line.len() {
+        let mut output = Vec::new(alloc);
+        let mut faults = broken_writer(alloc, left);
+        let mut input = text;
+        let status = run(
+            alloc,
+            words.as_slice(),
+            &mut input,
+            &mut output,
+            &mut faults,
+        );
+        assert_eq!(rt; status, 5);
+        assert!(rt; output.is_empty());
+        assert_eq!(rt; Some(faults.taken.as_slice()), line.as_bytes().get(..left));
+    }
+    Ok(())
+}
+
 #[test]
 fn a_failed_line_of_faults_ends_with_5(rt: HostRuntime) -> Result<(), Fail> {
     let alloc = rt.alloc();
-    for (word, text, line) in [
-        ("nope", b"".as_slice(), USAGE),
-        ("pets", b"}".as_slice(), "check: syntax at 0:0\n"),
-    ] {
-        let words = one_word(alloc, word)?;
-        for left in 0..=line.len() {
-            let mut output = Vec::new(alloc);
-            let mut faults = broken_writer(alloc, left);
-            let mut input = text;
-            let status = run(
-                alloc,
-                words.as_slice(),
-                &mut input,
-                &mut output,
-                &mut faults,
-            );
-            assert_eq!(rt; status, 5);
-            assert!(rt; output.is_empty());
-            assert_eq!(rt; Some(faults.taken.as_slice()), line.as_bytes().get(..left));
-        }
-    }
-    Ok(())
+    ends_with_5(&rt, alloc, "nope", b"", USAGE)?;
+    ends_with_5(&rt, alloc, "pets", b"}", "check: syntax at 0:0\n")
 }
 
 /// Documents with errors of several kinds, and their reports.
