@@ -5,11 +5,11 @@ use Rattle.language.proofs.value.InputValue.unlocated_eq.Goals as goal
 
 pub returns-clause-reflexive : goal.returns-clause-reflexive
 returns-clause-reflexive g c = λ same.
-    c.values_eq.ensures
+    c.values_match.ensures
     ∙ ap (unlocated_eq g.S.PartialEq.eq c.args.self.now) (sym same)
     ∙ unlocated_eq-reflexive g.S.PartialEq.eq g.met.S.Eq.laws c.args.self.now
 
 pub returns-clause-symmetric : goal.returns-clause-symmetric
 returns-clause-symmetric g c = λ left right.
-    c.values_eq.ensures
+    c.values_match.ensures
     ∙ unlocated_eq-symmetric g.S.PartialEq.eq g.met.S.Eq.laws c.args.self.now c.args.other.now left right
