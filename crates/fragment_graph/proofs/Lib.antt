@@ -10,3 +10,5 @@ pub mod Naming
 pub mod NamePaths
 pub mod GraphGrowth
 pub mod Keeping
+pub mod PreorderLaws
+pub mod OwnSpreads

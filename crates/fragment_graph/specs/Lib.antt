@@ -4,6 +4,7 @@ pub mod Graph
 pub mod Kept
 pub mod KeptNames
 pub mod Numbers
+pub mod Preorder
 pub mod Searched
 pub mod Sound
 pub mod Spreads

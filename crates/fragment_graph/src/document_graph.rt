@@ -3,11 +3,13 @@
 ghost use Rattle.std.specs.Prelude.{◌≡◌, ℕ, ◌++◌, [], length, OnOk, IfOk, Some, map};
 ghost use Rattle.fragment_graph.specs.Graph.{spreads_of, spread_count};
 ghost use Rattle.fragment_graph.specs.Spreads.{placed_spreads_of, placed_spreads_of_all};
+ghost use Rattle.fragment_graph.specs.Preorder.{set_inside};
 ghost use Rattle.fragment_graph.specs.Numbers.{defined_number, names_of, number_of, NumberedDefinitions, WellNumbered};
 ghost use Rattle.fragment_graph.specs.DocumentGraph.{resolved, IsNumbered, JoinsDefinition, Joined, IsGraphOf};
 
 use crate::graph::{Node, Spread};
 use crate::numbers::{NumberedNames, Numbers, name_count, number};
+use crate::preorder::Preorder;
 use language::position::Spanning;
 use language::tree::{Definition, Document, Fragment, FragmentSpread, Selection};
 use std::alloc::{AllocError, Global};
@@ -37,7 +39,6 @@ fn resolve<S>(numbers: &Numbers<'_>, spread: &Spanning<FragmentSpread<'_, S>>) -
 /// # Errors
 ///
 /// Out of memory.
-#[cycle(spreads)]
 pub fn add_spreads<S>(
     numbers: &Numbers<'_>,
     set: &[Selection<'_, S>],
@@ -46,33 +47,30 @@ pub fn add_spreads<S>(
     ensures { OnOk result (found.new.items ≡ found.old.items
         ++ map (resolved numbers.now) (placed_spreads_of_all set.now)) }
 {
-    for selection in set {
-        add_spreads_of(numbers, selection, found)?;
+    let mut selections = Preorder::new(*found.allocator(), set);
+    while let Some(selection) = selections.next()? {
+        add_own_spread(numbers, selection, found)?;
     }
     Ok(())
 }
 
-#[cycle(spreads)]
-fn add_spreads_of<S>(
+// Appends the spread that a selection is itself.
+fn add_own_spread<S>(
     numbers: &Numbers<'_>,
     selection: &Selection<'_, S>,
     found: &mut Vec<Spread>,
 ) -> Result<(), AllocError>
-    ensures { OnOk result (found.new.items ≡ found.old.items
-        ++ map (resolved numbers.now) (placed_spreads_of selection.now)) }
+    ensures { OnOk result (found.new.items
+        ++ map (resolved numbers.now) (placed_spreads_of_all (set_inside selection.now))
+        ≡ found.old.items ++ map (resolved numbers.now) (placed_spreads_of selection.now)) }
 {
     match selection {
-        Selection::Field(field) => match &field.item.selection_set {
-            Some(inner) => add_spreads(numbers, inner.as_slice(), found),
-            None => Ok(()),
-        },
+        Selection::Field(_field) => Ok(()),
         Selection::FragmentSpread(spread) => {
             found.push(resolve(numbers, spread))?;
             Ok(())
         }
-        Selection::InlineFragment(inline) => {
-            add_spreads(numbers, inline.item.selection_set.as_slice(), found)
-        }
+        Selection::InlineFragment(_inline) => Ok(()),
     }
 }
 

@@ -8,4 +8,5 @@ pub mod graph;
 pub mod kept;
 pub mod names;
 pub mod numbers;
+pub mod preorder;
 pub mod search;
