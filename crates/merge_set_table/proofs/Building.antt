@@ -1,10 +1,9 @@
 -- What each step adds, put together.
-use Rattle.std.proofs.Common.{◌≡◌, ℕ, suc, ◌+◌, ◌<◌, ◌≤◌, List, [], ◌∷◌, ◌++◌, length, take, get_or, Option, Some, None, slice_get, true, refl, sym, ap, subst, ◌∙◌, arith, inl, inr, ◌==◌, append_assoc, append-nil, length-append}
+use Rattle.std.proofs.Common.{◌≡◌, ℕ, suc, ◌<◌, ◌≤◌, List, [], ◌∷◌, ◌++◌, length, Option, Some, None, slice_get, true, refl, sym, ap, subst, ◌∙◌, arith, inl, inr, ◌==◌, append_assoc, append-nil, length-append}
 use Rattle.std.specs.List.{All, Contains}
 use Rattle.std.specs.Option.{option_map_or}
 use Rattle.std.specs.declared.vec.Vec.{Vec}
 use Rattle.std.specs.declared.alloc.Global.{Global}
-use Rattle.std.proofs.lemmas.List.{take_all}
 use Rattle.std.proofs.lemmas.List.Elements.{All-append, All-weaker, All-nil, All-cons, Contains-append_left, Contains-append_right, Contains-append_cases, Contains-push}
 use Rattle.std.proofs.lemmas.List.Folds.{list_any-append}
 use Rattle.std.proofs.lemmas.Option.{slice_get_past, slice_get_within}
@@ -26,7 +25,6 @@ use Rattle.merge_set_table.specs.Table.{numbered, Extends, IsOwnField, IsWithin,
 use Rattle.merge_set_table.specs.Represents.{Represents, nothing, join, leaf, field, spread, unknown, inline, IsSetOf}
 use Rattle.merge_set_table.specs.Adding.{AreWithin, AddsSpread, TakesOver, PushesField, ComesFrom, Keeps, AddsParts, HasSet, AddsFor, AddsSetFor, Adds, AddsSet}
 use Rattle.merge_set_table.proofs.Lists.{get_front, get_last, same_some}
-use Rattle.merge_set_table.proofs.OnceLaws.{next_take}
 use Rattle.merge_set_table.specs.Inside.{IsInside, below_field, of_inline, type_entered, IsDeeper, of_field, of_fragment, IsConditionKnown}
 use Rattle.merge_set_table.proofs.Representing.{extends_self, extends_then, represents_more, set_more}
 use Rattle.merge_set_table.proofs.Origins.{fields_inside, fields_none, fields_then, fields_pushed, comes_none, comes_then, comes_inside}
@@ -193,21 +191,13 @@ module _ {S C : Type 0} (schema : Catalog S C) (numbers : List ℕ → Option �
   pub for_none : (p : Option (MetaTypeOf S C)) (part : NumberedSet) (t : Table S C) → AddsFor schema numbers p [] part part t t
   for_none p part t = record { parts = parts_none p part t; order = refl; from = λ p0 q set0 whole i sub. fields_none schema p0 set0 t t refl }
 
-  for_then : (p : Option (MetaTypeOf S C)) (xs ys : List (Selection S)) (a b c : NumberedSet) (s t u : Table S C) → AddsFor schema numbers p xs a b s t → AddsFor schema numbers p ys b c t u → AddsFor schema numbers p (xs ++ ys) a c s u
+  pub for_then : (p : Option (MetaTypeOf S C)) (xs ys : List (Selection S)) (a b c : NumberedSet) (s t u : Table S C) → AddsFor schema numbers p xs a b s t → AddsFor schema numbers p ys b c t u → AddsFor schema numbers p (xs ++ ys) a c s u
   for_then p xs ys a b c s t u d e = record {
     parts = parts_then p xs ys a b c s t u d.parts e.parts;
     order = e.order ∙ d.order;
     from = λ p0 q set0 whole i sub. fields_then schema p0 set0 s t u e.parts.keeps.extends
         (d.from p0 q set0 whole i (λ x c. sub x (Contains-append_left xs ys x c))) (e.from p0 q set0 whole i (λ x c. sub x (Contains-append_right xs ys x c)));
   }
-
-  pub for_next : (p : Option (MetaTypeOf S C)) (xs : List (Selection S)) (k : ℕ) (x : Selection S) (a b c : NumberedSet) (s t u : Table S C) → k < length xs → x ≡ get_or xs k x
-      → AddsFor schema numbers p (take k xs) a b s t → AddsFor schema numbers p (x ∷ []) b c t u → AddsFor schema numbers p (take (k + 1) xs) a c s u
-  for_next p xs k x a b c s t u l is d e =
-      subst (λ z. AddsFor schema numbers p z a c s u) (sym (next_take xs k x l is)) (for_then p (take k xs) (x ∷ []) a b c s t u d e)
-
-  pub for_whole : (p : Option (MetaTypeOf S C)) (xs : List (Selection S)) (k : ℕ) (a b : NumberedSet) (s t : Table S C) → length xs ≤ k → AddsFor schema numbers p (take k xs) a b s t → AddsFor schema numbers p xs a b s t
-  for_whole p xs k a b s t l d = subst (λ z. AddsFor schema numbers p z a b s t) (take_all k xs l) d
 
   pub for_leaf : (p : Option (MetaTypeOf S C)) (f : Placed (Field S)) (o : PlainEntry S C) (a b : NumberedSet) (s t : Table S C)
       → o ≡ entry_under p f → f.item.selection_set ≡ None → PushesField o None a b s t → AddsFor schema numbers p (selection.Field f ∷ []) a b s t
@@ -245,9 +235,6 @@ module _ {S C : Type 0} (schema : Catalog S C) (numbers : List ℕ → Option �
         (subst (λ z. IsInside schema p0 set0 (type_entered schema r i.item.type_condition) z) (sym all) (of_inline i j stands)) (λ x c. c);
   }
 
-  pub for_as : (p : Option (MetaTypeOf S C)) (x y : Selection S) (a b : NumberedSet) (s t : Table S C) → x ≡ y → AddsFor schema numbers p (y ∷ []) a b s t → AddsFor schema numbers p (x ∷ []) a b s t
-  for_as p x y a b s t is added = subst (λ z. AddsFor schema numbers p (z ∷ []) a b s t) (sym is) added
-
   -- Fields that are added to a set with all sets in them.
   order_then : (ms ns : List ℕ) (s t u : Table S C) → t.order.items ≡ s.order.items ++ ms → u.order.items ≡ t.order.items ++ ns → u.order.items ≡ s.order.items ++ (ms ++ ns)
   order_then ms ns s t u d e = e ∙ (ap (λ z. z ++ ns) d ∙ append_assoc s.order.items ms ns)
@@ -265,7 +252,7 @@ module _ {S C : Type 0} (schema : Catalog S C) (numbers : List ℕ → Option �
       nothing_deeper q inner (of_field f w c e i) = let l = c.1 in absurd (omega (arith, l))
       nothing_deeper q inner (of_fragment f c i) = let l = c.1 in absurd (omega (arith, l))
 
-  adds_then : (p : Option (MetaTypeOf S C)) (xs ys : List (Selection S)) (a b c : NumberedSet) (s t u : Table S C) → Adds schema numbers p xs a b s t → Adds schema numbers p ys b c t u → Adds schema numbers p (xs ++ ys) a c s u
+  pub adds_then : (p : Option (MetaTypeOf S C)) (xs ys : List (Selection S)) (a b c : NumberedSet) (s t u : Table S C) → Adds schema numbers p xs a b s t → Adds schema numbers p ys b c t u → Adds schema numbers p (xs ++ ys) a c s u
   adds_then p xs ys a b c s t u d e = record {
     parts = parts_then p xs ys a b c s t u d.parts e.parts;
     more = d.more ++ e.more;
@@ -295,14 +282,6 @@ module _ {S C : Type 0} (schema : Catalog S C) (numbers : List ℕ → Option �
         | inl h ↦ first q inner (of_fragment f h i)
         | inr h ↦ second q inner (of_fragment f h i)
       ]
-
-  pub adds_next : (p : Option (MetaTypeOf S C)) (xs : List (Selection S)) (k : ℕ) (x : Selection S) (a b c : NumberedSet) (s t u : Table S C) → k < length xs → x ≡ get_or xs k x
-      → Adds schema numbers p (take k xs) a b s t → Adds schema numbers p (x ∷ []) b c t u → Adds schema numbers p (take (k + 1) xs) a c s u
-  adds_next p xs k x a b c s t u l is d e =
-      subst (λ z. Adds schema numbers p z a c s u) (sym (next_take xs k x l is)) (adds_then p (take k xs) (x ∷ []) a b c s t u d e)
-
-  pub adds_whole : (p : Option (MetaTypeOf S C)) (xs : List (Selection S)) (k : ℕ) (a b : NumberedSet) (s t : Table S C) → length xs ≤ k → Adds schema numbers p (take k xs) a b s t → Adds schema numbers p xs a b s t
-  adds_whole p xs k a b s t l d = subst (λ z. Adds schema numbers p z a b s t) (take_all k xs l) d
 
   pub adds_leaf : (p : Option (MetaTypeOf S C)) (f : Placed (Field S)) (o : PlainEntry S C) (a b : NumberedSet) (s t : Table S C)
       → o ≡ entry_under p f → f.item.selection_set ≡ None → PushesField o None a b s t → Adds schema numbers p (selection.Field f ∷ []) a b s t
@@ -411,6 +390,3 @@ module _ {S C : Type 0} (schema : Catalog S C) (numbers : List ℕ → Option �
             whole = λ known. absurd (lost (known p whole j i stands));
           };
     }
-
-  pub adds_as : (p : Option (MetaTypeOf S C)) (x y : Selection S) (a b : NumberedSet) (s t : Table S C) → x ≡ y → Adds schema numbers p (y ∷ []) a b s t → Adds schema numbers p (x ∷ []) a b s t
-  adds_as p x y a b s t is added = subst (λ z. Adds schema numbers p (z ∷ []) a b s t) (sym is) added

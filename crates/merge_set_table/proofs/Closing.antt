@@ -1,5 +1,5 @@
 -- A set that was begun, filled and stored.
-use Rattle.std.proofs.Common.{◌≡◌, ◌==◌, ℕ, ◌+◌, ◌<◌, List, [], ◌∷◌, ◌++◌, length, map, Option, Some, slice_get, refl, sym, ap, subst, ◌∙◌, arith, inl, inr, true, append_assoc, length-append}
+use Rattle.std.proofs.Common.{◌≡◌, ◌==◌, ℕ, ◌+◌, List, [], ◌∷◌, ◌++◌, length, map, Option, Some, slice_get, refl, sym, ap, subst, ◌∙◌, arith, inl, inr, true, append_assoc, length-append}
 use Rattle.std.specs.List.{All}
 use Rattle.std.proofs.Math.Seq.{set-append_seam}
 use Rattle.std.proofs.Math.ListN.{set}
@@ -30,11 +30,6 @@ module _ {S C : Type 0} where
     sets = λ k r h. subst (λ ss. slice_get ss k ≡ Some r) (sym c.sets) (get_more t.sets.items (c.row ∷ []) k r h);
     longer = omega (arith, ap length c.sets, length-append t.sets.items (c.row ∷ []));
   }
-
-  -- the place that was kept lies in the order
-  pub kept_place : (place : ℕ) (t t1 t2 : Table S C) (more : List ℕ) → OpensSet place t t1 → t2.order.items ≡ t1.order.items ++ more → place < length t2.order.items
-  kept_place place t t1 t2 more opened added =
-      omega (arith, opened.at, ap length added, length-append t1.order.items more, ap length opened.order, length-append t.order.items (0 ∷ []))
 
   module _ (schema : Catalog S C) (numbers : List ℕ → Option ℕ) (p : Option (MetaTypeOf S C)) (selections : List (Selection S)) where
     -- a set that was filled and stored

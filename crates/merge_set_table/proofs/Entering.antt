@@ -3,7 +3,7 @@ use Rattle.std.proofs.Common.{◌≡◌, ◌&&◌, List, ℕ, true, false, not, 
 use Rattle.std.specs.Option.{is_some, option_or}
 use denote.Ref.{Bor}
 use Rattle.meta.specs.declared.kinds.MetaTypeOf.{MetaTypeOf}
-use Rattle.schema.specs.Catalog.{Catalog, type_in}
+use Rattle.schema.specs.Catalog.{Catalog}
 use Rattle.merge_field_pairs.specs.OwnFields.{Placed, type_inside}
 use Rattle.merge_set_table.specs.Inside.{type_entered, IsConditionKnown}
 

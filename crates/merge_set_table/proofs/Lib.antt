@@ -9,3 +9,4 @@ pub mod Building
 pub mod Entering
 pub mod Closing
 pub mod OwnParts
+pub mod Becoming

@@ -8,3 +8,4 @@ pub mod Represents
 pub mod Inside
 pub mod Adding
 pub mod OwnParts
+pub mod Tasks

@@ -3,10 +3,10 @@
 
 pub mod adding;
 pub mod known;
-mod merging;
 mod names;
 mod once;
 mod recent;
 mod responses;
 mod steps;
 pub mod table;
+mod tasks;

@@ -121,7 +121,8 @@ pub fn store_set<S, C>(
     Ok(number)
 }
 
-/// Stores a set, puts its number at its place in the order, and returns the number.
+/// Stores a set, puts its number at its place in the order, and returns the number. A place past the end of the order
+/// is left out.
 ///
 /// # Errors
 ///
@@ -132,10 +133,12 @@ pub fn close_set<S, C>(
     part: NumberedSet,
     table: &mut Table<'_, S, C>,
 ) -> Result<usize, OutOfMemory>
-    requires { place < length table.old.order.items }
     ensures { IfOk result (λ n. ClosesSet place part n table.old table.new) }
 {
     let number = store_set(alloc, part, table)?;
+    if table.order.len() <= place {
+        return Ok(number);
+    }
     table.order[place] = number;
     Ok(number)
 }

@@ -1,6 +1,6 @@
 use Rattle.std.proofs.Common.{◌≡◌, ◌+◌, take, get_or, false, sym, ◌∙◌}
 use Rattle.std.proofs.lemmas.List.{take_more}
-use Rattle.merge_set_table.specs.Once.{is_among, IsEachOnce}
+use Rattle.merge_set_table.specs.Once.{is_among}
 use Rattle.merge_set_table.proofs.OnceLaws.{once_step}
 use Rattle.merge_set_table.proofs.once.are_each_once.Goals as goal
 

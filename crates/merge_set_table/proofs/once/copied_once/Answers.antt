@@ -1,6 +1,6 @@
-use Rattle.std.proofs.Common.{◌≡◌, ℕ, ◌+◌, List, Bool, take, get_or, true, false, not, refl, sym, ap, subst, ◌∙◌}
+use Rattle.std.proofs.Common.{◌≡◌, ◌+◌, Bool, take, get_or, true, false, not, refl, sym, subst, ◌∙◌}
 use Rattle.bit_matrix.specs.Set.{has}
-use Rattle.merge_set_table.specs.Once.{is_among, IsEachOnce}
+use Rattle.merge_set_table.specs.Once.{IsEachOnce}
 use Rattle.merge_set_table.proofs.OnceLaws.{HaveBits, bits_more, bits_stay, once_step, once_stay}
 use Rattle.merge_set_table.proofs.once.copied_once.Goals as goal
 use Rattle.merge_set_table.proofs.once.copied_once.Goals.{then-branch+in_ok-push, else-branch}
