@@ -9,12 +9,14 @@ pub mod Falls
 pub mod Flips
 pub mod Judging
 pub mod Laws
+pub mod Leading
 pub mod Logs
 pub mod Opened
 pub mod Order
 pub mod Rows
 pub mod SpreadLoops
 pub mod Spreads
+pub mod Steps
 pub mod Tallying
 pub mod TallyingBelow
 pub mod Work

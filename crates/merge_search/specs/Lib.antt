@@ -13,5 +13,6 @@ pub mod Merging
 pub mod Reports
 pub mod Counts
 pub mod State
+pub mod Tasks
 pub mod Sound
 pub mod Tops

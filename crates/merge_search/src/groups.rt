@@ -3,6 +3,7 @@ ghost use Rattle.std.specs.Prelude.{◌≡◌, IfOk};
 ghost use Rattle.std.specs.Bool.{OnTrue};
 ghost use Rattle.std.specs.Option.{option_map_or};
 ghost use Rattle.merge_search.specs.Names as Spec;
+ghost use Rattle.merge_search.specs.Indexed.{firsts_of};
 
 use crate::node::{Entry, NameIndex, SetNode};
 use std::alloc::{AllocError, Global};
@@ -104,7 +105,7 @@ pub fn make_set(alloc: Global, own: Vec<Entry>, spreads: Vec<usize>) -> Result<S
 
 /// The first own field of each response name, in the order in which they stand.
 pub(crate) fn first_fields(set: &SetNode) -> &[Entry]
-    ensures { Spec.AreListed result.now set.now.own.items }
+    ensures { result.now ≡ firsts_of set.now.own.items set.now.index }
 {
     match &set.index {
         Some(index) => match &index.firsts {

@@ -1,6 +1,8 @@
 //! The search for fields that can't be merged, over numbered sets of numbered fields.
 #![tactic(auto)]
 
+mod fields;
+mod fragments;
 pub mod graph;
 pub mod groups;
 pub mod judge;
@@ -13,5 +15,6 @@ pub mod plain_names;
 pub mod repeats;
 pub mod search;
 pub mod state;
+pub mod task;
 pub mod top;
 pub mod view;

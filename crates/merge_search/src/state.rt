@@ -9,6 +9,7 @@ use crate::log::{Log, is_in, no_questions, note};
 use crate::node::Entry;
 use crate::opening::{Opening, no_opening};
 use crate::repeats::REPEATS;
+use crate::task::Task;
 use bit_matrix::set::BitSet;
 use std::alloc::{AllocError, Global};
 
@@ -42,6 +43,8 @@ pub struct Search {
     pub lists: u128,
     /// Openings of searches that ended, whose room is used again.
     pub openings: Vec<Opening>,
+    /// No task, but the room of those that were done, which is used again.
+    pub tasks: Vec<Task>,
 }
 
 /// A search that has found nothing.
@@ -59,6 +62,7 @@ pub fn no_search(alloc: Global) -> Search
         opened: 0,
         lists: 0,
         openings: Vec::new(alloc),
+        tasks: Vec::new(alloc),
     }
 }
 

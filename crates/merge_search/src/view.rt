@@ -3,6 +3,7 @@ ghost use Rattle.std.specs.Prelude.{◌≡◌};
 ghost use Rattle.merge_search.specs.Names.{named, AreListed};
 ghost use Rattle.std.specs.Bool.{OnTrue};
 ghost use Rattle.std.specs.List.{All};
+ghost use Rattle.merge_search.specs.Tasks.{firsts_at};
 ghost use Rattle.merge_search.specs.Clear.{AreClear, AreLeaves};
 ghost use Rattle.merge_search.specs.World.{world, own_of, spreads_of, set_of, exclusive_of, conflict_of};
 
@@ -14,6 +15,16 @@ use crate::node::Entry;
 /// The first own field of each response name of a set, in the order in which they stand.
 pub fn firsts<J: Judge>(graph: &Graph<J>, s: usize) -> &[Entry]
     ensures { AreListed result.now (own_of (world J.judgement graph.now) s) }
+{
+    match graph.sets.get(s) {
+        Some(node) => first_fields(node),
+        None => &[],
+    }
+}
+
+/// The same list, of which more is known.
+pub(crate) fn first_of_names<J: Judge>(graph: &Graph<J>, s: usize) -> &[Entry]
+    ensures { result.now ≡ firsts_at graph.now.sets.items s }
 {
     match graph.sets.get(s) {
         Some(node) => first_fields(node),

@@ -1,0 +1,198 @@
+-- What the pieces of a step make of the state together.
+use Rattle.std.proofs.Common.{◌≡◌, ℕ, ◌+◌, ◌-◌, ◌<◌, ◌≤◌, List, [], ◌∷◌, ◌++◌, length, drop, get_or, refl, sym, subst, ap, ◌∙◌, arith, Bool, true, false, None, Some, Option, inl, inr, ◌⊎◌}
+use Rattle.std.specs.Prelude.{slice_get}
+use Rattle.std.specs.Option.{option_map_or}
+use Rattle.std.specs.List.{All, Contains}
+use Rattle.std.proofs.lemmas.List.{drop_more}
+use Rattle.std.proofs.Math.ListN.{drop_of_length-le}
+use Rattle.std.proofs.lemmas.List.Elements.{All-nil, All-cons, All-contains, Contains-append_cases}
+use Rattle.merge_search.specs.declared.node.Entry.{Entry}
+use Rattle.merge_search.specs.declared.node.SetNode.{SetNode}
+use Rattle.merge_search.specs.declared.state.Search.{Search}
+use Rattle.merge_search.specs.declared.state.Finding.TheVariants.{Nested}
+use Rattle.merge_search.specs.Names.{named, AreListed}
+use Rattle.merge_search.specs.Indexed.{firsts_of}
+use Rattle.merge_search.specs.World.{World, own_of, spreads_of, set_of, conflict_of, exclusive_of}
+use Rattle.merge_search.specs.Opening.{Opens}
+use Rattle.merge_search.specs.State.{Keeps, Reports, NotesPair, NotesSearch, CountsList}
+use Rattle.merge_search.specs.Work.{pair_in, Did, Owes, Done, Searched, Pair, SetsDone, OwnPairs}
+use Rattle.merge_search.specs.Reports.{Root, Finds, FindsAll, Adds, AddsAll, NestedRoot, AtFields, AtWith, AtNamed, AtOwn, AtSearch, AtSearches, AtFragments, AtFirst, AtSecond, AtSpreads, AtBelow}
+use Rattle.merge_search.specs.Tasks.{firsts_at, Compares, Searches, SearchesOwing, ComparesEach, MeetsFields, MeetsNested, MeetsBelow, MeetsNamed, MeetsOne, MeetsSearch, MeetsFragments, WithDone, NameDone, Closes}
+use Rattle.merge_search.proofs.Work.{did_none, did_then, did_map, did_list, did_opened, did_fragments, did_report, did_kept, owes_search, grows_then}
+use Rattle.merge_search.proofs.Adding.{adds_none, adds_map, adds_then, adds_from, adds_node, adds_same, all_both, all_map, all_told}
+use Rattle.merge_search.proofs.Rows.{tell_with, tell_named, tell_own, own_pairs, row_first, row_second, row_fragments, row_nested, row_below_own, row_below_forth, row_below_back, row_below_spreads}
+
+pub drop_next : {X : Type 0} (ys xs : List X) (k : ℕ) (d : X) → ys ≡ xs → k < length ys → drop k xs ≡ get_or ys k d ∷ drop (k + 1) xs
+drop_next ys xs k d h l = subst (λ zs. drop k zs ≡ get_or ys k d ∷ drop (k + 1) zs) h (drop_more ys k d l)
+
+pub drop_end : {X : Type 0} (ys xs : List X) (k : ℕ) → ys ≡ xs → length ys ≤ k → drop k xs ≡ []
+drop_end ys xs k h l = subst (λ zs. drop k zs ≡ []) h (drop_of_length-le ys l)
+
+-- what stands in a list is its first, or stands in the rest
+first_or_rest : {X : Type 0} (x : X) (xs : List X) (y : X) → Contains (x ∷ xs) y → (x ≡ y) ⊎ Contains xs y
+first_or_rest {X} x xs y c = elim (Contains-append_cases (x ∷ []) xs y c) [
+  | inl one ↦ inl (All-contains (λ z. x ≡ z) (x ∷ []) y (All-cons (λ z. x ≡ z) x [] refl (All-nil (λ z. x ≡ z))) one)
+  | inr more ↦ inr more
+]
+
+listed_of : (o : Option SetNode) → AreListed (option_map_or (λ n. firsts_of n.own.items n.index) o []) (option_map_or (λ n. n.own.items) o [])
+listed_of None = All-nil _
+listed_of (Some n) = n.listed
+
+module _ (w : World) (e : Bool) where
+  pub each_none : (D : Entry → Search → Type 0) (P : Root → Type 0) (Q : Entry → Root → Type 0) (items : List Entry) (s : Search) → items ≡ [] → ComparesEach w e D P Q items s s
+  each_none D P Q items s h = record {
+    done = did_none w _ s (λ M grown. subst (λ xs. All (λ x. D x M) xs) (sym h) (All-nil (λ x. D x M)));
+    real = record {
+      adds = adds_none w e P s.found.items;
+      tells = λ r at fails. absurd (All-contains (λ x. ⊥) [] (at.0) (All-nil (λ x. ⊥)) (subst (λ xs. Contains xs (at.0)) h (at.1)));
+    };
+  }
+
+  -- the first of a list, and then the rest
+  pub each_next : (D : Entry → Search → Type 0) (P R : Root → Type 0) (Q : Entry → Root → Type 0) (x : Entry) (rest items : List Entry) (s t u : Search) → items ≡ x ∷ rest
+      → ((r : Root) → R r → P r) → Compares w e (D x) R (Q x) s t → ComparesEach w e D P Q rest t u → ComparesEach w e D P Q items s u
+  each_next D P R Q x rest items s t u h f one more = record {
+    done = did_map w _ _ (λ M z. subst (λ xs. All (λ y. D y M) xs) (sym h) (All-cons (λ y. D y M) x rest z.0 z.1)) (did_then w _ _ one.done more.done);
+    real = all_told w e P _ _
+        (λ r at. elim (first_or_rest x rest (at.0) (subst (λ xs. Contains xs (at.0)) h (at.1))) [
+          | inl is ↦ inl (subst (λ y. Q y r) (sym is) (at.2))
+          | inr there ↦ inr (at.0, there, at.2)
+        ])
+        (all_both w e P (Q x) (λ r. (y : Entry) × Contains rest y × Q y r) (all_map w e R P (Q x) f one.real) more.real);
+  }
+
+  pub searches_none : (D : ℕ → Search → Type 0) (P : Root → Type 0) (items : List ℕ) (s : Search) → items ≡ [] → Searches w e (λ M. All (λ x. D x M) items) P s s
+  searches_none D P items s h = record {
+    done = did_none w _ s (λ M grown. subst (λ xs. All (λ x. D x M) xs) (sym h) (All-nil (λ x. D x M)));
+    real = adds_none w e P s.found.items;
+  }
+
+  pub searches_next : (D : ℕ → Search → Type 0) (P R : Root → Type 0) (x : ℕ) (rest items : List ℕ) (s t u : Search) → items ≡ x ∷ rest
+      → ((r : Root) → R r → P r) → Searches w e (D x) R s t → Searches w e (λ M. All (λ y. D y M) rest) P t u → Searches w e (λ M. All (λ y. D y M) items) P s u
+  searches_next D P R x rest items s t u h f one more = record {
+    done = did_map w _ _ (λ M z. subst (λ xs. All (λ y. D y M) xs) (sym h) (All-cons (λ y. D y M) x rest z.0 z.1)) (did_then w _ _ one.done more.done);
+    real = adds_then w e P (adds_map w e R P f one.real) more.real;
+  }
+
+  -- all that a field is compared with, and all of a response name
+  pub with_whole : (a : Entry) (j : ℕ) (s t : Search) → ComparesEach w e (λ b M. Done w M e a b) (AtWith w a j) (λ b. AtFields a b) (named a.response (own_of w j)) s t
+      → Compares w e (WithDone w e j a) (AtWith w a j) (AtWith w a j) s t
+  with_whole a j s t d = record { done = d.done; real = all_told w e _ _ _ (tell_with w a j) d.real }
+
+  pub named_whole : (i j n : ℕ) (s t : Search) → ComparesEach w e (WithDone w e j) (AtNamed w i j n) (λ a. AtWith w a j) (named n (own_of w i)) s t → MeetsNamed w e i j n s t
+  named_whole i j n s t d = record { done = d.done; real = all_told w e _ _ _ (tell_named w i j n) d.real }
+
+  pub own_whole : (i j : ℕ) (s t : Search) → ComparesEach w e (NameDone w e i j) (AtOwn w i j) (λ f. AtNamed w i j f.response) (firsts_at w.sets i) s t
+      → Compares w e (λ M. OwnPairs w M e i j) (AtOwn w i j) (AtOwn w i j) s t
+  own_whole i j s t d =
+      let listed = listed_of (slice_get w.sets i) in
+      record {
+        done = did_map w _ _ (λ M z. own_pairs w M e i j (firsts_at w.sets i) listed z) d.done;
+        real = all_told w e _ _ _ (tell_own w i j (firsts_at w.sets i) listed) d.real;
+      }
+
+  -- the sets below two fields, and the report of the two
+  pub nested_closed : (a b : Entry) (i j : ℕ) (s t u : Search) → MeetsBelow w (exclusive_of w e a b) i j s t → Closes a b (length s.found.items) t u → MeetsNested w e a b i j s u
+  nested_closed a b i j s t u d (inl (l, same)) = subst (λ (z : Search). MeetsNested w e a b i j s z) (sym same) (record {
+    done = d.done;
+    real = λ none sa sb. adds_same w e (exclusive_of w e a b) _ _ s.found.items t.found.items l d.real;
+  })
+  nested_closed a b i j s t u d (inr (l, told)) = record {
+    done = did_map w _ _ (λ M z. z.0) (did_report w _ _ told d.done);
+    real = λ none sa sb. adds_node w e a b _ s.found.items t.found.items _ none (adds_map w (exclusive_of w e a b) _ _ (row_nested w a b i j sa sb) d.real) l refl told.found;
+  }
+
+  -- the four parts of two sets
+  pub below_whole : (i j : ℕ) (s t u v z : Search)
+      → ComparesEach w e (NameDone w e i j) (AtOwn w i j) (λ f. AtNamed w i j f.response) (firsts_at w.sets i) s t
+      → Searches w e (λ M. All (λ h. Searched M e i h) (spreads_of w j)) (AtSearches w i j) t u
+      → Searches w e (λ M. All (λ h. Searched M e j h) (spreads_of w i)) (AtSearches w j i) u v
+      → Searches w e (λ M. All (λ g. All (λ h. Pair M e g h) (spreads_of w j)) (spreads_of w i)) (AtSpreads w i j) v z
+      → MeetsBelow w e i j s z
+  below_whole i j s t u v z own forth back both =
+      let all = own_whole i j s t own in
+      record {
+        done = did_map w _ _ (λ M h. (h.0.0.0, (h.0.0.1, h.0.1, h.1))) (did_then w _ _ (did_then w _ _ (did_then w _ _ all.done forth.done) back.done) both.done);
+        real = adds_then w e _ (adds_then w e _ (adds_then w e _
+            (adds_map w e _ _ (row_below_own w i j) all.real.adds)
+            (adds_map w e _ _ (row_below_forth w i j) forth.real))
+            (adds_map w e _ _ (row_below_back w i j) back.real))
+            (adds_map w e _ _ (row_below_spreads w i j) both.real);
+      }
+
+  -- a fragment that a search opens, noted first
+  pub one_noted : (i g : ℕ) (s t u v : Search) → NotesSearch i g e s t
+      → ComparesEach w e (NameDone w e i (set_of w g)) (AtOwn w i (set_of w g)) (λ f. AtNamed w i (set_of w g) f.response) (firsts_at w.sets i) t u
+      → Keeps u v → MeetsOne w e i g s v
+  one_noted i g s t u v n own k =
+      let all = own_whole i (set_of w g) t u own in
+      record {
+        done = owes_search w e i g n (did_kept w _ k all.done);
+        real = subst (λ zs. Adds w e (AtOwn w i (set_of w g)) s.found.items zs) (sym k.found) (adds_from w e _ n.found all.real.adds);
+      }
+
+  owes_of : (O D : Search → Type 0) {s t : Search} → Did w D s t → Owes w O D s t
+  owes_of O D d = record { grows = d.grows; holds = d.holds; closes = λ M g o c. d.closes M g c; keeps = d.keeps }
+
+  -- no fragment is left that a search opens
+  pub opened_end : (O : Search → Type 0) (D : ℕ → Search → Type 0) (P : Root → Type 0) (items : List ℕ) (s t : Search) → items ≡ [] → Keeps s t
+      → SearchesOwing w e O (λ M. All (λ h. D h M) items) P s t
+  opened_end O D P items s t h k = record {
+    done = owes_of O _ (did_kept w _ k (searches_none D P items s h).done);
+    real = subst (λ zs. Adds w e P s.found.items zs) (sym k.found) (adds_none w e P s.found.items);
+  }
+
+  -- one of them, and then the rest
+  pub opened_next : (O Q : Search → Type 0) (D : ℕ → Search → Type 0) (P R : Root → Type 0) (x : ℕ) (rest items : List ℕ) (s t u : Search) → items ≡ x ∷ rest
+      → ((M : Search) → O M → Q M) → ((r : Root) → R r → P r) → SearchesOwing w e Q (D x) R s t → SearchesOwing w e O (λ M. All (λ h. D h M) rest) P t u
+      → SearchesOwing w e O (λ M. All (λ h. D h M) items) P s u
+  opened_next O Q D P R x rest items s t u h o f one more = record {
+    done = record {
+      grows = grows_then one.done.grows more.done.grows;
+      holds = λ M g. subst (λ xs. All (λ y. D y M) xs) (sym h) (All-cons (λ y. D y M) x rest (one.done.holds M (grows_then more.done.grows g)) (more.done.holds M g));
+      closes = λ M g owed c. more.done.closes M g owed (one.done.closes M (grows_then more.done.grows g) (o M owed) c);
+      keeps = λ z. more.done.keeps (one.done.keeps z);
+    };
+    real = adds_then w e P (adds_map w e R P f one.real) more.real;
+  }
+
+  -- all of them, counted first
+  pub search_counted : (i g : ℕ) (order : List ℕ) (s t u : Search) → g < length w.fragments → Opens w g order → CountsList (length order) s t
+      → SearchesOwing w e (λ M. All (λ h. Searched M e i h) order) (λ M. All (λ h. Searched M e i h) order) (AtSearch w i g) t u → MeetsSearch w e i g s u
+  search_counted i g order s t u l opens n d = record {
+    done = did_map w _ _ (λ M z. All-contains (λ h. Searched M e i h) order g z opens.first) (did_opened w (λ h M. Searched M e i h) order (did_list w n opens.few (omega (arith, l))) d.done);
+    real = adds_from w e _ n.found d.real;
+  }
+
+  -- two fragments, noted first
+  pub fragments_noted : (f g : ℕ) (s t u v z : Search) → (f ≡ g → ⊥) → (pair_in s e f g ≡ true → ⊥) → NotesPair f g e s t
+      → ComparesEach w e (NameDone w e (set_of w f) (set_of w g)) (AtOwn w (set_of w f) (set_of w g)) (λ h. AtNamed w (set_of w f) (set_of w g) h.response) (firsts_at w.sets (set_of w f)) t u
+      → (f < length w.fragments → Searches w e (λ M. All (λ h. Pair M e f h) (spreads_of w (set_of w g))) (AtFirst w f (set_of w g)) u v)
+      → (g < length w.fragments → Searches w e (λ M. All (λ h. Pair M e h g) (spreads_of w (set_of w f))) (AtSecond w (set_of w f) g) v z)
+      → MeetsFragments w e f g s z
+  fragments_noted f g s t u v z ne fresh n own first second lf lg =
+      let all = own_whole (set_of w f) (set_of w g) t u own in
+      record {
+        done = did_fragments w e f g n ne lf lg fresh (did_map w _ _ (λ M h. (h.0.0, h.0.1, h.1)) (did_then w _ _ (did_then w _ _ all.done (first lf).done) (second lg).done));
+        real = adds_from w e _ n.found (adds_then w e _ (adds_then w e _
+            (adds_map w e _ _ (row_fragments w f g ne) all.real.adds)
+            (adds_map w e _ _ (row_first w f g ne) (first lf).real))
+            (adds_map w e _ _ (row_second w f g ne) (second lg).real));
+      }
+
+  did_before : (D : Search → Type 0) {s t u : Search} → Keeps s t → Did w D t u → Did w D s u
+  did_before D {s} k d = did_map w _ _ (λ M z. z.1) (did_then w (λ M. Unit {0}) D (did_kept w (λ M. Unit {0}) k (did_none w (λ M. Unit {0}) s (λ M g. tt))) d)
+
+  -- nothing that is spoken of changed before and after
+  pub compares_kept : (D : Search → Type 0) (P Q : Root → Type 0) (s t u v : Search) → Keeps s t → Compares w e D P Q t u → Keeps u v → Compares w e D P Q s v
+  compares_kept D P Q s t u v k d l = record {
+    done = did_kept w D l (did_before D k d.done);
+    real = subst (λ zs. AddsAll w e P Q zs v.found.items) k.found (subst (λ zs. AddsAll w e P Q t.found.items zs) (sym l.found) d.real);
+  }
+
+  pub searches_kept : (D : Search → Type 0) (P : Root → Type 0) (s t u v : Search) → Keeps s t → Searches w e D P t u → Keeps u v → Searches w e D P s v
+  searches_kept D P s t u v k d l = record {
+    done = did_kept w D l (did_before D k d.done);
+    real = subst (λ zs. Adds w e P zs v.found.items) k.found (subst (λ zs. Adds w e P t.found.items zs) (sym l.found) d.real);
+  }

@@ -1,0 +1,41 @@
+use Rattle.std.proofs.Common.{◌≡◌, ◌+◌, ◌-◌, ◌<◌, ℕ, length, arith, drop, get_or, rules}
+use Rattle.std.proofs.lemmas.Result.{on_ok_weaker}
+use Rattle.merge_search.specs.declared.task.Task.TheVariants.{With, Named}
+use Rattle.merge_search.specs.declared.node.Entry.{Entry}
+use Rattle.merge_search.specs.Names.{named}
+use Rattle.merge_search.specs.World.{world, own_of}
+use Rattle.merge_search.specs.Reports.{AtWith, AtNamed}
+use Rattle.merge_search.specs.Tasks.{Meets, WithDone}
+use Rattle.merge_search.proofs.Work.{no_entry}
+use Rattle.merge_search.proofs.Leading.{leads_done, leads_next}
+use Rattle.merge_search.proofs.Rows.{row_named, in_list}
+use Rattle.merge_search.proofs.Steps.{drop_end, drop_next, each_none, each_next, with_whole}
+use Rattle.merge_search.proofs.fields.next_named.Goals as goal
+
+pub returns-then-m-fields : goal.returns-then-m-fields
+returns-then-m-fields g c =
+    let v = world g.J.Judge.judgement c.args.graph.now in
+    let e = c.args.e in
+    let i = c.args.i in
+    let j = c.args.j in
+    leads_done v (Meets v (Named i j c.args.name e c.args.m)) _
+    (each_none v e (WithDone v e j) (AtNamed v i j c.args.name) (λ a. AtWith v a j) _ c.args.search.now (drop_end _ (named c.args.name (own_of v i)) c.args.m c.group-fields.ensures (search rules)))
+
+pub returns : goal.returns
+returns g c =
+    let v = world g.J.Judge.judgement c.args.graph.now in
+    let e = c.args.e in
+    let i = c.args.i in
+    let j = c.args.j in
+    let m = c.args.m in
+    let n = c.args.name in
+    let less : m < length c.group-fields.result.now = search rules in
+    let a : Entry = get_or c.group-fields.result.now m no_entry in
+    let fields = named n (own_of v i) in
+    on_ok_weaker c.next_with.result
+    (λ go. leads_next v (Meets v (With a j e 0)) (Meets v (Named i j n e (m + 1))) (Meets v (Named i j n e m)) _ _ _ _ c.args.search.now
+    (λ t u one more. each_next v e (WithDone v e j) (AtNamed v i j n) (AtWith v a j) (λ a. AtWith v a j) a (drop (m + 1) fields) (drop m fields) _ t u
+    (drop_next c.group-fields.result.now fields m no_entry c.group-fields.ensures less)
+    (λ r z. row_named v a i j n r (in_list c.group-fields.result.now fields m no_entry c.group-fields.ensures less) z) (with_whole v e a j _ t one) more)
+    (c.in_ok-wait.ensures v (λ none s. each_none v e (WithDone v e j) (AtNamed v i j n) (λ a. AtWith v a j) _ s (drop_end _ fields (m + 1) c.group-fields.ensures (omega (arith, none))))) go)
+    c.next_with.ensures

@@ -1,0 +1,26 @@
+use Rattle.std.proofs.Common.{◌≡◌, ℕ, List, length, arith, sym, subst}
+use Rattle.std.proofs.lemmas.Result.{on_ok_weaker}
+use Rattle.std.specs.List.{All}
+use Rattle.merge_search.specs.declared.task.Task.TheVariants.{Own, Against, Both}
+use Rattle.merge_search.specs.World.{world, spreads_of}
+use Rattle.merge_search.specs.Work.{Searched, Pair}
+use Rattle.merge_search.specs.Reports.{AtOwn, AtNamed, AtSearches, AtSpreads}
+use Rattle.merge_search.specs.Tasks.{Meets, MeetsBelow, NameDone, firsts_at}
+use Rattle.merge_search.proofs.Leading.{waits_four}
+use Rattle.merge_search.proofs.Steps.{drop_end, each_none, searches_none, below_whole}
+use Rattle.merge_search.proofs.fields.wait_below.Goals as goal
+
+pub returns : goal.returns
+returns g c =
+    let v = world g.J.Judge.judgement c.args.graph.now in
+    let e = c.args.e in
+    let i = c.args.i in
+    let j = c.args.j in
+    on_ok_weaker c.wait-4.result
+    (λ own. waits_four v (Meets v (Own i j e 0)) (Meets v (Against i j e 0)) (Meets v (Against j i e 0)) (Meets v (Both i j e 0)) (MeetsBelow v e i j) _ _ _ _ _
+    (below_whole v e i j)
+    (own v (λ none s. each_none v e (NameDone v e i j) (AtOwn v i j) (λ f. AtNamed v i j f.response) _ s (drop_end _ (firsts_at v.sets i) 0 c.first_of_names.ensures (omega (arith, none)))))
+    (c.in_ok-wait-3.ensures v (λ none s. searches_none v e (λ h M. Searched M e i h) (AtSearches v i j) _ s (drop_end _ (spreads_of v j) 0 c.spreads-right.ensures (omega (arith, none)))))
+    (c.in_ok-wait-2.ensures v (λ none s. searches_none v e (λ h M. Searched M e j h) (AtSearches v j i) _ s (drop_end _ (spreads_of v i) 0 c.spreads-left.ensures (omega (arith, none)))))
+    (c.in_ok-wait.ensures v (λ none s. searches_none v e (λ k M. All (λ h. Pair M e k h) (spreads_of v j)) (AtSpreads v i j) _ s (drop_end _ (spreads_of v i) 0 c.spreads-left.ensures (omega (arith, none))))))
+    c.wait-4.ensures

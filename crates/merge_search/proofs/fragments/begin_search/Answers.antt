@@ -1,0 +1,33 @@
+use Rattle.std.proofs.Common.{◌≡◌, ◌<◌, ℕ, length}
+use Rattle.std.proofs.lemmas.Result.{on_ok_weaker}
+use Rattle.merge_search.specs.declared.task.Task.TheVariants.{Opened}
+use Rattle.merge_search.specs.declared.state.Search.{Search}
+use Rattle.merge_search.specs.World.{world}
+use Rattle.merge_search.specs.Work.{search_in}
+use Rattle.merge_search.specs.Tasks.{Meets, MeetsSearch}
+use Rattle.merge_search.proofs.Work.{did_none, covers_yes}
+use Rattle.merge_search.proofs.Adding.{adds_none}
+use Rattle.merge_search.proofs.Leading.{leads_done, leads_turn}
+use Rattle.merge_search.proofs.Steps.{search_counted}
+use Rattle.merge_search.proofs.fragments.begin_search.Goals as goal
+
+pub returns-then-is_settled : goal.returns-then-is_settled
+returns-then-is_settled g c =
+    let v = world g.J.Judge.judgement c.args.graph.now in
+    leads_done v (MeetsSearch v c.args.e c.args.i c.args.g) _ (record {
+      done = did_none v _ c.args.search.now (λ M grown. let z = covers_yes (search_in c.args.search.now) c.args.e c.args.i c.args.g (c.is_settled.ensures c.if-is_settled.true) in (z.0, z.1, grown.more_searched z.0 c.args.i c.args.g z.2));
+      real = adds_none v c.args.e _ _;
+    })
+
+pub returns : goal.returns
+returns g c =
+    let v = world g.J.Judge.judgement c.args.graph.now in
+    let e = c.args.e in
+    let i = c.args.i in
+    let s = c.args.search.now in
+    let t : Search = c.opened.new.search in
+    let o = c.in_ok-opening.opening in
+    on_ok_weaker c.next_opened.result
+    (λ go. leads_turn v (Meets v (Opened i c.args.g e o 0)) (MeetsSearch v e i c.args.g) _ _ t s _
+    (λ u d. search_counted v e i c.args.g o.order.items s t u c.requires c.in_ok-opening.ensures.opens c.in_ok-opening.ensures.counted (d c.in_ok-opening.ensures.opens)) go)
+    c.next_opened.ensures

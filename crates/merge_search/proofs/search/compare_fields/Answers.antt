@@ -1,0 +1,24 @@
+use Rattle.std.proofs.Common.{◌≡◌, [], ◌<◌, ℕ, length, reverse}
+use Rattle.std.proofs.lemmas.Result.{on_ok_weaker}
+use Rattle.merge_search.specs.Work.{Done, OwnPairs, Pair}
+use Rattle.merge_search.specs.Reports.{AtFields, AtOwn, AtFragments}
+use Rattle.merge_search.specs.declared.task.Task.TheVariants.{Own}
+use Rattle.merge_search.specs.Tasks.{MeetsAll, Meets, MeetsFields, MeetsFragments}
+use Rattle.merge_search.proofs.Steps.{own_whole, compares_kept, searches_kept}
+use Rattle.merge_search.specs.State.{Keeps}
+use Rattle.merge_search.specs.declared.state.Search.{Search}
+use Rattle.merge_search.specs.World.{world}
+use Rattle.merge_search.proofs.Leading.{all_done}
+use Rattle.merge_search.proofs.search.compare_fields.Goals as goal
+
+pub returns : goal.returns
+returns g c =
+    let v = world g.J.Judge.judgement c.args.graph.now in
+    let e = c.args.e in
+    let s = c.args.search.now in
+    let t : Search = c.take_tasks-tasks.new.search in
+    let whole = λ (d : (mid : Search) × MeetsAll v (reverse c.begin_fields.new.tasks.items) c.begin_fields.new.search mid × Keeps mid c.finish.new.search). compares_kept v e (λ M. Done v M e c.args.a c.args.b) (AtFields c.args.a c.args.b) (AtFields c.args.a c.args.b) s t (d.0) _ c.take_tasks-tasks.ensures.keeps (all_done v (MeetsFields v e c.args.a c.args.b) _ _ _ t (d.0) c.take_tasks-tasks.ensures.none c.in_ok-begin_fields.ensures d.1) d.2 in
+    record {
+      done = on_ok_weaker c.finish.result (λ d. (whole d).done) c.finish.ensures;
+      real = on_ok_weaker c.finish.result (λ d. (whole d).real) c.finish.ensures;
+    }

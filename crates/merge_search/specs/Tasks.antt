@@ -1,0 +1,104 @@
+-- What the tasks of a search make of its state.
+use Rattle.std.specs.Prelude.{ℕ, ◌<◌, ◌≤◌, ◌-◌, List, [], ◌∷◌, length, drop, Bool, Some, false, ◌≡◌, ◌⊎◌, slice_get}
+use Rattle.std.specs.Option.{option_map_or}
+use Rattle.std.specs.List.{All, Contains}
+use Rattle.merge_search.specs.declared.node.Entry.{Entry}
+use Rattle.merge_search.specs.declared.node.SetNode.{SetNode}
+use Rattle.merge_search.specs.declared.state.Search.{Search}
+use Rattle.merge_search.specs.declared.state.Finding.TheVariants.{Nested}
+use Rattle.merge_search.specs.declared.task.Task.{Task}
+use Rattle.merge_search.specs.declared.task.Task.TheVariants.{With, Named, Own, Close, Opened, Mark, Against, First, Second, Both}
+use Rattle.merge_search.specs.Names.{named}
+use Rattle.merge_search.specs.Indexed.{firsts_of}
+use Rattle.merge_search.specs.World.{World, own_of, spreads_of, set_of, conflict_of, exclusive_of}
+use Rattle.merge_search.specs.Opening.{Opens}
+use Rattle.merge_search.specs.State.{Keeps, Reports}
+use Rattle.merge_search.specs.Work.{Did, Owes, Done, Searched, Pair, SetsDone}
+use Rattle.merge_search.specs.Reports.{Root, Finds, FindsAll, AtFields, AtWith, AtNamed, AtOwn, AtSearch, AtSearches, AtFragments, AtFirst, AtSecond, AtSpreads, AtBelow}
+
+-- The first own field of each response name of a set.
+abbrev pub firsts_at : List SetNode → ℕ → List Entry
+firsts_at sets s = option_map_or (λ n. firsts_of n.own.items n.index) (slice_get sets s) []
+
+-- From old to new D was done, what was found stands at P, and each pair of Q that fails of itself has a report of its own.
+pub record Compares (w : World) (e : Bool) (D : Search → Type 0) (P Q : Root → Type 0) (old new : Search) : Type 0 where
+  pub done : Did w D old new
+  pub real : FindsAll w e P Q old new
+
+-- D was done, and what was found stands at P.
+pub record Searches (w : World) (e : Bool) (D : Search → Type 0) (P : Root → Type 0) (old new : Search) : Type 0 where
+  pub done : Did w D old new
+  pub real : Finds w e P old new
+
+-- The same where what was recorded is followed up only if the later state has O.
+pub record SearchesOwing (w : World) (e : Bool) (O D : Search → Type 0) (P : Root → Type 0) (old new : Search) : Type 0 where
+  pub done : Owes w O D old new
+  pub real : Finds w e P old new
+
+-- The same of each of some fields.
+abbrev pub ComparesEach : World → Bool → (Entry → Search → Type 0) → (Root → Type 0) → (Entry → Root → Type 0) → List Entry → Search → Search → Type 0
+ComparesEach w e D P Q items = Compares w e (λ M. All (λ x. D x M) items) P (λ r. (x : Entry) × Contains items x × Q x r)
+
+abbrev pub MeetsFields : World → Bool → Entry → Entry → Search → Search → Type 0
+MeetsFields w e a b = Compares w e (λ M. Done w M e a b) (AtFields a b) (AtFields a b)
+
+abbrev pub MeetsBelow : World → Bool → ℕ → ℕ → Search → Search → Type 0
+MeetsBelow w e i j = Searches w e (λ M. SetsDone w M e i j) (AtBelow w i j)
+
+-- The sets below two fields that don't conflict by themselves.
+pub record MeetsNested (w : World) (e : Bool) (a b : Entry) (i j : ℕ) (old new : Search) : Type 0 where
+  pub done : Did w (λ M. SetsDone w M (exclusive_of w e a b) i j) old new
+  pub real : conflict_of w e a b ≡ false → a.below ≡ Some i → b.below ≡ Some j → Finds w e (AtFields a b) old new
+
+-- What is done of a field and a set, and of a response name and a set.
+abbrev pub WithDone : World → Bool → ℕ → Entry → Search → Type 0
+WithDone w e j a M = All (λ b. Done w M e a b) (named a.response (own_of w j))
+
+abbrev pub NameDone : World → Bool → ℕ → ℕ → Entry → Search → Type 0
+NameDone w e i j f M = All (λ a. All (λ b. Done w M e a b) (named a.response (own_of w j))) (named f.response (own_of w i))
+
+abbrev pub MeetsNamed : World → Bool → ℕ → ℕ → ℕ → Search → Search → Type 0
+MeetsNamed w e i j n = Compares w e (λ M. All (λ a. WithDone w e j a M) (named n (own_of w i))) (AtNamed w i j n) (AtNamed w i j n)
+
+abbrev pub MeetsOne : World → Bool → ℕ → ℕ → Search → Search → Type 0
+MeetsOne w e i g = SearchesOwing w e (λ M. All (λ h. Searched M e i h) (spreads_of w (set_of w g))) (λ M. Searched M e i g) (AtOwn w i (set_of w g))
+
+abbrev pub MeetsSearch : World → Bool → ℕ → ℕ → Search → Search → Type 0
+MeetsSearch w e i g = Searches w e (λ M. Searched M e i g) (AtSearch w i g)
+
+abbrev pub MeetsFragments : World → Bool → ℕ → ℕ → Search → Search → Type 0
+MeetsFragments w e f g old new = f < length w.fragments → g < length w.fragments → Searches w e (λ M. Pair M e f g) (AtFragments w f g) old new
+
+-- What was found since the start stands below the two fields; if it is something, they are reported.
+abbrev pub Closes : Entry → Entry → ℕ → Search → Search → Type 0
+Closes a b start old new =
+    ((length old.found.items ≤ start) × (new ≡ old))
+    ⊎ ((start < length old.found.items) × Reports (Nested a b (length old.found.items - start)) old new)
+
+-- What a task makes of the state.
+abbrev pub Meets : World → Task → Search → Search → Type 0
+Meets w (With a j e n) old new = ComparesEach w e (λ b M. Done w M e a b) (AtWith w a j) (λ b. AtFields a b) (drop n (named a.response (own_of w j))) old new
+Meets w (Named i j name e m) old new = ComparesEach w e (WithDone w e j) (AtNamed w i j name) (λ a. AtWith w a j) (drop m (named name (own_of w i))) old new
+Meets w (Own i j e k) old new = ComparesEach w e (NameDone w e i j) (AtOwn w i j) (λ f. AtNamed w i j f.response) (drop k (firsts_at w.sets i)) old new
+Meets w (Close a b start) old new = Closes a b start old new
+Meets w (Opened i g e opening k) old new =
+    Opens w g opening.order.items
+    → SearchesOwing w e (λ M. All (λ h. Searched M e i h) opening.order.items) (λ M. All (λ h. Searched M e i h) (drop k opening.order.items)) (AtSearch w i g) old new
+Meets w (Mark i start) old new = Keeps old new
+Meets w (Against i j e k) old new = Searches w e (λ M. All (λ h. Searched M e i h) (drop k (spreads_of w j))) (AtSearches w i j) old new
+Meets w (First f j e k) old new = f < length w.fragments → Searches w e (λ M. All (λ h. Pair M e f h) (drop k (spreads_of w j))) (AtFirst w f j) old new
+Meets w (Second i g e k) old new = g < length w.fragments → Searches w e (λ M. All (λ h. Pair M e h g) (drop k (spreads_of w i))) (AtSecond w i g) old new
+Meets w (Both i j e k) old new = Searches w e (λ M. All (λ g. All (λ h. Pair M e g h) (spreads_of w j)) (drop k (spreads_of w i))) (AtSpreads w i j) old new
+
+-- What the tasks make of it one after the other, the first one next.
+abbrev pub MeetsAll : World → List Task → Search → Search → Type 0
+MeetsAll w [] old new = old ≡ new
+MeetsAll w (t ∷ ts) old new = (mid : Search) × Meets w t old mid × MeetsAll w ts mid new
+
+-- Who does the one list of tasks from now on has done R from old on, and then the other list.
+abbrev pub Leads : World → List Task → Search → (Search → Search → Type 0) → List Task → Search → Type 0
+Leads w ts now R us old = (end : Search) → MeetsAll w ts now end → (mid : Search) × R old mid × MeetsAll w us mid end
+
+-- The same from any state on, since nothing was done yet.
+abbrev pub Waits : World → List Task → (Search → Search → Type 0) → List Task → Type 0
+Waits w ts R us = (now : Search) → Leads w ts now R us now

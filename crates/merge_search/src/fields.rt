@@ -1,0 +1,202 @@
+//! The steps of a search that compare fields.
+ghost use Rattle.std.specs.Prelude.{◌≡◌, OnOk, reverse};
+ghost use Rattle.merge_search.specs.World.{world};
+ghost use Rattle.merge_search.specs.Tasks.{Leads, Waits, Meets, MeetsFields, MeetsNested, MeetsBelow, MeetsNamed, Closes};
+ghost use Rattle.merge_search.specs.declared.task.Task.{Task};
+
+use crate::graph::Graph;
+use crate::judge::Judge;
+use crate::node::Entry;
+use crate::state::{Finding, Search, report};
+use crate::task::{Task, wait};
+use crate::view::{
+    are_exclusive, are_in_conflict, are_plainly_alike, first_of_names, group, spreads,
+};
+use std::alloc::AllocError;
+
+/// Compares two fields of one response name; what stands below them waits.
+///
+/// # Errors
+///
+/// Out of memory.
+pub(crate) fn begin_fields<J: Judge>(
+    graph: &Graph<J>,
+    a: Entry,
+    b: Entry,
+    e: bool,
+    tasks: &mut Vec<Task>,
+    search: &mut Search,
+) -> Result<(), AllocError>
+    ensures { let w = world J.judgement graph.now in
+        OnOk result
+        (Leads w (reverse tasks.new.items) search.new (MeetsFields w e a b) (reverse tasks.old.items) search.old) }
+{
+    if are_in_conflict(graph, e, a, b) {
+        return report(search, Finding::Direct(a, b, e));
+    }
+    match (a.below, b.below) {
+        (Some(i), Some(j)) => begin_nested(graph, a, b, i, j, e, tasks, search),
+        _ => Ok(()),
+    }
+}
+
+/// Lets the sets below two fields wait, and then the report of the two.
+fn begin_nested<J: Judge>(
+    graph: &Graph<J>,
+    a: Entry,
+    b: Entry,
+    i: usize,
+    j: usize,
+    e: bool,
+    tasks: &mut Vec<Task>,
+    search: &Search,
+) -> Result<(), AllocError>
+    ensures { let w = world J.judgement graph.now in
+        OnOk result
+        (Leads w (reverse tasks.new.items) search.now (MeetsNested w e a b i j) (reverse tasks.old.items) search.now) }
+{
+    tasks.push(Task::Close(a, b, search.found.len()))?;
+    wait_below(graph, i, j, are_exclusive(graph, e, a, b), tasks)
+}
+
+/// Lets two sets wait, with what they spread written out.
+fn wait_below<J: Judge>(
+    graph: &Graph<J>,
+    i: usize,
+    j: usize,
+    e: bool,
+    tasks: &mut Vec<Task>,
+) -> Result<(), AllocError>
+    ensures { let w = world J.judgement graph.now in
+        OnOk result (Waits w (reverse tasks.new.items) (MeetsBelow w e i j) (reverse tasks.old.items)) }
+{
+    let left = spreads(graph, i).len();
+    let right = spreads(graph, j).len();
+    wait(tasks, Task::Both(i, j, e, 0), left)?;
+    wait(tasks, Task::Against(j, i, e, 0), left)?;
+    wait(tasks, Task::Against(i, j, e, 0), right)?;
+    wait(tasks, Task::Own(i, j, e, 0), first_of_names(graph, i).len())
+}
+
+/// Compares a field with the next of the own fields of a set that have its response name.
+///
+/// # Errors
+///
+/// Out of memory.
+pub(crate) fn next_with<J: Judge>(
+    graph: &Graph<J>,
+    a: Entry,
+    j: usize,
+    e: bool,
+    n: usize,
+    tasks: &mut Vec<Task>,
+    search: &mut Search,
+) -> Result<(), AllocError>
+    ensures { let w = world J.judgement graph.now in
+        OnOk result
+        (Leads w (reverse tasks.new.items) search.new (Meets w (Task.With a j e n)) (reverse tasks.old.items)
+        search.old) }
+{
+    let fields = group(graph, j, a.response);
+    if n >= fields.len() {
+        return Ok(());
+    }
+    wait(tasks, Task::With(a, j, e, n + 1), fields.len() - (n + 1))?;
+    begin_fields(graph, a, fields[n], e, tasks, search)
+}
+
+/// Compares the next of the own fields of one response name with those of another set.
+///
+/// # Errors
+///
+/// Out of memory.
+pub(crate) fn next_named<J: Judge>(
+    graph: &Graph<J>,
+    i: usize,
+    j: usize,
+    name: usize,
+    e: bool,
+    m: usize,
+    tasks: &mut Vec<Task>,
+    search: &mut Search,
+) -> Result<(), AllocError>
+    ensures { let w = world J.judgement graph.now in
+        OnOk result
+        (Leads w (reverse tasks.new.items) search.new (Meets w (Task.Named i j name e m)) (reverse tasks.old.items)
+        search.old) }
+{
+    let fields = group(graph, i, name);
+    if m >= fields.len() {
+        return Ok(());
+    }
+    wait(
+        tasks,
+        Task::Named(i, j, name, e, m + 1),
+        fields.len() - (m + 1),
+    )?;
+    next_with(graph, fields[m], j, e, 0, tasks, search)
+}
+
+/// Compares the own fields of two sets that have one response name. Many that are alike are passed at once, since
+/// there is nothing to find.
+fn begin_named<J: Judge>(
+    graph: &Graph<J>,
+    i: usize,
+    j: usize,
+    name: usize,
+    e: bool,
+    tasks: &mut Vec<Task>,
+    search: &mut Search,
+) -> Result<(), AllocError>
+    ensures { let w = world J.judgement graph.now in
+        OnOk result
+        (Leads w (reverse tasks.new.items) search.new (MeetsNamed w e i j name) (reverse tasks.old.items) search.old) }
+{
+    let left = group(graph, i, name);
+    if left.len() > 1 && are_plainly_alike(graph, left, group(graph, j, name)) {
+        return Ok(());
+    }
+    next_named(graph, i, j, name, e, 0, tasks, search)
+}
+
+/// Compares the own fields of two sets that have the next response name.
+///
+/// # Errors
+///
+/// Out of memory.
+pub(crate) fn next_own<J: Judge>(
+    graph: &Graph<J>,
+    i: usize,
+    j: usize,
+    e: bool,
+    k: usize,
+    tasks: &mut Vec<Task>,
+    search: &mut Search,
+) -> Result<(), AllocError>
+    ensures { let w = world J.judgement graph.now in
+        OnOk result
+        (Leads w (reverse tasks.new.items) search.new (Meets w (Task.Own i j e k)) (reverse tasks.old.items)
+        search.old) }
+{
+    let firsts = first_of_names(graph, i);
+    if k >= firsts.len() {
+        return Ok(());
+    }
+    wait(tasks, Task::Own(i, j, e, k + 1), firsts.len() - (k + 1))?;
+    begin_named(graph, i, j, firsts[k].response, e, tasks, search)
+}
+
+/// Reports two fields, if something was found below them.
+///
+/// # Errors
+///
+/// Out of memory.
+pub(crate) fn close(a: Entry, b: Entry, start: usize, search: &mut Search) -> Result<(), AllocError>
+    ensures { OnOk result (Closes a b start search.old search.new) }
+{
+    let end = search.found.len();
+    if end > start {
+        return report(search, Finding::Nested(a, b, end - start));
+    }
+    Ok(())
+}

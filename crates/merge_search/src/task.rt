@@ -1,0 +1,71 @@
+//! What a search still has to do.
+ghost use Rattle.std.specs.Prelude.{◌≡◌, [], OnOk, reverse};
+ghost use Rattle.merge_search.specs.World.{World};
+ghost use Rattle.merge_search.specs.State.{Keeps};
+ghost use Rattle.merge_search.specs.Tasks.{Meets, Waits};
+ghost use Rattle.merge_search.specs.declared.state.Search.{Search};
+
+use crate::node::Entry;
+use crate::opening::Opening;
+use crate::state::Search;
+use std::alloc::AllocError;
+use std::mem;
+
+/// A part of the work of a search. Two things are compared under a flag; the number at the end is a place in a list.
+#[derive(Drop)]
+pub enum Task {
+    /// A field with the own fields of a set that have its response name, from that place on.
+    With(Entry, usize, bool, usize),
+    /// The own fields of a set, from that place on among those of one response name, with another set.
+    Named(usize, usize, usize, bool, usize),
+    /// The own fields of a set, from that response name on, with those of another set.
+    Own(usize, usize, bool, usize),
+    /// The end of two fields: what was found since then stands below them.
+    Close(Entry, Entry, usize),
+    /// The own fields of a set with the fragments that a search from a fragment opens, from that place on.
+    Opened(usize, usize, bool, Opening, usize),
+    /// The end of a fragment that a search opens: the set conflicts with it if something was found since then.
+    Mark(usize, usize),
+    /// The own fields of a set with each fragment that another set spreads, from that place on.
+    Against(usize, usize, bool, usize),
+    /// A fragment with each that a set spreads, from that place on.
+    First(usize, usize, bool, usize),
+    /// Each fragment that a set spreads, from that place on, with a fragment.
+    Second(usize, usize, bool, usize),
+    /// Each fragment that a set spreads, from that place on, with each that another set spreads.
+    Both(usize, usize, bool, usize),
+}
+
+/// Puts a task before the others, unless nothing is left of it.
+///
+/// # Errors
+///
+/// Out of memory.
+pub(crate) fn wait(tasks: &mut Vec<Task>, task: Task, left: usize) -> Result<(), AllocError>
+    ensures { OnOk result
+        ((w : World) → (left ≡ 0 → (s : Search) → Meets w task s s)
+        → Waits w (reverse tasks.new.items) (Meets w task) (reverse tasks.old.items)) }
+{
+    if left == 0 {
+        return Ok(());
+    }
+    tasks.push(task)?;
+    Ok(())
+}
+
+/// An empty list of tasks, whose room was used before.
+pub(crate) fn take_tasks(search: &mut Search) -> Vec<Task>
+    ensures none { result.items ≡ [] }
+    ensures keeps { Keeps search.old search.new }
+{
+    let mut tasks = mem::replace(&mut search.tasks, Vec::new(search.alloc));
+    tasks.clear();
+    tasks
+}
+
+/// Keeps the room of a list of tasks, for the next.
+pub(crate) fn put_tasks(search: &mut Search, tasks: Vec<Task>)
+    ensures { Keeps search.old search.new }
+{
+    search.tasks = tasks;
+}
