@@ -1,26 +1,25 @@
 -- What the pieces of a step make of the state together.
-use Rattle.std.proofs.Common.{◌≡◌, ℕ, ◌+◌, ◌-◌, ◌<◌, ◌≤◌, List, [], ◌∷◌, ◌++◌, length, drop, get_or, refl, sym, subst, ap, ◌∙◌, arith, Bool, true, false, None, Some, Option, inl, inr, ◌⊎◌}
+use Rattle.std.proofs.Common.{◌≡◌, ℕ, ◌+◌, ◌<◌, ◌≤◌, List, [], ◌∷◌, length, drop, get_or, refl, sym, subst, ◌∙◌, arith, Bool, true, None, Some, Option, inl, inr, ◌⊎◌}
 use Rattle.std.specs.Prelude.{slice_get}
 use Rattle.std.specs.Option.{option_map_or}
 use Rattle.std.specs.List.{All, Contains}
 use Rattle.std.proofs.lemmas.List.{drop_more}
 use Rattle.std.proofs.Math.ListN.{drop_of_length-le}
-use Rattle.std.proofs.lemmas.List.Elements.{All-nil, All-cons, All-contains, Contains-append_cases}
+use Rattle.std.proofs.lemmas.List.Elements.{All-nil, All-cons, All-contains, Contains-append_cases, Contains-get_or}
 use Rattle.merge_search.specs.declared.node.Entry.{Entry}
 use Rattle.merge_search.specs.declared.node.SetNode.{SetNode}
 use Rattle.merge_search.specs.declared.state.Search.{Search}
-use Rattle.merge_search.specs.declared.state.Finding.TheVariants.{Nested}
 use Rattle.merge_search.specs.Names.{named, AreListed}
 use Rattle.merge_search.specs.Indexed.{firsts_of}
-use Rattle.merge_search.specs.World.{World, own_of, spreads_of, set_of, conflict_of, exclusive_of}
+use Rattle.merge_search.specs.World.{World, own_of, spreads_of, set_of, exclusive_of}
 use Rattle.merge_search.specs.Opening.{Opens}
-use Rattle.merge_search.specs.State.{Keeps, Reports, NotesPair, NotesSearch, CountsList}
-use Rattle.merge_search.specs.Work.{pair_in, Did, Owes, Done, Searched, Pair, SetsDone, OwnPairs}
-use Rattle.merge_search.specs.Reports.{Root, Finds, FindsAll, Adds, AddsAll, NestedRoot, AtFields, AtWith, AtNamed, AtOwn, AtSearch, AtSearches, AtFragments, AtFirst, AtSecond, AtSpreads, AtBelow}
-use Rattle.merge_search.specs.Tasks.{firsts_at, Compares, Searches, SearchesOwing, ComparesEach, MeetsFields, MeetsNested, MeetsBelow, MeetsNamed, MeetsOne, MeetsSearch, MeetsFragments, WithDone, NameDone, Closes}
+use Rattle.merge_search.specs.State.{Keeps, NotesPair, NotesSearch, CountsList}
+use Rattle.merge_search.specs.Work.{pair_in, Did, Owes, Done, Searched, Pair, OwnPairs}
+use Rattle.merge_search.specs.Reports.{Root, Adds, AddsAll, AtFields, AtWith, AtNamed, AtOwn, AtSearch, AtSearches, AtFirst, AtSecond, AtSpreads}
+use Rattle.merge_search.specs.Tasks.{firsts_at, Compares, Searches, SearchesOwing, ComparesEach, MeetsNested, MeetsBelow, MeetsNamed, MeetsOne, MeetsSearch, MeetsFragments, WithDone, NameDone, Closes}
 use Rattle.merge_search.proofs.Work.{did_none, did_then, did_map, did_list, did_opened, did_fragments, did_report, did_kept, owes_search, grows_then}
 use Rattle.merge_search.proofs.Adding.{adds_none, adds_map, adds_then, adds_from, adds_node, adds_same, all_both, all_map, all_told}
-use Rattle.merge_search.proofs.Rows.{tell_with, tell_named, tell_own, own_pairs, row_first, row_second, row_fragments, row_nested, row_below_own, row_below_forth, row_below_back, row_below_spreads}
+use Rattle.merge_search.proofs.Rows.{named_in, named_is, row_named, tell_with, tell_named, tell_own, own_pairs, row_first, row_second, row_fragments, row_nested, row_below_own, row_below_forth, row_below_back, row_below_spreads}
 
 pub drop_next : {X : Type 0} (ys xs : List X) (k : ℕ) (d : X) → ys ≡ xs → k < length ys → drop k xs ≡ get_or ys k d ∷ drop (k + 1) xs
 drop_next ys xs k d h l = subst (λ zs. drop k zs ≡ get_or ys k d ∷ drop (k + 1) zs) h (drop_more ys k d l)
@@ -91,6 +90,23 @@ module _ (w : World) (e : Bool) where
         done = did_map w _ _ (λ M z. own_pairs w M e i j (firsts_at w.sets i) listed z) d.done;
         real = all_told w e _ _ _ (tell_own w i j (firsts_at w.sets i) listed) d.real;
       }
+
+  -- a response name that the other set doesn't have
+  pub name_absent : (i j n : ℕ) (s : Search) → named n (own_of w j) ≡ [] → MeetsNamed w e i j n s s
+  name_absent i j n s h = record {
+    done = did_none w _ s (λ M grown k d l.
+        let a = get_or (named n (own_of w i)) k d in
+        subst (λ (m : ℕ). All (λ b. Done w M e a b) (named m (own_of w j))) (sym (named_is n (own_of w i) a (Contains-get_or (named n (own_of w i)) k d l)))
+        (subst (λ xs. All (λ b. Done w M e a b) xs) (sym h) (All-nil (λ b. Done w M e a b))));
+    real = record {
+      adds = adds_none w e (AtNamed w i j n) s.found.items;
+      tells = λ r at fails. absurd (All-contains (λ x. ⊥) [] r.right (All-nil (λ x. ⊥)) (subst (λ xs. Contains xs r.right) h (named_in n (own_of w j) r.right at.2 (sym at.3 ∙ at.1))));
+    };
+  }
+
+  -- fields of one response name that are all alike
+  pub named_alike : (i j n : ℕ) (s t : Search) → MeetsNamed w e i j n s t → ComparesEach w e (WithDone w e j) (AtNamed w i j n) (λ a. AtWith w a j) (named n (own_of w i)) s t
+  named_alike i j n s t d = record { done = d.done; real = all_told w e _ _ _ (λ r at. row_named w (at.0) i j n r (at.1) (at.2)) d.real }
 
   -- the sets below two fields, and the report of the two
   pub nested_closed : (a b : Entry) (i j : ℕ) (s t u : Search) → MeetsBelow w (exclusive_of w e a b) i j s t → Closes a b (length s.found.items) t u → MeetsNested w e a b i j s u

@@ -1,7 +1,8 @@
 //! The steps of a search that compare fields.
-ghost use Rattle.std.specs.Prelude.{◌≡◌, OnOk, reverse};
+ghost use Rattle.std.specs.Prelude.{◌≡◌, OnOk, Bool, reverse};
+ghost use Rattle.merge_search.specs.declared.state.Search.{Search};
 ghost use Rattle.merge_search.specs.World.{world};
-ghost use Rattle.merge_search.specs.Tasks.{Leads, Waits, Meets, MeetsFields, MeetsNested, MeetsBelow, MeetsNamed, Closes};
+ghost use Rattle.merge_search.specs.Tasks.{Leads, Waits, Meets, MeetsFields, MeetsNested, MeetsBelow, Closes};
 ghost use Rattle.merge_search.specs.declared.task.Task.{Task};
 
 use crate::graph::Graph;
@@ -105,7 +106,8 @@ pub(crate) fn next_with<J: Judge>(
     begin_fields(graph, a, fields[n], e, tasks, search)
 }
 
-/// Compares the next of the own fields of one response name with those of another set.
+/// Compares the next of the own fields of one response name with those of another set. Many that are alike are passed
+/// at once, since there is nothing to find.
 ///
 /// # Errors
 ///
@@ -129,6 +131,9 @@ pub(crate) fn next_named<J: Judge>(
     if m >= fields.len() {
         return Ok(());
     }
+    if m == 0 && fields.len() > 1 && are_plainly_alike(graph, fields, group(graph, j, name)) {
+        return Ok(());
+    }
     wait(
         tasks,
         Task::Named(i, j, name, e, m + 1),
@@ -137,26 +142,20 @@ pub(crate) fn next_named<J: Judge>(
     next_with(graph, fields[m], j, e, 0, tasks, search)
 }
 
-/// Compares the own fields of two sets that have one response name. Many that are alike are passed at once, since
-/// there is nothing to find.
-fn begin_named<J: Judge>(
-    graph: &Graph<J>,
-    i: usize,
-    j: usize,
-    name: usize,
-    e: bool,
-    tasks: &mut Vec<Task>,
-    search: &mut Search,
-) -> Result<(), AllocError>
+/// The next place from that one on whose response name the other set has too.
+fn next_shared<J: Judge>(graph: &Graph<J>, i: usize, j: usize, k: usize) -> usize
     ensures { let w = world J.judgement graph.now in
-        OnOk result
-        (Leads w (reverse tasks.new.items) search.new (MeetsNamed w e i j name) (reverse tasks.old.items) search.old) }
+        (e : Bool) (s t : Search) → Meets w (Task.Own i j e result) s t → Meets w (Task.Own i j e k) s t }
 {
-    let left = group(graph, i, name);
-    if left.len() > 1 && are_plainly_alike(graph, left, group(graph, j, name)) {
-        return Ok(());
+    let firsts = first_of_names(graph, i);
+    let mut next = k;
+    while next < firsts.len() {
+        if !group(graph, j, firsts[next].response).is_empty() {
+            return next;
+        }
+        next += 1;
     }
-    next_named(graph, i, j, name, e, 0, tasks, search)
+    next
 }
 
 /// Compares the own fields of two sets that have the next response name.
@@ -179,11 +178,16 @@ pub(crate) fn next_own<J: Judge>(
         search.old) }
 {
     let firsts = first_of_names(graph, i);
-    if k >= firsts.len() {
+    let next = next_shared(graph, i, j, k);
+    if next >= firsts.len() {
         return Ok(());
     }
-    wait(tasks, Task::Own(i, j, e, k + 1), firsts.len() - (k + 1))?;
-    begin_named(graph, i, j, firsts[k].response, e, tasks, search)
+    wait(
+        tasks,
+        Task::Own(i, j, e, next + 1),
+        firsts.len() - (next + 1),
+    )?;
+    next_named(graph, i, j, firsts[next].response, e, 0, tasks, search)
 }
 
 /// Reports two fields, if something was found below them.

@@ -137,16 +137,10 @@ pub(crate) fn begin_fragments<J: Judge>(
     note_pair(search, f, g, e)?;
     let left = set(graph, f);
     let right = set(graph, g);
-    wait(
-        tasks,
-        Task::Second(left, g, e, 0),
-        spreads(graph, left).len(),
-    )?;
-    wait(
-        tasks,
-        Task::First(f, right, e, 0),
-        spreads(graph, right).len(),
-    )?;
+    let on_left = spreads(graph, left).len();
+    let on_right = spreads(graph, right).len();
+    wait(tasks, Task::Second(left, g, e, 0), on_left)?;
+    wait(tasks, Task::First(f, right, e, 0), on_right)?;
     next_own(graph, left, right, e, 0, tasks, search)
 }
 

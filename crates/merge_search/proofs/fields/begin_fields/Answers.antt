@@ -1,8 +1,8 @@
-use Rattle.std.proofs.Common.{◌≡◌, sym, ◌∙◌, inl, inr}
+use Rattle.std.proofs.Common.{sym, ◌∙◌, inl, inr}
 use Rattle.std.proofs.lemmas.Result.{on_ok_weaker}
 use Rattle.merge_search.specs.declared.state.Finding.TheVariants.{Direct}
 use Rattle.merge_search.specs.World.{world}
-use Rattle.merge_search.specs.Work.{Done, stood, shallow, deep}
+use Rattle.merge_search.specs.Work.{stood, shallow, deep}
 use Rattle.merge_search.specs.Tasks.{MeetsFields, MeetsNested}
 use Rattle.merge_search.proofs.Work.{did_none, did_map, did_report}
 use Rattle.merge_search.proofs.Adding.{adds_none, all_leaf, all_quiet}

@@ -1,7 +1,7 @@
-use Rattle.std.proofs.Common.{◌≡◌, ℕ, length, sym, subst, rules}
+use Rattle.std.proofs.Common.{◌≡◌, ℕ, length, subst, rules}
 use Rattle.std.proofs.lemmas.Result.{on_ok_weaker}
 use Rattle.merge_search.specs.declared.task.Task.TheVariants.{Close}
-use Rattle.merge_search.specs.World.{world, exclusive_of}
+use Rattle.merge_search.specs.World.{world}
 use Rattle.merge_search.specs.Tasks.{Meets, MeetsBelow, MeetsNested, Closes}
 use Rattle.merge_search.proofs.Leading.{leads_next, waits_pushed}
 use Rattle.merge_search.proofs.Steps.{nested_closed}

@@ -1,4 +1,4 @@
-use Rattle.std.proofs.Common.{◌≡◌, ◌+◌, ◌-◌, ◌<◌, ℕ, length, arith, drop, get_or, rules}
+use Rattle.std.proofs.Common.{◌≡◌, ◌+◌, ◌<◌, ℕ, length, arith, drop, get_or, rules, subst, sym}
 use Rattle.std.proofs.lemmas.Result.{on_ok_weaker}
 use Rattle.merge_search.specs.declared.task.Task.TheVariants.{With, Named}
 use Rattle.merge_search.specs.declared.node.Entry.{Entry}
@@ -6,10 +6,11 @@ use Rattle.merge_search.specs.Names.{named}
 use Rattle.merge_search.specs.World.{world, own_of}
 use Rattle.merge_search.specs.Reports.{AtWith, AtNamed}
 use Rattle.merge_search.specs.Tasks.{Meets, WithDone}
-use Rattle.merge_search.proofs.Work.{no_entry}
+use Rattle.merge_search.proofs.Work.{no_entry, did_none}
+use Rattle.merge_search.proofs.Clear.{named_done, named_tells}
 use Rattle.merge_search.proofs.Leading.{leads_done, leads_next}
 use Rattle.merge_search.proofs.Rows.{row_named, in_list}
-use Rattle.merge_search.proofs.Steps.{drop_end, drop_next, each_none, each_next, with_whole}
+use Rattle.merge_search.proofs.Steps.{drop_end, drop_next, each_none, each_next, with_whole, named_alike}
 use Rattle.merge_search.proofs.fields.next_named.Goals as goal
 
 pub returns-then-m-fields : goal.returns-then-m-fields
@@ -20,6 +21,21 @@ returns-then-m-fields g c =
     let j = c.args.j in
     leads_done v (Meets v (Named i j c.args.name e c.args.m)) _
     (each_none v e (WithDone v e j) (AtNamed v i j c.args.name) (λ a. AtWith v a j) _ c.args.search.now (drop_end _ (named c.args.name (own_of v i)) c.args.m c.group-fields.ensures (search rules)))
+
+pub returns-then-are_plainly_alike : goal.returns-then-are_plainly_alike
+returns-then-are_plainly_alike g c =
+    let v = world g.J.Judge.judgement c.args.graph.now in
+    let e = c.args.e in
+    let i = c.args.i in
+    let j = c.args.j in
+    let n = c.args.name in
+    let s = c.args.search.now in
+    let zero_is : c.args.m ≡ 0 = search rules in
+    leads_done v (Meets v (Named i j n e c.args.m)) _
+    (subst (λ (m : ℕ). Meets v (Named i j n e m) s s) (sym zero_is) (named_alike v e i j n s s (record {
+      done = did_none v _ s (λ M grown. named_done v e i j n c.group-fields.result.now c.group.result.now c.group-fields.ensures c.group.ensures c.if-are_plainly_alike.ensures M);
+      real = named_tells v e i j n c.group-fields.result.now c.group.result.now c.group-fields.ensures c.group.ensures c.if-are_plainly_alike.ensures s.found.items;
+    })))
 
 pub returns : goal.returns
 returns g c =

@@ -1,4 +1,4 @@
-use Rattle.std.proofs.Common.{◌≡◌, ◌+◌, ◌-◌, ◌<◌, ℕ, length, arith, drop, get_or, rules}
+use Rattle.std.proofs.Common.{◌+◌, ◌<◌, length, arith, drop, get_or, rules}
 use Rattle.merge_search.proofs.Work.{no_entry}
 use Rattle.std.proofs.lemmas.Result.{on_ok_weaker}
 use Rattle.merge_search.specs.declared.task.Task.TheVariants.{With}

@@ -1,6 +1,5 @@
-use Rattle.std.proofs.Common.{◌≡◌, ◌-◌, ◌<◌, ℕ, length, arith, sym, subst, ◌∙◌, inl, inr}
+use Rattle.std.proofs.Common.{ℕ, arith, sym, subst, ◌∙◌, inl, inr}
 use Rattle.std.proofs.lemmas.Result.{on_ok_weaker}
-use Rattle.std.specs.List.{All}
 use Rattle.merge_search.specs.declared.task.Task.TheVariants.{Own, First, Second}
 use Rattle.merge_search.specs.declared.state.Search.{Search}
 use Rattle.merge_search.specs.World.{world, spreads_of, set_of}
@@ -44,6 +43,6 @@ returns g c =
     (subst (λ (k : ℕ). Meets v (Own (set_of v f) k e 0) t u) c.set-right.ensures (subst (λ (k : ℕ). Meets v (Own k right e 0) t u) c.set-left.ensures own))
     (subst (λ (k : ℕ). Meets v (First f k e 0) u z) c.set-right.ensures first)
     (subst (λ (k : ℕ). Meets v (Second k h e 0) z q) c.set-left.ensures second))
-    (c.in_ok-wait-2.ensures v (λ none q lf. searches_none v e (λ k M. Pair M e f k) (AtFirst v f right) _ q (drop_end _ (spreads_of v right) 0 c.spreads-2.ensures (omega (arith, none)))))
-    (c.in_ok-wait.ensures v (λ none q lf. searches_none v e (λ k M. Pair M e k h) (AtSecond v left h) _ q (drop_end _ (spreads_of v left) 0 c.spreads.ensures (omega (arith, none))))) go)
+    (c.in_ok-wait-2.ensures v (λ none q lf. searches_none v e (λ k M. Pair M e f k) (AtFirst v f right) _ q (drop_end _ (spreads_of v right) 0 c.spreads-on_right.ensures (omega (arith, none)))))
+    (c.in_ok-wait.ensures v (λ none q lf. searches_none v e (λ k M. Pair M e k h) (AtSecond v left h) _ q (drop_end _ (spreads_of v left) 0 c.spreads-on_left.ensures (omega (arith, none))))) go)
     c.next_own.ensures

@@ -1,10 +1,9 @@
-use Rattle.std.proofs.Common.{◌≡◌, ◌<◌, ℕ, length, sym, subst, rules}
+use Rattle.std.proofs.Common.{ℕ, subst}
 use Rattle.std.proofs.lemmas.Result.{on_ok_weaker}
-use Rattle.std.specs.List.{All}
 use Rattle.merge_search.specs.declared.task.Task.TheVariants.{Own, Mark}
 use Rattle.merge_search.specs.declared.state.Search.{Search}
-use Rattle.merge_search.specs.World.{world, spreads_of, set_of}
-use Rattle.merge_search.specs.Work.{search_in, Searched}
+use Rattle.merge_search.specs.World.{world}
+use Rattle.merge_search.specs.Work.{search_in}
 use Rattle.merge_search.specs.Tasks.{Meets, MeetsOne}
 use Rattle.merge_search.proofs.Work.{owes_none, covers_yes}
 use Rattle.merge_search.proofs.Adding.{adds_none}

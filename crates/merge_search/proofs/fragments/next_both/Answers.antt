@@ -1,11 +1,11 @@
-use Rattle.std.proofs.Common.{◌≡◌, ◌+◌, ◌-◌, ◌<◌, ℕ, List, length, drop, get_or, arith, rules}
+use Rattle.std.proofs.Common.{◌+◌, ◌<◌, ℕ, List, length, drop, get_or, arith, rules}
 use Rattle.std.proofs.lemmas.Result.{on_ok_weaker}
-use Rattle.std.specs.List.{All, Contains}
+use Rattle.std.specs.List.{All}
 use Rattle.merge_search.specs.declared.task.Task.TheVariants.{First, Both}
 use Rattle.merge_search.specs.World.{world, spreads_of}
-use Rattle.merge_search.specs.Work.{Searched, Pair}
-use Rattle.merge_search.specs.Reports.{AtSearch, AtSearches, AtFragments, AtFirst, AtSecond, AtSpreads}
-use Rattle.merge_search.specs.Tasks.{Meets, MeetsSearch, MeetsFragments}
+use Rattle.merge_search.specs.Work.{Pair}
+use Rattle.merge_search.specs.Reports.{AtFirst, AtSpreads}
+use Rattle.merge_search.specs.Tasks.{Meets}
 use Rattle.merge_search.proofs.Rows.{in_list}
 use Rattle.merge_search.proofs.Falls.{spread_falls}
 use Rattle.merge_search.proofs.Leading.{leads_done, leads_next}

@@ -1,4 +1,3 @@
-use Rattle.std.proofs.Common.{reverse}
 use Rattle.merge_search.proofs.search.finish.Goals as goal
 
 pub returns : goal.returns

@@ -1,9 +1,7 @@
-use Rattle.std.proofs.Common.{◌≡◌}
 use Rattle.std.proofs.lemmas.Result.{on_ok_weaker}
 use Rattle.merge_search.specs.World.{world}
 use Rattle.merge_search.specs.State.{Keeps}
-use Rattle.merge_search.specs.Tasks.{Meets, Closes}
-use Rattle.merge_search.specs.declared.task.Task.TheVariants.{Close, Mark}
+use Rattle.merge_search.specs.Tasks.{Closes}
 use Rattle.merge_search.proofs.Leading.{leads_task, leads_done}
 use Rattle.merge_search.proofs.search.step.Goals as goal
 
