@@ -27,10 +27,26 @@ pub fn read_document<'a>(
 ) -> Result<Vec<Definition<'a, SourceScalar>>, ReadError<'a>>
     ensures { IfOk result (λ definitions. 0 < length definitions.items) }
 {
+    read_document_within(alloc, text, None)
+}
+
+/// The same, where selection sets, lists and objects of a value, and list types each nest at most `max_depth` levels
+/// deep, if it is given.
+///
+/// # Errors
+///
+/// As [`read_document`], and the first token that begins a level too many.
+pub fn read_document_within<'a>(
+    alloc: Global,
+    text: &'a str,
+    max_depth: Option<usize>,
+) -> Result<Vec<Definition<'a, SourceScalar>>, ReadError<'a>>
+    ensures { IfOk result (λ definitions. 0 < length definitions.items) }
+{
     let mut tokens = Tokens::new(alloc, text.as_bytes());
     let mut definitions = Vec::new(alloc);
     for _ in 0..tokens.bound() {
-        definitions.push(read_definition(&mut tokens)?)?;
+        definitions.push(read_definition(&mut tokens, max_depth)?)?;
         if tokens.is_at_end() {
             definitions.shrink_to_fit();
             return Ok(definitions);
@@ -41,15 +57,16 @@ pub fn read_document<'a>(
 
 fn read_definition<'a>(
     tokens: &mut Tokens<'a>,
+    max_depth: Option<usize>,
 ) -> Result<Definition<'a, SourceScalar>, ReadError<'a>> {
     if tokens.is(Punctuator::BraceOpen) {
-        return read_bare_query(tokens);
+        return read_bare_query(tokens, max_depth);
     }
     if let Some(operation_type) = operation_type_ahead(tokens) {
-        return read_operation(tokens, operation_type);
+        return read_operation(tokens, max_depth, operation_type);
     }
     if tokens.is_word("fragment") {
-        return read_fragment(tokens);
+        return read_fragment(tokens, max_depth);
     }
     Err(tokens.fault("an operation or a fragment"))
 }
@@ -67,9 +84,10 @@ pub fn operation_type_ahead(tokens: &Tokens<'_>) -> Option<OperationType> {
 // A query in shorthand form: only its selection set.
 fn read_bare_query<'a>(
     tokens: &mut Tokens<'a>,
+    max_depth: Option<usize>,
 ) -> Result<Definition<'a, SourceScalar>, ReadError<'a>> {
     let start = tokens.start();
-    let selection_set = read_selection_set(tokens)?;
+    let selection_set = read_selection_set(tokens, max_depth)?;
     Ok(Definition::Operation(Spanning {
         item: Operation {
             operation_type: OperationType::Query,
@@ -84,6 +102,7 @@ fn read_bare_query<'a>(
 
 fn read_operation<'a>(
     tokens: &mut Tokens<'a>,
+    max_depth: Option<usize>,
     operation_type: OperationType,
 ) -> Result<Definition<'a, SourceScalar>, ReadError<'a>> {
     let start = tokens.start();
@@ -92,9 +111,9 @@ fn read_operation<'a>(
         Token::Name(_) => Some(tokens.name("a name")?),
         _ => None,
     };
-    let variable_definitions = read_variable_definitions(tokens)?;
-    let directives = read_directives(tokens, Variables::Allowed)?;
-    let selection_set = read_selection_set(tokens)?;
+    let variable_definitions = read_variable_definitions(tokens, max_depth)?;
+    let directives = read_directives(tokens, Variables::Allowed, max_depth)?;
+    let selection_set = read_selection_set(tokens, max_depth)?;
     Ok(Definition::Operation(Spanning {
         item: Operation {
             operation_type,
@@ -109,12 +128,13 @@ fn read_operation<'a>(
 
 fn read_fragment<'a>(
     tokens: &mut Tokens<'a>,
+    max_depth: Option<usize>,
 ) -> Result<Definition<'a, SourceScalar>, ReadError<'a>> {
     let start = tokens.start();
     tokens.advance();
     let (name, type_condition) = read_fragment_head(tokens)?;
-    let directives = read_directives(tokens, Variables::Allowed)?;
-    let selection_set = read_selection_set(tokens)?;
+    let directives = read_directives(tokens, Variables::Allowed, max_depth)?;
+    let selection_set = read_selection_set(tokens, max_depth)?;
     Ok(Definition::Fragment(Spanning {
         item: Fragment {
             name,
@@ -142,24 +162,26 @@ fn read_fragment_head<'a>(
 
 fn read_variable_definitions<'a>(
     tokens: &mut Tokens<'a>,
+    max_depth: Option<usize>,
 ) -> Result<Option<Spanning<VariableDefinitions<'a, SourceScalar>>>, ReadError<'a>> {
     let start = tokens.start();
     if !tokens.take(Punctuator::ParenOpen) {
         return Ok(None);
     }
-    read_variables_from(tokens, start)
+    read_variables_from(tokens, max_depth, start)
 }
 
 // The variable definitions after the opening parenthesis.
 fn read_variables_from<'a>(
     tokens: &mut Tokens<'a>,
+    max_depth: Option<usize>,
     start: SourcePosition,
 ) -> Result<Option<Spanning<VariableDefinitions<'a, SourceScalar>>>, ReadError<'a>> {
     let mut items = Vec::new(tokens.alloc());
     for _ in 0..tokens.bound() {
         let name = tokens.variable()?;
         tokens.expect(Punctuator::Colon, ":")?;
-        items.push((name, read_variable_definition(tokens)?))?;
+        items.push((name, read_variable_definition(tokens, max_depth)?))?;
         if tokens.take(Punctuator::ParenClose) {
             items.shrink_to_fit();
             return Ok(Some(Spanning {
@@ -173,10 +195,11 @@ fn read_variables_from<'a>(
 
 fn read_variable_definition<'a>(
     tokens: &mut Tokens<'a>,
+    max_depth: Option<usize>,
 ) -> Result<VariableDefinition<'a, SourceScalar>, ReadError<'a>> {
-    let var_type = read_type(tokens)?;
-    let default_value = read_default_value(tokens)?;
-    let directives = read_directives(tokens, Variables::Refused)?;
+    let var_type = read_type(tokens, max_depth)?;
+    let default_value = read_default_value(tokens, max_depth)?;
+    let directives = read_directives(tokens, Variables::Refused, max_depth)?;
     Ok(VariableDefinition {
         var_type,
         default_value,
@@ -188,12 +211,13 @@ fn read_variable_definition<'a>(
 ///
 /// # Errors
 ///
-/// A syntax error after the `=`, or out of memory.
+/// A syntax error after the `=`, more levels than `max_depth`, or out of memory.
 pub fn read_default_value<'a>(
     tokens: &mut Tokens<'a>,
+    max_depth: Option<usize>,
 ) -> Result<Option<Spanning<InputValue<SourceScalar>>>, ReadError<'a>> {
     if !tokens.take(Punctuator::Equals) {
         return Ok(None);
     }
-    Ok(Some(read_value(tokens, Variables::Refused)?))
+    Ok(Some(read_value(tokens, Variables::Refused, max_depth)?))
 }

@@ -2,19 +2,22 @@
 //! trees.
 //!
 //! Positions are those of `graphql_lexer`: 0-based index, line and column, in bytes. Selection sets, lists and objects
-//! of a value, and list types may nest [`NESTING_LIMIT`] levels deep. Proved of every call: it is safe and returns,
-//! whatever the text. That the tree is that of the text is only tested.
+//! of a value, and list types may nest as deep as memory allows, since no call reads them by recursion. A caller may set
+//! a limit, as [`NESTING_LIMIT`]: [`read_document_within`], [`read_type_system_within`]. Proved of every call: it is safe
+//! and returns, whatever the text. That the tree is that of the text is only tested.
 #![tactic(auto)]
 
 mod definitions;
+mod depth;
 mod selections;
 pub mod type_system;
 mod type_system_reader;
 mod types;
 mod values;
 
-pub use definitions::read_document;
+pub use definitions::{read_document, read_document_within};
+pub use depth::NESTING_LIMIT;
 pub use graphql_lexer::error::{Found, ReadError, SyntaxError, SyntaxFault};
 pub use sdl_scalars::scalar::SourceScalar;
-pub use type_system_reader::read_type_system;
-pub use values::{NESTING_LIMIT, read_constant};
+pub use type_system_reader::{read_type_system, read_type_system_within};
+pub use values::read_constant;

@@ -29,10 +29,26 @@ pub fn read_type_system<'a>(
 ) -> Result<Vec<TypeSystemDefinition<'a>>, ReadError<'a>>
     ensures { IfOk result (λ definitions. 0 < length definitions.items) }
 {
+    read_type_system_within(alloc, text, None)
+}
+
+/// The same, where lists and objects of a value, and list types each nest at most `max_depth` levels deep, if it is
+/// given.
+///
+/// # Errors
+///
+/// As [`read_type_system`], and the first token that begins a level too many.
+pub fn read_type_system_within<'a>(
+    alloc: Global,
+    text: &'a str,
+    max_depth: Option<usize>,
+) -> Result<Vec<TypeSystemDefinition<'a>>, ReadError<'a>>
+    ensures { IfOk result (λ definitions. 0 < length definitions.items) }
+{
     let mut tokens = Tokens::new(alloc, text.as_bytes());
     let mut definitions = Vec::new(alloc);
     for _ in 0..tokens.bound() {
-        definitions.push(read_definition(&mut tokens)?)?;
+        definitions.push(read_definition(&mut tokens, max_depth)?)?;
         if tokens.is_at_end() {
             return Ok(definitions);
         }
@@ -41,13 +57,16 @@ pub fn read_type_system<'a>(
 }
 
 // An extension has no description.
-fn read_definition<'a>(tokens: &mut Tokens<'a>) -> Result<TypeSystemDefinition<'a>, ReadError<'a>> {
+fn read_definition<'a>(
+    tokens: &mut Tokens<'a>,
+    max_depth: Option<usize>,
+) -> Result<TypeSystemDefinition<'a>, ReadError<'a>> {
     let start = tokens.start();
     if tokens.take_word("extend") {
-        return read_described(tokens, start, None, true);
+        return read_described(tokens, max_depth, start, None, true);
     }
     let description = read_description(tokens)?;
-    read_described(tokens, start, description, false)
+    read_described(tokens, max_depth, start, description, false)
 }
 
 fn read_description<'a>(tokens: &mut Tokens<'a>) -> Result<Description, ReadError<'a>> {
@@ -64,26 +83,28 @@ fn read_description<'a>(tokens: &mut Tokens<'a>) -> Result<Description, ReadErro
 // What follows a description or `extend`.
 fn read_described<'a>(
     tokens: &mut Tokens<'a>,
+    max_depth: Option<usize>,
     start: SourcePosition,
     description: Description,
     is_extension: bool,
 ) -> Result<TypeSystemDefinition<'a>, ReadError<'a>> {
     if tokens.take_word("schema") {
-        return read_schema(tokens, start, description, is_extension);
+        return read_schema(tokens, max_depth, start, description, is_extension);
     }
     if !is_extension && tokens.take_word("directive") {
-        return read_directive_definition(tokens, start, description);
+        return read_directive_definition(tokens, max_depth, start, description);
     }
-    read_type_definition(tokens, start, description, is_extension)
+    read_type_definition(tokens, max_depth, start, description, is_extension)
 }
 
 fn read_schema<'a>(
     tokens: &mut Tokens<'a>,
+    max_depth: Option<usize>,
     start: SourcePosition,
     description: Description,
     is_extension: bool,
 ) -> Result<TypeSystemDefinition<'a>, ReadError<'a>> {
-    let directives = read_directives(tokens, Variables::Refused)?;
+    let directives = read_directives(tokens, Variables::Refused, max_depth)?;
     let roots = if is_extension && directives.is_some() && !tokens.is(Punctuator::BraceOpen) {
         Vec::new(tokens.alloc())
     } else {
@@ -150,6 +171,7 @@ fn kind_ahead(tokens: &Tokens<'_>) -> Option<Kind> {
 
 fn read_type_definition<'a>(
     tokens: &mut Tokens<'a>,
+    max_depth: Option<usize>,
     start: SourcePosition,
     description: Description,
     is_extension: bool,
@@ -160,9 +182,9 @@ fn read_type_definition<'a>(
     tokens.advance();
     let name = tokens.name("a type's name")?;
     let interfaces = read_interfaces(tokens, kind)?;
-    let directives = read_directives(tokens, Variables::Refused)?;
+    let directives = read_directives(tokens, Variables::Refused, max_depth)?;
     let is_bare = interfaces.is_empty() && directives.is_none();
-    let body = read_body(tokens, kind)?;
+    let body = read_body(tokens, max_depth, kind)?;
     if is_extension && is_bare && is_empty_body(&body) {
         return Err(tokens.fault("an extension of the type"));
     }
@@ -189,14 +211,18 @@ fn is_empty_body(body: &TypeBody<'_>) -> bool {
     }
 }
 
-fn read_body<'a>(tokens: &mut Tokens<'a>, kind: Kind) -> Result<TypeBody<'a>, ReadError<'a>> {
+fn read_body<'a>(
+    tokens: &mut Tokens<'a>,
+    max_depth: Option<usize>,
+    kind: Kind,
+) -> Result<TypeBody<'a>, ReadError<'a>> {
     Ok(match kind {
         Kind::Scalar => TypeBody::Scalar,
-        Kind::Object => TypeBody::Object(read_fields(tokens)?),
-        Kind::Interface => TypeBody::Interface(read_fields(tokens)?),
+        Kind::Object => TypeBody::Object(read_fields(tokens, max_depth)?),
+        Kind::Interface => TypeBody::Interface(read_fields(tokens, max_depth)?),
         Kind::Union => TypeBody::Union(read_members(tokens)?),
-        Kind::Enum => TypeBody::Enum(read_enum_values(tokens)?),
-        Kind::InputObject => TypeBody::InputObject(read_input_fields(tokens)?),
+        Kind::Enum => TypeBody::Enum(read_enum_values(tokens, max_depth)?),
+        Kind::InputObject => TypeBody::InputObject(read_input_fields(tokens, max_depth)?),
     })
 }
 
@@ -233,13 +259,16 @@ fn read_names<'a>(
     Err(tokens.fault("a type's name"))
 }
 
-fn read_fields<'a>(tokens: &mut Tokens<'a>) -> Result<Vec<FieldDefinition<'a>>, ReadError<'a>> {
+fn read_fields<'a>(
+    tokens: &mut Tokens<'a>,
+    max_depth: Option<usize>,
+) -> Result<Vec<FieldDefinition<'a>>, ReadError<'a>> {
     let mut fields = Vec::new(tokens.alloc());
     if !tokens.take(Punctuator::BraceOpen) {
         return Ok(fields);
     }
     for _ in 0..tokens.bound() {
-        fields.push(read_field_definition(tokens)?)?;
+        fields.push(read_field_definition(tokens, max_depth)?)?;
         if tokens.take(Punctuator::BraceClose) {
             return Ok(fields);
         }
@@ -249,13 +278,14 @@ fn read_fields<'a>(tokens: &mut Tokens<'a>) -> Result<Vec<FieldDefinition<'a>>, 
 
 fn read_field_definition<'a>(
     tokens: &mut Tokens<'a>,
+    max_depth: Option<usize>,
 ) -> Result<FieldDefinition<'a>, ReadError<'a>> {
     let description = read_description(tokens)?;
     let name = tokens.name("a field's name")?;
-    let arguments = read_argument_definitions(tokens)?;
+    let arguments = read_argument_definitions(tokens, max_depth)?;
     tokens.expect(Punctuator::Colon, ":")?;
-    let field_type = read_type(tokens)?;
-    let directives = read_directives(tokens, Variables::Refused)?;
+    let field_type = read_type(tokens, max_depth)?;
+    let directives = read_directives(tokens, Variables::Refused, max_depth)?;
     Ok(FieldDefinition {
         description,
         name,
@@ -267,19 +297,32 @@ fn read_field_definition<'a>(
 
 fn read_argument_definitions<'a>(
     tokens: &mut Tokens<'a>,
+    max_depth: Option<usize>,
 ) -> Result<Vec<InputValueDefinition<'a>>, ReadError<'a>> {
-    read_input_values(tokens, Punctuator::ParenOpen, Punctuator::ParenClose)
+    read_input_values(
+        tokens,
+        max_depth,
+        Punctuator::ParenOpen,
+        Punctuator::ParenClose,
+    )
 }
 
 fn read_input_fields<'a>(
     tokens: &mut Tokens<'a>,
+    max_depth: Option<usize>,
 ) -> Result<Vec<InputValueDefinition<'a>>, ReadError<'a>> {
-    read_input_values(tokens, Punctuator::BraceOpen, Punctuator::BraceClose)
+    read_input_values(
+        tokens,
+        max_depth,
+        Punctuator::BraceOpen,
+        Punctuator::BraceClose,
+    )
 }
 
 // Input values between two punctuators, one at least where the first is ahead.
 fn read_input_values<'a>(
     tokens: &mut Tokens<'a>,
+    max_depth: Option<usize>,
     open: Punctuator,
     close: Punctuator,
 ) -> Result<Vec<InputValueDefinition<'a>>, ReadError<'a>> {
@@ -288,7 +331,7 @@ fn read_input_values<'a>(
         return Ok(values);
     }
     for _ in 0..tokens.bound() {
-        values.push(read_input_value(tokens)?)?;
+        values.push(read_input_value(tokens, max_depth)?)?;
         if tokens.take(close) {
             return Ok(values);
         }
@@ -298,13 +341,14 @@ fn read_input_values<'a>(
 
 fn read_input_value<'a>(
     tokens: &mut Tokens<'a>,
+    max_depth: Option<usize>,
 ) -> Result<InputValueDefinition<'a>, ReadError<'a>> {
     let description = read_description(tokens)?;
     let name = tokens.name("a name")?;
     tokens.expect(Punctuator::Colon, ":")?;
-    let value_type = read_type(tokens)?;
-    let default_value = read_default_value(tokens)?;
-    let directives = read_directives(tokens, Variables::Refused)?;
+    let value_type = read_type(tokens, max_depth)?;
+    let default_value = read_default_value(tokens, max_depth)?;
+    let directives = read_directives(tokens, Variables::Refused, max_depth)?;
     Ok(InputValueDefinition {
         description,
         name,
@@ -316,13 +360,14 @@ fn read_input_value<'a>(
 
 fn read_enum_values<'a>(
     tokens: &mut Tokens<'a>,
+    max_depth: Option<usize>,
 ) -> Result<Vec<EnumValueDefinition<'a>>, ReadError<'a>> {
     let mut values = Vec::new(tokens.alloc());
     if !tokens.take(Punctuator::BraceOpen) {
         return Ok(values);
     }
     for _ in 0..tokens.bound() {
-        values.push(read_enum_value(tokens)?)?;
+        values.push(read_enum_value(tokens, max_depth)?)?;
         if tokens.take(Punctuator::BraceClose) {
             return Ok(values);
         }
@@ -330,13 +375,16 @@ fn read_enum_values<'a>(
     Err(tokens.fault("}"))
 }
 
-fn read_enum_value<'a>(tokens: &mut Tokens<'a>) -> Result<EnumValueDefinition<'a>, ReadError<'a>> {
+fn read_enum_value<'a>(
+    tokens: &mut Tokens<'a>,
+    max_depth: Option<usize>,
+) -> Result<EnumValueDefinition<'a>, ReadError<'a>> {
     let description = read_description(tokens)?;
     if tokens.is_word("true") || tokens.is_word("false") || tokens.is_word("null") {
         return Err(tokens.fault("an enum value"));
     }
     let name = tokens.name("an enum value")?;
-    let directives: Directives<'a> = read_directives(tokens, Variables::Refused)?;
+    let directives: Directives<'a> = read_directives(tokens, Variables::Refused, max_depth)?;
     Ok(EnumValueDefinition {
         description,
         name,
@@ -346,12 +394,13 @@ fn read_enum_value<'a>(tokens: &mut Tokens<'a>) -> Result<EnumValueDefinition<'a
 
 fn read_directive_definition<'a>(
     tokens: &mut Tokens<'a>,
+    max_depth: Option<usize>,
     start: SourcePosition,
     description: Description,
 ) -> Result<TypeSystemDefinition<'a>, ReadError<'a>> {
     tokens.expect(Punctuator::At, "@")?;
     let name = tokens.name("a directive's name")?;
-    let arguments = read_argument_definitions(tokens)?;
+    let arguments = read_argument_definitions(tokens, max_depth)?;
     let is_repeatable = tokens.take_word("repeatable");
     let locations = read_locations(tokens)?;
     Ok(TypeSystemDefinition::Directive(Spanning {

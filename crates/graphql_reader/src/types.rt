@@ -1,5 +1,5 @@
 //! Type references (GraphQL, October 2021, section 2.11).
-use crate::values::NESTING_LIMIT;
+use crate::depth::check_depth;
 use graphql_lexer::error::ReadError;
 use graphql_lexer::lexer::Punctuator;
 use graphql_lexer::tokens::Tokens;
@@ -11,10 +11,13 @@ use language::types::Type;
 ///
 /// # Errors
 ///
-/// A syntax error, more than [`NESTING_LIMIT`] levels of lists, or out of memory.
-pub fn read_type<'a>(tokens: &mut Tokens<'a>) -> Result<Spanning<Type>, ReadError<'a>> {
+/// A syntax error, more levels of lists than `max_depth`, or out of memory.
+pub fn read_type<'a>(
+    tokens: &mut Tokens<'a>,
+    max_depth: Option<usize>,
+) -> Result<Spanning<Type>, ReadError<'a>> {
     let start = tokens.start();
-    let levels = take_opening_brackets(tokens)?;
+    let levels = take_opening_brackets(tokens, max_depth)?;
     let name = tokens.name("a type")?.item;
     let mut item = read_non_null(tokens, Type::nullable(tokens.alloc(), name)?)?;
     for _ in 0..levels {
@@ -28,16 +31,19 @@ pub fn read_type<'a>(tokens: &mut Tokens<'a>) -> Result<Spanning<Type>, ReadErro
 }
 
 // The number of brackets that are next.
-fn take_opening_brackets<'a>(tokens: &mut Tokens<'a>) -> Result<usize, ReadError<'a>> {
-    for taken in 0..NESTING_LIMIT {
-        if !tokens.take(Punctuator::BracketOpen) {
+fn take_opening_brackets<'a>(
+    tokens: &mut Tokens<'a>,
+    max_depth: Option<usize>,
+) -> Result<usize, ReadError<'a>> {
+    let bound = tokens.bound();
+    for taken in 0..bound {
+        if !tokens.is(Punctuator::BracketOpen) {
             return Ok(taken);
         }
+        check_depth(tokens, taken, max_depth)?;
+        tokens.advance();
     }
-    if tokens.is(Punctuator::BracketOpen) {
-        return Err(tokens.too_deep(NESTING_LIMIT));
-    }
-    Ok(NESTING_LIMIT)
+    Ok(bound)
 }
 
 // The type, or the type made non-null where an exclamation mark follows.

@@ -1,4 +1,5 @@
 //! Values, arguments and directives (GraphQL, October 2021, sections 2.6, 2.9 and 2.12).
+use crate::depth::check_depth;
 use graphql_lexer::error::{Found, ReadError, SyntaxError, SyntaxFault};
 use graphql_lexer::lexer::{Punctuator, Token};
 use graphql_lexer::strings::{StringError, block_string_value, string_value};
@@ -9,9 +10,6 @@ use language::tree::{Arguments, Directive};
 use language::value::InputValue;
 use sdl_scalars::scalar::SourceScalar;
 use std::alloc::Global;
-
-/// How many levels deep selection sets, lists and objects of a value, and list types may nest.
-pub const NESTING_LIMIT: usize = 500;
 
 type Value = InputValue<SourceScalar>;
 
@@ -25,6 +23,63 @@ pub enum Variables {
     Refused,
 }
 
+// A list or an object that is begun: where it starts, what it holds so far, and the key whose value is read.
+#[derive(Drop)]
+enum Begun {
+    List(SourcePosition, Vec<Spanning<Value>>),
+    Object(SourcePosition, Vec<(Spanning<String>, Spanning<Value>)>, Option<Spanning<String>>),
+}
+
+impl Begun {
+    // What ends it.
+    fn closing(&self) -> Punctuator {
+        match self {
+            Begun::List(_, _) => Punctuator::BracketClose,
+            Begun::Object(_, _, _) => Punctuator::BraceClose,
+        }
+    }
+
+    // Reads what stands before a value: the key, in an object.
+    fn read_before_value<'a>(&mut self, tokens: &mut Tokens<'a>) -> Result<(), ReadError<'a>> {
+        if let Begun::Object(_, _, key) = self {
+            *key = Some(read_key(tokens)?);
+        }
+        Ok(())
+    }
+
+    fn add(&mut self, value: Spanning<Value>) -> Result<(), OutOfMemory> {
+        match self {
+            Begun::List(_, items) => items.push(value)?,
+            Begun::Object(_, entries, key) => {
+                if let Some(key) = key.take() {
+                    entries.push((key, value))?;
+                }
+            }
+        }
+        Ok(())
+    }
+
+    // The value, whose last token is taken.
+    fn end(self, tokens: &Tokens<'_>) -> Spanning<Value> {
+        match self {
+            Begun::List(start, mut items) => {
+                items.shrink_to_fit();
+                Spanning {
+                    item: InputValue::List(items),
+                    span: tokens.span_from(start),
+                }
+            }
+            Begun::Object(start, mut entries, _) => {
+                entries.shrink_to_fit();
+                Spanning {
+                    item: InputValue::Object(entries),
+                    span: tokens.span_from(start),
+                }
+            }
+        }
+    }
+}
+
 /// Parses a text that is one value without variables.
 ///
 /// # Errors
@@ -35,89 +90,85 @@ pub fn read_constant<'a>(
     text: &'a str,
 ) -> Result<Spanning<InputValue<SourceScalar>>, ReadError<'a>> {
     let mut tokens = Tokens::new(alloc, text.as_bytes());
-    let value = read_value(&mut tokens, Variables::Refused)?;
+    let value = read_value(&mut tokens, Variables::Refused, None)?;
     if tokens.is_at_end() {
         return Ok(value);
     }
     Err(tokens.fault("the end of the text"))
 }
 
-/// Parses a value.
+/// Parses a value. The lists and objects that are begun stand on a list in memory, so no depth is too deep for the
+/// machine's stack.
 ///
 /// # Errors
 ///
-/// A syntax error, more than [`NESTING_LIMIT`] levels, or out of memory.
+/// A syntax error, more levels than `max_depth`, or out of memory.
 pub fn read_value<'a>(
     tokens: &mut Tokens<'a>,
     variables: Variables,
+    max_depth: Option<usize>,
 ) -> Result<Spanning<Value>, ReadError<'a>> {
-    read_nested(tokens, variables, NESTING_LIMIT)
+    let mut begun = Vec::new(tokens.alloc());
+    for _ in 0..tokens.bound() {
+        if let Some(value) = read_part(tokens, variables, max_depth, &mut begun)? {
+            return Ok(value);
+        }
+    }
+    Err(tokens.fault(expected_value(variables)))
 }
 
-// A value of at most `levels` levels of lists and objects.
-#[cycle(values)]
-fn read_nested<'a>(
+// Reads up to the next bracket or plain value: the whole value, where it ends there.
+fn read_part<'a>(
     tokens: &mut Tokens<'a>,
     variables: Variables,
-    levels: usize,
-) -> Result<Spanning<Value>, ReadError<'a>> {
+    max_depth: Option<usize>,
+    begun: &mut Vec<Begun>,
+) -> Result<Option<Spanning<Value>>, ReadError<'a>> {
+    if let Some(mut last) = begun.pop() {
+        if tokens.take(last.closing()) {
+            return Ok(place(last.end(tokens), begun)?);
+        }
+        last.read_before_value(tokens)?;
+        begun.push(last)?;
+    }
     let start = tokens.start();
-    let item = match tokens.ahead() {
+    if let Some(opened) = opening(tokens) {
+        check_depth(tokens, begun.len(), max_depth)?;
+        tokens.advance();
+        begun.push(opened)?;
+        return Ok(None);
+    }
+    let item = read_plain(tokens, variables)?;
+    let span = tokens.span_from(start);
+    Ok(place(Spanning { item, span }, begun)?)
+}
+
+// The list or object that the next token begins, if it begins one.
+fn opening(tokens: &Tokens<'_>) -> Option<Begun> {
+    let start = tokens.start();
+    match tokens.ahead() {
         Token::Punctuator(Punctuator::BracketOpen) => {
-            InputValue::List(read_items(tokens, variables, levels)?)
+            Some(Begun::List(start, Vec::new(tokens.alloc())))
         }
         Token::Punctuator(Punctuator::BraceOpen) => {
-            InputValue::Object(read_entries(tokens, variables, levels)?)
+            Some(Begun::Object(start, Vec::new(tokens.alloc()), None))
         }
-        _ => read_plain(tokens, variables)?,
-    };
-    Ok(Spanning {
-        item,
-        span: tokens.span_from(start),
-    })
+        _ => None,
+    }
 }
 
-#[cycle(values)]
-fn read_items<'a>(
-    tokens: &mut Tokens<'a>,
-    variables: Variables,
-    levels: usize,
-) -> Result<Vec<Spanning<Value>>, ReadError<'a>> {
-    let Some(inner) = levels.checked_sub(1) else {
-        return Err(tokens.too_deep(NESTING_LIMIT));
-    };
-    tokens.advance();
-    let mut items = Vec::new(tokens.alloc());
-    for _ in 0..tokens.bound() {
-        if tokens.take(Punctuator::BracketClose) {
-            items.shrink_to_fit();
-            return Ok(items);
+// Puts a value into the list or object that is begun; where none is, it is the whole value.
+fn place(
+    value: Spanning<Value>,
+    begun: &mut Vec<Begun>,
+) -> Result<Option<Spanning<Value>>, OutOfMemory> {
+    match begun.last_mut() {
+        None => Ok(Some(value)),
+        Some(last) => {
+            last.add(value)?;
+            Ok(None)
         }
-        items.push(read_nested(tokens, variables, inner)?)?;
     }
-    Err(tokens.fault("]"))
-}
-
-#[cycle(values)]
-fn read_entries<'a>(
-    tokens: &mut Tokens<'a>,
-    variables: Variables,
-    levels: usize,
-) -> Result<Vec<(Spanning<String>, Spanning<Value>)>, ReadError<'a>> {
-    let Some(inner) = levels.checked_sub(1) else {
-        return Err(tokens.too_deep(NESTING_LIMIT));
-    };
-    tokens.advance();
-    let mut entries = Vec::new(tokens.alloc());
-    for _ in 0..tokens.bound() {
-        if tokens.take(Punctuator::BraceClose) {
-            entries.shrink_to_fit();
-            return Ok(entries);
-        }
-        let key = read_key(tokens)?;
-        entries.push((key, read_nested(tokens, variables, inner)?))?;
-    }
-    Err(tokens.fault("}"))
 }
 
 fn read_key<'a>(tokens: &mut Tokens<'a>) -> Result<Spanning<String>, ReadError<'a>> {
@@ -218,10 +269,11 @@ fn found_in(raw: &str, offset: usize) -> Found<'_> {
 ///
 /// # Errors
 ///
-/// A syntax error after the parenthesis, or out of memory.
+/// A syntax error after the parenthesis, a value with more levels than `max_depth`, or out of memory.
 pub fn read_arguments<'a>(
     tokens: &mut Tokens<'a>,
     variables: Variables,
+    max_depth: Option<usize>,
 ) -> Result<Option<Spanning<Arguments<'a, SourceScalar>>>, ReadError<'a>> {
     let start = tokens.start();
     if !tokens.take(Punctuator::ParenOpen) {
@@ -231,7 +283,7 @@ pub fn read_arguments<'a>(
     for _ in 0..tokens.bound() {
         let name = tokens.name("an argument's name")?;
         tokens.expect(Punctuator::Colon, ":")?;
-        items.push((name, read_value(tokens, variables)?))?;
+        items.push((name, read_value(tokens, variables, max_depth)?))?;
         if tokens.take(Punctuator::ParenClose) {
             items.shrink_to_fit();
             return Ok(Some(Spanning {
@@ -247,10 +299,11 @@ pub fn read_arguments<'a>(
 ///
 /// # Errors
 ///
-/// A syntax error after an `@`, or out of memory.
+/// A syntax error after an `@`, a value with more levels than `max_depth`, or out of memory.
 pub fn read_directives<'a>(
     tokens: &mut Tokens<'a>,
     variables: Variables,
+    max_depth: Option<usize>,
 ) -> Result<Directives<'a>, ReadError<'a>> {
     if !tokens.is(Punctuator::At) {
         return Ok(None);
@@ -261,7 +314,7 @@ pub fn read_directives<'a>(
             directives.shrink_to_fit();
             return Ok(Some(directives));
         }
-        directives.push(read_directive(tokens, variables)?)?;
+        directives.push(read_directive(tokens, variables, max_depth)?)?;
     }
     Err(tokens.fault("a directive"))
 }
@@ -269,11 +322,12 @@ pub fn read_directives<'a>(
 fn read_directive<'a>(
     tokens: &mut Tokens<'a>,
     variables: Variables,
+    max_depth: Option<usize>,
 ) -> Result<Spanning<Directive<'a, SourceScalar>>, ReadError<'a>> {
     let start = tokens.start();
     tokens.advance();
     let name = tokens.name("a directive's name")?;
-    let arguments = read_arguments(tokens, variables)?;
+    let arguments = read_arguments(tokens, variables, max_depth)?;
     Ok(Spanning {
         item: Directive { name, arguments },
         span: tokens.span_from(start),

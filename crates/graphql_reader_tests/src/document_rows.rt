@@ -636,3 +636,26 @@ pub const NESTED_DOCUMENTS: &[Row] = &[
         "511 0:511 nested more than 500 levels deep",
     ),
 ];
+
+/// Selection sets, lists, objects and list types within one level, and past it.
+pub const FLAT_DOCUMENTS: &[Row] = &[
+    ("{ a }", "1"),
+    ("{ a { b } }", "4 0:4 nested more than 1 levels deep"),
+    ("{ ... { a } }", "6 0:6 nested more than 1 levels deep"),
+    ("{ ... @d a }", "9 0:9 nested more than 1 levels deep"),
+    ("{ a(x: [1], y: {k: 1}) }", "1"),
+    ("{ a(x: [[1]]) }", "8 0:8 nested more than 1 levels deep"),
+    (
+        "{ a(x: [1, {k: 1}]) }",
+        "11 0:11 nested more than 1 levels deep",
+    ),
+    (
+        "{ a(x: {k: [1]}) }",
+        "11 0:11 nested more than 1 levels deep",
+    ),
+    ("query ($a: [T]) { a }", "1"),
+    (
+        "query ($a: [[T]]) { a }",
+        "12 0:12 nested more than 1 levels deep",
+    ),
+];

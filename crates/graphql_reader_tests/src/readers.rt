@@ -1,24 +1,32 @@
 //! Parses the rows of the tables. A test shows all rows that come out otherwise.
 use crate::document_rows::{
-    DOCUMENTS, NESTED_DOCUMENTS, NO_DOCUMENTS, NO_DOCUMENTS_2, NO_DOCUMENTS_3, NO_DOCUMENTS_4,
+    DOCUMENTS, FLAT_DOCUMENTS, NESTED_DOCUMENTS, NO_DOCUMENTS, NO_DOCUMENTS_2, NO_DOCUMENTS_3,
+    NO_DOCUMENTS_4,
 };
 use crate::example_rows::{DOCUMENT_EXAMPLES, TYPE_SYSTEM_EXAMPLES};
 use crate::token_rows::{NO_TOKENS, NO_TOKENS_2, NO_TOKENS_3, NO_TOKENS_4, TOKENS};
 use crate::type_system_rows::{
-    NESTED_TYPE_SYSTEMS, NO_TYPE_SYSTEMS, NO_TYPE_SYSTEMS_2, NO_TYPE_SYSTEMS_3, NO_TYPE_SYSTEMS_4,
-    NO_TYPE_SYSTEMS_5, TYPE_SYSTEMS,
+    FLAT_TYPE_SYSTEMS, NESTED_TYPE_SYSTEMS, NO_TYPE_SYSTEMS, NO_TYPE_SYSTEMS_2, NO_TYPE_SYSTEMS_3,
+    NO_TYPE_SYSTEMS_4, NO_TYPE_SYSTEMS_5, TYPE_SYSTEMS,
 };
-use graphql_reader::{ReadError, read_document, read_type_system};
+use graphql_reader::{
+    NESTING_LIMIT, ReadError, read_document, read_document_within, read_type_system,
+    read_type_system_within,
+};
 use std::alloc::{AllocError, Global};
 use std::process::Abort;
 
 /// A text, and what comes out: the number of its definitions, or index, line and column of a syntax error and its message.
 pub type Row = (&'static str, &'static str);
 
+/// What reads a text.
 #[derive(Clone, Copy)]
-enum Reader {
+pub enum Reader {
     Document,
     TypeSystem,
+    // With a limit of levels.
+    DocumentWithin(usize),
+    TypeSystemWithin(usize),
 }
 
 // The number of definitions of a text.
@@ -26,6 +34,10 @@ fn count_of<'a>(alloc: Global, reader: Reader, text: &'a str) -> Result<usize, R
     match reader {
         Reader::Document => Ok(read_document(alloc, text)?.len()),
         Reader::TypeSystem => Ok(read_type_system(alloc, text)?.len()),
+        Reader::DocumentWithin(limit) => Ok(read_document_within(alloc, text, Some(limit))?.len()),
+        Reader::TypeSystemWithin(limit) => {
+            Ok(read_type_system_within(alloc, text, Some(limit))?.len())
+        }
     }
 }
 
@@ -80,8 +92,8 @@ fn repeated(alloc: Global, pieces: &str) -> Result<String, AllocError> {
     Ok(text)
 }
 
-// The same as `otherwise` of a table of pieces.
-fn nested_otherwise(alloc: Global, reader: Reader, rows: &[Row]) -> Result<String, AllocError> {
+/// The rows of a table of pieces that come out otherwise.
+pub fn nested_otherwise(alloc: Global, reader: Reader, rows: &[Row]) -> Result<String, AllocError> {
     let mut report = String::new(alloc);
     for (pieces, wanted) in rows {
         let text = repeated(alloc, pieces)?;
@@ -159,10 +171,22 @@ fn faulty_tokens_are_refused_4(rt: HostRuntime) {
 
 #[test]
 fn nested_documents_are_read_up_to_the_limit(rt: HostRuntime) {
+    let reader = Reader::DocumentWithin(NESTING_LIMIT);
+    is_empty(&rt, nested_otherwise(rt.alloc(), reader, NESTED_DOCUMENTS));
+}
+
+#[test]
+fn documents_are_read_within_one_level(rt: HostRuntime) {
     is_empty(
         &rt,
-        nested_otherwise(rt.alloc(), Reader::Document, NESTED_DOCUMENTS),
+        otherwise(rt.alloc(), Reader::DocumentWithin(1), FLAT_DOCUMENTS),
     );
+}
+
+#[test]
+fn no_set_is_read_within_no_level(rt: HostRuntime) {
+    let rows = &[("{ a }", "0 0:0 nested more than 0 levels deep")];
+    is_empty(&rt, otherwise(rt.alloc(), Reader::DocumentWithin(0), rows));
 }
 
 #[test]
@@ -220,8 +244,17 @@ fn faulty_type_systems_are_refused_5(rt: HostRuntime) {
 
 #[test]
 fn nested_type_systems_are_read_up_to_the_limit(rt: HostRuntime) {
+    let reader = Reader::TypeSystemWithin(NESTING_LIMIT);
     is_empty(
         &rt,
-        nested_otherwise(rt.alloc(), Reader::TypeSystem, NESTED_TYPE_SYSTEMS),
+        nested_otherwise(rt.alloc(), reader, NESTED_TYPE_SYSTEMS),
+    );
+}
+
+#[test]
+fn type_systems_are_read_within_one_level(rt: HostRuntime) {
+    is_empty(
+        &rt,
+        otherwise(rt.alloc(), Reader::TypeSystemWithin(1), FLAT_TYPE_SYSTEMS),
     );
 }

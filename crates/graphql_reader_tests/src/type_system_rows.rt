@@ -956,3 +956,17 @@ pub const NESTED_TYPE_SYSTEMS: &[Row] = &[
         "513 0:513 nested more than 500 levels deep",
     ),
 ];
+
+/// Lists and list types within one level, and past it.
+pub const FLAT_TYPE_SYSTEMS: &[Row] = &[
+    ("input I { a: [T] = [1] }", "1"),
+    (
+        "input I { a: [[T]] }",
+        "14 0:14 nested more than 1 levels deep",
+    ),
+    (
+        "input I { a: T = [{}] }",
+        "18 0:18 nested more than 1 levels deep",
+    ),
+    ("type T { a(x: T = [1]): [T!]! @d(x: {k: 1}) }", "1"),
+];

@@ -1,0 +1,22 @@
+//! How deep a text may nest.
+use graphql_lexer::error::ReadError;
+use graphql_lexer::tokens::Tokens;
+
+/// A limit for callers that want one: texts written by hand stay far below it.
+pub const NESTING_LIMIT: usize = 500;
+
+/// Checks that one more level may begin at the next token, inside of so many.
+///
+/// # Errors
+///
+/// It is a level more than the limit allows.
+pub fn check_depth<'a>(
+    tokens: &Tokens<'a>,
+    levels: usize,
+    max_depth: Option<usize>,
+) -> Result<(), ReadError<'a>> {
+    match max_depth {
+        Some(limit) if levels >= limit => Err(tokens.too_deep(limit)),
+        _ => Ok(()),
+    }
+}
