@@ -44,45 +44,145 @@ fn variables_of(
     Ok(variables)
 }
 
-/// A JSON value as an input value.
+// What a list or an object holds so far.
+#[derive(Drop)]
+enum Begun {
+    List(Vec<Spanning<InputValue<SourceScalar>>>),
+    Object(Vec<Entry>),
+}
+
+impl Begun {
+    // How many values it holds.
+    fn len(&self) -> usize {
+        match self {
+            Begun::List(items) => items.len(),
+            Begun::Object(entries) => entries.len(),
+        }
+    }
+
+    // Adds a value, in an object for this key.
+    fn add(
+        &mut self,
+        alloc: Global,
+        key: &str,
+        value: InputValue<SourceScalar>,
+    ) -> Result<(), OutOfMemory> {
+        match self {
+            Begun::List(items) => items.push(unplaced(value))?,
+            Begun::Object(entries) => {
+                let key = String::from_str(alloc, key)?;
+                entries.push((unplaced(key), unplaced(value)))?;
+            }
+        }
+        Ok(())
+    }
+
+    // The value, if nothing is left to be added.
+    fn end(self) -> InputValue<SourceScalar> {
+        match self {
+            Begun::List(items) => InputValue::List(items),
+            Begun::Object(entries) => InputValue::Object(entries),
+        }
+    }
+}
+
+// What a value holds at an index, if it holds so much.
+fn inside<'v, 'a>(value: &'v Value<'a>, index: usize) -> Option<&'v Value<'a>> {
+    match value {
+        Value::Array(values) => values.get(index),
+        Value::Object(members) => match members.get(index) {
+            Some(member) => Some(&member.1),
+            None => None,
+        },
+        _ => None,
+    }
+}
+
+// The key of an object at an index.
+fn key_inside<'v>(value: &'v Value<'_>, index: usize) -> &'v str {
+    match value {
+        Value::Object(members) => match members.get(index) {
+            Some(member) => member.0,
+            None => "",
+        },
+        _ => "",
+    }
+}
+
+/// A JSON value as an input value. What is begun stands on a list in memory, so no depth is too deep for the machine's
+/// stack.
 ///
 /// # Errors
 ///
 /// Out of memory.
-#[cycle(convert)]
 pub fn value_of(alloc: Global, value: &Value<'_>) -> Result<InputValue<SourceScalar>, OutOfMemory> {
-    Ok(match value {
+    let mut begun = Vec::new(alloc);
+    let mut made = begin(alloc, value, &mut begun)?;
+    for _ in 0..u64::MAX {
+        if let Some(whole) = place(alloc, made, &mut begun)? {
+            return Ok(whole);
+        }
+        made = go_on(alloc, &mut begun)?;
+    }
+    Err(OutOfMemory)
+}
+
+// The value, unless it is a list or an object, which is begun.
+fn begin<'v, 'a>(
+    alloc: Global,
+    value: &'v Value<'a>,
+    begun: &mut Vec<(&'v Value<'a>, Begun)>,
+) -> Result<Option<InputValue<SourceScalar>>, OutOfMemory> {
+    Ok(Some(match value {
         Value::Null => InputValue::Null,
         Value::Bool(truth) => InputValue::Scalar(SourceScalar::Boolean(*truth)),
         Value::Number(number) => InputValue::Scalar(number_of(alloc, number)?),
         Value::String(text) => {
             InputValue::Scalar(SourceScalar::String(String::from_str(alloc, text)?))
         }
-        Value::Array(items) => InputValue::List(items_of(alloc, items.as_slice())?),
-        Value::Object(members) => InputValue::Object(entries_of(alloc, members.as_slice())?),
-    })
+        Value::Array(_) => {
+            begun.push((value, Begun::List(Vec::new(alloc))))?;
+            return Ok(None);
+        }
+        Value::Object(_) => {
+            begun.push((value, Begun::Object(Vec::new(alloc))))?;
+            return Ok(None);
+        }
+    }))
 }
 
-#[cycle(convert)]
-fn items_of(
+// Puts a value, if there is one, into the list or object that is begun; where none is, it is the whole value.
+fn place<'v, 'a>(
     alloc: Global,
-    values: &[Value<'_>],
-) -> Result<Vec<Spanning<InputValue<SourceScalar>>>, OutOfMemory> {
-    let mut items = Vec::new(alloc);
-    for value in values {
-        items.push(unplaced(value_of(alloc, value)?))?;
-    }
-    Ok(items)
+    made: Option<InputValue<SourceScalar>>,
+    begun: &mut Vec<(&'v Value<'a>, Begun)>,
+) -> Result<Option<InputValue<SourceScalar>>, OutOfMemory> {
+    let Some(value) = made else {
+        return Ok(None);
+    };
+    let Some((json, mut last)) = begun.pop() else {
+        return Ok(Some(value));
+    };
+    last.add(alloc, key_inside(json, last.len()), value)?;
+    begun.push((json, last))?;
+    Ok(None)
 }
 
-#[cycle(convert)]
-fn entries_of(alloc: Global, members: &[(&str, Value<'_>)]) -> Result<Vec<Entry>, OutOfMemory> {
-    let mut entries = Vec::new(alloc);
-    for (key, value) in members {
-        let item = value_of(alloc, value)?;
-        entries.push((unplaced(String::from_str(alloc, key)?), unplaced(item)))?;
+// Begins the next value, or ends what is begun where none is left in it.
+fn go_on<'v, 'a>(
+    alloc: Global,
+    begun: &mut Vec<(&'v Value<'a>, Begun)>,
+) -> Result<Option<InputValue<SourceScalar>>, OutOfMemory> {
+    let Some((json, last)) = begun.pop() else {
+        return Ok(None);
+    };
+    match inside(json, last.len()) {
+        None => Ok(Some(last.end())),
+        Some(value) => {
+            begun.push((json, last))?;
+            begin(alloc, value, begun)
+        }
     }
-    Ok(entries)
 }
 
 // A number without fraction and exponent is an integer (section 2.9.1).

@@ -101,3 +101,28 @@ fn objects(rt: HostRuntime) {
         assert_eq!(rt; is_object_text(text), *wanted);
     }
 }
+
+// An object with so many lists in one another.
+fn nested(alloc: Global, lists: usize) -> Result<String, AllocError> {
+    let mut text = String::from_str(alloc, "{\"a\": ")?;
+    for _ in 0..lists {
+        text.push_str("[")?;
+    }
+    for _ in 0..lists {
+        text.push_str("]")?;
+    }
+    text.push_str("}")?;
+    Ok(text)
+}
+
+#[test]
+fn nests_128_levels_deep(rt: HostRuntime) {
+    let text = nested(rt.alloc(), 127).expect(&rt, "memory");
+    let found = told(rt.alloc(), text.as_str()).expect(&rt, "memory");
+    assert!(rt; found.as_str().starts_with("a [[[["));
+    assert!(rt; found.as_str().ends_with("]]]]; "));
+    assert_eq!(rt; found.len(), 258);
+    let text = nested(rt.alloc(), 128).expect(&rt, "memory");
+    let found = told(rt.alloc(), text.as_str()).expect(&rt, "memory");
+    assert!(rt; found.as_str().ends_with("invalid JSON"));
+}
