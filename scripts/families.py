@@ -297,6 +297,35 @@ FAMILIES = [
     ("introspection, 1,600", introspection, 1_600, "introspection"),
 ]
 
+def within(before, opening, inmost, closing, after):
+    """A document in which so many of an opening are nested, each with its closing."""
+    return lambda levels: before + opening * levels + inmost + closing * levels + after
+
+
+def conflicts_below(levels):
+    """Two fields of one response name at each level; those inside are not the same field."""
+    towers = ["human " + "{ relatives " * levels + f"{{ x: {field} }}" + " }" * levels for field in ("name", "iq")]
+    return "{ " + " ".join(towers) + " }"
+
+
+# Documents of so many levels, each for the sample schema `pets`.
+DEPTHS = [
+    ("sets", within("{ human ", "{ relatives ", "{ name }", " }", " }")),
+    ("inline fragments", within("{ ", "... { ", "dog { name }", " }", " }")),
+    ("inline fragments with a type", within("{ dog { ", "... on Dog { ", "name", " }", " } }")),
+    ("lists", within("{ complicatedArgs { stringListArgField(stringListArg: ", "[", "1", "]", ") } }")),
+    ("objects", within("{ complicatedArgs { complexArgField(complexArg: ", "{stringField: ", "1", "}", ") } }")),
+    ("unknown objects", within("{ dog { name(unknown: ", "{a: ", "$v", "}", ") } }")),
+    ("list types", within("query ($list: ", "[", "Int", "]", ") { dog { name } }")),
+    ("list types with a default", within("query ($list: ", "[", "Int", "]", " = 1) { dog { name } }")),
+    ("defaults in lists", within("query ($list: [Int] = ", "[", "1", "]", ") { dog { name } }")),
+    ("values of a directive", within("{ dog { name @skip(if: ", "[", "true", "]", ") } }")),
+    ("conflicts below conflicts", conflicts_below),
+    ("fragments in a chain", lambda levels: f"{{ dog {{ ...F{FIRST} }} }} " + chain(levels)),
+    ("fields beside a chain", lambda levels: f"{{ dog {{ name ...F{FIRST} }} }} " + chain(levels)),
+    ("a cycle of fragments", lambda levels: chain(levels).replace("{ name }", f"{{ ...F{FIRST} }}")),
+]
+
 # The values of their variables, which stand in the document as defaults, are judged, too.
 VALUED = ("list of values", "keys of a wide input", "values that don't fit")
 
