@@ -1,5 +1,5 @@
+pub mod BegunLaws
 pub mod FieldTypes
-pub mod FirstFaults
 pub mod ObjectLaws
 pub mod OneFault
 pub mod RowLaws

@@ -1,3 +1,4 @@
+pub mod Begun
 pub mod Expected
 pub mod FirstFault
 pub mod InSchema

@@ -1,18 +1,22 @@
 //! The first fault of a value against a type.
-ghost use Rattle.std.specs.Prelude.{◌≡◌, IfOk, List, Option, option_map, string_bytes, ℕ};
+ghost use Rattle.std.specs.Prelude.{◌≡◌, ◌∷◌, IfOk, List, None, OnOk, Option, Some, option_map, reverse, string_bytes, ℕ};
+ghost use Rattle.std.specs.List.{All};
 ghost use Rattle.language.specs.ValuesPrinted.{printed_value};
 ghost use Rattle.meta.specs.Kinds.{check_of_meta};
+ghost use Rattle.schema.specs.Catalog.{Catalog};
 ghost use Rattle.schema.specs.Wrapped.{plain_meta, wrapped_of};
+ghost use Rattle.literals.specs.Begun.{AfterAll, GoesOn, IsKnown, Leads, Left, told};
 ghost use Rattle.literals.specs.Expected.{expected_type};
 ghost use Rattle.literals.specs.FirstFault.{FirstFault};
 ghost use Rattle.literals.specs.InSchema.{IsInSchema};
-ghost use Rattle.literals.specs.Judged.{IsNone, Judged, KeyedFault, ObjectFault, checked, is_enum_meta, is_input_object_meta, unless_enum};
+ghost use Rattle.literals.specs.Judged.{EntryFault, IsNone, Judged, LacksFields, checked, is_enum_meta, is_input_object_meta, keys_of, unless_enum};
 
+use crate::begun::{Begun, text_within};
 use crate::expected::{Expected, type_of_field};
 use crate::missing::lacking;
 use crate::rows::{Row, row_of};
 use crate::texts::{
-    enum_fault, field_fault, length_fault, list_fault, no_check_fault, no_object_fault, null_fault,
+    enum_fault, length_fault, list_fault, no_check_fault, no_object_fault, null_fault,
     unknown_fault, value_fault,
 };
 use language::error::{CheckError, OutOfMemory};
@@ -25,12 +29,12 @@ use std::alloc::Global;
 
 /// The text of the first fault in a value, or `None` if the value conforms to the type (section 5.6.1).
 ///
-/// The metadata of the type has to be that of a type of the schema. Allocates nothing for a value that
-/// conforms, apart from what the checks allocate.
+/// The metadata of the type has to be that of a type of the schema. For a value that conforms, allocates only
+/// what the checks allocate, and a list of the lists and objects around the value that is judged.
 ///
 /// # Errors
 ///
-/// Out of memory, for the text or in a check.
+/// Out of memory, for the text, for that list or in a check.
 pub fn validate_literal_value<'a, S: CheckedScalar>(
     alloc: Global,
     schema: &'a SchemaType<S>,
@@ -49,10 +53,11 @@ pub fn validate_literal_value<'a, S: CheckedScalar>(
 
 /// The text of the first fault in a value, or `None` if the value conforms to the type.
 ///
+/// The lists and objects around the value that is judged stand on a list in memory, so no depth is too deep.
+///
 /// # Errors
 ///
-/// Out of memory, for the text or in a check.
-#[cycle(fault_of)]
+/// Out of memory, for the text, for that list or in a check.
 pub fn fault_of<'t, 'a, S: CheckedScalar>(
     alloc: Global,
     schema: &'a SchemaType<S>,
@@ -63,90 +68,231 @@ pub fn fault_of<'t, 'a, S: CheckedScalar>(
     ensures { IfOk result (λ fault. Judged schema.now S.may_answer (printed_value S.text S.str_of) value.now
         (expected_type expected.entry) (option_map string_bytes fault)) }
 {
+    let mut begun = Vec::new(alloc);
+    match begin(alloc, schema, expected, value, &mut begun)? {
+        Some(fault) => within(alloc, begun.as_slice(), fault.as_str()),
+        None => fault_of_left(alloc, schema, begun),
+    }
+}
+
+// The text of a fault within these lists and objects.
+fn within<S, C>(
+    alloc: Global,
+    begun: &[Begun<'_, '_, '_, S, C>],
+    fault: &str,
+) -> Result<Option<String>, OutOfMemory>
+    ensures { IfOk result (λ text. option_map string_bytes text ≡ Some (told begun.now fault.now)) }
+{
+    Ok(Some(text_within(alloc, begun, fault)?))
+}
+
+// The fault of what is left of these lists and objects.
+fn fault_of_left<'t, 'a, 'v, S: CheckedScalar>(
+    alloc: Global,
+    schema: &'a SchemaType<S>,
+    begun: Vec<Begun<'t, 'a, 'v, S, S::Check>>,
+) -> Result<Option<String>, OutOfMemory>
+    requires known { All (IsKnown schema.now) begun.items }
+    ensures { IfOk result (λ fault. AfterAll schema.now S.may_answer (printed_value S.text S.str_of)
+        (reverse begun.entry.items) None (option_map string_bytes fault)) }
+{
+    let mut left = begun;
+    for _ in 0..u64::MAX {
+        if left.is_empty() {
+            return Ok(None);
+        }
+        match go_on_last(alloc, schema, &mut left)? {
+            Some(fault) => return within(alloc, left.as_slice(), fault.as_str()),
+            None => {}
+        }
+    }
+    Err(OutOfMemory)
+}
+
+// The fault of what is left of the last part, as far as it is judged; what is then left is added.
+fn go_on_last<'t, 'a, 'v, S: CheckedScalar>(
+    alloc: Global,
+    schema: &'a SchemaType<S>,
+    begun: &mut Vec<Begun<'t, 'a, 'v, S, S::Check>>,
+) -> Result<Option<String>, OutOfMemory>
+    requires known { All (IsKnown schema.now) begun.old.items }
+    ensures leads { IfOk result
+        (λ fault. GoesOn schema.now S.may_answer (printed_value S.text S.str_of) begun.new.items
+        (option_map string_bytes fault) begun.old.items) }
+    ensures known { OnOk result (All (IsKnown schema.now) begun.new.items) }
+{
+    match begun.pop() {
+        None => Ok(None),
+        Some(part) => go_on(alloc, schema, part, begun),
+    }
+}
+
+// The fault of a value, or `None` if it conforms as far as it is judged: what is left of it is added.
+fn begin<'t, 'a, 'v, S: CheckedScalar>(
+    alloc: Global,
+    schema: &'a SchemaType<S>,
+    expected: Expected<'t, 'a, S, S::Check>,
+    value: &'v InputValue<S>,
+    begun: &mut Vec<Begun<'t, 'a, 'v, S, S::Check>>,
+) -> Result<Option<String>, OutOfMemory>
+    requires known { IsInSchema schema.now (expected_type expected) }
+    ensures leads { IfOk result
+        (λ fault. Leads schema.now S.may_answer (printed_value S.text S.str_of) begun.new.items
+        (option_map string_bytes fault)
+        (Judged schema.now S.may_answer (printed_value S.text S.str_of) value.now (expected_type expected.entry))
+        begun.old.items) }
+    ensures known { OnOk result (All (IsKnown schema.now) begun.old.items
+        → All (IsKnown schema.now) begun.new.items) }
+{
     match row_of(expected, value) {
         Row::Conforms => Ok(None),
         Row::Null(at) => Ok(Some(null_fault(alloc, at)?)),
         Row::Length(wanted, found) => Ok(Some(length_fault(alloc, wanted, value, found)?)),
         Row::Items(inner) => match value {
-            InputValue::List(items) => fault_of_items(alloc, schema, inner, items.as_slice()),
+            InputValue::List(items) => {
+                begun.push(Begun::Items(inner, items.as_slice()))?;
+                Ok(None)
+            }
             _ => unreachable!(),
         },
-        Row::Plain(meta) => match value {
-            InputValue::Null => Ok(None),
-            InputValue::Variable(_) => Ok(None),
-            InputValue::Scalar(_) => fault_of_scalar(alloc, meta, value),
-            InputValue::Enum(_) => ask(alloc, meta, value),
-            InputValue::List(_) => Ok(Some(list_fault(alloc)?)),
-            InputValue::Object(entries) => fault_of_object(alloc, schema, meta, entries.as_slice()),
-        },
+        Row::Plain(meta) => begin_plain(alloc, meta, value, begun),
     }
 }
 
-// The fault of the first faulty item of a list.
-#[cycle(fault_of)]
-fn fault_of_items<'t, 'a, S: CheckedScalar>(
+// The same for a type without modifiers.
+fn begin_plain<'t, 'a, 'v, S: CheckedScalar>(
+    alloc: Global,
+    meta: &'a MetaTypeOf<S, S::Check>,
+    value: &'v InputValue<S>,
+    begun: &mut Vec<Begun<'t, 'a, 'v, S, S::Check>>,
+) -> Result<Option<String>, OutOfMemory>
+    ensures leads { (schema : Catalog S S.Check) → IfOk result
+        (λ fault. Leads schema S.may_answer (printed_value S.text S.str_of) begun.new.items
+        (option_map string_bytes fault)
+        (Judged schema S.may_answer (printed_value S.text S.str_of) value.now (plain_meta meta.now))
+        begun.old.items) }
+    ensures known { (schema : Catalog S S.Check) → IsInSchema schema (plain_meta meta.now)
+        → OnOk result (All (IsKnown schema) begun.old.items → All (IsKnown schema) begun.new.items) }
+{
+    match value {
+        InputValue::Null => Ok(None),
+        InputValue::Variable(_) => Ok(None),
+        InputValue::Scalar(_) => fault_of_scalar(alloc, meta, value),
+        InputValue::Enum(_) => ask(alloc, meta, value),
+        InputValue::List(_) => Ok(Some(list_fault(alloc)?)),
+        InputValue::Object(entries) => {
+            if is_input_object(meta) {
+                let all = entries.as_slice();
+                begun.push(Begun::Entries(meta, None, all, all))?;
+                Ok(None)
+            } else {
+                Ok(Some(no_object_fault(alloc, meta)?))
+            }
+        }
+    }
+}
+
+// The fault of what is left of a part, as far as it is judged; what is then left is added.
+fn go_on<'t, 'a, 'v, S: CheckedScalar>(
+    alloc: Global,
+    schema: &'a SchemaType<S>,
+    part: Begun<'t, 'a, 'v, S, S::Check>,
+    begun: &mut Vec<Begun<'t, 'a, 'v, S, S::Check>>,
+) -> Result<Option<String>, OutOfMemory>
+    requires known { IsKnown schema.now part }
+    ensures leads { IfOk result
+        (λ fault. Leads schema.now S.may_answer (printed_value S.text S.str_of) begun.new.items
+        (option_map string_bytes fault)
+        (Left schema.now S.may_answer (printed_value S.text S.str_of) part.entry) begun.old.items) }
+    ensures known { OnOk result (All (IsKnown schema.now) begun.old.items
+        → All (IsKnown schema.now) begun.new.items) }
+{
+    match part {
+        Begun::Items(inner, items) => begin_item(alloc, schema, inner, items, begun),
+        Begun::Entries(meta, _, all, entries) => {
+            next_entry(alloc, schema, meta, all, entries, begun)
+        }
+    }
+}
+
+// The same for these items of a list.
+fn begin_item<'t, 'a, 'v, S: CheckedScalar>(
     alloc: Global,
     schema: &'a SchemaType<S>,
     inner: Expected<'t, 'a, S, S::Check>,
-    items: &[Spanning<InputValue<S>>],
+    items: &'v [Spanning<InputValue<S>>],
+    begun: &mut Vec<Begun<'t, 'a, 'v, S, S::Check>>,
 ) -> Result<Option<String>, OutOfMemory>
     requires known { IsInSchema schema.now (expected_type inner) }
-    ensures { IfOk result
-        (λ fault. FirstFault
+    ensures leads { IfOk result
+        (λ fault. Leads schema.now S.may_answer (printed_value S.text S.str_of) begun.new.items
+        (option_map string_bytes fault)
+        (FirstFault
         (λ x. Judged schema.now S.may_answer (printed_value S.text S.str_of) x.item (expected_type inner.entry))
-        IsNone items.now (option_map string_bytes fault)) }
+        IsNone items.now) begun.old.items) }
+    ensures known { OnOk result (All (IsKnown schema.now) begun.old.items
+        → All (IsKnown schema.now) begun.new.items) }
 {
-    for item in items {
-        if let Some(fault) = fault_of(alloc, schema, inner, &item.item)? {
-            return Ok(Some(fault));
+    match items.split_first() {
+        None => Ok(None),
+        Some((item, rest)) => {
+            begun.push(Begun::Items(inner, rest))?;
+            begin(alloc, schema, inner, &item.item, begun)
         }
     }
-    Ok(None)
 }
 
-// The fault of an object: that of its first faulty entry, or the fields that it lacks.
-#[cycle(fault_of)]
-fn fault_of_object<'a, S: CheckedScalar>(
+// The same for these entries of an object.
+fn next_entry<'t, 'a, 'v, S: CheckedScalar>(
     alloc: Global,
     schema: &'a SchemaType<S>,
     meta: &'a MetaTypeOf<S, S::Check>,
-    entries: &[(Spanning<String>, Spanning<InputValue<S>>)],
+    all: &'v [(Spanning<String>, Spanning<InputValue<S>>)],
+    entries: &'v [(Spanning<String>, Spanning<InputValue<S>>)],
+    begun: &mut Vec<Begun<'t, 'a, 'v, S, S::Check>>,
 ) -> Result<Option<String>, OutOfMemory>
     requires known { IsInSchema schema.now (plain_meta meta.now) }
-    ensures { IfOk result (λ fault. ObjectFault schema.now S.may_answer (printed_value S.text S.str_of) meta.now
-        entries.now (option_map string_bytes fault)) }
+    ensures leads { IfOk result
+        (λ fault. Leads schema.now S.may_answer (printed_value S.text S.str_of) begun.new.items
+        (option_map string_bytes fault)
+        (FirstFault (EntryFault schema.now S.may_answer (printed_value S.text S.str_of) meta.now)
+        (LacksFields meta.now (keys_of all.now)) entries.now) begun.old.items) }
+    ensures known { OnOk result (All (IsKnown schema.now) begun.old.items
+        → All (IsKnown schema.now) begun.new.items) }
 {
-    if !is_input_object(meta) {
-        return Ok(Some(no_object_fault(alloc, meta)?));
+    match entries.split_first() {
+        None => lacking(alloc, meta, all),
+        Some((entry, rest)) => begin_entry(alloc, schema, meta, all, entry, rest, begun),
     }
-    for entry in entries {
-        let key = entry.0.item.as_str();
-        if let Some(fault) = fault_of_entry(alloc, schema, meta, key, &entry.1.item)? {
-            return Ok(Some(fault));
-        }
-    }
-    lacking(alloc, meta, entries)
 }
 
-// The fault of a value under a key.
-#[cycle(fault_of)]
-fn fault_of_entry<'a, S: CheckedScalar>(
+// The same for an object, of which an entry comes next.
+fn begin_entry<'t, 'a, 'v, S: CheckedScalar>(
     alloc: Global,
     schema: &'a SchemaType<S>,
     meta: &'a MetaTypeOf<S, S::Check>,
-    key: &str,
-    value: &InputValue<S>,
+    all: &'v [(Spanning<String>, Spanning<InputValue<S>>)],
+    entry: &'v (Spanning<String>, Spanning<InputValue<S>>),
+    rest: &'v [(Spanning<String>, Spanning<InputValue<S>>)],
+    begun: &mut Vec<Begun<'t, 'a, 'v, S, S::Check>>,
 ) -> Result<Option<String>, OutOfMemory>
     requires known { IsInSchema schema.now (plain_meta meta.now) }
-    ensures { IfOk result (λ fault. KeyedFault schema.now S.may_answer (printed_value S.text S.str_of) meta.now key.now
-        value.now (option_map string_bytes fault)) }
+    ensures leads { IfOk result
+        (λ fault. Leads schema.now S.may_answer (printed_value S.text S.str_of) begun.new.items
+        (option_map string_bytes fault)
+        (FirstFault (EntryFault schema.now S.may_answer (printed_value S.text S.str_of) meta.now)
+        (LacksFields meta.now (keys_of all.now)) (entry.now ∷ rest.now)) begun.old.items) }
+    ensures known { OnOk result (All (IsKnown schema.now) begun.old.items
+        → All (IsKnown schema.now) begun.new.items) }
 {
+    let key = entry.0.item.as_str();
     match schema.input_field_by_name(meta, key) {
         None => Ok(Some(unknown_fault(alloc, meta, key)?)),
-        Some(field) => match fault_of(alloc, schema, type_of_field(schema, field), value)? {
-            None => Ok(None),
-            Some(fault) => Ok(Some(field_fault(alloc, meta, key, fault.as_str())?)),
-        },
+        Some(field) => {
+            let expected = type_of_field(schema, field);
+            begun.push(Begun::Entries(meta, Some(key), all, rest))?;
+            begin(alloc, schema, expected, &entry.1.item, begun)
+        }
     }
 }
 

@@ -2,6 +2,7 @@
 //! section 5.6.1).
 #![tactic(auto)]
 
+mod begun;
 mod expected;
 mod judged;
 pub mod laws;

@@ -6,7 +6,7 @@ ghost use Rattle.language.specs.ValuesPrinted.{printed_value};
 ghost use Rattle.schema.specs.Catalog.{Catalog};
 ghost use Rattle.literals.specs.Expected.{expected_type};
 ghost use Rattle.literals.specs.Judged.{other_length};
-ghost use Rattle.literals.specs.Rows.{IsRowOf, item_count, HasMeta, IsListRow};
+ghost use Rattle.literals.specs.Rows.{IsRowOf, IsStepOf, IsShorter, item_count, HasMeta, HasStepMeta, IsListRow, IsListStep};
 
 use crate::expected::{Expected, Layer};
 use language::value::InputValue;
@@ -26,6 +26,15 @@ pub enum Row<'t, 'a, S, C> {
     Items(Expected<'t, 'a, S, C>),
     /// A value for a type without modifiers.
     Plain(&'a MetaTypeOf<S, C>),
+}
+
+/// What the outermost layer of a type does with a value.
+#[derive_where(Clone, Copy)]
+pub enum Step<'t, 'a, S, C> {
+    /// It decides the case.
+    Decides(Row<'t, 'a, S, C>),
+    /// The value passes it, and is one for the type inside.
+    Passes(Expected<'t, 'a, S, C>),
 }
 
 /// The number of items that a value has for a list type; `None` for null and for a variable, which may
@@ -59,7 +68,7 @@ fn length_expected(size: Option<usize>, found: usize) -> Option<usize>
     }
 }
 
-/// The case of a value and a type.
+/// The case of a value and a type. A loop, since the types of variables are as deep as a document says.
 pub fn row_of<'t, 'a, S: CheckedScalar>(
     expected: Expected<'t, 'a, S, S::Check>,
     value: &InputValue<S>,
@@ -70,24 +79,45 @@ pub fn row_of<'t, 'a, S: CheckedScalar>(
     ensures metadata { HasMeta (expected_type expected.entry) result }
     ensures items { IsListRow value.now result }
 {
+    let mut at = expected;
+    loop {
+        match step_of(at, value) {
+            Step::Decides(row) => return row,
+            Step::Passes(inner) => at = inner,
+        }
+    }
+}
+
+// What the outermost layer of a type does with a value.
+fn step_of<'t, 'a, S: CheckedScalar>(
+    expected: Expected<'t, 'a, S, S::Check>,
+    value: &InputValue<S>,
+) -> Step<'t, 'a, S, S::Check>
+    ensures step { (schema : Catalog S S.Check) (fault : Option (List ℕ))
+        → IsStepOf schema S.may_answer (printed_value S.text S.str_of) value.now (expected_type expected.entry) result
+        fault }
+    ensures metadata { HasStepMeta (expected_type expected.entry) result }
+    ensures items { IsListStep value.now result }
+    ensures shorter { IsShorter (expected_type expected.entry) result }
+{
     match expected.layer() {
-        Layer::Plain(meta) => Row::Plain(meta),
+        Layer::Plain(meta) => Step::Decides(Row::Plain(meta)),
         Layer::NonNull(inner) => {
             if value.is_null() {
-                Row::Null(expected)
+                Step::Decides(Row::Null(expected))
             } else {
-                row_of(inner, value)
+                Step::Passes(inner)
             }
         }
         Layer::List(inner, size) => match count_items(value) {
-            None => Row::Conforms,
+            None => Step::Decides(Row::Conforms),
             Some(found) => match length_expected(size, found) {
-                Some(wanted) => Row::Length(wanted, found),
+                Some(wanted) => Step::Decides(Row::Length(wanted, found)),
                 None => {
                     if is_list(value) {
-                        Row::Items(inner)
+                        Step::Decides(Row::Items(inner))
                     } else {
-                        row_of(inner, value)
+                        Step::Passes(inner)
                     }
                 }
             },

@@ -1,5 +1,5 @@
 //! The texts of faults.
-ghost use Rattle.std.specs.Prelude.{◌≡◌, ◌++◌, IfOk, codes, map, string_bytes};
+ghost use Rattle.std.specs.Prelude.{◌≡◌, ◌++◌, IfOk, List, OnOk, codes, map, string_bytes, ℕ};
 ghost use Rattle.language.specs.ValuesPrinted.{printed_value, comma_separated};
 ghost use Rattle.literals.specs.Expected.{expected_type};
 ghost use Rattle.literals.specs.Judged.{printed_name, printed_type};
@@ -91,21 +91,21 @@ pub fn no_object_fault<S, C>(alloc: Global, meta: &MetaTypeOf<S, C>) -> Result<S
     format!(in alloc; "\"{name}\" is not an input object")
 }
 
-/// The text for a faulty input field: its key, and the text of its fault.
+/// Adds the text that stands before that of the fault of an input field.
 ///
 /// # Errors
 ///
-/// Out of memory.
-pub fn field_fault<S, C>(
-    alloc: Global,
+/// Out of memory. Some of it may have been added.
+pub fn add_field_start<S, C>(
     meta: &MetaTypeOf<S, C>,
     key: &str,
-    fault: &str,
-) -> Result<String, AllocError>
-    ensures { IfOk result (λ t. string_bytes t ≡ field_text (printed_name meta.now) key.now fault.now) }
+    text: &mut String,
+) -> Result<(), AllocError>
+    ensures { (fault : List ℕ) → OnOk result (string_bytes text.new ++ fault
+        ≡ string_bytes text.old ++ field_text (printed_name meta.now) key.now fault) }
 {
     let name = name_text(meta);
-    format!(in alloc; "Error on \"{name}\" field \"{key}\": {fault}")
+    write!(text, "Error on \"{name}\" field \"{key}\": ")
 }
 
 /// The text for a key that the input object does not have.
