@@ -5,7 +5,6 @@ use Rattle.std.specs.Str.{bytes_eq}
 use Rattle.language.specs.Types.{TypeShape, shape}
 use Rattle.meta.specs.declared.fields.Field as metadata
 use Rattle.schema.specs.Catalog.{Catalog}
-use Rattle.merge_field_pairs.specs.declared.direct.DirectReason.{DirectReason}
 use Rattle.merge_field_pairs.specs.Entries.{PlainEntry, exclusive_of}
 use Rattle.merge_field_pairs.specs.SameArguments.{same_arguments}
 use Rattle.merge_field_pairs.specs.TypeConflict.{do_types_conflict}

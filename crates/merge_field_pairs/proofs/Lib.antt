@@ -6,3 +6,4 @@ pub mod OwnFieldLaws
 pub mod NumberedLaws
 pub mod SameTypes
 pub mod AlikeLaws
+pub mod WaitingLaws

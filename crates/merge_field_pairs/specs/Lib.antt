@@ -6,3 +6,4 @@ pub mod Texts
 pub mod OwnFields
 pub mod Numbered
 pub mod Alike
+pub mod Waiting

@@ -25,20 +25,26 @@ pub fn are_in_conflict<S, C>(schema: &SchemaTypeOf<S, C>, left: &Type, right: &T
     conflict_of(schema, left.as_borrowed(), right.as_borrowed())
 }
 
+// Goes down both types at once.
 fn conflict_of<S, C>(
     schema: &SchemaTypeOf<S, C>,
-    left: BorrowedType<'_>,
-    right: BorrowedType<'_>,
+    mut left: BorrowedType<'_>,
+    mut right: BorrowedType<'_>,
 ) -> bool
     ensures { result ≡ do_types_conflict schema.now (borrowed_shape left.entry) (borrowed_shape right.entry) }
 {
-    match settled_by(left.modifier(), right.modifier()) {
-        Settled::Inside => conflict_of(schema, left.borrow_inner(), right.borrow_inner()),
-        Settled::ByNames => {
-            names_conflict(schema, left.innermost_name(), right.innermost_name())
+    loop {
+        match settled_by(left.modifier(), right.modifier()) {
+            Settled::Inside => {
+                left = left.borrow_inner();
+                right = right.borrow_inner();
+            }
+            Settled::ByNames => {
+                return names_conflict(schema, left.innermost_name(), right.innermost_name());
+            }
+            Settled::Agreeing => return false,
+            Settled::Conflicting => return true,
         }
-        Settled::Agreeing => false,
-        Settled::Conflicting => true,
     }
 }
 
