@@ -1,3 +1,4 @@
 pub mod Ends
 pub mod Errors
+pub mod Leading
 pub mod Tellings
