@@ -259,6 +259,59 @@ fn variables_come_in_order_with_repeats(rt: HostRuntime) {
     assert_eq!(rt; names.as_slice(), ["b", "a", "b"].as_slice());
 }
 
+/// `{k: [x], k: [y]}`
+fn two_lists(alloc: Global, x: i32, y: i32) -> Result<Value, OutOfMemory> {
+    let first = list(alone(alloc, here(int(x)))?);
+    let second = list(alone(alloc, here(int(y)))?);
+    let first = (here(text(alloc, "k")?), here(first));
+    let second = (here(text(alloc, "k")?), here(second));
+    Ok(object(vec![in alloc; first, second]?))
+}
+
+#[test]
+fn any_entry_of_a_key_can_be_the_equal_one(rt: HostRuntime) {
+    let alloc = rt.alloc();
+    let left = two_lists(alloc, 1, 1).expect(&rt, "memory");
+    let right = two_lists(alloc, 2, 1).expect(&rt, "memory");
+    assert!(rt; left.unlocated_eq(&right));
+    assert!(rt; !right.unlocated_eq(&left));
+}
+
+/// More levels than calls that call themselves have room for on the stack.
+const LEVELS: usize = 200_000;
+
+/// `[{k: $v}]`, each list in another.
+fn nested(alloc: Global) -> Result<Value, OutOfMemory> {
+    let entry = (here(text(alloc, "k")?), here(variable(alloc, "v")?));
+    let mut value = object(alone(alloc, entry)?);
+    for _ in 0..LEVELS {
+        value = list(alone(alloc, here(value))?);
+    }
+    Ok(value)
+}
+
+#[test]
+fn no_value_is_too_deep(rt: HostRuntime) {
+    let alloc = rt.alloc();
+    let value = nested(alloc).expect(&rt, "memory");
+    assert!(rt; value.unlocated_eq(&nested(alloc).expect(&rt, "memory")));
+    let names = value.referenced_variables(alloc).expect(&rt, "memory");
+    assert_eq!(rt; names.as_slice(), ["v"].as_slice());
+    let shown = value.to_string(alloc).expect(&rt, "memory");
+    assert_eq!(rt; shown.as_str().len(), 2 * LEVELS + "{k: $v}".len());
+}
+
+#[test]
+fn no_selection_set_is_too_deep(rt: HostRuntime) {
+    let alloc = rt.alloc();
+    let mut set = alone(alloc, spread("A")).expect(&rt, "memory");
+    for _ in 0..LEVELS {
+        set = alone(alloc, field(set)).expect(&rt, "memory");
+    }
+    let names = spread_names(alloc, set.as_slice()).expect(&rt, "memory");
+    assert_eq!(rt; names.as_slice(), ["A"].as_slice());
+}
+
 fn spread<'a>(name: &'a str) -> Selection<'a, DefaultScalarValue> {
     Selection::FragmentSpread(here(FragmentSpread {
         name: here(name),
@@ -350,16 +403,17 @@ fn refusals_print_their_text(rt: HostRuntime) {
     says(&rt, OutOfMemory.to_string(alloc), "out of memory");
 }
 
-/// Two counts from the sample, or out of memory.
-fn said_of_sample(alloc: Global) -> Result<(usize, usize), OutOfMemory> {
+/// Two counts from the sample and whether it equals itself, or out of memory.
+fn said_of_sample(alloc: Global) -> Result<(usize, usize, bool), OutOfMemory> {
     let value = sample(alloc)?;
     let entries = value.to_object_value(alloc)?;
     let variables = value.referenced_variables(alloc)?;
     let wrapped = Type::non_null(alloc, "Int")?.wrap_list(None)?;
-    let shown = wrapped.to_string(alloc)?;
+    let shown = (wrapped.to_string(alloc)?, value.to_string(alloc)?);
     Ok((
         entries.map_or(0, |found| found.len()) + variables.len(),
-        shown.len(),
+        shown.0.len() + shown.1.len(),
+        value.unlocated_eq(&value),
     ))
 }
 
@@ -367,7 +421,7 @@ fn said_of_sample(alloc: Global) -> Result<(usize, usize), OutOfMemory> {
 #[test]
 fn a_refused_request_changes_no_answer(rt: HostRuntime) {
     match said_of_sample(rt.alloc()) {
-        Ok(said) => assert_eq!(rt; said, (3, 6)),
+        Ok(said) => assert_eq!(rt; said, (3, 31, true)),
         Err(OutOfMemory) => (),
     }
 }
