@@ -1,6 +1,6 @@
 -- A flat constant holds no variable.
 use Rattle.std.proofs.Common.{◌≡◌, ℕ, List, [], ◌∷◌, ◌++◌, true, false, sym, ap, ◌∙◌, refl}
-use Rattle.std.specs.Prelude.{Bool, ◌&&◌, String, Vec}
+use Rattle.std.specs.Prelude.{Bool, String, Vec}
 use Rattle.std.specs.List.{list_all, flat_map}
 use Rattle.std.proofs.lemmas.List.Concat.{flat_map-cons}
 use Rattle.std.proofs.lemmas.Bool.{and_parts}

@@ -1,11 +1,11 @@
 -- How many values a value holds, before and after one is taken out or put in.
-use Rattle.std.proofs.Common.{◌≡◌, ◌+◌, ◌<◌, ◌≤◌, ℕ, List, [], ◌∷◌, ◌++◌, map, sym, ap, ◌∙◌, refl, subst, arith, Vec, String}
+use Rattle.std.proofs.Common.{◌≡◌, ◌+◌, ◌<◌, ℕ, List, [], ◌∷◌, ◌++◌, map, sym, ap, ◌∙◌, refl, subst, arith, Vec}
 use Rattle.std.specs.List.{sum_by}
 use Rattle.std.proofs.lemmas.List.Sums.{sum_by-cons, sum_by_push}
 use Rattle.std.specs.declared.alloc.Global.{Global}
 use Rattle.language.specs.declared.position.Span.{Span}
 use Rattle.language.specs.declared.position.Spanning.{Spanning}
-use Rattle.language.specs.declared.value.InputValue.{InputValue, fold-InputValue, fold-roll-InputValue, fold_out-InputValue}
+use Rattle.language.specs.declared.value.InputValue.{InputValue, fold-roll-InputValue, fold_out-InputValue}
 use Rattle.language.specs.declared.value.InputValue.TheVariants as v
 use Rattle.language.specs.declared.value.InputValue.TheOpen.{InputValue-F}
 use Rattle.language.specs.Values.{Entry}

@@ -1,7 +1,6 @@
 -- How many selections a selection holds, before and after one is taken out or put in.
-use Rattle.std.proofs.Common.{◌≡◌, ◌+◌, ◌<◌, ◌≤◌, ℕ, List, [], ◌∷◌, ◌++◌, map, sym, ap, ◌∙◌, refl, subst, arith, Vec, length, slice_index_or, slice_set}
+use Rattle.std.proofs.Common.{◌≡◌, ◌+◌, ◌<◌, ℕ, List, [], ◌∷◌, sym, ap, ◌∙◌, refl, arith, Vec, length, slice_index_or, slice_set}
 use Rattle.std.specs.Prelude.{Option, Some, None, IfSome}
-use Rattle.std.specs.List.{sum_by}
 use Rattle.std.specs.Option.{option_map_or}
 use Rattle.std.proofs.lemmas.List.Sums.{sum_by-cons}
 use Rattle.std.specs.declared.alloc.Global.{Global}
@@ -9,8 +8,7 @@ use Rattle.language.specs.declared.position.Span.{Span}
 use Rattle.language.specs.declared.position.Spanning.{Spanning}
 use Rattle.language.specs.declared.tree.Field.{Field, fold_out-Field, out-Field, fold-Field, map-Field}
 use Rattle.language.specs.declared.tree.InlineFragment.{InlineFragment, fold_out-InlineFragment, out-InlineFragment, fold-InlineFragment}
-use Rattle.language.specs.declared.tree.FragmentSpread.{FragmentSpread}
-use Rattle.language.specs.declared.tree.Selection.{Selection, fold-Selection, fold-roll-Selection, fold_out-Selection}
+use Rattle.language.specs.declared.tree.Selection.{Selection, fold-roll-Selection}
 use Rattle.language.specs.declared.tree.Selection.TheVariants as v
 use Rattle.language.specs.declared.tree.Selection.TheOpen as open_tree
 use Rattle.language.specs.SelectionsInside.{selection_step, field_step, inline_step, selections_inside, all_inside}

@@ -1,21 +1,11 @@
 -- What sets that wait have, as one more is put on the list.
-use Rattle.std.proofs.Common.{◌≡◌, ◌+◌, ◌*◌, ◌<◌, ℕ, List, [], ◌∷◌, ◌++◌, reverse, sym, ap, ◌∙◌, refl, arith, Bor, Vec, append_assoc, append-nil}
-use Rattle.std.specs.Prelude.{Some, None}
-use Rattle.std.specs.List.{flat_map, sum_by}
+use Rattle.std.proofs.Common.{◌≡◌, ◌+◌, ◌*◌, ◌<◌, ℕ, List, [], ◌∷◌, ◌++◌, reverse, sym, ap, ◌∙◌, arith, Bor, append_assoc}
+use Rattle.std.specs.List.{flat_map}
 use Rattle.std.proofs.lemmas.List.Sums.{sum_by_push, sum_by-cons}
-use Rattle.std.specs.declared.alloc.Global.{Global}
-use Rattle.language.specs.declared.position.Span.{Span}
-use Rattle.language.specs.declared.position.Spanning.{Spanning}
-use Rattle.language.specs.declared.tree.Field.{Field, out-Field}
-use Rattle.language.specs.declared.tree.InlineFragment.{InlineFragment, out-InlineFragment}
-use Rattle.language.specs.declared.tree.FragmentSpread.{FragmentSpread}
 use Rattle.language.specs.declared.tree.Selection.{Selection}
-use Rattle.language.specs.declared.tree.Selection.TheVariants as v
 use Rattle.language.specs.SelectionsInside.{selections_inside, all_inside}
 use Rattle.language.specs.Spreads.{spreads_of, spreads_of_all}
 use Rattle.language.specs.SpreadsWaiting.{spreads_waiting, selections_waiting}
-use Rattle.language.proofs.SpreadLemmas.{spreads_of-Field, spreads_of-Spread, spreads_of-Inline}
-use Rattle.language.proofs.InsideTree.{inside_field, inside_inline}
 use Rattle.std.proofs.lemmas.List.{reverse-append}
 use Rattle.std.proofs.lemmas.List.Concat.{flat_map-cons}
 

@@ -1,5 +1,5 @@
 -- The comparison of two values in steps, with a list of what is to be compared after.
-use Rattle.std.specs.Prelude.{ℕ, List, Bool, ◌&&◌, ◌||◌, reverse, fold, string_bytes}
+use Rattle.std.specs.Prelude.{List, Bool, ◌&&◌, ◌||◌, reverse, fold, string_bytes}
 use Rattle.std.specs.List.{list_all}
 use Rattle.std.specs.Cmp.Lexicographic.{pointwise}
 use Rattle.language.specs.ValuesEqual.{unlocated_eq, entry_in}

@@ -1,8 +1,8 @@
-use Rattle.std.proofs.Common.{◌≡◌, arith, rules, map}
+use Rattle.std.proofs.Common.{arith}
 use Rattle.std.proofs.lemmas.Grind.{common_steps}
 use Rattle.language.proofs.SpreadLemmas.{spreads_of-Field, spreads_of-Spread, spreads_of-Inline}
 use Rattle.language.proofs.InsideTree.{inside_field, inside_inline}
-use Rattle.language.proofs.SpreadsWaiting.{put, put_less, told}
+use Rattle.language.proofs.SpreadsWaiting.{put, put_less}
 use Rattle.language.proofs.spreads.add_spreads_of.Goals as goal
 
 pub returns-in_ok-push-in-Field-clause-value : goal.returns-in_ok-push-in-Field-clause-value

@@ -1,4 +1,3 @@
-use Rattle.std.proofs.Common.{ℕ}
 use Rattle.language.specs.SelectionsInside.{all_inside}
 use Rattle.language.proofs.tree.drop_set.Given as goal
 

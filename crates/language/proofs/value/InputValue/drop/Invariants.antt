@@ -1,4 +1,3 @@
-use Rattle.std.proofs.Common.{ℕ}
 use Rattle.language.specs.ValuesInside.{values_inside}
 use Rattle.language.proofs.value.InputValue.drop.Given as goal
 
