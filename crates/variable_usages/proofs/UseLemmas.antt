@@ -1,8 +1,7 @@
 -- The equations of `selection_uses`, and how uses grow.
 use Rattle.std.proofs.Common.{◌≡◌, ℕ, ◌+◌, ◌<◌, List, [], ◌++◌, length, get_or, take, sym, ap, ◌∙◌, refl, append-nil, append_assoc}
-use Rattle.std.specs.Prelude.{Some, None, Vec}
+use Rattle.std.specs.Prelude.{Some, None}
 use Rattle.std.specs.List.{flat_map}
-use Rattle.std.specs.declared.alloc.Global.{Global}
 use Rattle.std.specs.Option.{option_map_or}
 use Rattle.std.proofs.lemmas.List.Folds.{flat_map-map}
 use Rattle.language.specs.declared.position.Span.{Span}
@@ -13,7 +12,9 @@ use Rattle.language.specs.declared.tree.FragmentSpread.{FragmentSpread}
 use Rattle.language.specs.declared.tree.Selection.{Selection, fold-roll-Selection}
 use Rattle.language.specs.declared.tree.Selection.TheVariants as v
 use Rattle.language.specs.declared.tree.Selection.TheOpen as open_tree
+use Rattle.fragment_graph.specs.Preorder.{set_inside}
 use Rattle.fragment_graph.proofs.Joining.{flat_map-next}
+use Rattle.fragment_graph.proofs.PreorderLaws.{set_of_field, set_inside-Spread, set_inside-Inline}
 use Rattle.variable_usages.specs.Uses.{Uses, selection_step, field_step, inline_step, selection_uses, used_in_all, arguments_uses, directives_uses}
 
 module _ {S : Type 0} where
@@ -51,22 +52,30 @@ pub then_uses : (old now new xs ys : Uses) → now ≡ old ++ xs → new ≡ now
 then_uses old now new xs ys h e = e ∙ ap (λ z. z ++ ys) h ∙ append_assoc old xs ys
 
 module _ {S : Type 0} (s : Selection S) (old : Uses) where
-  -- what a field adds: its arguments' uses, its directives', and those of its set
-  pub field_some : (f : Spanning (Field S) Span) (w : Vec (Selection S) Global) (a b new : Uses) → s ≡ v.Field f → (out-Field S f.item).selection_set ≡ Some w
-      → a ≡ old ++ arguments_uses (out-Field S f.item).arguments → b ≡ a ++ directives_uses (out-Field S f.item).directives → new ≡ b ++ used_in_all w.items → new ≡ old ++ selection_uses s
-  field_some f w a b new p q h k e =
-      then_uses old b new (at_field f.item) (used_in_all w.items) (then_uses old a b (arguments_uses (out-Field S f.item).arguments) (directives_uses (out-Field S f.item).directives) h k) e
-      ∙ ap (λ o. old ++ (at_field f.item ++ option_map_or (λ z. used_in_all z.items) o [])) (sym q) ∙ ap (λ z. old ++ z) (sym (uses-Field s f p))
+  -- a selection's own uses come before those of its set
+  before_set : (own new : Uses) → selection_uses s ≡ own ++ used_in_all (set_inside s) → new ≡ old ++ own
+      → new ++ used_in_all (set_inside s) ≡ old ++ selection_uses s
+  before_set own new e h =
+      ap (λ z. z ++ used_in_all (set_inside s)) h ∙ append_assoc old own (used_in_all (set_inside s)) ∙ ap (λ z. old ++ z) (sym e)
 
-  pub field_none : (f : Spanning (Field S) Span) (a b : Uses) → s ≡ v.Field f → (out-Field S f.item).selection_set ≡ None
-      → a ≡ old ++ arguments_uses (out-Field S f.item).arguments → b ≡ a ++ directives_uses (out-Field S f.item).directives → b ≡ old ++ selection_uses s
-  field_none f a b p q h k =
-      then_uses old a b (arguments_uses (out-Field S f.item).arguments) (directives_uses (out-Field S f.item).directives) h k
-      ∙ ap (λ z. old ++ z) (sym (append-nil (at_field f.item)))
-      ∙ ap (λ o. old ++ (at_field f.item ++ option_map_or (λ z. used_in_all z.items) o [])) (sym q) ∙ ap (λ z. old ++ z) (sym (uses-Field s f p))
+  -- those of a field are its arguments' and then its directives'
+  pub field_own : (f : Spanning (Field S) Span) (a b : Uses) → s ≡ v.Field f
+      → a ≡ old ++ arguments_uses (out-Field S f.item).arguments → b ≡ a ++ directives_uses (out-Field S f.item).directives
+      → b ++ used_in_all (set_inside s) ≡ old ++ selection_uses s
+  field_own f a b p h k =
+      before_set (at_field f.item) b (uses-Field s f p ∙ ap (λ z. at_field f.item ++ z) (set_of_field selection_uses s f p))
+      (then_uses old a b (arguments_uses (out-Field S f.item).arguments) (directives_uses (out-Field S f.item).directives) h k)
 
-  pub inline_uses : (f : Spanning (InlineFragment S) Span) (a new : Uses) → s ≡ v.InlineFragment f
-      → a ≡ old ++ directives_uses (out-InlineFragment S f.item).directives → new ≡ a ++ used_in_all (out-InlineFragment S f.item).selection_set.items → new ≡ old ++ selection_uses s
-  inline_uses f a new p h e =
-      then_uses old a new (directives_uses (out-InlineFragment S f.item).directives) (used_in_all (out-InlineFragment S f.item).selection_set.items) h e
-      ∙ ap (λ z. old ++ z) (sym (uses-Inline s f p))
+  pub spread_own : (f : Spanning (FragmentSpread S) Span) (new : Uses) → s ≡ v.FragmentSpread f
+      → new ≡ old ++ directives_uses f.item.directives → new ++ used_in_all (set_inside s) ≡ old ++ selection_uses s
+  spread_own f new p h =
+      before_set (directives_uses f.item.directives) new
+      (uses-Spread s f p
+      ∙ sym (append-nil (directives_uses f.item.directives))
+      ∙ ap (λ z. directives_uses f.item.directives ++ used_in_all z) (sym (set_inside-Spread s f p))) h
+
+  pub inline_own : (f : Spanning (InlineFragment S) Span) (new : Uses) → s ≡ v.InlineFragment f
+      → new ≡ old ++ directives_uses (out-InlineFragment S f.item).directives → new ++ used_in_all (set_inside s) ≡ old ++ selection_uses s
+  inline_own f new p h =
+      before_set (directives_uses (out-InlineFragment S f.item).directives) new
+      (uses-Inline s f p ∙ ap (λ z. directives_uses (out-InlineFragment S f.item).directives ++ used_in_all z) (sym (set_inside-Inline s f p))) h

@@ -2,6 +2,7 @@
 ghost use Rattle.std.specs.Prelude.{◌≡◌, ◌++◌, ℕ, List, Option, IfOk, OnOk, map};
 ghost use Rattle.language.specs.References.{list_copied};
 ghost use Rattle.std.specs.List.{flat_map};
+ghost use Rattle.fragment_graph.specs.Preorder.{set_inside};
 ghost use Rattle.fragment_reach.specs.Reach.{operation};
 ghost use Rattle.operation_scopes.specs.Index.{IsIndexOf};
 ghost use Rattle.operation_scopes.specs.Places.{places_of};
@@ -10,6 +11,7 @@ ghost use Rattle.operation_scopes.specs.Searches.{IsReady};
 ghost use Rattle.variable_usages.specs.InReachUses.{AllUses, UsedIn, kept_uses};
 ghost use Rattle.variable_usages.specs.Uses.{AddsUses, argument_uses, arguments_uses, at_place, definition_uses, directive_uses, directives_uses, selection_uses, use_of, used_in_all, variable_definition_uses, variable_definitions_uses};
 
+use fragment_graph::preorder::Preorder;
 use language::error::OutOfMemory;
 use language::position::{SourcePosition, Spanning};
 use language::tree::{
@@ -134,7 +136,7 @@ fn add_directives<'d, S>(
     }
 }
 
-#[cycle(uses)]
+// Appends the uses in the selections of a set, at any depth.
 fn add_set<'d, S>(
     alloc: Global,
     set: &'d [Selection<'_, S>],
@@ -142,34 +144,29 @@ fn add_set<'d, S>(
 ) -> Result<(), OutOfMemory>
     ensures { OnOk result (AddsUses found.old.items found.new.items (used_in_all set.now)) }
 {
-    for selection in set {
-        add_selection(alloc, selection, found)?;
+    let mut selections = Preorder::new(alloc, set);
+    while let Some(selection) = selections.next()? {
+        add_own_uses(alloc, selection, found)?;
     }
     Ok(())
 }
 
-#[cycle(uses)]
-fn add_selection<'d, S>(
+// Appends the uses that a selection has itself, which come before those of its set.
+fn add_own_uses<'d, S>(
     alloc: Global,
     selection: &'d Selection<'_, S>,
     found: &mut Vec<VariableUse<'d>>,
 ) -> Result<(), OutOfMemory>
-    ensures { OnOk result (AddsUses found.old.items found.new.items (selection_uses selection.now)) }
+    ensures { OnOk result (map use_of found.new.items ++ used_in_all (set_inside selection.now)
+        ≡ map use_of found.old.items ++ selection_uses selection.now) }
 {
     match selection {
         Selection::Field(field) => {
             add_arguments(alloc, &field.item.arguments, found)?;
-            add_directives(alloc, &field.item.directives, found)?;
-            match &field.item.selection_set {
-                Some(inner) => add_set(alloc, inner.as_slice(), found),
-                None => Ok(()),
-            }
+            add_directives(alloc, &field.item.directives, found)
         }
         Selection::FragmentSpread(spread) => add_directives(alloc, &spread.item.directives, found),
-        Selection::InlineFragment(inline) => {
-            add_directives(alloc, &inline.item.directives, found)?;
-            add_set(alloc, inline.item.selection_set.as_slice(), found)
-        }
+        Selection::InlineFragment(inline) => add_directives(alloc, &inline.item.directives, found),
     }
 }
 
@@ -203,8 +200,8 @@ fn add_variable_definitions<'d, S>(
     }
 }
 
-/// The uses of variables in a definition, in the order of the document, with repeats. Allocates nothing
-/// if there are none.
+/// The uses of variables in a definition, in the order of the document, with repeats. If there are none,
+/// it allocates only for sets that have sets inside.
 ///
 /// # Errors
 ///
