@@ -2,9 +2,9 @@
 //! trees.
 //!
 //! Positions are those of `graphql_lexer`: 0-based index, line and column, in bytes. Selection sets, lists and objects
-//! of a value, and list types may nest as deep as memory allows, since no call reads them by recursion. A caller may set
-//! a limit, as [`NESTING_LIMIT`]: [`read_document_within`], [`read_type_system_within`]. Proved of every call: it is safe
-//! and returns, whatever the text. That the tree is that of the text is only tested.
+//! of a value, and list types may nest as deep as memory allows, since no call reads them by recursion. A caller may
+//! set a limit, as [`NESTING_LIMIT`]: [`read_document_within`], [`read_type_system_within`]. Proved of every call: it is
+//! safe and returns, whatever the text. That the tree is that of the text is only tested.
 #![tactic(auto)]
 
 mod definitions;

@@ -1,4 +1,5 @@
-//! Texts that nest 100,000 levels deep, which are read and dropped like any other. Without a limit their depth is no fault.
+//! Texts that nest 100,000 levels deep, which are read and dropped like any other. Their depth is no fault without a
+//! limit.
 use crate::readers::{Reader, is_empty, nested_otherwise};
 use std::alloc::Global;
 use std::process::Abort;
