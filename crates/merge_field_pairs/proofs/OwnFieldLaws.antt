@@ -1,8 +1,7 @@
 -- What each kind of selection has of its own.
-use Rattle.std.proofs.Common.{◌≡◌, ℕ, ◌+◌, ◌<◌, List, [], ◌∷◌, ◌++◌, length, map, get_or, take, Option, refl, sym, ap, ◌∙◌, append_assoc}
+use Rattle.std.proofs.Common.{◌≡◌, List, [], ◌∷◌, ◌++◌, map, Option, refl, sym, ap, ◌∙◌}
 use Rattle.std.specs.List.{flat_map}
-use Rattle.std.proofs.lemmas.List.{take_more, append-nil, map-append}
-use Rattle.std.proofs.lemmas.Grind.{flat_map-append}
+use Rattle.std.proofs.lemmas.List.{map-append}
 use Rattle.std.proofs.lemmas.List.Folds.{flat_map-map}
 use Rattle.language.specs.declared.position.Span.{Span}
 use Rattle.language.specs.declared.position.Spanning.{Spanning}
@@ -58,15 +57,6 @@ module _ {S : Type 0} where
       ∙ fold-roll-Selection S Names Names Names spread_step no_spread_step inline_spread_step (opened.InlineFragment i)
       ∙ fold_out-InlineFragment S Names Names Names spread_step no_spread_step inline_spread_step i.item
       ∙ flat_map-map (λ ns. ns) own_spreads_of i.item.selection_set.items
-
--- what one more selection gives goes behind what those before it gave
-pub flat_map_step : {X A : Type 0} (f : X → List A) (xs : List X) (i : ℕ) (x : X) (start now next : List A) → i < length xs → x ≡ get_or xs i x → now ≡ start ++ flat_map f (take i xs) → next ≡ now ++ f x → next ≡ start ++ flat_map f (take (i + 1) xs)
-flat_map_step f xs i x start now next h e p q =
-    q ∙ ap (λ ys. ys ++ f x) p ∙ append_assoc start (flat_map f (take i xs)) (f x)
-    ∙ ap (λ ys. start ++ ys)
-    (sym (ap (flat_map f) (take_more xs i x h)
-    ∙ flat_map-append f (take i xs) (get_or xs i x ∷ [])
-    ∙ ap (λ ys. flat_map f (take i xs) ++ ys) (append-nil (f (get_or xs i x)) ∙ ap f (sym e))))
 
 pub map-push : {X A : Type 0} (f : X → A) (xs ys : List X) (x : X) (one : List A) → ys ≡ xs ++ x ∷ [] → f x ∷ [] ≡ one → map f ys ≡ map f xs ++ one
 map-push f xs ys x one e h = ap (map f) e ∙ map-append f xs (x ∷ []) ∙ ap (λ zs. map f xs ++ zs) h

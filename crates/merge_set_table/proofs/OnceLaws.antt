@@ -47,9 +47,6 @@ once_again xs once x there h = record {
     either y true e = subst (λ z. is_among once z ≡ true) (eqb-true x y e) there ∙ sym (both (is_among xs y))
     either y false e = h.same y ∙ plain (is_among xs y)
 
-pub next_take : {X : Type 0} (xs : List X) (i : ℕ) (x : X) → i < length xs → x ≡ get_or xs i x → take (i + 1) xs ≡ take i xs ++ x ∷ []
-next_take xs i x l e = take_more xs i x l ∙ ap (λ y. take i xs ++ y ∷ []) (sym e)
-
 pub once_step : (xs : List ℕ) (i : ℕ) (once new : List ℕ) → i < length xs → IsEachOnce (take i xs) once → is_among once (get_or xs i 0) ≡ false → new ≡ once ++ get_or xs i 0 ∷ [] → IsEachOnce (take (i + 1) xs) new
 once_step xs i once new l h absent e =
     subst (λ z. IsEachOnce z new) (sym (take_more xs i 0 l)) (subst (λ z. IsEachOnce (take i xs ++ get_or xs i 0 ∷ []) z) (sym e) (once_more (take i xs) once (get_or xs i 0) absent h))
