@@ -24,7 +24,7 @@ use Rattle.meta.specs.Answers.{Answers}
 use Rattle.meta.specs.declared.kinds.MetaTypeOf.{MetaTypeOf}
 use Rattle.schema.specs.Catalog.{Catalog, type_in}
 use Rattle.variable_values.specs.Faults.{Fault, Faults, Of, OfMeta, OfNamed, here, judge_of, within, wrong_length}
-use Rattle.variable_values.specs.Rows.{ByMeta, ByName, HasName, IsKnownRow, OfItems, Others, SaysItems, lengths_at, lengths_of, lengths_of_one}
+use Rattle.variable_values.specs.Rows.{ByMeta, ByName, HasName, IsKnownRow, OfItems, Others, SaysItems, length_of_one, lengths_at, lengths_of, lengths_of_one}
 use Rattle.variable_values.specs.Texts.{null_text}
 use Rattle.variable_values.proofs.Unfold.{faults-roll}
 
@@ -152,6 +152,11 @@ module _ {S : Type 0} where
   pub lengths_other : (value : InputValue S) (t : TypeShape) → (value ≡ variant.Null → ⊥) → ((xs : Vec (Spanning (InputValue S) Span) Global) → value ≡ variant.List xs → ⊥)
       → lengths_of value t ≡ lengths_of_one (reverse t.modifiers)
   lengths_other value t n l = not_null_list value (out-InputValue S value) t (sym (roll-out-InputValue S value)) n l
+
+-- the length of the outermost modifier, and those of the others
+pub lengths_first : (x : TypeModifier) (ms : List TypeModifier) → lengths_of_one (x ∷ ms) ≡ length_of_one x ++ lengths_of_one ms
+lengths_first m.NonNull ms = refl
+lengths_first (m.List size) ms = refl
 
 -- the lengths of a type by its outermost modifier
 pub lengths_none : (t : TypeShape) → outermost t.modifiers ≡ None → lengths_of_one (reverse t.modifiers) ≡ []

@@ -1,5 +1,5 @@
 -- The rows of a value and a type, when its modifiers are taken off.
-use Rattle.std.specs.Prelude.{◌≡◌, ⊤, ℕ, List, [], ◌∷◌, ◌++◌, length, map, is_some, Option, Some, None, reverse, true}
+use Rattle.std.specs.Prelude.{◌≡◌, ◌<◌, ⊤, ℕ, List, [], ◌∷◌, ◌++◌, length, map, is_some, Option, Some, None, reverse, true}
 use Rattle.language.specs.declared.position.Span.{Span}
 use Rattle.language.specs.declared.position.Spanning.{Spanning}
 use Rattle.language.specs.declared.types.TypeModifier.{TypeModifier}
@@ -15,6 +15,8 @@ use Rattle.meta.specs.declared.kinds.MetaTypeOf.{MetaTypeOf}
 use Rattle.schema.specs.Catalog.{Catalog, type_in}
 use Rattle.variable_values.specs.declared.rows.Row.{Row}
 use Rattle.variable_values.specs.declared.rows.Row.TheVariants as r
+use Rattle.variable_values.specs.declared.rows.Step.{Step as RowStep}
+use Rattle.variable_values.specs.declared.rows.Step.TheVariants as s
 use Rattle.variable_values.specs.Faults.{Fault, Faults, Step, AtField, AtFields, OfMeta, OfNamed, OfObject, element, here, judge_of, under, wrong_length}
 use Rattle.variable_values.specs.InTurn.{InTurn}
 use Rattle.variable_values.specs.Inputs.{is_input_in}
@@ -27,6 +29,10 @@ HasName t (r.Null at) = ⊤
 HasName t (r.Items inner size) = (borrowed_shape inner).name ≡ t.name
 HasName t (r.Named name) = name.now ≡ t.name
 
+abbrev pub HasStepName : TypeShape → RowStep → Type 0
+HasStepName t (s.Decides row) = HasName t row
+HasStepName t (s.Passes inner) = (borrowed_shape inner).name ≡ t.name
+
 -- the names that a row has are those of input types
 abbrev pub IsKnownRow : {S C : Type 0} → Catalog S C → Row → Type 0
 IsKnownRow schema r.Nothing = ⊤
@@ -38,6 +44,20 @@ IsKnownRow schema (r.Named name) = is_input_in schema name.now ≡ true
 abbrev pub IsListRow : {S : Type 0} → InputValue S → Row → Type 0
 IsListRow value (r.Items inner size) = is_some (list_items value) ≡ true
 IsListRow value _ = ⊤
+
+abbrev pub IsListStep : {S : Type 0} → InputValue S → RowStep → Type 0
+IsListStep value (s.Decides row) = IsListRow value row
+IsListStep value (s.Passes inner) = ⊤
+
+-- a type which the value comes to has fewer modifiers
+abbrev pub IsShorter : TypeShape → RowStep → Type 0
+IsShorter t (s.Decides row) = ⊤
+IsShorter t (s.Passes inner) = length (borrowed_shape inner).modifiers < length t.modifiers
+
+-- of one value that stands for a list
+abbrev pub length_of_one : TypeModifier → List Fault
+length_of_one m.NonNull = []
+length_of_one (m.List size) = wrong_length size 1
 
 -- of one value that stands for lists, by the modifiers round its type, outermost first: each length that isn't 1
 abbrev pub lengths_of_one : List TypeModifier → List Fault
@@ -109,3 +129,8 @@ module _ {S C : Type 0} (schema : Catalog S C) (may : Answers (InputValue S) C) 
   -- what the row says is that
   abbrev pub IsRowOf : InputValue S → TypeShape → Row → List Fault → Type 0
   IsRowOf value t row fs = Says value row fs → Others value t fs
+
+  -- and its faults against the type which it comes to are those against the whole type
+  abbrev pub IsStepOf : InputValue S → TypeShape → RowStep → List Fault → Type 0
+  IsStepOf value t (s.Decides row) fs = IsRowOf value t row fs
+  IsStepOf value t (s.Passes inner) fs = Others value (borrowed_shape inner) fs → Others value t fs

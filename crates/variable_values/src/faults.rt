@@ -11,7 +11,7 @@ ghost use Rattle.meta.specs.Kinds.{is_input_meta};
 ghost use Rattle.variable_values.specs.Faults.{Checked, Faults, absent, accepted_faults, enum_faults, name_in, wrong_length};
 ghost use Rattle.variable_values.specs.Inputs.{is_input_in};
 ghost use Rattle.variable_values.specs.Places.{AddsAt};
-ghost use Rattle.variable_values.specs.Rows.{Answered, ByMeta, ByName, IsIn, OfField, OfFields, OfItems, OfWhole, Others, lengths_of, lengths_of_one};
+ghost use Rattle.variable_values.specs.Rows.{Answered, ByMeta, ByName, IsIn, OfField, OfFields, OfItems, OfWhole, Others, length_of_one, lengths_of, lengths_of_one};
 ghost use Rattle.variable_values.specs.Texts.{input_text, scalar_text};
 
 use crate::entries::{last_places, place_of};
@@ -311,13 +311,26 @@ fn add_lengths(
     ensures { OnOk result (AddsAt (λ fs. fs ≡ lengths_of_one (reverse (borrowed_shape expected.entry).modifiers))
         place.now messages.old messages.new) }
 {
-    match expected.modifier() {
-        None => Ok(()),
-        Some(TypeModifier::NonNull) => add_lengths(alloc, expected.borrow_inner(), place, messages),
-        Some(TypeModifier::List(size)) => {
-            add_length_fault(alloc, *size, 1, place, messages)?;
-            add_lengths(alloc, expected.borrow_inner(), place, messages)
-        }
+    let mut at = expected;
+    while let Some(modifier) = at.modifier() {
+        add_length_of_one(alloc, modifier, place, messages)?;
+        at = at.borrow_inner();
+    }
+    Ok(())
+}
+
+// Reports the length that a modifier expects, where it is other than 1.
+fn add_length_of_one(
+    alloc: Global,
+    modifier: &TypeModifier,
+    place: &Place<'_>,
+    messages: &mut Vec<String>,
+) -> Result<(), OutOfMemory>
+    ensures { OnOk result (AddsAt (λ fs. fs ≡ length_of_one modifier.now) place.now messages.old messages.new) }
+{
+    match modifier {
+        TypeModifier::NonNull => Ok(()),
+        TypeModifier::List(size) => add_length_fault(alloc, *size, 1, place, messages),
     }
 }
 

@@ -5,7 +5,7 @@ ghost use Rattle.schema_validation.specs.Names.{argument_type};
 ghost use Rattle.meta.specs.Kinds.{is_input_meta};
 ghost use Rattle.schema.specs.Catalog.{Catalog, type_in};
 ghost use Rattle.variable_values.specs.Faults.{Fault};
-ghost use Rattle.variable_values.specs.Rows.{HasName, IsIn, IsKnownRow, IsListRow, IsRowOf};
+ghost use Rattle.variable_values.specs.Rows.{HasName, HasStepName, IsIn, IsKnownRow, IsListRow, IsListStep, IsRowOf, IsShorter, IsStepOf};
 ghost use Rattle.variable_values.specs.Inputs.{is_input_in};
 
 use language::types::{BorrowedType, TypeModifier};
@@ -28,26 +28,52 @@ pub enum Row<'t> {
     Named(&'t str),
 }
 
-/// What a type says of a value.
+/// What the outermost modifier of a type does with a value.
+#[derive(Clone, Copy)]
+pub enum Step<'t> {
+    /// It decides what the type says.
+    Decides(Row<'t>),
+    /// The value passes it, and is one for the type inside.
+    Passes(BorrowedType<'t>),
+}
+
+/// What a type says of a value. A loop, since the types of variables are as deep as a document says.
 pub fn row_of<'t, S: CheckedScalar>(expected: BorrowedType<'t>, value: &InputValue<S>) -> Row<'t>
     ensures row { (schema : Catalog S S.Check) (fs : List Fault)
         → IsRowOf schema S.may_answer S.text S.str_of value.now (borrowed_shape expected.entry) result fs }
     ensures name { HasName (borrowed_shape expected.entry) result }
     ensures items { IsListRow value.now result }
 {
+    let mut at = expected;
+    loop {
+        match step_of(at, value) {
+            Step::Decides(row) => return row,
+            Step::Passes(inner) => at = inner,
+        }
+    }
+}
+
+// What the outermost modifier of a type does with a value.
+fn step_of<'t, S: CheckedScalar>(expected: BorrowedType<'t>, value: &InputValue<S>) -> Step<'t>
+    ensures step { (schema : Catalog S S.Check) (fs : List Fault)
+        → IsStepOf schema S.may_answer S.text S.str_of value.now (borrowed_shape expected.entry) result fs }
+    ensures name { HasStepName (borrowed_shape expected.entry) result }
+    ensures items { IsListStep value.now result }
+    ensures shorter { IsShorter (borrowed_shape expected.entry) result }
+{
     match expected.modifier() {
-        None => Row::Named(expected.innermost_name()),
+        None => Step::Decides(Row::Named(expected.innermost_name())),
         Some(TypeModifier::NonNull) => {
             if value.is_null() {
-                Row::Null(expected)
+                Step::Decides(Row::Null(expected))
             } else {
-                row_of(expected.borrow_inner(), value)
+                Step::Passes(expected.borrow_inner())
             }
         }
         Some(TypeModifier::List(size)) => match value {
-            InputValue::Null => Row::Nothing,
-            InputValue::List(_) => Row::Items(expected.borrow_inner(), *size),
-            _ => row_of(expected.borrow_inner(), value),
+            InputValue::Null => Step::Decides(Row::Nothing),
+            InputValue::List(_) => Step::Decides(Row::Items(expected.borrow_inner(), *size)),
+            _ => Step::Passes(expected.borrow_inner()),
         },
     }
 }

@@ -1,4 +1,4 @@
-use Rattle.std.proofs.Common.{rules, ◌≡◌, [], ◌∷◌, Some, None, ap, sym, ◌∙◌, subst, true≢false, option_copied}
+use Rattle.std.proofs.Common.{◌≡◌, [], ◌∷◌, Some, None, ap, sym, ◌∙◌, subst, true≢false, option_copied}
 use Rattle.language.specs.declared.types.TypeModifier.TheVariants as m
 use Rattle.language.specs.Types.{borrowed_shape, inner_of, outermost, printed, wrapped_by}
 use Rattle.language.specs.Values.{list_items}
@@ -6,10 +6,10 @@ use Rattle.variable_values.specs.Faults.{here}
 use Rattle.variable_values.specs.Rows.{Others, SaysItems}
 use Rattle.variable_values.specs.Texts.{null_text}
 use Rattle.variable_values.proofs.RowLaws.{all_others, free_row, is_listed, items_row, lengths_list, lengths_null, lengths_plain, moved, moved_others, named_row, no_list, null_row, others_non_null, others_single, unwrapped}
-use Rattle.variable_values.proofs.rows.+row_of.Goals as goal
+use Rattle.variable_values.proofs.rows.step_of.Goals as goal
 
-pub returns-in-None-clause-row : goal.returns-in-None-clause-row
-returns-in-None-clause-row g t c = λ schema fs j.
+pub returns-in-None-clause-step : goal.returns-in-None-clause-step
+returns-in-None-clause-step g c = λ schema fs j.
     let none : outermost (borrowed_shape c.args.expected).modifiers ≡ None = sym c.modifier.ensures ∙ ap option_copied c.in-None.is in
     let may = g.S.CheckedScalar.may_answer in
     let text = g.S.ScalarValue.text in
@@ -18,8 +18,8 @@ returns-in-None-clause-row g t c = λ schema fs j.
     all_others schema may text str_of c.args.value.now at fs (lengths_plain c.args.value.now at none)
     (named_row schema may text str_of c.args.value.now at c.innermost_name.result.now fs none c.innermost_name.ensures j)
 
-pub returns-then-is_null-clause-row : goal.returns-then-is_null-clause-row
-returns-then-is_null-clause-row g t c = λ schema fs e.
+pub returns-then-is_null-clause-step : goal.returns-then-is_null-clause-step
+returns-then-is_null-clause-step g c = λ schema fs e.
     let may = g.S.CheckedScalar.may_answer in
     let text = g.S.ScalarValue.text in
     let str_of = g.S.ScalarValue.str_of in
@@ -30,8 +30,8 @@ returns-then-is_null-clause-row g t c = λ schema fs e.
     (moved schema may text str_of c.args.value.now at (wrapped_by m.NonNull (inner_of at)) fs is
     (null_row schema may text str_of c.args.value.now (inner_of at) fs (c.is_null.ensures.0 c.if-is_null.true) (e ∙ ap (λ w. here (null_text (printed w)) ∷ []) is)))
 
-pub returns-else-is_null-clause-row : goal.returns-else-is_null-clause-row
-returns-else-is_null-clause-row g t c = λ schema fs j.
+pub returns-else-is_null-clause-step : goal.returns-else-is_null-clause-step
+returns-else-is_null-clause-step g c = λ schema fs j.
     let may = g.S.CheckedScalar.may_answer in
     let text = g.S.ScalarValue.text in
     let str_of = g.S.ScalarValue.str_of in
@@ -39,10 +39,10 @@ returns-else-is_null-clause-row g t c = λ schema fs j.
     let some : outermost at.modifiers ≡ Some m.NonNull = sym c.modifier.ensures ∙ ap option_copied c.in-Some-NonNull.is ∙ ap (λ x. Some x) c.in-Some-NonNull.field-0-is in
     moved_others schema may text str_of c.args.value.now at (wrapped_by m.NonNull (inner_of at)) fs (unwrapped at m.NonNull some)
     (others_non_null schema may text str_of c.args.value.now (inner_of at) fs (λ n. true≢false (sym (c.is_null.ensures.1 n) ∙ c.if-is_null.false))
-    (subst (λ u. Others schema may text str_of c.args.value.now u fs) c.borrow_inner.ensures (c.row_of.ensures.row schema fs j)))
+    (subst (λ u. Others schema may text str_of c.args.value.now u fs) c.borrow_inner.ensures j))
 
-pub returns-in-Null-clause-row : goal.returns-in-Null-clause-row
-returns-in-Null-clause-row g t c = λ schema fs e.
+pub returns-in-Null-clause-step : goal.returns-in-Null-clause-step
+returns-in-Null-clause-step g c = λ schema fs e.
     let may = g.S.CheckedScalar.may_answer in
     let text = g.S.ScalarValue.text in
     let str_of = g.S.ScalarValue.str_of in
@@ -54,8 +54,8 @@ returns-in-Null-clause-row g t c = λ schema fs e.
     (moved schema may text str_of c.args.value.now at (wrapped_by list (inner_of at)) fs (unwrapped at list some)
     (free_row schema may text str_of c.args.value.now c.in-Some-List.size (inner_of at) fs c.in-Null.is e))
 
-pub returns-in-List-clause-row : goal.returns-in-List-clause-row
-returns-in-List-clause-row g t c = λ schema fs j.
+pub returns-in-List-clause-step : goal.returns-in-List-clause-step
+returns-in-List-clause-step g c = λ schema fs j.
     let may = g.S.CheckedScalar.may_answer in
     let text = g.S.ScalarValue.text in
     let str_of = g.S.ScalarValue.str_of in
@@ -68,8 +68,8 @@ returns-in-List-clause-row g t c = λ schema fs j.
     (items_row schema may text str_of c.args.value.now c.in-Some-List.size (inner_of at) fs
     (subst (λ u. SaysItems schema may text str_of (list_items c.args.value.now) u c.in-Some-List.size fs) c.borrow_inner-in-List.ensures j)))
 
-pub returns-in_default : goal.returns-in_default
-returns-in_default g t c =
+pub returns-in_default-clause-step : goal.returns-in_default-clause-step
+returns-in_default-clause-step g c = λ schema fs j.
     let may = g.S.CheckedScalar.may_answer in
     let text = g.S.ScalarValue.text in
     let str_of = g.S.ScalarValue.str_of in
@@ -77,11 +77,6 @@ returns-in_default g t c =
     let list = m.List c.in-Some-List.size in
     let is : c.in-Some-List.field-0.now ≡ list = cc in
     let some : outermost at.modifiers ≡ Some list = sym c.modifier.ensures ∙ ap option_copied c.in-Some-List.is ∙ ap (λ x. Some x) is in
-    record {
-      row = λ schema fs j.
-          moved_others schema may text str_of c.args.value.now at (wrapped_by list (inner_of at)) fs (unwrapped at list some)
-          (others_single schema may text str_of c.args.value.now c.in-Some-List.size (inner_of at) fs c.in_default.not-Null (no_list schema may text str_of c.args.value.now c.in_default.not-List)
-          (subst (λ u. Others schema may text str_of c.args.value.now u fs) c.borrow_inner-in_default.ensures (c.row_of-in_default.ensures.row schema fs j)));
-      name = search rules;
-      items = c.row_of-in_default.ensures.items;
-    }
+    moved_others schema may text str_of c.args.value.now at (wrapped_by list (inner_of at)) fs (unwrapped at list some)
+    (others_single schema may text str_of c.args.value.now c.in-Some-List.size (inner_of at) fs c.in_default.not-Null (no_list schema may text str_of c.args.value.now c.in_default.not-List)
+    (subst (λ u. Others schema may text str_of c.args.value.now u fs) c.borrow_inner-in_default.ensures j))
