@@ -5,7 +5,7 @@ use Rattle.language.specs.Types.{TypeShape}
 use Rattle.meta.specs.Answers.{Answers}
 use Rattle.schema.specs.Catalog.{Catalog}
 use Rattle.schema.specs.Wrapped.{WrappedMeta}
-use Rattle.literals.specs.Judged.{FaultAt, Judged, WrittenFault, written_type}
+use Rattle.literals.specs.Judged.{FaultAt, WrittenFault, written_type}
 use Rattle.literals.specs.Laws.{OneAnswer}
 use Rattle.literals.proofs.OneFault.{one_fault}
 

@@ -16,12 +16,12 @@ use std::alloc::Global;
 /// The text of the first fault in a value, for a reference to a type (section 5.6.1). `None` if the value
 /// conforms, or if the schema has no type of this name.
 ///
-/// Like [`crate::validate_literal_value`], but no type has to be made. Allocates nothing for a value that
-/// conforms, apart from what the checks allocate.
+/// Like [`crate::validate_literal_value`], but no type has to be made. For a value that conforms, allocates only
+/// what the checks allocate, and a list of the lists and objects around the value that is judged.
 ///
 /// # Errors
 ///
-/// Out of memory, for the text or in a check.
+/// Out of memory, for the text, for that list or in a check.
 pub fn validate_written_value<'a, S: CheckedScalar>(
     alloc: Global,
     schema: &'a SchemaType<S>,

@@ -1,4 +1,4 @@
-use Rattle.std.proofs.Common.{◌≡◌, ◌∷◌, Some, None, refl, sym, ◌∙◌, ap, subst, string_bytes, option_copied, option_map, inl}
+use Rattle.std.proofs.Common.{◌∷◌, Some, refl, sym, ◌∙◌, ap, subst, string_bytes, option_copied, option_map, inl}
 use Rattle.std.proofs.lemmas.Result.{IfOk-weaker, on_ok_weaker}
 use Rattle.language.specs.ValuesPrinted.{printed_value}
 use Rattle.literals.specs.Begun.{IsKnown}

@@ -1,4 +1,4 @@
-use Rattle.std.proofs.Common.{◌≡◌, ◌∷◌, sym, string_bytes, option_map}
+use Rattle.std.proofs.Common.{◌≡◌, ◌∷◌, string_bytes, option_map}
 use Rattle.std.proofs.lemmas.Result.{IfOk-weaker, on_ok_weaker}
 use Rattle.language.specs.ValuesPrinted.{printed_value}
 use Rattle.literals.specs.Begun.{IsKnown}

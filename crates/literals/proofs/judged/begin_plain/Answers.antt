@@ -1,4 +1,4 @@
-use Rattle.std.proofs.Common.{◌≡◌, Some, None, refl, sym, ◌∙◌, ap, subst, string_bytes, option_map}
+use Rattle.std.proofs.Common.{Some, None, refl, sym, ◌∙◌, ap, subst, string_bytes, option_map}
 use Rattle.std.proofs.lemmas.Result.{IfOk-weaker}
 use Rattle.language.specs.declared.value.InputValue.TheOpen as v
 use Rattle.language.specs.declared.value.InputValue.TheVariants as variant

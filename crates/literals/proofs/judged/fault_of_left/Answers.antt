@@ -1,4 +1,4 @@
-use Rattle.std.proofs.Common.{arith, ◌≡◌, [], None, Some, sym, subst, string_bytes, option_map, reverse}
+use Rattle.std.proofs.Common.{arith, ◌≡◌, [], None, sym, subst, string_bytes, option_map, reverse}
 use Rattle.std.proofs.lemmas.Grind.{common_steps}
 use Rattle.std.proofs.lemmas.Result.{IfOk-weaker}
 use Rattle.language.specs.ValuesPrinted.{printed_value}
