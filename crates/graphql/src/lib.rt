@@ -9,7 +9,7 @@
 
 pub use graphql_reader::{
     Found, NESTING_LIMIT, ReadError, SourceScalar, SyntaxError, SyntaxFault, read_constant,
-    read_document,
+    read_document, read_document_within,
 };
 pub use introspection::{IntrospectionError, schema_text};
 pub use merge_field_laws;

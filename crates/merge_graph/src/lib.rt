@@ -3,7 +3,7 @@
 #![tactic(auto)]
 
 mod building;
-mod definitions;
+pub mod definitions;
 pub mod document;
 pub mod judge;
 pub mod table_graph;
