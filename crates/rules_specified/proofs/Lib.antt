@@ -1,0 +1,5 @@
+mod CollectingLaws
+mod FoundLaws
+mod LastFragments
+mod Parts
+mod Telling
