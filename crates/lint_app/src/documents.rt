@@ -6,7 +6,7 @@ ghost use Rattle.lint_app.specs.Told.{Adds, AddsIf, AreToldAs, HasKnownTypes, Is
 use crate::failure::Failure;
 use crate::files::{add_fault, joined_of};
 use crate::rules::LintRules;
-use graphql_reader::{ReadError, SourceScalar, read_document};
+use graphql_reader::{ReadError, SourceScalar, read_document_within};
 use lint_report::faults::Fault;
 use lint_report::issues::Issue;
 use lint_report::sources::{Joined, Place, Source};
@@ -23,6 +23,8 @@ pub struct Judge<'j> {
     pub values: Option<&'j Variables<SourceScalar>>,
     /// The files, in order.
     pub sources: &'j [Source],
+    /// How deep a document may nest, if there is a limit.
+    pub max_depth: Option<usize>,
 }
 
 /// What was found in the files.
@@ -119,7 +121,7 @@ impl Judge<'_> {
         source: &Source,
         faults: &mut Vec<Fault>,
     ) -> Result<bool, Failure> {
-        match read_document(alloc, source.text.as_str()) {
+        match read_document_within(alloc, source.text.as_str(), self.max_depth) {
             Ok(_) => Ok(true),
             Err(ReadError::Syntax(error)) => {
                 let position = error.position;
@@ -150,7 +152,7 @@ impl Judge<'_> {
             (TellsRead ⟦<SourceScalar as LintRules>⟧.rules self.now.root.now (option_copied self.now.values) joined.now
             file) issues.old.items issues.new.items) }
     {
-        match read_document(alloc, joined.text()) {
+        match read_document_within(alloc, joined.text(), self.max_depth) {
             Ok(document) => {
                 self.add_issues(alloc, joined, file, document.as_slice(), issues)?;
                 Ok(true)

@@ -398,6 +398,7 @@ fn judge_queries<I: Inputs>(
         root,
         values,
         sources,
+        max_depth: task.max_depth,
     };
     let files = named.len();
     let report = report_of(alloc, task, &judge, files, faults)?;

@@ -225,6 +225,18 @@ const RUNS: &[(&str, u8, &str, &str)] = &[
         "",
         "empty: error: no .graphql or .gql files, or the directory can't be listed\n",
     ),
+    (
+        "--schema shop.graphql --schema item.graphql --max-depth 2 good.graphql asks.graphql",
+        2,
+        "no errors in 1 file, 1 file not checked\n",
+        "asks.graphql:3:15: error: nested more than 2 levels deep\n    queryType {\n              ^\n",
+    ),
+    (
+        "--schema shop.graphql --schema item.graphql --max-depth 3 good.graphql asks.graphql",
+        0,
+        "no errors in 2 files\n",
+        "",
+    ),
     ("--version", 0, "lint 0.1.0\n", ""),
     ("-V", 0, "lint 0.1.0\n", ""),
 ];
@@ -390,6 +402,18 @@ const STATUSES: &[(&str, u8)] = &[
     ("--schema shop.graphql good.graphql", 2),
     (
         "--schema shop.graphql --schema item.graphql --variables good.graphql good.graphql",
+        2,
+    ),
+    (
+        "--schema shop.graphql --schema item.graphql --max-depth 1 --together use.graphql names.graphql",
+        2,
+    ),
+    (
+        "--schema shop.graphql --schema item.graphql --max-depth deep good.graphql",
+        2,
+    ),
+    (
+        "--schema shop.graphql --schema item.graphql --max-depth -1 good.graphql",
         2,
     ),
     ("--help", 0),

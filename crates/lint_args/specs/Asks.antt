@@ -1,10 +1,11 @@
 -- Which task the command line asks for.
-use Rattle.std.specs.Prelude.{◌≡◌, ◌+◌, ◌⊎◌, ℕ, [], ◌∷◌, ◌++◌, Bool, false, List, String, codes, cond, count_by, filter, if◌then◌else◌, map, not, option_map, string_bytes, unwrap_or}
+use Rattle.std.specs.Prelude.{◌≡◌, ◌<◌, ◌+◌, ◌^◌, ◌⊎◌, ℕ, [], ◌∷◌, ◌++◌, Bool, IfSome, List, None, Option, Some, String, codes, cond, count_by, false, filter, if◌then◌else◌, map, not, option_map, string_bytes, unwrap_or}
 use Rattle.std.specs.declared.alloc.Global.{Global}
 use Rattle.std.specs.Borrow.{Bor}
 use Rattle.std.specs.List.{list_any}
 use Rattle.std.specs.Option.{option_map_or}
 use Rattle.std.specs.Str.{bytes_eq}
+use Rattle.std.specs.Str.Parse.{IsNumeral, digits_value, without_leading_plus}
 use Rattle.clap.specs.Faults.{fault_of}
 use Rattle.clap.specs.Kinds.{IsAmong}
 use Rattle.clap.specs.Simple.{matches_of}
@@ -45,6 +46,20 @@ form_of rows =
     else if is_value (codes "format") (codes "github") rows then form.Github
     else form.Text
 
+-- what the digits of a text write, where a plus may stand before them
+abbrev pub written_number : Text → ℕ
+written_number text = digits_value 10 (without_leading_plus text)
+
+-- the number that a text writes, where it writes one of 64 bits
+pub record IsNumberOf (text : Text) (number : Option ℕ) : Type 0 where
+  pub some : IsNumeral 10 (without_leading_plus text) → written_number text < 2 ^ 64 → number ≡ Some (written_number text)
+  pub only : IfSome number (λ n. n ≡ written_number text)
+
+-- the greatest depth that is given, if one is
+abbrev pub IsDepth : Option Text → Option ℕ → Type 0
+IsDepth None depth = depth ≡ None
+IsDepth (Some text) depth = IsNumberOf text depth
+
 -- the task has what was found for each argument
 pub record IsOfRows (rows : List Row) (task : Task) : Type 0 where
   pub schemas : texts task.schemas.items ≡ files_of (codes "schema") rows
@@ -53,6 +68,7 @@ pub record IsOfRows (rows : List Row) (task : Task) : Type 0 where
   pub form : task.form ≡ form_of rows
   pub closed : task.is_closed ≡ is_value (codes "closed") (codes "true") rows
   pub together : task.is_together ≡ is_value (codes "together") (codes "true") rows
+  pub depth : IsDepth (first_of (codes "depth") rows) task.max_depth
 
 -- a path that stands for the standard input
 abbrev pub is_input : Text → Bool

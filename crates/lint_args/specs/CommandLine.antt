@@ -6,7 +6,7 @@ use Rattle.clap.specs.Walk.{Rule, Text, texts}
 use Rattle.clap.specs.Simple.{App, app_of, new_app, new_rule, on_top, with_rule}
 use Rattle.clap.specs.declared.builder.action.ArgAction.TheVariants.{Append, SetTrue}
 use Rattle.clap.specs.declared.builder.command.Command.{Command}
-use Rattle.clap.specs.declared.builder.value_parser.ValueParser.TheVariants.{Names}
+use Rattle.clap.specs.declared.builder.value_parser.ValueParser.TheVariants.{Names, Unsigned}
 
 -- `--schema FILE`, at least once
 abbrev pub schema_rule : Rule
@@ -42,6 +42,14 @@ variables_rule = record (new_rule (codes "variables")) { long = Some (codes "var
 abbrev pub together_rule : Rule
 together_rule = record (new_rule (codes "together")) { long = Some (codes "together"); action = Some SetTrue }
 
+-- `--max-depth N`, a number
+abbrev pub depth_rule : Rule
+depth_rule = record (new_rule (codes "depth")) {
+  long = Some (codes "max-depth");
+  value_names = 1;
+  parser = Some (Unsigned 0 usize_max);
+}
+
 -- each other word, at least one
 abbrev pub query_rule : Rule
 query_rule = record (new_rule (codes "query")) {
@@ -58,8 +66,8 @@ versioned = on_top (λ shape. record shape { has_version = true }) (new_app (cod
 -- all of them
 abbrev pub lint : Bor (List (Bor Text)) → App
 lint forms =
-    with_rule (with_rule (with_rule (with_rule (with_rule (with_rule versioned
-    schema_rule) (format_rule forms)) closed_rule) variables_rule) together_rule) query_rule
+    with_rule (with_rule (with_rule (with_rule (with_rule (with_rule (with_rule versioned
+    schema_rule) (format_rule forms)) closed_rule) variables_rule) together_rule) depth_rule) query_rule
 
 -- a command has them
 abbrev pub IsLint : Command → Type 0

@@ -12,9 +12,10 @@ abbrev pub sample_words : List Text
 sample_words =
     codes "lint" ∷ codes "--schema" ∷ codes "types.graphql" ∷ codes "first.graphql" ∷ codes "--no-introspection"
     ∷ codes "--schema=more.graphql" ∷ codes "--format" ∷ codes "json"
-    ∷ codes "second.graphql" ∷ codes "--variables=values.json" ∷ codes "--" ∷ codes "--third" ∷ []
+    ∷ codes "second.graphql" ∷ codes "--variables=values.json" ∷ codes "--max-depth" ∷ codes "20"
+    ∷ codes "--" ∷ codes "--third" ∷ []
 
--- both files of types, all three of queries, the values, and JSON, with introspection closed
+-- both files of types, all three of queries, the values, JSON and the depth, with introspection closed
 pub record IsSampleTask (task : Task) : Type 0 where
   pub schemas : texts task.schemas.items ≡ codes "types.graphql" ∷ codes "more.graphql" ∷ []
   pub queries : texts task.queries.items ≡ codes "first.graphql" ∷ codes "second.graphql" ∷ codes "--third" ∷ []
@@ -22,6 +23,7 @@ pub record IsSampleTask (task : Task) : Type 0 where
   pub form : task.form ≡ form.Json
   pub closed : task.is_closed ≡ true
   pub together : task.is_together ≡ false
+  pub depth : task.max_depth ≡ Some 20
 
 abbrev pub KnowsSample : Type 0
 KnowsSample = (task : Task) → AsksFor sample_words task → IsSampleTask task
@@ -38,6 +40,7 @@ pub record IsPlainTask (schema : Text) (files : List Text) (task : Task) : Type 
   pub form : task.form ≡ form.Text
   pub closed : task.is_closed ≡ false
   pub together : task.is_together ≡ false
+  pub depth : task.max_depth ≡ None
 
 abbrev pub KnowsNames : Type 0
 KnowsNames =

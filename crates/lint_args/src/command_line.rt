@@ -1,9 +1,9 @@
 //! The command line of the program.
 ghost use Rattle.std.specs.Prelude.{◌≡◌, IfOk, false};
 ghost use Rattle.clap.specs.Words.{rule_of};
-ghost use Rattle.lint_args.specs.CommandLine.{HasForms, IsLint, closed_rule, format_rule, query_rule, schema_rule, together_rule, variables_rule};
+ghost use Rattle.lint_args.specs.CommandLine.{HasForms, IsLint, closed_rule, depth_rule, format_rule, query_rule, schema_rule, together_rule, variables_rule};
 
-use clap::{Arg, ArgAction, Command};
+use clap::{Arg, ArgAction, Command, value_parser};
 use std::alloc::{AllocError, Global};
 
 static FORMATS: [&str; 3] = ["text", "json", "github"];
@@ -41,6 +41,7 @@ pub fn command_line<'w>(alloc: Global) -> Result<Command<'w>, AllocError>
         .arg(closed_argument(alloc))?
         .arg(variables_argument(alloc))?
         .arg(together_argument(alloc))?
+        .arg(depth_argument(alloc))?
         .arg(query_argument(alloc))
 }
 
@@ -100,6 +101,17 @@ fn together_argument<'w>(alloc: Global) -> Arg<'w>
         .long("together")
         .help("Take all query files as one document")
         .action(ArgAction::SetTrue)
+}
+
+fn depth_argument<'w>(alloc: Global) -> Arg<'w>
+    ensures rule { rule_of result ≡ depth_rule }
+    ensures local { result.global ≡ false }
+{
+    Arg::new(alloc, "depth")
+        .long("max-depth")
+        .value_name("N")
+        .help("Refuse query files nested more than N levels deep")
+        .value_parser(value_parser!(usize))
 }
 
 fn query_argument<'w>(alloc: Global) -> Arg<'w>

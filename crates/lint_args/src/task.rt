@@ -1,10 +1,10 @@
 //! What the command line asks for.
-ghost use Rattle.std.specs.Prelude.{◌≡◌, ◌+◌, ◌-◌, ◌^◌, IfErr, IfOk, OnOk, cond, min};
+ghost use Rattle.std.specs.Prelude.{◌≡◌, ◌+◌, ◌-◌, ◌^◌, IfErr, IfOk, OnOk, codes, cond, min};
 ghost use Rattle.std.specs.List.{list_any};
 ghost use Rattle.std.specs.Str.{bytes_eq};
-ghost use Rattle.clap.specs.Walk.{texts};
+ghost use Rattle.clap.specs.Walk.{first_of, texts};
 ghost use Rattle.clap.specs.Words.{found_of, rows_of};
-ghost use Rattle.lint_args.specs.Asks.{AsksFor, IsRefusal, added_once, distinct, files_of, form_of, input_count, inputs_among, is_input, is_value, word_texts};
+ghost use Rattle.lint_args.specs.Asks.{AsksFor, IsDepth, IsNumberOf, IsRefusal, added_once, distinct, files_of, form_of, input_count, inputs_among, is_input, is_value, word_texts};
 
 use crate::command_line::command_line;
 use clap::{ArgMatches, Error};
@@ -39,6 +39,8 @@ pub struct Task<'w> {
     pub is_closed: bool,
     /// Whether all files of queries are one document.
     pub is_together: bool,
+    /// How deep a document may nest, if there is a limit.
+    pub max_depth: Option<usize>,
 }
 
 impl<'w> Task<'w> {
@@ -59,6 +61,7 @@ impl<'w> Task<'w> {
             form: form_of(&matches),
             is_closed: is_value(&matches, "closed", "true"),
             is_together: is_value(&matches, "together", "true"),
+            max_depth: depth_of(&matches),
         })
     }
 
@@ -132,6 +135,26 @@ fn is_value(matches: &ArgMatches<'_>, id: &str, value: &str) -> bool
     ensures { result ≡ is_value id.now value.now (rows_of (found_of matches.now)) }
 {
     matches.get_str(id) == Some(value)
+}
+
+// The greatest depth, if one is given.
+fn depth_of(matches: &ArgMatches<'_>) -> Option<usize>
+    ensures { IsDepth (first_of (codes "depth") (rows_of (found_of matches.now))) result }
+{
+    match matches.get_str("depth") {
+        Some(text) => number_of(text),
+        None => None,
+    }
+}
+
+// The number that a text writes, if it writes one.
+fn number_of(text: &str) -> Option<usize>
+    ensures { IsNumberOf text.now result }
+{
+    match text.parse::<usize>() {
+        Ok(number) => Some(number),
+        Err(_) => None,
+    }
 }
 
 // One more if the path is the standard input.

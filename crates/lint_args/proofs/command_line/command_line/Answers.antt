@@ -22,4 +22,5 @@ returns c =
     let closed = more _ _ _ _ c.in_ok-arg-3.field-0 formed c.closed_argument.ensures.rule c.closed_argument.ensures.local c.in_ok-arg-3.ensures in
     let varied = more _ _ _ _ c.in_ok-arg-4.field-0 closed c.variables_argument.ensures.rule c.variables_argument.ensures.local c.in_ok-arg-4.ensures in
     let joined = more _ _ _ _ c.in_ok-arg-5.field-0 varied c.together_argument.ensures.rule c.together_argument.ensures.local c.in_ok-arg-5.ensures in
-    IfOk-weaker c.arg-6.result _ _ (λ command adds. (format.0, format.1, more _ _ _ _ command joined c.query_argument.ensures.rule c.query_argument.ensures.local adds)) c.arg-6.ensures
+    let limited = more _ _ _ _ c.in_ok-arg-6.field-0 joined c.depth_argument.ensures.rule c.depth_argument.ensures.local c.in_ok-arg-6.ensures in
+    IfOk-weaker c.arg-7.result _ _ (λ command adds. (format.0, format.1, more _ _ _ _ command limited c.query_argument.ensures.rule c.query_argument.ensures.local adds)) c.arg-7.ensures

@@ -1,8 +1,8 @@
-use Rattle.std.proofs.Common.{◌≡◌, ◌∙◌, ◌∷◌, Bor, List, ap, codes, true}
+use Rattle.std.proofs.Common.{◌≡◌, ◌∙◌, ◌∷◌, Bor, List, ap, codes, subst, true}
 use Rattle.std.specs.List.{list_all}
 use Rattle.clap.specs.Simple.{matches_of}
 use Rattle.clap.specs.Walk.{Row, Text, finished, first_of}
-use Rattle.lint_args.specs.Asks.{files_of, form_of, is_value}
+use Rattle.lint_args.specs.Asks.{IsDepth, files_of, form_of, is_value}
 use Rattle.lint_args.specs.CommandLine.{lint}
 use Rattle.lint_args.specs.Laws.{is_name}
 use Rattle.lint_args.proofs.Names.{lint_rules, queries_met, walk_known}
@@ -26,4 +26,5 @@ returns c = λ schema query queries task names asked.
       form = asked.matched.form ∙ ap form_of rows;
       closed = asked.matched.closed ∙ ap (is_value (codes "closed") (codes "true")) rows;
       together = asked.matched.together ∙ ap (is_value (codes "together") (codes "true")) rows;
+      depth = subst (λ found. IsDepth (first_of (codes "depth") found) task.max_depth) rows asked.matched.depth;
     }

@@ -1,8 +1,8 @@
-use Rattle.std.proofs.Common.{◌≡◌, ◌∙◌, ◌∷◌, [], Bor, List, Some, codes, false, refl, true}
+use Rattle.std.proofs.Common.{◌≡◌, ◌∙◌, ◌∷◌, [], Bor, List, Option, Some, arith, codes, false, refl, subst, true, ℕ}
 use Rattle.clap.proofs.OnLiterals.{clap_on_literals}
 use Rattle.clap.specs.Simple.{matches_of}
 use Rattle.clap.specs.Walk.{Text, first_of}
-use Rattle.lint_args.specs.Asks.{files_of, form_of, is_value}
+use Rattle.lint_args.specs.Asks.{IsDepth, IsNumberOf, files_of, form_of, is_value}
 use Rattle.lint_args.specs.CommandLine.{lint}
 use Rattle.lint_args.specs.Laws.{sample_words}
 use Rattle.lint_args.specs.declared.task.Form.TheVariants as form
@@ -33,6 +33,14 @@ module _ (forms : Bor (List (Bor Text))) where
   unfolding clap_on_literals
   together = refl
 
+  depth : first_of (codes "depth") (matches_of (lint forms) sample_words) ≡ Some (codes "20")
+  unfolding clap_on_literals
+  depth = refl
+
+-- the text writes that number
+twenty : (levels : Option ℕ) → IsNumberOf (codes "20") levels → levels ≡ Some 20
+twenty levels is = is.some (omega arith, (omega arith, (omega arith, tt))) (omega arith)
+
 -- each by computing what the words match
 pub returns : goal.returns
 returns c = λ task asked. record {
@@ -42,4 +50,5 @@ returns c = λ task asked. record {
   form = asked.matched.form ∙ form_is asked.forms;
   closed = asked.matched.closed ∙ closed asked.forms;
   together = asked.matched.together ∙ together asked.forms;
+  depth = twenty task.max_depth (subst (λ found. IsDepth found task.max_depth) (depth asked.forms) asked.matched.depth);
 }

@@ -8,7 +8,7 @@ use Rattle.clap.specs.Simple.{is_simple, matches_of}
 use Rattle.clap.specs.Walk.{Text, first_of}
 use Rattle.clap.specs.Words.{found_of}
 use Rattle.clap.specs.declared.error.Error.{Error}
-use Rattle.lint_args.specs.Asks.{IsRefusal, files_of, form_of, is_value, word_texts}
+use Rattle.lint_args.specs.Asks.{IsDepth, IsRefusal, files_of, form_of, is_value, word_texts}
 use Rattle.lint_args.specs.CommandLine.{HasForms, lint}
 use Rattle.lint_args.proofs.task.Task.of.Goals as goal
 
@@ -60,5 +60,6 @@ returns-clause-asked c =
         form = c.form_of.ensures ∙ ap form_of rows;
         closed = c.is_value.ensures ∙ ap (is_value (codes "closed") (codes "true")) rows;
         together = c.is_value-2.ensures ∙ ap (is_value (codes "together") (codes "true")) rows;
+        depth = subst (λ found. IsDepth (first_of (codes "depth") found) c.depth_of.result) rows c.depth_of.ensures;
       };
     }
