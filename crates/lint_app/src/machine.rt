@@ -63,7 +63,8 @@ pub fn run<R: Files + Input + AllocGlobal + Clone + Drop, W: Write, E: Write>(
         → WritesAsked ⟦<SourceScalar as LintRules>⟧.rules words.now (unknown_host colours) (W.contents output.old)
         (W.contents output.new) result }
     ensures answered { result ≤ 1
-        → WantsText (word_texts words.now) ⊎ WritesAsked ⟦<SourceScalar as LintRules>⟧.rules words.now (unknown_host colours)
+        → WantsText (word_texts words.now)
+        ⊎ WritesAsked ⟦<SourceScalar as LintRules>⟧.rules words.now (unknown_host colours)
         (W.contents output.old) (W.contents output.new) result }
     ensures quiet { result ≤ 1 → errors.new ≡ errors.old }
     ensures ended { result ≡ 2

@@ -467,7 +467,8 @@ fn text_of(
     sources: &[Source],
     report: &Report,
 ) -> Result<String, OutOfMemory>
-    ensures { IfOk result (λ text. IsTextOf is_coloured task.now files faults.now sources.now report.now (string_bytes text)) }
+    ensures { IfOk result (λ text. IsTextOf is_coloured task.now files faults.now sources.now
+        report.now (string_bytes text)) }
 {
     let issues = report.issues.as_slice();
     let unjudged = files.saturating_sub(report.judged);

@@ -114,7 +114,12 @@ fn add_once<'w>(files: &mut Vec<&'w str>, path: &'w str) -> Result<(), AllocErro
 fn is_among(files: &[&str], path: &str) -> bool
     ensures { result ≡ list_any (λ file. bytes_eq path.now file.now) files.now }
 {
-    files.iter().any(|file| path == *file)
+    for file in files {
+        if path == *file {
+            return true;
+        }
+    }
+    false
 }
 
 // The form that is asked for.

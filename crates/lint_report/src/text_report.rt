@@ -103,7 +103,8 @@ pub fn write_issue(
     sources: &[Source],
     issue: &Issue,
 ) -> Result<(), OutOfMemory>
-    ensures { OnOk result (Adds (IsIssueText is_coloured sources.now issue.now) (string_bytes text.old) (string_bytes text.new)) }
+    ensures { OnOk result (Adds (IsIssueText is_coloured sources.now issue.now)
+        (string_bytes text.old) (string_bytes text.new)) }
 {
     let Some((first, others)) = issue.places.as_slice().split_first() else {
         let path = path_of(sources, issue.file);
@@ -143,7 +144,8 @@ fn write_notes(
     sources: &[Source],
     places: &[Place],
 ) -> Result<(), OutOfMemory>
-    ensures { OnOk result (Adds (AreNotes is_coloured sources.now places.now) (string_bytes text.old) (string_bytes text.new)) }
+    ensures { OnOk result (Adds (AreNotes is_coloured sources.now places.now)
+        (string_bytes text.old) (string_bytes text.new)) }
 {
     for place in places {
         write_note(text, is_coloured, sources, *place)?;
@@ -157,7 +159,8 @@ fn write_note(
     sources: &[Source],
     place: Place,
 ) -> Result<(), OutOfMemory>
-    ensures { OnOk result (Adds (IsNoteText is_coloured sources.now place) (string_bytes text.old) (string_bytes text.new)) }
+    ensures { OnOk result (Adds (IsNoteText is_coloured sources.now place)
+        (string_bytes text.old) (string_bytes text.new)) }
 {
     write_place(text, is_coloured, sources, place)?;
     text.push_str("note: also here\n")?;
@@ -220,7 +223,8 @@ fn write_line(
     sources: &[Source],
     place: Place,
 ) -> Result<(), OutOfMemory>
-    ensures { OnOk result (Adds (ShowsLine is_coloured sources.now place) (string_bytes text.old) (string_bytes text.new)) }
+    ensures { OnOk result (Adds (ShowsLine is_coloured sources.now place)
+        (string_bytes text.old) (string_bytes text.new)) }
 {
     let line = line_of(text_of(sources, place.file), place.position);
     let (before, rest) = split_at(line, place.position.column());
