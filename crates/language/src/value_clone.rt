@@ -16,7 +16,8 @@ impl<S: Clone> Clone for InputValue<S> {
     }
 }
 
-// A list or an object of which some values are copied, and those that are left. Where it waits the first of these is being copied.
+// A list or an object of which some values are copied, and those that are left. Where it waits the first of these is
+// being copied.
 #[derive(Drop)]
 enum Begun<'v, S> {
     List(BegunList<'v, S>),
@@ -75,7 +76,8 @@ fn begin<'v, S: Clone>(value: &'v InputValue<S>) -> Result<Copying<'v, S>, Alloc
     }
 }
 
-// Begins the copy of the first value that is left, while the rest waits; where none is left the list or the object is copied.
+// Begins the copy of the first value that is left, while the rest waits; where none is left the list or the object is
+// copied.
 fn go_on<'v, S: Clone>(
     begun: Begun<'v, S>,
     waiting: &mut Vec<Begun<'v, S>>,

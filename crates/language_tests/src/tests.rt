@@ -305,7 +305,7 @@ fn no_value_is_too_deep(rt: HostRuntime) {
 fn copies_of_deep_values_are_the_same(rt: HostRuntime) {
     let value = nested(rt.alloc()).expect(&rt, "memory");
     let copied = value.clone().expect(&rt, "memory");
-    assert!(rt; copied.unlocated_eq(&value));
+    assert!(rt; copied == value);
     let shown = format!(in rt.alloc(); "{copied:?}").expect(&rt, "memory");
     assert_eq!(rt; shown.as_str().len(), 2 * LEVELS + "{k: $v}".len());
 }
