@@ -302,6 +302,15 @@ fn no_value_is_too_deep(rt: HostRuntime) {
 }
 
 #[test]
+fn copies_of_deep_values_are_the_same(rt: HostRuntime) {
+    let value = nested(rt.alloc()).expect(&rt, "memory");
+    let copied = value.clone().expect(&rt, "memory");
+    assert!(rt; copied == value);
+    let shown = format!(in rt.alloc(); "{copied:?}").expect(&rt, "memory");
+    assert_eq!(rt; shown.as_str().len(), 2 * LEVELS + "{k: $v}".len());
+}
+
+#[test]
 fn no_selection_set_is_too_deep(rt: HostRuntime) {
     let alloc = rt.alloc();
     let mut set = alone(alloc, spread("A")).expect(&rt, "memory");
