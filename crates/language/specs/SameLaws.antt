@@ -1,5 +1,5 @@
 -- Equality of values is symmetric and transitive, where that of scalars is.
-use Rattle.std.proofs.Common.{◌≡◌, ℕ, List, [], ◌∷◌, ◌++◌, map, Bool, true, false, ◌&&◌, nat_eq, string_bytes, refl, sym, ap, ◌∙◌, subst, Vec}
+use Rattle.std.proofs.Common.{◌≡◌, List, [], ◌∷◌, map, Bool, true, false, ◌&&◌, nat_eq, string_bytes, refl, sym, ap, ◌∙◌, subst, Vec}
 use mathlib.Core.Bool.{true≢false}
 use Rattle.std.specs.Cmp.{IsPartialEquivalence, partial_equiv_from_equiv}
 use Rattle.std.specs.Cmp.Lexicographic.{pointwise, nat_list_eq_equiv}
