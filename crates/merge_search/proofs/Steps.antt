@@ -15,8 +15,9 @@ use Rattle.merge_search.specs.World.{World, own_of, spreads_of, set_of, exclusiv
 use Rattle.merge_search.specs.Opening.{Opens}
 use Rattle.merge_search.specs.State.{Keeps, NotesPair, NotesSearch, CountsList}
 use Rattle.merge_search.specs.Work.{pair_in, Did, Owes, Done, Searched, Pair, OwnPairs}
-use Rattle.merge_search.specs.Reports.{Root, Adds, AddsAll, AtFields, AtWith, AtNamed, AtOwn, AtSearch, AtSearches, AtFirst, AtSecond, AtSpreads}
-use Rattle.merge_search.specs.Tasks.{firsts_at, Compares, Searches, SearchesOwing, ComparesEach, MeetsNested, MeetsBelow, MeetsNamed, MeetsOne, MeetsSearch, MeetsFragments, WithDone, NameDone, Closes}
+use Rattle.merge_search.specs.Reports.{Root, Adds, AddsAll, AtFields, AtWith, AtNamed, AtOwn, AtSearch, AtFirst}
+use Rattle.merge_search.specs.declared.task.Partner.TheVariants as partner
+use Rattle.merge_search.specs.Tasks.{firsts_at, AtPartners, Compares, Searches, SearchesOwing, ComparesEach, MeetsNested, MeetsBelow, MeetsNamed, MeetsOne, MeetsSearch, MeetsFragments, WithDone, NameDone, Closes}
 use Rattle.merge_search.proofs.Work.{did_none, did_then, did_map, did_list, did_opened, did_fragments, did_report, did_kept, owes_search, grows_then}
 use Rattle.merge_search.proofs.Adding.{adds_none, adds_map, adds_then, adds_from, adds_node, adds_same, all_both, all_map, all_told}
 use Rattle.merge_search.proofs.Rows.{named_in, named_is, row_named, tell_with, tell_named, tell_own, own_pairs, row_first, row_second, row_fragments, row_nested, row_below_own, row_below_forth, row_below_back, row_below_spreads}
@@ -122,9 +123,9 @@ module _ (w : World) (e : Bool) where
   -- the four parts of two sets
   pub below_whole : (i j : ℕ) (s t u v z : Search)
       → ComparesEach w e (NameDone w e i j) (AtOwn w i j) (λ f. AtNamed w i j f.response) (firsts_at w.sets i) s t
-      → Searches w e (λ M. All (λ h. Searched M e i h) (spreads_of w j)) (AtSearches w i j) t u
-      → Searches w e (λ M. All (λ h. Searched M e j h) (spreads_of w i)) (AtSearches w j i) u v
-      → Searches w e (λ M. All (λ g. All (λ h. Pair M e g h) (spreads_of w j)) (spreads_of w i)) (AtSpreads w i j) v z
+      → Searches w e (λ M. All (λ h. Searched M e i h) (spreads_of w j)) (AtPartners w j (partner.Own i)) t u
+      → Searches w e (λ M. All (λ h. Searched M e j h) (spreads_of w i)) (AtPartners w i (partner.Own j)) u v
+      → Searches w e (λ M. All (λ g. All (λ h. Pair M e g h) (spreads_of w j)) (spreads_of w i)) (AtPartners w i (partner.Each j)) v z
       → MeetsBelow w e i j s z
   below_whole i j s t u v z own forth back both =
       let all = own_whole i j s t own in
@@ -185,7 +186,7 @@ module _ (w : World) (e : Bool) where
   pub fragments_noted : (f g : ℕ) (s t u v z : Search) → (f ≡ g → ⊥) → (pair_in s e f g ≡ true → ⊥) → NotesPair f g e s t
       → ComparesEach w e (NameDone w e (set_of w f) (set_of w g)) (AtOwn w (set_of w f) (set_of w g)) (λ h. AtNamed w (set_of w f) (set_of w g) h.response) (firsts_at w.sets (set_of w f)) t u
       → (f < length w.fragments → Searches w e (λ M. All (λ h. Pair M e f h) (spreads_of w (set_of w g))) (AtFirst w f (set_of w g)) u v)
-      → (g < length w.fragments → Searches w e (λ M. All (λ h. Pair M e h g) (spreads_of w (set_of w f))) (AtSecond w (set_of w f) g) v z)
+      → (g < length w.fragments → Searches w e (λ M. All (λ h. Pair M e h g) (spreads_of w (set_of w f))) (AtPartners w (set_of w f) (partner.Second g)) v z)
       → MeetsFragments w e f g s z
   fragments_noted f g s t u v z ne fresh n own first second lf lg =
       let all = own_whole (set_of w f) (set_of w g) t u own in
