@@ -149,8 +149,12 @@ own_in w M s t g hs is followed all c a b p (own q) same =
 own_in w M s t g hs is followed all c a b p (spread {f = h} v q) same =
     own_in w M s (set_of w h) h hs refl followed all (followed g h c (subst (λ u. Contains (spreads_of w u) h) is v)) a b p q same
 
-pub own_written : (w : World) (M : Search) (s g : ℕ) (hs : List ℕ) → Opens w g hs → All (λ h. OwnPairs w M false s (set_of w h)) hs → OwnWritten w M s g
-own_written w M s g hs o all a b p q same = own_in w M s (set_of w g) g hs refl o.followed all o.first a b p q same
+-- where nothing is passed
+all_followed : (w : World) (g : ℕ) (hs : List ℕ) → Opens w (λ h. ⊥) g hs → (h k : ℕ) → Contains hs h → Contains (spreads_of w (set_of w h)) k → Contains hs k
+all_followed w g hs o h k c d = elim (o.followed h k c d) [ inl there ↦ there | inr never ↦ absurd never ]
+
+pub own_written : (w : World) (M : Search) (s g : ℕ) (hs : List ℕ) → Opens w (λ h. ⊥) g hs → All (λ h. OwnPairs w M false s (set_of w h)) hs → OwnWritten w M s g
+own_written w M s g hs o all a b p q same = own_in w M s (set_of w g) g hs refl (all_followed w g hs o) all o.first a b p q same
 
 -- what stands in a fragment is an own field of one that a search opens
 tell_in : (w : World) (t g : ℕ) (hs : List ℕ) → t ≡ set_of w g → ((h k : ℕ) → Contains hs h → Contains (spreads_of w (set_of w h)) k → Contains hs k)
@@ -158,5 +162,5 @@ tell_in : (w : World) (t g : ℕ) (hs : List ℕ) → t ≡ set_of w g → ((h k
 tell_in w t g hs is followed c b (own q) = (g, c, subst (λ u. Contains (own_of w u) b) is q)
 tell_in w t g hs is followed c b (spread {f = h} v q) = tell_in w (set_of w h) h hs refl followed (followed g h c (subst (λ u. Contains (spreads_of w u) h) is v)) b q
 
-pub tell_written : (w : World) (s g : ℕ) (hs : List ℕ) → Opens w g hs → (r : Root) → AtWritten w s g r → (h : ℕ) × Contains hs h × AtOwn w s (set_of w h) r
-tell_written w s g hs o r at = let z = tell_in w (set_of w g) g hs refl o.followed o.first r.right at.1 in (z.0, z.1, (at.0, z.2, at.2))
+pub tell_written : (w : World) (s g : ℕ) (hs : List ℕ) → Opens w (λ h. ⊥) g hs → (r : Root) → AtWritten w s g r → (h : ℕ) × Contains hs h × AtOwn w s (set_of w h) r
+tell_written w s g hs o r at = let z = tell_in w (set_of w g) g hs refl (all_followed w g hs o) o.first r.right at.1 in (z.0, z.1, (at.0, z.2, at.2))

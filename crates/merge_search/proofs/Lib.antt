@@ -14,7 +14,6 @@ pub mod Logs
 pub mod Opened
 pub mod Order
 pub mod Rows
-pub mod SpreadLoops
 pub mod Spreads
 pub mod Steps
 pub mod Tallying

@@ -10,7 +10,7 @@ use Rattle.bit_matrix.specs.Set.{has}
 use Rattle.merge_search.specs.Graph.{Falling}
 use Rattle.merge_search.specs.World.{World, spreads_of, set_of}
 use Rattle.merge_search.specs.Opening.{Reaches, start, step, Opens}
-use Rattle.merge_search.specs.Sound.{NoRepeats, Once, Gains, Sound}
+use Rattle.merge_search.specs.Sound.{NoRepeats, Once, Gains, GoesOn, Sound}
 use Rattle.merge_search.specs.declared.opening.Opening.{Opening}
 use Rattle.merge_search.proofs.Distinct.{few_below, repeats_push}
 use Rattle.merge_search.proofs.Laws.{clash}
@@ -111,9 +111,9 @@ pub gains_all : (xs ys : List ℕ) (k : ℕ) {s t : Opening} → length xs ≤ k
 gains_all xs ys k {s} {t} l eq a = subst (λ zs. Gains zs zs s t) eq (subst (λ zs. Gains zs xs s t) (take_all k xs l) a)
 
 -- the first fragment
-pub sound_start : (w : World) (g : ℕ) (s t : Opening) → g < length w.fragments → ((h : ℕ) → has s.seen h ≡ false) → s.order.items ≡ [] → s.waiting.items ≡ []
-    → Gains (g ∷ []) (g ∷ []) s t → Sound w g t
-sound_start w g s t lt none os ws a =
+pub sound_start : (w : World) (IsPassed : ℕ → Type 0) (g : ℕ) (s t : Opening) → g < length w.fragments → ((h : ℕ) → has s.seen h ≡ false) → s.order.items ≡ [] → s.waiting.items ≡ []
+    → Gains (g ∷ []) (g ∷ []) s t → Sound w IsPassed g t
+sound_start w IsPassed g s t lt none os ws a =
     let empty : (h : ℕ) → Contains s.order.items h → ⊥ = λ h c. omega (arith, c.1, ap length os) in
     let once : Once s = record { seen = λ h z. absurd (clash (has s.seen h) z (none h)); noted = λ h c. absurd (empty h c); distinct = λ k l x less p q. absurd (empty x (k, slice_get_within s.order.items k x p, get_or_from_slice_get s.order.items k x x p)) } in
     let is : (h : ℕ) → Contains t.order.items h → (g ≡ h) × Contains t.waiting.items h = λ h c. elim (a.only h c) [ inl old ↦ absurd (empty h old) | inr z ↦ (same_one g h z.0, z.1) ] in
@@ -127,9 +127,9 @@ sound_start w g s t lt none os ws a =
     }
 
 -- a fragment that waited is followed
-pub sound_next : (w : World) (g f : ℕ) (s m t : Opening) → Falling w.sets w.fragments → Sound w g s → m.seen ≡ s.seen → m.order ≡ s.order → s.waiting.items ≡ m.waiting.items ++ f ∷ []
-    → Gains (spreads_of w (set_of w f)) (spreads_of w (set_of w f)) m t → Sound w g t
-sound_next w g f s m t falling o se os ws a =
+sound_gained : (w : World) (IsPassed : ℕ → Type 0) (g f : ℕ) (s m t : Opening) → Falling w.sets w.fragments → Sound w IsPassed g s → m.seen ≡ s.seen → m.order ≡ s.order → s.waiting.items ≡ m.waiting.items ++ f ∷ []
+    → Gains (spreads_of w (set_of w f)) (spreads_of w (set_of w f)) m t → Sound w IsPassed g t
+sound_gained w IsPassed g f s m t falling o se os ws a =
     let once : Once m = record {
       seen = λ h z. subst (λ v. Contains v.items h) (sym os) (o.once.seen h (subst (λ v. has v h ≡ true) se z));
       noted = λ h c. subst (λ v. has v h ≡ true) (sym se) (o.once.noted h (subst (λ v. Contains v.items h) os c));
@@ -160,32 +160,83 @@ sound_next w g f s m t falling o se os ws a =
         | inl old ↦ elim (o.followed h (back h old)) [
           | inl waits ↦ elim (Contains-push_cases m.waiting.items f h (subst (λ zs. Contains zs h) ws waits)) [
             | inl still ↦ inl (a.waits h still)
-            | inr is ↦ inr (subst (λ (x : ℕ). All (λ k. Contains t.order.items k) (spreads_of w (set_of w x))) is done)
+            | inr is ↦ inr (inl (subst (λ (x : ℕ). All (λ k. Contains t.order.items k) (spreads_of w (set_of w x))) is done))
           ]
-          | inr all ↦ inr (All-weaker (λ k. Contains s.order.items k) (λ k. Contains t.order.items k) fwd (spreads_of w (set_of w h)) all)
+          | inr rest ↦ elim rest [
+            | inl all ↦ inr (inl (All-weaker (λ k. Contains s.order.items k) (λ k. Contains t.order.items k) fwd (spreads_of w (set_of w h)) all))
+            | inr passed ↦ inr (inr passed)
+          ]
         ]
         | inr z ↦ inl z.1
       ];
     }
 
-pub few_open : (w : World) (g : ℕ) (o : Opening) → Sound w g o → length o.order.items ≤ length w.fragments
-few_open w g o s = few_below o.order.items (length w.fragments) s.once.distinct s.below
+-- one that is passed is not
+sound_passed : (w : World) (IsPassed : ℕ → Type 0) (g f : ℕ) (s m : Opening) → Sound w IsPassed g s → m.seen ≡ s.seen → m.order ≡ s.order → s.waiting.items ≡ m.waiting.items ++ f ∷ []
+    → IsPassed f → Sound w IsPassed g m
+sound_passed w IsPassed g f s m o se os ws passed =
+    let fwd : (h : ℕ) → Contains s.order.items h → Contains m.order.items h = λ h c. subst (λ v. Contains v.items h) (sym os) c in
+    let back : (h : ℕ) → Contains m.order.items h → Contains s.order.items h = λ h c. subst (λ v. Contains v.items h) os c in
+    record {
+      once = record {
+        seen = λ h z. fwd h (o.once.seen h (subst (λ v. has v h ≡ true) se z));
+        noted = λ h c. subst (λ v. has v h ≡ true) (sym se) (o.once.noted h (back h c));
+        distinct = subst (λ v. NoRepeats v.items) (sym os) o.once.distinct;
+      };
+      first = fwd g o.first;
+      reached = subst (λ v. All (Reaches w g) v.items) (sym os) o.reached;
+      below = subst (λ v. All (λ h. h < length w.fragments) v.items) (sym os) o.below;
+      waiting = λ k d l. fwd (get_or m.waiting.items k d) (All-contains (λ h. Contains s.order.items h) s.waiting.items (get_or m.waiting.items k d) o.waiting
+          (subst (λ zs. Contains zs (get_or m.waiting.items k d)) (sym ws) (Contains-append_left m.waiting.items (f ∷ []) (get_or m.waiting.items k d) (Contains-get_or m.waiting.items k d l))));
+      followed = λ h c. elim (o.followed h (back h c)) [
+        | inl waits ↦ elim (Contains-push_cases m.waiting.items f h (subst (λ zs. Contains zs h) ws waits)) [
+          | inl still ↦ inl still
+          | inr is ↦ inr (inr (subst IsPassed is passed))
+        ]
+        | inr rest ↦ elim rest [
+          | inl all ↦ inr (inl (All-weaker (λ k. Contains s.order.items k) (λ k. Contains m.order.items k) fwd (spreads_of w (set_of w h)) all))
+          | inr old ↦ inr (inr old)
+        ]
+      ];
+    }
 
-pub opens_end : (w : World) (g : ℕ) (o : Opening) → Sound w g o → o.waiting.items ≡ [] → Opens w g o.order.items
-opens_end w g o s none = record {
+pub sound_next : (w : World) (IsPassed : ℕ → Type 0) (g f : ℕ) (s m t : Opening) → Falling w.sets w.fragments → Sound w IsPassed g s → m.seen ≡ s.seen → m.order ≡ s.order → s.waiting.items ≡ m.waiting.items ++ f ∷ []
+    → GoesOn w IsPassed f m t → Sound w IsPassed g t
+sound_next w IsPassed g f s m t falling o se os ws (inl (passed, same)) = subst (λ (z : Opening). Sound w IsPassed g z) (sym same) (sound_passed w IsPassed g f s m o se os ws passed)
+sound_next w IsPassed g f s m t falling o se os ws (inr a) = sound_gained w IsPassed g f s m t falling o se os ws a
+
+pub few_open : (w : World) (IsPassed : ℕ → Type 0) (g : ℕ) (o : Opening) → Sound w IsPassed g o → length o.order.items ≤ length w.fragments
+few_open w IsPassed g o s = few_below o.order.items (length w.fragments) s.once.distinct s.below
+
+pub opens_end : (w : World) (IsPassed : ℕ → Type 0) (g : ℕ) (o : Opening) → Sound w IsPassed g o → o.waiting.items ≡ [] → Opens w IsPassed g o.order.items
+opens_end w IsPassed g o s none = record {
   first = s.first;
   followed = λ h k c d. elim (s.followed h c) [
     | inl waits ↦ absurd (omega (arith, waits.1, ap length none))
-    | inr all ↦ All-contains (λ i. Contains o.order.items i) (spreads_of w (set_of w h)) k all d
+    | inr rest ↦ elim rest [
+      | inl all ↦ inl (All-contains (λ i. Contains o.order.items i) (spreads_of w (set_of w h)) k all d)
+      | inr passed ↦ inr passed
+    ]
   ];
   reached = s.reached;
-  few = few_open w g o s;
+  few = few_open w IsPassed g o s;
+}
+
+-- what is passed in one state is in another
+pub opens_where : (w : World) (P Q : ℕ → Type 0) (g : ℕ) (hs : List ℕ) → ((h : ℕ) → P h → Q h) → Opens w P g hs → Opens w Q g hs
+opens_where w P Q g hs f o = record {
+  first = o.first;
+  followed = λ h k c d. elim (o.followed h k c d) [ inl there ↦ inl there | inr passed ↦ inr (f h passed) ];
+  reached = o.reached;
+  few = o.few;
 }
 
 -- each step leaves less to do
-pub less_left : (n : ℕ) (f : ℕ) (fs gs : List ℕ) (s m t : Opening) → m.order ≡ s.order → s.waiting.items ≡ m.waiting.items ++ f ∷ [] → Gains fs gs m t → length t.order.items ≤ n
+pub less_left : (w : World) (IsPassed : ℕ → Type 0) (n f : ℕ) (s m t : Opening) → m.order ≡ s.order → s.waiting.items ≡ m.waiting.items ++ f ∷ [] → GoesOn w IsPassed f m t → length t.order.items ≤ n
     → (2 * n + length t.waiting.items) - 2 * length t.order.items < (2 * n + length s.waiting.items) - 2 * length s.order.items
-less_left n f fs gs s m t os ws a top =
+less_left w IsPassed n f s m t os ws (inl (passed, same)) top =
+    omega (arith, ap length ws, length-append m.waiting.items (f ∷ []), ap (λ v. length v.items) os, ap (λ (v : Opening). length v.order.items) same, ap (λ (v : Opening). length v.waiting.items) same, top)
+less_left w IsPassed n f s m t os ws (inr a) top =
     omega (arith, ap length ws, length-append m.waiting.items (f ∷ []), ap (λ v. length v.items) os, a.left, a.longer, top)
 
 pub flag_new : (r b : Bool) → r ≡ not b → r ≡ true → b ≡ false

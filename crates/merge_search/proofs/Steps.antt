@@ -1,5 +1,5 @@
 -- What the pieces of a step make of the state together.
-use Rattle.std.proofs.Common.{◌≡◌, ℕ, ◌+◌, ◌<◌, ◌≤◌, List, [], ◌∷◌, length, drop, get_or, refl, sym, subst, ◌∙◌, arith, Bool, true, None, Some, Option, inl, inr, ◌⊎◌}
+use Rattle.std.proofs.Common.{◌≡◌, ℕ, ◌+◌, ◌<◌, ◌≤◌, List, [], ◌∷◌, length, drop, get_or, refl, sym, subst, ◌∙◌, arith, Bool, true, false, None, Some, Option, inl, inr, ◌⊎◌}
 use Rattle.std.specs.Prelude.{slice_get}
 use Rattle.std.specs.Option.{option_map_or}
 use Rattle.std.specs.List.{All, Contains}
@@ -14,10 +14,10 @@ use Rattle.merge_search.specs.Indexed.{firsts_of}
 use Rattle.merge_search.specs.World.{World, own_of, spreads_of, set_of, exclusive_of}
 use Rattle.merge_search.specs.Opening.{Opens}
 use Rattle.merge_search.specs.State.{Keeps, NotesPair, NotesSearch, CountsList}
-use Rattle.merge_search.specs.Work.{pair_in, Did, Owes, Done, Searched, Pair, OwnPairs}
+use Rattle.merge_search.specs.Work.{pair_in, Did, Owes, Done, Searched, Pair, OwnPairs, AllClosed}
 use Rattle.merge_search.specs.Reports.{Root, Adds, AddsAll, AtFields, AtWith, AtNamed, AtOwn, AtSearch, AtFirst}
 use Rattle.merge_search.specs.declared.task.Partner.TheVariants as partner
-use Rattle.merge_search.specs.Tasks.{firsts_at, AtPartners, Compares, Searches, SearchesOwing, ComparesEach, MeetsNested, MeetsBelow, MeetsNamed, MeetsOne, MeetsSearch, MeetsFragments, WithDone, NameDone, Closes}
+use Rattle.merge_search.specs.Tasks.{firsts_at, AtPartners, Compares, Searches, SearchesOwing, ComparesEach, MeetsNested, MeetsBelow, MeetsNamed, MeetsOne, MeetsSearch, MeetsFragments, WithDone, NameDone, SpreadsSearched, Closes}
 use Rattle.merge_search.proofs.Work.{did_none, did_then, did_map, did_list, did_opened, did_fragments, did_report, did_kept, owes_search, grows_then}
 use Rattle.merge_search.proofs.Adding.{adds_none, adds_map, adds_then, adds_from, adds_node, adds_same, all_both, all_map, all_told}
 use Rattle.merge_search.proofs.Rows.{named_in, named_is, row_named, tell_with, tell_named, tell_own, own_pairs, row_first, row_second, row_fragments, row_nested, row_below_own, row_below_forth, row_below_back, row_below_spreads}
@@ -174,11 +174,29 @@ module _ (w : World) (e : Bool) where
     real = adds_then w e P (adds_map w e R P f one.real) more.real;
   }
 
+  -- what was asked under a flag that was asked itself
+  asked_again : (M : Search) (x : Bool) (i g : ℕ) → (x ≡ e) ⊎ (x ≡ false) → Searched M x i g → Searched M e i g
+  asked_again M x i g (inl is) h = subst (λ (y : Bool). Searched M y i g) is h
+  asked_again M x i g (inr is) h = (h.0, inr (elim h.1 [ inl same ↦ same ∙ is | inr plain ↦ plain ]), h.2)
+
+  -- what is spread by one that is open is open, or was searched before
+  spreads_searched : (M s : Search) (i g : ℕ) (order : List ℕ) → Opens w (λ h. Searched s e i h) g order → AllClosed w M s → All (λ h. Searched M e i h) order
+      → All (SpreadsSearched w M e i) order
+  spreads_searched M s i g order opens closed all k d l n c m =
+      let h = get_or order k d in
+      let x = get_or (spreads_of w (set_of w h)) n c in
+      let there : Contains (spreads_of w (set_of w h)) x = Contains-get_or (spreads_of w (set_of w h)) n c m in
+      elim (opens.followed h x (Contains-get_or order k d l) there) [
+        | inl there_too ↦ All-contains (λ h. Searched M e i h) order x all there_too
+        | inr was ↦ asked_again M was.0 i x was.1 (All-contains (λ h. Searched M was.0 i h) (spreads_of w (set_of w h)) x (closed.searches_closed was.0 i h was.2).1 there)
+      ]
+
   -- all of them, counted first
-  pub search_counted : (i g : ℕ) (order : List ℕ) (s t u : Search) → g < length w.fragments → Opens w g order → CountsList (length order) s t
-      → SearchesOwing w e (λ M. All (λ h. Searched M e i h) order) (λ M. All (λ h. Searched M e i h) order) (AtSearch w i g) t u → MeetsSearch w e i g s u
+  pub search_counted : (i g : ℕ) (order : List ℕ) (s t u : Search) → g < length w.fragments → Opens w (λ h. Searched s e i h) g order → CountsList (length order) s t
+      → SearchesOwing w e (λ M. All (SpreadsSearched w M e i) order) (λ M. All (λ h. Searched M e i h) order) (AtSearch w i g) t u → MeetsSearch w e i g s u
   search_counted i g order s t u l opens n d = record {
-    done = did_map w _ _ (λ M z. All-contains (λ h. Searched M e i h) order g z opens.first) (did_opened w (λ h M. Searched M e i h) order (did_list w n opens.few (omega (arith, l))) d.done);
+    done = did_map w _ _ (λ M z. All-contains (λ h. Searched M e i h) order g z opens.first)
+        (did_opened w _ _ (λ M closed all. spreads_searched M s i g order opens closed all) (did_list w n opens.few (omega (arith, l))) d.done);
     real = adds_from w e _ n.found d.real;
   }
 

@@ -13,7 +13,7 @@ use Rattle.merge_search.specs.declared.task.Partner.TheVariants as partner
 use Rattle.merge_search.specs.Names.{named}
 use Rattle.merge_search.specs.Indexed.{firsts_of}
 use Rattle.merge_search.specs.World.{World, own_of, spreads_of, set_of, conflict_of, exclusive_of}
-use Rattle.merge_search.specs.Opening.{Opens}
+use Rattle.merge_search.specs.Opening.{Reaches}
 use Rattle.merge_search.specs.State.{Keeps, Reports}
 use Rattle.merge_search.specs.Work.{Did, Owes, Done, Searched, Pair, SetsDone}
 use Rattle.merge_search.specs.Reports.{Root, Finds, FindsAll, AtFields, AtWith, AtNamed, AtOwn, AtSearch, AtFragments, AtFirst, AtBelow}
@@ -62,8 +62,12 @@ NameDone w e i j f M = All (λ a. All (λ b. Done w M e a b) (named a.response (
 abbrev pub MeetsNamed : World → Bool → ℕ → ℕ → ℕ → Search → Search → Type 0
 MeetsNamed w e i j n = Compares w e (λ M. All (λ a. WithDone w e j a M) (named n (own_of w i))) (AtNamed w i j n) (AtNamed w i j n)
 
+-- What a fragment spreads was compared with the set.
+abbrev pub SpreadsSearched : World → Search → Bool → ℕ → ℕ → Type 0
+SpreadsSearched w M e i g = All (λ h. Searched M e i h) (spreads_of w (set_of w g))
+
 abbrev pub MeetsOne : World → Bool → ℕ → ℕ → Search → Search → Type 0
-MeetsOne w e i g = SearchesOwing w e (λ M. All (λ h. Searched M e i h) (spreads_of w (set_of w g))) (λ M. Searched M e i g) (AtOwn w i (set_of w g))
+MeetsOne w e i g = SearchesOwing w e (λ M. SpreadsSearched w M e i g) (λ M. Searched M e i g) (AtOwn w i (set_of w g))
 
 abbrev pub MeetsSearch : World → Bool → ℕ → ℕ → Search → Search → Type 0
 MeetsSearch w e i g = Searches w e (λ M. Searched M e i g) (AtSearch w i g)
@@ -110,8 +114,8 @@ Meets w (Named i j name e m) old new = ComparesEach w e (WithDone w e j) (AtName
 Meets w (Own i j e k) old new = ComparesEach w e (NameDone w e i j) (AtOwn w i j) (λ f. AtNamed w i j f.response) (drop k (firsts_at w.sets i)) old new
 Meets w (Close a b start) old new = Closes a b start old new
 Meets w (Opened i g e opening k) old new =
-    Opens w g opening.order.items
-    → SearchesOwing w e (λ M. All (λ h. Searched M e i h) opening.order.items) (λ M. All (λ h. Searched M e i h) (drop k opening.order.items)) (AtSearch w i g) old new
+    All (Reaches w g) opening.order.items
+    → SearchesOwing w e (λ M. All (SpreadsSearched w M e i) opening.order.items) (λ M. All (λ h. Searched M e i h) (drop k opening.order.items)) (AtSearch w i g) old new
 Meets w (Mark i start) old new = Keeps old new
 Meets w (Spreads s p e k) old new = IsThere w p → Searches w e (λ M. All (λ h. PartnerDone w e p h M) (drop k (spreads_of w s))) (AtPartners w s p) old new
 

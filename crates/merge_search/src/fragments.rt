@@ -8,7 +8,7 @@ use crate::fields::next_own;
 use crate::graph::Graph;
 use crate::judge::Judge;
 use crate::opening::{Opening, opened};
-use crate::repeats::is_settled;
+use crate::repeats::{Seeker, is_settled};
 use crate::state::{Search, is_compared, note_pair, note_search, put_opening};
 use crate::task::{Partner, Task, wait};
 use crate::view::{set, spreads};
@@ -77,7 +77,7 @@ fn begin_search<J: Judge>(
     if is_settled(graph, search, i, g, e) {
         return Ok(());
     }
-    let opening = opened(graph, g, search)?;
+    let opening = opened(graph, g, Seeker::Below(i, e), search)?;
     next_opened(graph, i, g, e, opening, 0, tasks, search)
 }
 

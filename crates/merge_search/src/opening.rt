@@ -2,12 +2,13 @@
 ghost use Rattle.std.specs.Prelude.{◌≡◌, ◌<◌, ◌∷◌, [], ℕ, false, OnOk, IfOk, length};
 ghost use Rattle.bit_matrix.specs.Set.{has};
 ghost use Rattle.merge_search.specs.World.{world, set_of, spreads_of};
-ghost use Rattle.merge_search.specs.Opening.{Opens};
-ghost use Rattle.merge_search.specs.Sound.{Gains};
+ghost use Rattle.merge_search.specs.Opening.{Opens, WasSearched};
+ghost use Rattle.merge_search.specs.Sound.{Gains, GoesOn};
 ghost use Rattle.merge_search.specs.State.{CountsList};
 
 use crate::graph::Graph;
 use crate::judge::Judge;
+use crate::repeats::{Seeker, is_passed};
 use crate::state::{Search, count_list, take_opening};
 use crate::view::{set, spreads};
 use bit_matrix::set::BitSet;
@@ -56,6 +57,23 @@ fn follow<J: Judge>(graph: &Graph<J>, f: usize, opening: &mut Opening) -> Result
     Ok(())
 }
 
+// Opens the fragments that one spreads, unless a search need not go on with them.
+fn go_on<J: Judge>(
+    graph: &Graph<J>,
+    f: usize,
+    seeker: Seeker,
+    search: &Search,
+    opening: &mut Opening,
+) -> Result<(), AllocError>
+    ensures { let w = world J.judgement graph.now in
+        OnOk result (GoesOn w (WasSearched search.now seeker) f opening.old opening.new) }
+{
+    if is_passed(search, seeker, f) {
+        return Ok(());
+    }
+    follow(graph, f, opening)
+}
+
 // Closes all that is open. The room stays, for the next search.
 fn close_all(opening: &mut Opening)
     ensures seen { (h : ℕ) → has opening.new.seen h ≡ false }
@@ -67,22 +85,30 @@ fn close_all(opening: &mut Opening)
     opening.waiting.clear();
 }
 
-// Opens what `g` reaches, and nothing else.
-fn open_from<J: Judge>(graph: &Graph<J>, g: usize, opening: &mut Opening) -> Result<(), AllocError>
+// Opens what `g` reaches, but for what a search need not go on with, and nothing else.
+fn open_from<J: Judge>(
+    graph: &Graph<J>,
+    g: usize,
+    seeker: Seeker,
+    search: &Search,
+    opening: &mut Opening,
+) -> Result<(), AllocError>
     requires { g < length graph.now.fragments.items }
-    ensures { OnOk result (Opens (world J.judgement graph.now) g opening.new.order.items) }
+    ensures { let w = world J.judgement graph.now in
+        OnOk result (Opens w (WasSearched search.now seeker) g opening.new.order.items) }
 {
     close_all(opening);
     open(opening, g)?;
     while let Some(f) = opening.waiting.pop() {
-        follow(graph, f, opening)?;
+        go_on(graph, f, seeker, search, opening)?;
     }
     Ok(())
 }
 
 /// Lists the fragments that `g` reaches, in the order in which a search opens them, and counts them.
 ///
-/// All fragments that one spreads are opened in turn, and the search continues with the one that it opened last.
+/// All fragments that one spreads are opened in turn, and the search continues with the one that it opened last. What
+/// the seeker was compared with before is not followed.
 ///
 /// # Errors
 ///
@@ -90,14 +116,16 @@ fn open_from<J: Judge>(graph: &Graph<J>, g: usize, opening: &mut Opening) -> Res
 pub fn opened<J: Judge>(
     graph: &Graph<J>,
     g: usize,
+    seeker: Seeker,
     search: &mut Search,
 ) -> Result<Opening, AllocError>
     requires { g < length graph.now.fragments.items }
-    ensures opens { IfOk result (λ o. Opens (world J.judgement graph.now) g o.order.items) }
+    ensures opens { let w = world J.judgement graph.now in
+        IfOk result (λ o. Opens w (WasSearched search.old seeker) g o.order.items) }
     ensures counted { IfOk result (λ o. CountsList (length o.order.items) search.old search.new) }
 {
     let mut opening = take_opening(search);
-    open_from(graph, g, &mut opening)?;
+    open_from(graph, g, seeker, search, &mut opening)?;
     count_list(search, opening.order.len());
     Ok(opening)
 }

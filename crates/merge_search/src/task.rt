@@ -12,7 +12,7 @@ use std::alloc::AllocError;
 use std::mem;
 
 /// What a fragment is compared with.
-#[derive(Clone, Copy, Debug)]
+#[derive(Clone, Copy)]
 pub enum Partner {
     /// The own fields of a set.
     Own(usize),

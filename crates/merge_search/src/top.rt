@@ -15,6 +15,7 @@ use crate::node::Entry;
 use crate::opening::opened;
 use crate::passing::{note_plain, pass_over};
 use crate::plain::{is_plain, passed_over};
+use crate::repeats::Seeker;
 use crate::search::{compare_fields, compare_fragments, compare_own};
 use crate::state::{Search, no_search, put_opening};
 use crate::view::{are_plainly_alike, firsts, group, order, set, spreads};
@@ -84,7 +85,7 @@ fn write_all<J: Judge>(
     opening: &[usize],
     search: &mut Search,
 ) -> Result<(), AllocError>
-    requires { Opens (world J.judgement graph.now) g opening.now }
+    requires { Opens (world J.judgement graph.now) (λ h. ⊥) g opening.now }
     ensures done { let w = world J.judgement graph.now in
         OnOk result (Did w (λ M. All (λ h. OwnPairs w M false s (set_of w h)) opening.now) search.old search.new) }
     ensures real { let w = world J.judgement graph.now in
@@ -109,7 +110,7 @@ fn write_out<J: Judge>(
     ensures real { let w = world J.judgement graph.now in
         OnOk result (FindsAll w false (AtWritten w s g) (AtWritten w s g) search.old search.new) }
 {
-    let opening = opened(graph, g, search)?;
+    let opening = opened(graph, g, Seeker::Top, search)?;
     write_all(graph, s, g, opening.order.as_slice(), search)?;
     put_opening(search, opening)
 }

@@ -28,5 +28,5 @@ returns g c =
     let o = c.in_ok-opening.opening in
     on_ok_weaker c.next_opened.result
     (λ go. leads_turn v (Meets v (Opened i c.args.g e o 0)) (MeetsSearch v e i c.args.g) _ _ t s _
-    (λ u d. search_counted v e i c.args.g o.order.items s t u c.requires c.in_ok-opening.ensures.opens c.in_ok-opening.ensures.counted (d c.in_ok-opening.ensures.opens)) go)
+    (λ u d. search_counted v e i c.args.g o.order.items s t u c.requires c.in_ok-opening.ensures.opens c.in_ok-opening.ensures.counted (d c.in_ok-opening.ensures.opens.reached)) go)
     c.next_opened.ensures

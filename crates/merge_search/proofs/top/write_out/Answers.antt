@@ -12,12 +12,12 @@ use Rattle.merge_search.proofs.top.write_out.Goals as goal
 pub write_all-requires : goal.write_all-requires
 write_all-requires g c =
     let v = world g.J.Judge.judgement c.args.graph.now in
-    subst (λ zs. Opens v c.args.g zs) (sym c.as_slice.ensures.value) c.in_ok-opening.ensures.opens
+    subst (λ zs. Opens v (λ h. ⊥) c.args.g zs) (sym c.as_slice.ensures.value) c.in_ok-opening.ensures.opens
 
 pub returns : goal.returns
 returns g c =
     let v = world g.J.Judge.judgement c.args.graph.now in
-    let opens : Opens v c.args.g c.as_slice.result.now = subst (λ zs. Opens v c.args.g zs) (sym c.as_slice.ensures.value) c.in_ok-opening.ensures.opens in
+    let opens : Opens v (λ h. ⊥) c.args.g c.as_slice.result.now = subst (λ zs. Opens v (λ h. ⊥) c.args.g zs) (sym c.as_slice.ensures.value) c.in_ok-opening.ensures.opens in
     record {
       done = on_ok_weaker c.put_opening.result
           (λ k. did_kept v _ k (did_map v _ _ (λ M h. own_written v M c.args.s c.args.g c.as_slice.result.now opens h.1)
