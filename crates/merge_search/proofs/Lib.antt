@@ -15,6 +15,7 @@ pub mod Opened
 pub mod Order
 pub mod Rows
 pub mod Spreads
+pub mod Unmarked
 pub mod Steps
 pub mod Tallying
 pub mod TallyingBelow

@@ -5,7 +5,7 @@ use Rattle.std.specs.Option.{option_map_or}
 use Rattle.std.specs.List.{All, Contains}
 use Rattle.std.proofs.lemmas.List.{drop_more}
 use Rattle.std.proofs.Math.ListN.{drop_of_length-le}
-use Rattle.std.proofs.lemmas.List.Elements.{All-nil, All-cons, All-contains, Contains-append_cases, Contains-get_or}
+use Rattle.std.proofs.lemmas.List.Elements.{All-nil, All-cons, All-contains, Contains-append_cases, Contains-get_or, Contains-push}
 use Rattle.merge_search.specs.declared.node.Entry.{Entry}
 use Rattle.merge_search.specs.declared.node.SetNode.{SetNode}
 use Rattle.merge_search.specs.declared.state.Search.{Search}
@@ -180,9 +180,9 @@ module _ (w : World) (e : Bool) where
   asked_again M x i g (inr is) h = (h.0, inr (elim h.1 [ inl same ↦ same ∙ is | inr plain ↦ plain ]), h.2)
 
   -- what is spread by one that is open is open, or was searched before
-  spreads_searched : (M s : Search) (i g : ℕ) (order : List ℕ) → Opens w (λ h. Searched s e i h) g order → AllClosed w M s → All (λ h. Searched M e i h) order
+  spreads_searched : (M s : Search) (i : ℕ) (gs order : List ℕ) → Opens w (λ h. Searched s e i h) gs order → AllClosed w M s → All (λ h. Searched M e i h) order
       → All (SpreadsSearched w M e i) order
-  spreads_searched M s i g order opens closed all k d l n c m =
+  spreads_searched M s i gs order opens closed all k d l n c m =
       let h = get_or order k d in
       let x = get_or (spreads_of w (set_of w h)) n c in
       let there : Contains (spreads_of w (set_of w h)) x = Contains-get_or (spreads_of w (set_of w h)) n c m in
@@ -192,11 +192,11 @@ module _ (w : World) (e : Bool) where
       ]
 
   -- all of them, counted first
-  pub search_counted : (i g : ℕ) (order : List ℕ) (s t u : Search) → g < length w.fragments → Opens w (λ h. Searched s e i h) g order → CountsList (length order) s t
+  pub search_counted : (i g : ℕ) (order : List ℕ) (s t u : Search) → g < length w.fragments → Opens w (λ h. Searched s e i h) (g ∷ []) order → CountsList (length order) s t
       → SearchesOwing w e (λ M. All (SpreadsSearched w M e i) order) (λ M. All (λ h. Searched M e i h) order) (AtSearch w i g) t u → MeetsSearch w e i g s u
   search_counted i g order s t u l opens n d = record {
-    done = did_map w _ _ (λ M z. All-contains (λ h. Searched M e i h) order g z opens.first)
-        (did_opened w _ _ (λ M closed all. spreads_searched M s i g order opens closed all) (did_list w n opens.few (omega (arith, l))) d.done);
+    done = did_map w _ _ (λ M z. All-contains (λ h. Searched M e i h) order g z (All-contains (λ h. Contains order h) (g ∷ []) g opens.first (Contains-push [] g)))
+        (did_opened w _ _ (λ M closed all. spreads_searched M s i (g ∷ []) order opens closed all) (did_list w n opens.few (omega (arith, l))) d.done);
     real = adds_from w e _ n.found d.real;
   }
 

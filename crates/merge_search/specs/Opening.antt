@@ -17,9 +17,13 @@ abbrev pub WasSearched : Search → Seeker → ℕ → Type 0
 WasSearched s Top g = ⊥
 WasSearched s (Below i e) g = Searched s e i g
 
--- Fragments that g reaches, itself among them, and no more of them than there are; all of them but for what is passed and what that spreads.
-pub record Opens (w : World) (IsPassed : ℕ → Type 0) (g : ℕ) (hs : List ℕ) : Type 0 where
-  pub first : Contains hs g
+-- The fragment is one of some, or they reach it.
+abbrev pub ReachedFrom : World → List ℕ → ℕ → Type 0
+ReachedFrom w gs h = (g : ℕ) × Contains gs g × Reaches w g h
+
+-- Fragments that some reach, these among them, and no more of them than there are; all of them but for what is passed and what that spreads.
+pub record Opens (w : World) (IsPassed : ℕ → Type 0) (gs hs : List ℕ) : Type 0 where
+  pub first : All (λ g. Contains hs g) gs
   pub followed : (h k : ℕ) → Contains hs h → Contains (spreads_of w (set_of w h)) k → Contains hs k ⊎ IsPassed h
-  pub reached : All (Reaches w g) hs
+  pub reached : All (ReachedFrom w gs) hs
   pub few : length hs ≤ length w.fragments

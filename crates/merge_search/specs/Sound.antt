@@ -3,7 +3,7 @@ use Rattle.std.specs.Prelude.{ℕ, ◌+◌, ◌<◌, ◌≤◌, List, length, So
 use Rattle.std.specs.List.{All, Contains}
 use Rattle.bit_matrix.specs.Set.{has}
 use Rattle.merge_search.specs.World.{World, spreads_of, set_of}
-use Rattle.merge_search.specs.Opening.{Reaches}
+use Rattle.merge_search.specs.Opening.{ReachedFrom}
 use Rattle.merge_search.specs.declared.opening.Opening.{Opening}
 
 -- Nothing stands at two places.
@@ -32,10 +32,10 @@ abbrev pub GoesOn : World → (ℕ → Type 0) → ℕ → Opening → Opening �
 GoesOn w IsPassed f old new = (IsPassed f × (new ≡ old)) ⊎ Gains (spreads_of w (set_of w f)) (spreads_of w (set_of w f)) old new
 
 -- What is open is reached, and what an open one spreads is open, unless it waits or is passed.
-pub record Sound (w : World) (IsPassed : ℕ → Type 0) (g : ℕ) (o : Opening) : Type 0 where
+pub record Sound (w : World) (IsPassed : ℕ → Type 0) (gs : List ℕ) (o : Opening) : Type 0 where
   pub once : Once o
-  pub first : Contains o.order.items g
-  pub reached : All (Reaches w g) o.order.items
+  pub first : All (λ g. Contains o.order.items g) gs
+  pub reached : All (ReachedFrom w gs) o.order.items
   pub below : All (λ h. h < length w.fragments) o.order.items
   pub waiting : All (λ h. Contains o.order.items h) o.waiting.items
   pub followed : (h : ℕ) → Contains o.order.items h → Contains o.waiting.items h ⊎ (All (λ k. Contains o.order.items k) (spreads_of w (set_of w h)) ⊎ IsPassed h)

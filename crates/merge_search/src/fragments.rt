@@ -13,6 +13,7 @@ use crate::state::{Search, is_compared, note_pair, note_search, put_opening};
 use crate::task::{Partner, Task, wait};
 use crate::view::{set, spreads};
 use std::alloc::AllocError;
+use std::slice;
 
 /// Compares the own fields of `i` with those of one fragment that a search opens.
 fn begin_one<J: Judge>(
@@ -77,7 +78,7 @@ fn begin_search<J: Judge>(
     if is_settled(graph, search, i, g, e) {
         return Ok(());
     }
-    let opening = opened(graph, g, Seeker::Below(i, e), search)?;
+    let opening = opened(graph, slice::from_ref(&g), Seeker::Below(i, e), search)?;
     next_opened(graph, i, g, e, opening, 0, tasks, search)
 }
 

@@ -1,7 +1,8 @@
 //! The fragments that a search opens, each once.
 ghost use Rattle.std.specs.Prelude.{◌≡◌, ◌<◌, ◌∷◌, [], ℕ, false, OnOk, IfOk, length};
+ghost use Rattle.std.specs.List.{All};
 ghost use Rattle.bit_matrix.specs.Set.{has};
-ghost use Rattle.merge_search.specs.World.{world, set_of, spreads_of};
+ghost use Rattle.merge_search.specs.World.{world};
 ghost use Rattle.merge_search.specs.Opening.{Opens, WasSearched};
 ghost use Rattle.merge_search.specs.Sound.{Gains, GoesOn};
 ghost use Rattle.merge_search.specs.State.{CountsList};
@@ -46,13 +47,12 @@ fn open(opening: &mut Opening, f: usize) -> Result<(), AllocError>
     Ok(())
 }
 
-// Opens the fragments that one spreads.
-fn follow<J: Judge>(graph: &Graph<J>, f: usize, opening: &mut Opening) -> Result<(), AllocError>
-    ensures { let w = world J.judgement graph.now in
-        OnOk result (Gains (spreads_of w (set_of w f)) (spreads_of w (set_of w f)) opening.old opening.new) }
+// Opens some fragments.
+fn open_all(fragments: &[usize], opening: &mut Opening) -> Result<(), AllocError>
+    ensures { OnOk result (Gains fragments.now fragments.now opening.old opening.new) }
 {
-    for h in spreads(graph, set(graph, f)) {
-        open(opening, *h)?;
+    for f in fragments {
+        open(opening, *f)?;
     }
     Ok(())
 }
@@ -71,7 +71,7 @@ fn go_on<J: Judge>(
     if is_passed(search, seeker, f) {
         return Ok(());
     }
-    follow(graph, f, opening)
+    open_all(spreads(graph, set(graph, f)), opening)
 }
 
 // Closes all that is open. The room stays, for the next search.
@@ -85,27 +85,27 @@ fn close_all(opening: &mut Opening)
     opening.waiting.clear();
 }
 
-// Opens what `g` reaches, but for what a search need not go on with, and nothing else.
+// Opens what some fragments reach, but for what a search need not go on with, and nothing else.
 fn open_from<J: Judge>(
     graph: &Graph<J>,
-    g: usize,
+    starts: &[usize],
     seeker: Seeker,
     search: &Search,
     opening: &mut Opening,
 ) -> Result<(), AllocError>
-    requires { g < length graph.now.fragments.items }
+    requires { All (λ g. g < length graph.now.fragments.items) starts.now }
     ensures { let w = world J.judgement graph.now in
-        OnOk result (Opens w (WasSearched search.now seeker) g opening.new.order.items) }
+        OnOk result (Opens w (WasSearched search.now seeker) starts.now opening.new.order.items) }
 {
     close_all(opening);
-    open(opening, g)?;
+    open_all(starts, opening)?;
     while let Some(f) = opening.waiting.pop() {
         go_on(graph, f, seeker, search, opening)?;
     }
     Ok(())
 }
 
-/// Lists the fragments that `g` reaches, in the order in which a search opens them, and counts them.
+/// Lists the fragments that some reach, in the order in which a search opens them, and counts them.
 ///
 /// All fragments that one spreads are opened in turn, and the search continues with the one that it opened last. What
 /// the seeker was compared with before is not followed.
@@ -115,17 +115,17 @@ fn open_from<J: Judge>(
 /// Out of memory.
 pub fn opened<J: Judge>(
     graph: &Graph<J>,
-    g: usize,
+    starts: &[usize],
     seeker: Seeker,
     search: &mut Search,
 ) -> Result<Opening, AllocError>
-    requires { g < length graph.now.fragments.items }
+    requires { All (λ g. g < length graph.now.fragments.items) starts.now }
     ensures opens { let w = world J.judgement graph.now in
-        IfOk result (λ o. Opens w (WasSearched search.old seeker) g o.order.items) }
+        IfOk result (λ o. Opens w (WasSearched search.old seeker) starts.now o.order.items) }
     ensures counted { IfOk result (λ o. CountsList (length o.order.items) search.old search.new) }
 {
     let mut opening = take_opening(search);
-    open_from(graph, g, seeker, search, &mut opening)?;
+    open_from(graph, starts, seeker, search, &mut opening)?;
     count_list(search, opening.order.len());
     Ok(opening)
 }
