@@ -4,7 +4,7 @@ use Rattle.std.specs.List.{All, Contains}
 use Rattle.std.proofs.lemmas.Option.{get_or_from_slice_get, slice_get_within, slice_get-get_or}
 use Rattle.std.proofs.lemmas.Bool.{cases_order}
 use Rattle.std.proofs.lemmas.List.{get_or_default}
-use Rattle.std.proofs.lemmas.List.Elements.{All-contains}
+use Rattle.std.proofs.lemmas.List.Elements.{All-contains, All-weaker}
 use Rattle.std.proofs.lemmas.Map.Views.{Contains-from_any}
 use Rattle.merge_search.specs.declared.node.Entry.{Entry}
 use Rattle.merge_search.specs.declared.state.Search.{Search}
@@ -13,15 +13,16 @@ use Rattle.merge_search.specs.declared.state.Finding.TheVariants.{Direct}
 use Rattle.merge_search.specs.Judgement.{Lawful}
 use Rattle.merge_search.specs.Graph.{Falling, AreListed, IsWhole}
 use Rattle.merge_search.specs.World.{World, own_of, spreads_of, set_of, conflict_of, Same}
-use Rattle.merge_search.specs.Opening.{Opens}
+use Rattle.merge_search.specs.Opening.{ReachedFrom, Opens}
 use Rattle.merge_search.specs.Work.{pair_in, search_in, OwnPairs, Done, AllClosed, Grows, Did}
 use Rattle.merge_search.specs.Merging.{Stands, own, spread, Apart, own_own, own_spread, spread_own, two_spreads, one_spread, SetMerges, Merges, Top, OwnWritten}
 use Rattle.merge_search.specs.Reports.{Root, Judged, Real, AddsAll, AtOwn, AtPlaces, AtSearched, IsRoot}
 use Rattle.merge_search.specs.State.{Begins}
-use Rattle.merge_search.specs.Tops.{AtTop, AtWithin, AtWritten, AtListed}
+use Rattle.merge_search.specs.Tops.{AtTop, AtWithin, AtWritten, AtSpreads, AtListed}
 use Rattle.merge_search.proofs.Adding.{Upto, refuted, roots_of, no_root}
 use Rattle.merge_search.proofs.Laws.{clash, conflict_self, same_some}
 use Rattle.merge_search.proofs.Work.{grows_same, grows_then}
+use Rattle.merge_search.proofs.Rows.{row_opened}
 use Rattle.merge_search.proofs.Core.{set_merges, ways, failing}
 
 place_of : {X : Type 0} (xs : List X) (x : X) (p : Contains xs x) → slice_get xs p.0 ≡ Some x
@@ -149,8 +150,13 @@ own_in w M s t g hs is followed all c a b p (own q) same =
 own_in w M s t g hs is followed all c a b p (spread {f = h} v q) same =
     own_in w M s (set_of w h) h hs refl followed all (followed g h c (subst (λ u. Contains (spreads_of w u) h) is v)) a b p q same
 
-pub own_written : (w : World) (M : Search) (s g : ℕ) (hs : List ℕ) → Opens w g hs → All (λ h. OwnPairs w M false s (set_of w h)) hs → OwnWritten w M s g
-own_written w M s g hs o all a b p q same = own_in w M s (set_of w g) g hs refl o.followed all o.first a b p q same
+-- where nothing is passed
+all_followed : (w : World) (gs hs : List ℕ) → Opens w (λ h. ⊥) gs hs → (h k : ℕ) → Contains hs h → Contains (spreads_of w (set_of w h)) k → Contains hs k
+all_followed w gs hs o h k c d = elim (o.followed h k c d) [ inl there ↦ there | inr never ↦ absurd never ]
+
+pub own_written : (w : World) (M : Search) (s : ℕ) (gs hs : List ℕ) → Opens w (λ h. ⊥) gs hs → All (λ h. OwnPairs w M false s (set_of w h)) hs → All (λ g. OwnWritten w M s g) gs
+own_written w M s gs hs o all =
+    All-weaker (λ g. Contains hs g) (λ g. OwnWritten w M s g) (λ g c a b p q same. own_in w M s (set_of w g) g hs refl (all_followed w gs hs o) all c a b p q same) gs o.first
 
 -- what stands in a fragment is an own field of one that a search opens
 tell_in : (w : World) (t g : ℕ) (hs : List ℕ) → t ≡ set_of w g → ((h k : ℕ) → Contains hs h → Contains (spreads_of w (set_of w h)) k → Contains hs k)
@@ -158,5 +164,11 @@ tell_in : (w : World) (t g : ℕ) (hs : List ℕ) → t ≡ set_of w g → ((h k
 tell_in w t g hs is followed c b (own q) = (g, c, subst (λ u. Contains (own_of w u) b) is q)
 tell_in w t g hs is followed c b (spread {f = h} v q) = tell_in w (set_of w h) h hs refl followed (followed g h c (subst (λ u. Contains (spreads_of w u) h) is v)) b q
 
-pub tell_written : (w : World) (s g : ℕ) (hs : List ℕ) → Opens w g hs → (r : Root) → AtWritten w s g r → (h : ℕ) × Contains hs h × AtOwn w s (set_of w h) r
-tell_written w s g hs o r at = let z = tell_in w (set_of w g) g hs refl o.followed o.first r.right at.1 in (z.0, z.1, (at.0, z.2, at.2))
+pub tell_written : (w : World) (s : ℕ) (gs hs : List ℕ) → Opens w (λ h. ⊥) gs hs → (r : Root) → AtSpreads w s gs r → (h : ℕ) × Contains hs h × AtOwn w s (set_of w h) r
+tell_written w s gs hs o r at =
+    let z = tell_in w (set_of w at.0) at.0 hs refl (all_followed w gs hs o) (All-contains (λ g. Contains hs g) gs at.0 o.first at.1) r.right at.2.1 in
+    (z.0, z.1, (at.2.0, z.2, at.2.2))
+
+-- what was opened from some stands in one of them
+pub row_written : (w : World) (s h : ℕ) (gs : List ℕ) → ReachedFrom w gs h → (r : Root) → AtOwn w s (set_of w h) r → AtSpreads w s gs r
+row_written w s h gs from r z = (from.0, from.1, row_opened w s from.0 h from.2 r z)

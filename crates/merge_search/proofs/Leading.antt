@@ -21,9 +21,10 @@ module _ (w : World) where
   pub leads_done : (R : Search → Search → Type 0) (ts : List Task) {old now : Search} → R old now → Leads w ts now R ts old
   leads_done R ts {old} {now} r end m = (now, r, m)
 
-  -- what a task is
-  pub leads_task : (t u : Task) (ts us : List Task) (now old : Search) → t ≡ u → Leads w ts now (Meets w u) us old → Leads w ts now (Meets w t) us old
-  leads_task t u ts us now old e go = subst (λ z. Leads w ts now (Meets w z) us old) (sym e) go
+  -- what is equal has the same work
+  pub leads_is : {X : Type 0} (R : X → Search → Search → Type 0) (x y : X) (ts us : List Task) (now old : Search) → x ≡ y
+      → Leads w ts now (R y) us old → Leads w ts now (R x) us old
+  leads_is R x y ts us now old e go = subst (λ z. Leads w ts now (R z) us old) (sym e) go
 
   -- what was led to is more than what was asked
   pub leads_turn : (R T : Search → Search → Type 0) (ts us : List Task) (mid old now : Search) → ((t : Search) → R mid t → T old t)

@@ -14,8 +14,8 @@ pub mod Logs
 pub mod Opened
 pub mod Order
 pub mod Rows
-pub mod SpreadLoops
 pub mod Spreads
+pub mod Unmarked
 pub mod Steps
 pub mod Tallying
 pub mod TallyingBelow

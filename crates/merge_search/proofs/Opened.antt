@@ -9,8 +9,8 @@ use Rattle.bit_matrix.specs.declared.set.BitSet.{BitSet}
 use Rattle.bit_matrix.specs.Set.{has}
 use Rattle.merge_search.specs.Graph.{Falling}
 use Rattle.merge_search.specs.World.{World, spreads_of, set_of}
-use Rattle.merge_search.specs.Opening.{Reaches, start, step, Opens}
-use Rattle.merge_search.specs.Sound.{NoRepeats, Once, Gains, Sound}
+use Rattle.merge_search.specs.Opening.{Reaches, start, step, ReachedFrom, Opens}
+use Rattle.merge_search.specs.Sound.{NoRepeats, Once, Gains, GoesOn, Sound}
 use Rattle.merge_search.specs.declared.opening.Opening.{Opening}
 use Rattle.merge_search.proofs.Distinct.{few_below, repeats_push}
 use Rattle.merge_search.proofs.Laws.{clash}
@@ -110,26 +110,30 @@ gains_more xs k d {s} {t} {u} l a b = record {
 pub gains_all : (xs ys : List ℕ) (k : ℕ) {s t : Opening} → length xs ≤ k → xs ≡ ys → Gains (take k xs) xs s t → Gains ys ys s t
 gains_all xs ys k {s} {t} l eq a = subst (λ zs. Gains zs zs s t) eq (subst (λ zs. Gains zs xs s t) (take_all k xs l) a)
 
--- the first fragment
-pub sound_start : (w : World) (g : ℕ) (s t : Opening) → g < length w.fragments → ((h : ℕ) → has s.seen h ≡ false) → s.order.items ≡ [] → s.waiting.items ≡ []
-    → Gains (g ∷ []) (g ∷ []) s t → Sound w g t
-sound_start w g s t lt none os ws a =
+-- the first fragments
+pub sound_start : (w : World) (IsPassed : ℕ → Type 0) (gs : List ℕ) (s t : Opening) → All (λ g. g < length w.fragments) gs → ((h : ℕ) → has s.seen h ≡ false) → s.order.items ≡ [] → s.waiting.items ≡ []
+    → Gains gs gs s t → Sound w IsPassed gs t
+sound_start w IsPassed gs s t lt none os ws a =
     let empty : (h : ℕ) → Contains s.order.items h → ⊥ = λ h c. omega (arith, c.1, ap length os) in
     let once : Once s = record { seen = λ h z. absurd (clash (has s.seen h) z (none h)); noted = λ h c. absurd (empty h c); distinct = λ k l x less p q. absurd (empty x (k, slice_get_within s.order.items k x p, get_or_from_slice_get s.order.items k x x p)) } in
-    let is : (h : ℕ) → Contains t.order.items h → (g ≡ h) × Contains t.waiting.items h = λ h c. elim (a.only h c) [ inl old ↦ absurd (empty h old) | inr z ↦ (same_one g h z.0, z.1) ] in
+    let is : (h : ℕ) → Contains t.order.items h → Contains gs h × Contains t.waiting.items h = λ h c. elim (a.only h c) [ inl old ↦ absurd (empty h old) | inr z ↦ z ] in
     record {
       once = a.once once;
-      first = All-contains (λ h. Contains t.order.items h) (g ∷ []) g (a.opened once) (Contains-push [] g);
-      reached = λ k d l. let z = is (get_or t.order.items k d) (Contains-get_or t.order.items k d l) in subst (λ (x : ℕ). Reaches w g x) z.0 start;
-      below = λ k d l. let z = is (get_or t.order.items k d) (Contains-get_or t.order.items k d l) in subst (λ (x : ℕ). x < length w.fragments) z.0 lt;
+      first = a.opened once;
+      reached = λ k d l. (get_or t.order.items k d, (is (get_or t.order.items k d) (Contains-get_or t.order.items k d l)).0, start);
+      below = λ k d l. All-contains (λ g. g < length w.fragments) gs (get_or t.order.items k d) lt (is (get_or t.order.items k d) (Contains-get_or t.order.items k d l)).0;
       waiting = λ k d l. elim (a.waiting (get_or t.waiting.items k d) (Contains-get_or t.waiting.items k d l)) [ inl old ↦ absurd (omega (arith, old.1, ap length ws)) | inr z ↦ z ];
       followed = λ h c. inl (is h c).1;
     }
 
+-- what one reaches
+pub reached_one : (w : World) (g : ℕ) (hs : List ℕ) → All (ReachedFrom w (g ∷ [])) hs → All (Reaches w g) hs
+reached_one w g hs all = All-weaker (ReachedFrom w (g ∷ [])) (Reaches w g) (λ h z. subst (λ (x : ℕ). Reaches w x h) (sym (same_one g z.0 z.1)) z.2) hs all
+
 -- a fragment that waited is followed
-pub sound_next : (w : World) (g f : ℕ) (s m t : Opening) → Falling w.sets w.fragments → Sound w g s → m.seen ≡ s.seen → m.order ≡ s.order → s.waiting.items ≡ m.waiting.items ++ f ∷ []
-    → Gains (spreads_of w (set_of w f)) (spreads_of w (set_of w f)) m t → Sound w g t
-sound_next w g f s m t falling o se os ws a =
+sound_gained : (w : World) (IsPassed : ℕ → Type 0) (gs : List ℕ) (f : ℕ) (s m t : Opening) → Falling w.sets w.fragments → Sound w IsPassed gs s → m.seen ≡ s.seen → m.order ≡ s.order → s.waiting.items ≡ m.waiting.items ++ f ∷ []
+    → Gains (spreads_of w (set_of w f)) (spreads_of w (set_of w f)) m t → Sound w IsPassed gs t
+sound_gained w IsPassed gs f s m t falling o se os ws a =
     let once : Once m = record {
       seen = λ h z. subst (λ v. Contains v.items h) (sym os) (o.once.seen h (subst (λ v. has v h ≡ true) se z));
       noted = λ h c. subst (λ v. has v h ≡ true) (sym se) (o.once.noted h (subst (λ v. Contains v.items h) os c));
@@ -142,10 +146,10 @@ sound_next w g f s m t falling o se os ws a =
     let done : All (λ k. Contains t.order.items k) (spreads_of w (set_of w f)) = a.opened once in
     record {
       once = a.once once;
-      first = fwd g o.first;
+      first = All-weaker (λ g. Contains s.order.items g) (λ g. Contains t.order.items g) fwd gs o.first;
       reached = λ k d l. elim (a.only (get_or t.order.items k d) (Contains-get_or t.order.items k d l)) [
-        | inl old ↦ All-contains (Reaches w g) s.order.items (get_or t.order.items k d) o.reached (back (get_or t.order.items k d) old)
-        | inr z ↦ step (All-contains (Reaches w g) s.order.items f o.reached there) z.0
+        | inl old ↦ All-contains (ReachedFrom w gs) s.order.items (get_or t.order.items k d) o.reached (back (get_or t.order.items k d) old)
+        | inr z ↦ let from = All-contains (ReachedFrom w gs) s.order.items f o.reached there in (from.0, from.1, step from.2 z.0)
       ];
       below = λ k d l. elim (a.only (get_or t.order.items k d) (Contains-get_or t.order.items k d l)) [
         | inl old ↦ All-contains (λ h. h < length w.fragments) s.order.items (get_or t.order.items k d) o.below (back (get_or t.order.items k d) old)
@@ -160,32 +164,83 @@ sound_next w g f s m t falling o se os ws a =
         | inl old ↦ elim (o.followed h (back h old)) [
           | inl waits ↦ elim (Contains-push_cases m.waiting.items f h (subst (λ zs. Contains zs h) ws waits)) [
             | inl still ↦ inl (a.waits h still)
-            | inr is ↦ inr (subst (λ (x : ℕ). All (λ k. Contains t.order.items k) (spreads_of w (set_of w x))) is done)
+            | inr is ↦ inr (inl (subst (λ (x : ℕ). All (λ k. Contains t.order.items k) (spreads_of w (set_of w x))) is done))
           ]
-          | inr all ↦ inr (All-weaker (λ k. Contains s.order.items k) (λ k. Contains t.order.items k) fwd (spreads_of w (set_of w h)) all)
+          | inr rest ↦ elim rest [
+            | inl all ↦ inr (inl (All-weaker (λ k. Contains s.order.items k) (λ k. Contains t.order.items k) fwd (spreads_of w (set_of w h)) all))
+            | inr passed ↦ inr (inr passed)
+          ]
         ]
         | inr z ↦ inl z.1
       ];
     }
 
-pub few_open : (w : World) (g : ℕ) (o : Opening) → Sound w g o → length o.order.items ≤ length w.fragments
-few_open w g o s = few_below o.order.items (length w.fragments) s.once.distinct s.below
+-- one that is passed is not
+sound_passed : (w : World) (IsPassed : ℕ → Type 0) (gs : List ℕ) (f : ℕ) (s m : Opening) → Sound w IsPassed gs s → m.seen ≡ s.seen → m.order ≡ s.order → s.waiting.items ≡ m.waiting.items ++ f ∷ []
+    → IsPassed f → Sound w IsPassed gs m
+sound_passed w IsPassed gs f s m o se os ws passed =
+    let fwd : (h : ℕ) → Contains s.order.items h → Contains m.order.items h = λ h c. subst (λ v. Contains v.items h) (sym os) c in
+    let back : (h : ℕ) → Contains m.order.items h → Contains s.order.items h = λ h c. subst (λ v. Contains v.items h) os c in
+    record {
+      once = record {
+        seen = λ h z. fwd h (o.once.seen h (subst (λ v. has v h ≡ true) se z));
+        noted = λ h c. subst (λ v. has v h ≡ true) (sym se) (o.once.noted h (back h c));
+        distinct = subst (λ v. NoRepeats v.items) (sym os) o.once.distinct;
+      };
+      first = All-weaker (λ g. Contains s.order.items g) (λ g. Contains m.order.items g) fwd gs o.first;
+      reached = subst (λ v. All (ReachedFrom w gs) v.items) (sym os) o.reached;
+      below = subst (λ v. All (λ h. h < length w.fragments) v.items) (sym os) o.below;
+      waiting = λ k d l. fwd (get_or m.waiting.items k d) (All-contains (λ h. Contains s.order.items h) s.waiting.items (get_or m.waiting.items k d) o.waiting
+          (subst (λ zs. Contains zs (get_or m.waiting.items k d)) (sym ws) (Contains-append_left m.waiting.items (f ∷ []) (get_or m.waiting.items k d) (Contains-get_or m.waiting.items k d l))));
+      followed = λ h c. elim (o.followed h (back h c)) [
+        | inl waits ↦ elim (Contains-push_cases m.waiting.items f h (subst (λ zs. Contains zs h) ws waits)) [
+          | inl still ↦ inl still
+          | inr is ↦ inr (inr (subst IsPassed is passed))
+        ]
+        | inr rest ↦ elim rest [
+          | inl all ↦ inr (inl (All-weaker (λ k. Contains s.order.items k) (λ k. Contains m.order.items k) fwd (spreads_of w (set_of w h)) all))
+          | inr old ↦ inr (inr old)
+        ]
+      ];
+    }
 
-pub opens_end : (w : World) (g : ℕ) (o : Opening) → Sound w g o → o.waiting.items ≡ [] → Opens w g o.order.items
-opens_end w g o s none = record {
+pub sound_next : (w : World) (IsPassed : ℕ → Type 0) (gs : List ℕ) (f : ℕ) (s m t : Opening) → Falling w.sets w.fragments → Sound w IsPassed gs s → m.seen ≡ s.seen → m.order ≡ s.order → s.waiting.items ≡ m.waiting.items ++ f ∷ []
+    → GoesOn w IsPassed f m t → Sound w IsPassed gs t
+sound_next w IsPassed gs f s m t falling o se os ws (inl (passed, same)) = subst (λ (z : Opening). Sound w IsPassed gs z) (sym same) (sound_passed w IsPassed gs f s m o se os ws passed)
+sound_next w IsPassed gs f s m t falling o se os ws (inr a) = sound_gained w IsPassed gs f s m t falling o se os ws a
+
+pub few_open : (w : World) (IsPassed : ℕ → Type 0) (gs : List ℕ) (o : Opening) → Sound w IsPassed gs o → length o.order.items ≤ length w.fragments
+few_open w IsPassed gs o s = few_below o.order.items (length w.fragments) s.once.distinct s.below
+
+pub opens_end : (w : World) (IsPassed : ℕ → Type 0) (gs : List ℕ) (o : Opening) → Sound w IsPassed gs o → o.waiting.items ≡ [] → Opens w IsPassed gs o.order.items
+opens_end w IsPassed gs o s none = record {
   first = s.first;
   followed = λ h k c d. elim (s.followed h c) [
     | inl waits ↦ absurd (omega (arith, waits.1, ap length none))
-    | inr all ↦ All-contains (λ i. Contains o.order.items i) (spreads_of w (set_of w h)) k all d
+    | inr rest ↦ elim rest [
+      | inl all ↦ inl (All-contains (λ i. Contains o.order.items i) (spreads_of w (set_of w h)) k all d)
+      | inr passed ↦ inr passed
+    ]
   ];
   reached = s.reached;
-  few = few_open w g o s;
+  few = few_open w IsPassed gs o s;
+}
+
+-- what is passed in one state is in another
+pub opens_where : (w : World) (P Q : ℕ → Type 0) (gs hs : List ℕ) → ((h : ℕ) → P h → Q h) → Opens w P gs hs → Opens w Q gs hs
+opens_where w P Q gs hs f o = record {
+  first = o.first;
+  followed = λ h k c d. elim (o.followed h k c d) [ inl there ↦ inl there | inr passed ↦ inr (f h passed) ];
+  reached = o.reached;
+  few = o.few;
 }
 
 -- each step leaves less to do
-pub less_left : (n : ℕ) (f : ℕ) (fs gs : List ℕ) (s m t : Opening) → m.order ≡ s.order → s.waiting.items ≡ m.waiting.items ++ f ∷ [] → Gains fs gs m t → length t.order.items ≤ n
+pub less_left : (w : World) (IsPassed : ℕ → Type 0) (n f : ℕ) (s m t : Opening) → m.order ≡ s.order → s.waiting.items ≡ m.waiting.items ++ f ∷ [] → GoesOn w IsPassed f m t → length t.order.items ≤ n
     → (2 * n + length t.waiting.items) - 2 * length t.order.items < (2 * n + length s.waiting.items) - 2 * length s.order.items
-less_left n f fs gs s m t os ws a top =
+less_left w IsPassed n f s m t os ws (inl (passed, same)) top =
+    omega (arith, ap length ws, length-append m.waiting.items (f ∷ []), ap (λ v. length v.items) os, ap (λ (v : Opening). length v.order.items) same, ap (λ (v : Opening). length v.waiting.items) same, top)
+less_left w IsPassed n f s m t os ws (inr a) top =
     omega (arith, ap length ws, length-append m.waiting.items (f ∷ []), ap (λ v. length v.items) os, a.left, a.longer, top)
 
 pub flag_new : (r b : Bool) → r ≡ not b → r ≡ true → b ≡ false

@@ -10,7 +10,9 @@ use Rattle.merge_search.specs.World.{World, own_of, set_of, Same}
 use Rattle.merge_search.specs.Work.{Done, OwnPairs}
 use Rattle.merge_search.specs.Opening.{Reaches, start, step}
 use Rattle.merge_search.specs.Merging.{Stands, own, spread, below}
-use Rattle.merge_search.specs.Reports.{Root, NestedRoot, AtFields, AtWith, AtNamed, AtOwn, AtSearch, AtSearches, AtFragments, AtFirst, AtSecond, AtSpreads, AtBelow}
+use Rattle.merge_search.specs.Reports.{Root, NestedRoot, AtFields, AtWith, AtNamed, AtOwn, AtSearch, AtFragments, AtFirst, AtBelow}
+use Rattle.merge_search.specs.Tasks.{AtPartners}
+use Rattle.merge_search.specs.declared.task.Partner.TheVariants as partner
 
 pub in_list : {X : Type 0} (xs ys : List X) (k : ℕ) (d : X) → xs ≡ ys → k < length xs → Contains ys (get_or xs k d)
 in_list xs ys k d eq l = subst (λ zs. Contains zs (get_or xs k d)) eq (Contains-get_or xs k d l)
@@ -102,19 +104,19 @@ module _ (w : World) where
   pub row_first : (f g : ℕ) → (f ≡ g → ⊥) → (r : Root) → AtFirst w f (set_of w g) r → AtFragments w f g r
   row_first f g ne r h = (ne, h.2.1, spread h.1 h.2.2, h.2.3)
 
-  pub row_second : (f g : ℕ) → (f ≡ g → ⊥) → (r : Root) → AtSecond w (set_of w f) g r → AtFragments w f g r
+  pub row_second : (f g : ℕ) → (f ≡ g → ⊥) → (r : Root) → AtPartners w (set_of w f) (partner.Second g) r → AtFragments w f g r
   row_second f g ne r h = (ne, spread h.1 h.2.1, h.2.2, h.2.3)
 
   pub row_below_own : (i j : ℕ) (r : Root) → AtOwn w i j r → AtBelow w i j r
   row_below_own i j r h = inl (own h.0, own h.1, h.2)
 
-  pub row_below_forth : (i j : ℕ) (r : Root) → AtSearches w i j r → AtBelow w i j r
+  pub row_below_forth : (i j : ℕ) (r : Root) → AtPartners w j (partner.Own i) r → AtBelow w i j r
   row_below_forth i j r h = inl (own h.2.0, spread h.1 h.2.1, h.2.2)
 
-  pub row_below_back : (i j : ℕ) (r : Root) → AtSearches w j i r → AtBelow w i j r
+  pub row_below_back : (i j : ℕ) (r : Root) → AtPartners w i (partner.Own j) r → AtBelow w i j r
   row_below_back i j r h = inr (own h.2.0, spread h.1 h.2.1, h.2.2)
 
-  pub row_below_spreads : (i j : ℕ) (r : Root) → AtSpreads w i j r → AtBelow w i j r
+  pub row_below_spreads : (i j : ℕ) (r : Root) → AtPartners w i (partner.Each j) r → AtBelow w i j r
   row_below_spreads i j r h = inl (spread h.1 h.2.2.1, spread h.2.1 h.2.2.2, h.2.2.3)
 
   pub row_nested : (a b : Entry) (i j : ℕ) → a.below ≡ Some i → b.below ≡ Some j → (r : Root) → AtBelow w i j r → NestedRoot w a b r

@@ -1,23 +1,23 @@
 -- All that is asked of the spreads of a set, where some are plain.
-use Rattle.std.proofs.Common.{◌≡◌, ℕ, List, Some, inl, inr, subst, false, slice_get}
+use Rattle.std.proofs.Common.{◌≡◌, ℕ, ◌+◌, ◌<◌, List, [], ◌∷◌, length, take, get_or, Some, inl, inr, ◌⊎◌, subst, sym, false, slice_get}
 use Rattle.std.specs.List.{All, Contains}
 use Rattle.std.proofs.lemmas.Bool.{cases_order}
-use Rattle.std.proofs.lemmas.List.Elements.{All-contains, All-weaker}
+use Rattle.std.proofs.lemmas.List.Elements.{All-contains, All-weaker, All-more, Contains-get_or, Contains-push, Contains-push_cases, Contains-append_left}
 use Rattle.std.proofs.lemmas.Option.{slice_get_within, get_or_from_slice_get}
 use Rattle.bit_matrix.specs.declared.set.BitSet.{BitSet}
 use Rattle.merge_search.specs.declared.state.Search.{Search}
-use Rattle.merge_search.specs.World.{World, spreads_of}
+use Rattle.merge_search.specs.World.{World, set_of}
 use Rattle.merge_search.specs.Work.{Pair}
-use Rattle.merge_search.specs.Merging.{OwnWritten}
-use Rattle.merge_search.specs.Tops.{AllBefore, SpreadDone, MarkedDone}
+use Rattle.merge_search.specs.Plain.{IsPlain}
+use Rattle.merge_search.specs.Tops.{AllBefore, SpreadDone, MarkedDone, AddsUnmarked, AreAllBut}
 use Rattle.merge_search.proofs.Flips.{flip_pair}
 
-module _ (w : World) (M : Search) (plain : BitSet) (s : ℕ) (list : List ℕ) (all : All (SpreadDone w M plain s list) list) (marked : All (MarkedDone w M plain list) list) where
+module _ (w : World) (M : Search) (plain : BitSet) (list : List ℕ) (all : All (SpreadDone w M plain list) list) (marked : All (MarkedDone w M plain list) list) where
   -- one of the two isn't marked, or both were noted together
   two : (f g : ℕ) → Contains list f → Contains list g → Pair M false f g
-  two f g p q = elim ((All-contains (SpreadDone w M plain s list) list f all p).1) [
+  two f g p q = elim (All-contains (SpreadDone w M plain list) list f all p) [
     | inr paired ↦ All-contains (Pair M false f) list g paired q
-    | inl first ↦ elim ((All-contains (SpreadDone w M plain s list) list g all q).1) [
+    | inl first ↦ elim (All-contains (SpreadDone w M plain list) list g all q) [
       | inr paired ↦ flip_pair M false g f (All-contains (Pair M false g) list f paired p)
       | inl second ↦ elim (cases_order f g) [
         | inl same ↦ inl same
@@ -32,11 +32,24 @@ module _ (w : World) (M : Search) (plain : BitSet) (s : ℕ) (list : List ℕ) (
   at : (k f : ℕ) → slice_get list k ≡ Some f → Contains list f
   at k f h = (k, slice_get_within list k f h, get_or_from_slice_get list k f f h)
 
-  both : All (λ f. OwnWritten w M s f) list × AllBefore (Pair M false) list
-  both = (All-weaker (SpreadDone w M plain s list) (λ f. OwnWritten w M s f) (λ f h. h.0) list all, λ k l f g less p q. two f g (at k f p) (at l g q))
+  pub spreads_done : AllBefore (Pair M false) list
+  spreads_done k l f g less p q = two f g (at k f p) (at l g q)
 
-pub spreads_done : (w : World) (M : Search) (plain : BitSet) (s : ℕ) (list : List ℕ) → list ≡ spreads_of w s
-    → All (SpreadDone w M plain s list) list → All (MarkedDone w M plain list) list
-    → All (λ f. OwnWritten w M s f) (spreads_of w s) × AllBefore (Pair M false) (spreads_of w s)
-spreads_done w M plain s list is all marked =
-    subst (λ zs. All (λ f. OwnWritten w M s f) zs × AllBefore (Pair M false) zs) is (both w M plain s list all marked)
+-- one more of a list
+pub unmarked_more : (w : World) (list old new : List ℕ) (k d : ℕ) → k < length list → AreAllBut w list (take k list) old → AddsUnmarked w (get_or list k d) old new → AreAllBut w list (take (k + 1) list) new
+unmarked_more w list old new k d l u (inl h) =
+    let x = get_or list k d in
+    record {
+      only = λ i c m. elim (Contains-push_cases old x (get_or new i c) (subst (λ zs. Contains zs (get_or new i c)) h (Contains-get_or new i c m))) [
+        | inl before ↦ All-contains (λ g. Contains list g) old (get_or new i c) u.only before
+        | inr is ↦ subst (λ (y : ℕ). Contains list y) is (Contains-get_or list k d l)
+      ];
+      all = All-more (λ g. Contains new g ⊎ IsPlain w (set_of w g)) list k d l
+          (All-weaker (λ g. Contains old g ⊎ IsPlain w (set_of w g)) (λ g. Contains new g ⊎ IsPlain w (set_of w g))
+          (λ g z. elim z [ inl c ↦ inl (subst (λ zs. Contains zs g) (sym h) (Contains-append_left old (x ∷ []) g c)) | inr p ↦ inr p ]) (take k list) u.all)
+          (inl (subst (λ zs. Contains zs x) (sym h) (Contains-push old x)));
+    }
+unmarked_more w list old new k d l u (inr (h, p)) = record {
+  only = subst (λ zs. All (λ g. Contains list g) zs) (sym h) u.only;
+  all = subst (λ zs. All (λ g. Contains zs g ⊎ IsPlain w (set_of w g)) (take (k + 1) list)) (sym h) (All-more (λ g. Contains old g ⊎ IsPlain w (set_of w g)) list k d l u.all (inr p));
+}

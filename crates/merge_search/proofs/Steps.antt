@@ -1,11 +1,11 @@
 -- What the pieces of a step make of the state together.
-use Rattle.std.proofs.Common.{◌≡◌, ℕ, ◌+◌, ◌<◌, ◌≤◌, List, [], ◌∷◌, length, drop, get_or, refl, sym, subst, ◌∙◌, arith, Bool, true, None, Some, Option, inl, inr, ◌⊎◌}
+use Rattle.std.proofs.Common.{◌≡◌, ℕ, ◌+◌, ◌<◌, ◌≤◌, List, [], ◌∷◌, length, drop, get_or, refl, sym, subst, ◌∙◌, arith, Bool, true, false, None, Some, Option, inl, inr, ◌⊎◌}
 use Rattle.std.specs.Prelude.{slice_get}
 use Rattle.std.specs.Option.{option_map_or}
 use Rattle.std.specs.List.{All, Contains}
 use Rattle.std.proofs.lemmas.List.{drop_more}
 use Rattle.std.proofs.Math.ListN.{drop_of_length-le}
-use Rattle.std.proofs.lemmas.List.Elements.{All-nil, All-cons, All-contains, Contains-append_cases, Contains-get_or}
+use Rattle.std.proofs.lemmas.List.Elements.{All-nil, All-cons, All-contains, Contains-append_cases, Contains-get_or, Contains-push}
 use Rattle.merge_search.specs.declared.node.Entry.{Entry}
 use Rattle.merge_search.specs.declared.node.SetNode.{SetNode}
 use Rattle.merge_search.specs.declared.state.Search.{Search}
@@ -14,9 +14,10 @@ use Rattle.merge_search.specs.Indexed.{firsts_of}
 use Rattle.merge_search.specs.World.{World, own_of, spreads_of, set_of, exclusive_of}
 use Rattle.merge_search.specs.Opening.{Opens}
 use Rattle.merge_search.specs.State.{Keeps, NotesPair, NotesSearch, CountsList}
-use Rattle.merge_search.specs.Work.{pair_in, Did, Owes, Done, Searched, Pair, OwnPairs}
-use Rattle.merge_search.specs.Reports.{Root, Adds, AddsAll, AtFields, AtWith, AtNamed, AtOwn, AtSearch, AtSearches, AtFirst, AtSecond, AtSpreads}
-use Rattle.merge_search.specs.Tasks.{firsts_at, Compares, Searches, SearchesOwing, ComparesEach, MeetsNested, MeetsBelow, MeetsNamed, MeetsOne, MeetsSearch, MeetsFragments, WithDone, NameDone, Closes}
+use Rattle.merge_search.specs.Work.{pair_in, Did, Owes, Done, Searched, Pair, OwnPairs, AllClosed}
+use Rattle.merge_search.specs.Reports.{Root, Adds, AddsAll, AtFields, AtWith, AtNamed, AtOwn, AtSearch, AtFirst}
+use Rattle.merge_search.specs.declared.task.Partner.TheVariants as partner
+use Rattle.merge_search.specs.Tasks.{firsts_at, AtPartners, Compares, Searches, SearchesOwing, ComparesEach, MeetsNested, MeetsBelow, MeetsNamed, MeetsOne, MeetsSearch, MeetsFragments, WithDone, NameDone, SpreadsSearched, Closes}
 use Rattle.merge_search.proofs.Work.{did_none, did_then, did_map, did_list, did_opened, did_fragments, did_report, did_kept, owes_search, grows_then}
 use Rattle.merge_search.proofs.Adding.{adds_none, adds_map, adds_then, adds_from, adds_node, adds_same, all_both, all_map, all_told}
 use Rattle.merge_search.proofs.Rows.{named_in, named_is, row_named, tell_with, tell_named, tell_own, own_pairs, row_first, row_second, row_fragments, row_nested, row_below_own, row_below_forth, row_below_back, row_below_spreads}
@@ -122,9 +123,9 @@ module _ (w : World) (e : Bool) where
   -- the four parts of two sets
   pub below_whole : (i j : ℕ) (s t u v z : Search)
       → ComparesEach w e (NameDone w e i j) (AtOwn w i j) (λ f. AtNamed w i j f.response) (firsts_at w.sets i) s t
-      → Searches w e (λ M. All (λ h. Searched M e i h) (spreads_of w j)) (AtSearches w i j) t u
-      → Searches w e (λ M. All (λ h. Searched M e j h) (spreads_of w i)) (AtSearches w j i) u v
-      → Searches w e (λ M. All (λ g. All (λ h. Pair M e g h) (spreads_of w j)) (spreads_of w i)) (AtSpreads w i j) v z
+      → Searches w e (λ M. All (λ h. Searched M e i h) (spreads_of w j)) (AtPartners w j (partner.Own i)) t u
+      → Searches w e (λ M. All (λ h. Searched M e j h) (spreads_of w i)) (AtPartners w i (partner.Own j)) u v
+      → Searches w e (λ M. All (λ g. All (λ h. Pair M e g h) (spreads_of w j)) (spreads_of w i)) (AtPartners w i (partner.Each j)) v z
       → MeetsBelow w e i j s z
   below_whole i j s t u v z own forth back both =
       let all = own_whole i j s t own in
@@ -173,11 +174,29 @@ module _ (w : World) (e : Bool) where
     real = adds_then w e P (adds_map w e R P f one.real) more.real;
   }
 
+  -- what was asked under a flag that was asked itself
+  asked_again : (M : Search) (x : Bool) (i g : ℕ) → (x ≡ e) ⊎ (x ≡ false) → Searched M x i g → Searched M e i g
+  asked_again M x i g (inl is) h = subst (λ (y : Bool). Searched M y i g) is h
+  asked_again M x i g (inr is) h = (h.0, inr (elim h.1 [ inl same ↦ same ∙ is | inr plain ↦ plain ]), h.2)
+
+  -- what is spread by one that is open is open, or was searched before
+  spreads_searched : (M s : Search) (i : ℕ) (gs order : List ℕ) → Opens w (λ h. Searched s e i h) gs order → AllClosed w M s → All (λ h. Searched M e i h) order
+      → All (SpreadsSearched w M e i) order
+  spreads_searched M s i gs order opens closed all k d l n c m =
+      let h = get_or order k d in
+      let x = get_or (spreads_of w (set_of w h)) n c in
+      let there : Contains (spreads_of w (set_of w h)) x = Contains-get_or (spreads_of w (set_of w h)) n c m in
+      elim (opens.followed h x (Contains-get_or order k d l) there) [
+        | inl there_too ↦ All-contains (λ h. Searched M e i h) order x all there_too
+        | inr was ↦ asked_again M was.0 i x was.1 (All-contains (λ h. Searched M was.0 i h) (spreads_of w (set_of w h)) x (closed.searches_closed was.0 i h was.2).1 there)
+      ]
+
   -- all of them, counted first
-  pub search_counted : (i g : ℕ) (order : List ℕ) (s t u : Search) → g < length w.fragments → Opens w g order → CountsList (length order) s t
-      → SearchesOwing w e (λ M. All (λ h. Searched M e i h) order) (λ M. All (λ h. Searched M e i h) order) (AtSearch w i g) t u → MeetsSearch w e i g s u
+  pub search_counted : (i g : ℕ) (order : List ℕ) (s t u : Search) → g < length w.fragments → Opens w (λ h. Searched s e i h) (g ∷ []) order → CountsList (length order) s t
+      → SearchesOwing w e (λ M. All (SpreadsSearched w M e i) order) (λ M. All (λ h. Searched M e i h) order) (AtSearch w i g) t u → MeetsSearch w e i g s u
   search_counted i g order s t u l opens n d = record {
-    done = did_map w _ _ (λ M z. All-contains (λ h. Searched M e i h) order g z opens.first) (did_opened w (λ h M. Searched M e i h) order (did_list w n opens.few (omega (arith, l))) d.done);
+    done = did_map w _ _ (λ M z. All-contains (λ h. Searched M e i h) order g z (All-contains (λ h. Contains order h) (g ∷ []) g opens.first (Contains-push [] g)))
+        (did_opened w _ _ (λ M closed all. spreads_searched M s i (g ∷ []) order opens closed all) (did_list w n opens.few (omega (arith, l))) d.done);
     real = adds_from w e _ n.found d.real;
   }
 
@@ -185,7 +204,7 @@ module _ (w : World) (e : Bool) where
   pub fragments_noted : (f g : ℕ) (s t u v z : Search) → (f ≡ g → ⊥) → (pair_in s e f g ≡ true → ⊥) → NotesPair f g e s t
       → ComparesEach w e (NameDone w e (set_of w f) (set_of w g)) (AtOwn w (set_of w f) (set_of w g)) (λ h. AtNamed w (set_of w f) (set_of w g) h.response) (firsts_at w.sets (set_of w f)) t u
       → (f < length w.fragments → Searches w e (λ M. All (λ h. Pair M e f h) (spreads_of w (set_of w g))) (AtFirst w f (set_of w g)) u v)
-      → (g < length w.fragments → Searches w e (λ M. All (λ h. Pair M e h g) (spreads_of w (set_of w f))) (AtSecond w (set_of w f) g) v z)
+      → (g < length w.fragments → Searches w e (λ M. All (λ h. Pair M e h g) (spreads_of w (set_of w f))) (AtPartners w (set_of w f) (partner.Second g)) v z)
       → MeetsFragments w e f g s z
   fragments_noted f g s t u v z ne fresh n own first second lf lg =
       let all = own_whole (set_of w f) (set_of w g) t u own in

@@ -8,7 +8,7 @@ use Rattle.merge_search.specs.declared.state.Search.{Search}
 use Rattle.merge_search.specs.declared.state.Finding.{Finding}
 use Rattle.merge_search.specs.World.{World, spreads_of, set_of}
 use Rattle.merge_search.specs.Log.{in_log, covers_of, Covers}
-use Rattle.merge_search.specs.Work.{pair_in, search_in, Searched, Pair, OwnPairs, ClosedSearch, ClosedPair, Grows, Did, Owes}
+use Rattle.merge_search.specs.Work.{pair_in, search_in, Searched, Pair, OwnPairs, ClosedSearch, ClosedPair, AllClosed, Grows, Did, Owes}
 use Rattle.merge_search.specs.Plain.{IsPlain, IsOnePlain}
 use Rattle.merge_search.specs.State.{NotesBelow, NotesPair, NotesSearch, Reports, CountsList, Keeps}
 use Rattle.std.proofs.lemmas.Bool.{cases_lt}
@@ -127,21 +127,6 @@ module _ (w : World) where
   pub owes_none : (O P : Search → Type 0) (s : Search) → ((M : Search) → Grows s M → P M) → Owes w O P s s
   owes_none O P s f = record { grows = grows_same s; holds = f; closes = λ M g o c. c; keeps = λ h. h }
 
-  pub owes_start : {A : Type 0} (O : Search → Type 0) (P : A → Search → Type 0) (xs : List A) {s t : Search} → Did w (λ M. Unit {0}) s t
-      → Owes w O (λ M. All (λ x. P x M) (take 0 xs)) s t
-  owes_start O P xs d = record { grows = d.grows; holds = λ M g i e l. absurd (omega (arith, length-take 0 xs, l)); closes = λ M g o c. d.closes M g c; keeps = d.keeps }
-
-  pub owes_more : {A : Type 0} (O Q : Search → Type 0) (P : A → Search → Type 0) (xs : List A) (k : ℕ) (d : A) {s t u : Search} → k < length xs
-      → ((M : Search) → O M → Q M)
-      → Owes w O (λ M. All (λ x. P x M) (take k xs)) s t → Owes w Q (P (get_or xs k d)) t u
-      → Owes w O (λ M. All (λ x. P x M) (take (k + 1) xs)) s u
-  owes_more O Q P xs k d l f v z = record {
-    grows = grows_then v.grows z.grows;
-    holds = λ M g. All-more (λ x. P x M) xs k d l (v.holds M (grows_then z.grows g)) (z.holds M g);
-    closes = λ M g o c. z.closes M g (f M o) (v.closes M (grows_then z.grows g) o c);
-    keeps = λ h. z.keeps (v.keeps h);
-  }
-
   closed_pair : (M : Search) (e x : Bool) (f g i j : ℕ) → (x ≡ e) × (((i ≡ f) × (j ≡ g)) ⊎ ((i ≡ g) × (j ≡ f))) → ClosedPair w M e f g → ClosedPair w M x i j ⊎ ClosedPair w M x j i
   closed_pair M e x f g i j (is, inl p) z = inl (subst (λ (y : Bool). ClosedPair w M y i j) (sym is)
       (subst (λ (k : ℕ). ClosedPair w M e k j) (sym p.0) (subst (λ (k : ℕ). ClosedPair w M e f k) (sym p.1) z)))
@@ -233,18 +218,12 @@ module _ (w : World) where
         };
       }
 
-  -- the whole list is done
-  pub owes_full : {A : Type 0} (O : Search → Type 0) (P : A → Search → Type 0) (xs : List A) (k : ℕ) {s t : Search} → length xs ≤ k
-      → Owes w O (λ M. All (λ x. P x M) (take k xs)) s t → Owes w O (λ M. All (λ x. P x M) xs) s t
-  owes_full O P xs k l d = record { grows = d.grows; holds = λ M g. subst (λ zs. All (λ x. P x M) zs) (take_all k xs l) (d.holds M g); closes = d.closes; keeps = d.keeps }
-
   -- what is owed is done itself
-  pub did_opened : {A : Type 0} (P : A → Search → Type 0) (xs : List A) {s t u : Search} → Did w (λ M. Unit {0}) s t
-      → Owes w (λ M. All (λ x. P x M) xs) (λ M. All (λ x. P x M) xs) t u → Did w (λ M. All (λ x. P x M) xs) s u
-  did_opened P xs d e = record {
+  pub did_opened : (O P : Search → Type 0) {s t u : Search} → ((M : Search) → AllClosed w M s → P M → O M) → Did w (λ M. Unit {0}) s t → Owes w O P t u → Did w P s u
+  did_opened O P f d e = record {
     grows = grows_then d.grows e.grows;
     holds = e.holds;
-    closes = λ M g c. e.closes M g (e.holds M g) (d.closes M (grows_then e.grows g) c);
+    closes = λ M g c. e.closes M g (f M c (e.holds M g)) (d.closes M (grows_then e.grows g) c);
     keeps = λ h. e.keeps (d.keeps h);
   }
 

@@ -1,16 +1,29 @@
 -- The fragments that a search opens.
-use Rattle.std.specs.Prelude.{ℕ, ◌≤◌, List, length}
+use Rattle.std.specs.Prelude.{ℕ, ◌≤◌, List, length, ◌⊎◌}
 use Rattle.std.specs.List.{All, Contains}
+use Rattle.merge_search.specs.declared.repeats.Seeker.{Seeker}
+use Rattle.merge_search.specs.declared.repeats.Seeker.TheVariants.{Top, Below}
+use Rattle.merge_search.specs.declared.state.Search.{Search}
 use Rattle.merge_search.specs.World.{World, spreads_of, set_of}
+use Rattle.merge_search.specs.Work.{Searched}
 
 -- The fragment is g, or spread by one that is reached.
 pub data Reaches (w : World) (g : ℕ) : ℕ → Type 0 where
   start : Reaches w g g
   step : {h k : ℕ} → Reaches w g h → Contains (spreads_of w (set_of w h)) k → Reaches w g k
 
--- The fragments that g reaches, itself among them, and no more of them than there are.
-pub record Opens (w : World) (g : ℕ) (hs : List ℕ) : Type 0 where
-  pub first : Contains hs g
-  pub followed : (h k : ℕ) → Contains hs h → Contains (spreads_of w (set_of w h)) k → Contains hs k
-  pub reached : All (Reaches w g) hs
+-- The set of the seeker was compared with the fragment before; one at the top is compared with all anew.
+abbrev pub WasSearched : Search → Seeker → ℕ → Type 0
+WasSearched s Top g = ⊥
+WasSearched s (Below i e) g = Searched s e i g
+
+-- The fragment is one of some, or they reach it.
+abbrev pub ReachedFrom : World → List ℕ → ℕ → Type 0
+ReachedFrom w gs h = (g : ℕ) × Contains gs g × Reaches w g h
+
+-- Fragments that some reach, these among them, and no more of them than there are; all of them but for what is passed and what that spreads.
+pub record Opens (w : World) (IsPassed : ℕ → Type 0) (gs hs : List ℕ) : Type 0 where
+  pub first : All (λ g. Contains hs g) gs
+  pub followed : (h k : ℕ) → Contains hs h → Contains (spreads_of w (set_of w h)) k → Contains hs k ⊎ IsPassed h
+  pub reached : All (ReachedFrom w gs) hs
   pub few : length hs ≤ length w.fragments

@@ -66,20 +66,11 @@ AtOwn w i j r = Contains (own_of w i) r.left × Contains (own_of w j) r.right ×
 abbrev pub AtSearch : World → ℕ → ℕ → Root → Type 0
 AtSearch w i g r = Contains (own_of w i) r.left × Stands w (set_of w g) r.right × Same r.left r.right
 
-abbrev pub AtSearches : World → ℕ → ℕ → Root → Type 0
-AtSearches w i j r = (f : ℕ) × Contains (spreads_of w j) f × AtSearch w i f r
-
 abbrev pub AtFragments : World → ℕ → ℕ → Root → Type 0
 AtFragments w f g r = (f ≡ g → ⊥) × Stands w (set_of w f) r.left × Stands w (set_of w g) r.right × Same r.left r.right
 
 abbrev pub AtFirst : World → ℕ → ℕ → Root → Type 0
 AtFirst w f j r = (g : ℕ) × Contains (spreads_of w j) g × AtFragments w f g r
-
-abbrev pub AtSecond : World → ℕ → ℕ → Root → Type 0
-AtSecond w i g r = (f : ℕ) × Contains (spreads_of w i) f × AtFragments w f g r
-
-abbrev pub AtSpreads : World → ℕ → ℕ → Root → Type 0
-AtSpreads w i j r = (f : ℕ) × Contains (spreads_of w i) f × AtFirst w f j r
 
 abbrev pub AtBelow : World → ℕ → ℕ → Root → Type 0
 AtBelow w i j r =

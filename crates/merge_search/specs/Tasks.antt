@@ -1,5 +1,5 @@
 -- What the tasks of a search make of its state.
-use Rattle.std.specs.Prelude.{ℕ, ◌<◌, ◌≤◌, ◌-◌, List, [], ◌∷◌, length, drop, Bool, Some, false, ◌≡◌, ◌⊎◌, slice_get}
+use Rattle.std.specs.Prelude.{ℕ, ◌<◌, ◌≤◌, ◌-◌, List, [], ◌∷◌, length, drop, reverse, Bool, Some, false, ◌≡◌, ◌⊎◌, slice_get}
 use Rattle.std.specs.Option.{option_map_or}
 use Rattle.std.specs.List.{All, Contains}
 use Rattle.merge_search.specs.declared.node.Entry.{Entry}
@@ -7,14 +7,16 @@ use Rattle.merge_search.specs.declared.node.SetNode.{SetNode}
 use Rattle.merge_search.specs.declared.state.Search.{Search}
 use Rattle.merge_search.specs.declared.state.Finding.TheVariants.{Nested}
 use Rattle.merge_search.specs.declared.task.Task.{Task}
-use Rattle.merge_search.specs.declared.task.Task.TheVariants.{With, Named, Own, Close, Opened, Mark, Against, First, Second, Both}
+use Rattle.merge_search.specs.declared.task.Task.TheVariants.{With, Named, Own, Close, Opened, Mark, Spreads}
+use Rattle.merge_search.specs.declared.task.Partner.{Partner}
+use Rattle.merge_search.specs.declared.task.Partner.TheVariants as partner
 use Rattle.merge_search.specs.Names.{named}
 use Rattle.merge_search.specs.Indexed.{firsts_of}
 use Rattle.merge_search.specs.World.{World, own_of, spreads_of, set_of, conflict_of, exclusive_of}
-use Rattle.merge_search.specs.Opening.{Opens}
+use Rattle.merge_search.specs.Opening.{Reaches}
 use Rattle.merge_search.specs.State.{Keeps, Reports}
 use Rattle.merge_search.specs.Work.{Did, Owes, Done, Searched, Pair, SetsDone}
-use Rattle.merge_search.specs.Reports.{Root, Finds, FindsAll, AtFields, AtWith, AtNamed, AtOwn, AtSearch, AtSearches, AtFragments, AtFirst, AtSecond, AtSpreads, AtBelow}
+use Rattle.merge_search.specs.Reports.{Root, Finds, FindsAll, AtFields, AtWith, AtNamed, AtOwn, AtSearch, AtFragments, AtFirst, AtBelow}
 
 -- The first own field of each response name of a set.
 abbrev pub firsts_at : List SetNode → ℕ → List Entry
@@ -60,14 +62,44 @@ NameDone w e i j f M = All (λ a. All (λ b. Done w M e a b) (named a.response (
 abbrev pub MeetsNamed : World → Bool → ℕ → ℕ → ℕ → Search → Search → Type 0
 MeetsNamed w e i j n = Compares w e (λ M. All (λ a. WithDone w e j a M) (named n (own_of w i))) (AtNamed w i j n) (AtNamed w i j n)
 
+-- What a fragment spreads was compared with the set.
+abbrev pub SpreadsSearched : World → Search → Bool → ℕ → ℕ → Type 0
+SpreadsSearched w M e i g = All (λ h. Searched M e i h) (spreads_of w (set_of w g))
+
 abbrev pub MeetsOne : World → Bool → ℕ → ℕ → Search → Search → Type 0
-MeetsOne w e i g = SearchesOwing w e (λ M. All (λ h. Searched M e i h) (spreads_of w (set_of w g))) (λ M. Searched M e i g) (AtOwn w i (set_of w g))
+MeetsOne w e i g = SearchesOwing w e (λ M. SpreadsSearched w M e i g) (λ M. Searched M e i g) (AtOwn w i (set_of w g))
 
 abbrev pub MeetsSearch : World → Bool → ℕ → ℕ → Search → Search → Type 0
 MeetsSearch w e i g = Searches w e (λ M. Searched M e i g) (AtSearch w i g)
 
 abbrev pub MeetsFragments : World → Bool → ℕ → ℕ → Search → Search → Type 0
 MeetsFragments w e f g old new = f < length w.fragments → g < length w.fragments → Searches w e (λ M. Pair M e f g) (AtFragments w f g) old new
+
+-- A fragment that is a partner is one of the graph.
+abbrev pub IsThere : World → Partner → Type 0
+IsThere w (partner.Own i) = Unit {0}
+IsThere w (partner.First g) = g < length w.fragments
+IsThere w (partner.Second g) = g < length w.fragments
+IsThere w (partner.Each j) = Unit {0}
+
+-- What is done of a fragment and its partner, and where what was found stands.
+abbrev pub PartnerDone : World → Bool → Partner → ℕ → Search → Type 0
+PartnerDone w e (partner.Own i) h M = Searched M e i h
+PartnerDone w e (partner.First g) h M = Pair M e g h
+PartnerDone w e (partner.Second g) h M = Pair M e h g
+PartnerDone w e (partner.Each j) h M = All (λ k. Pair M e h k) (spreads_of w j)
+
+abbrev pub AtPartner : World → Partner → ℕ → Root → Type 0
+AtPartner w (partner.Own i) h = AtSearch w i h
+AtPartner w (partner.First g) h = AtFragments w g h
+AtPartner w (partner.Second g) h = AtFragments w h g
+AtPartner w (partner.Each j) h = AtFirst w h j
+
+abbrev pub AtPartners : World → ℕ → Partner → Root → Type 0
+AtPartners w s p r = (h : ℕ) × Contains (spreads_of w s) h × AtPartner w p h r
+
+abbrev pub MeetsPartner : World → Bool → ℕ → Partner → Search → Search → Type 0
+MeetsPartner w e h p old new = IsThere w p → Searches w e (PartnerDone w e p h) (AtPartner w p h) old new
 
 -- What was found since the start stands below the two fields; if it is something, they are reported.
 abbrev pub Closes : Entry → Entry → ℕ → Search → Search → Type 0
@@ -82,13 +114,10 @@ Meets w (Named i j name e m) old new = ComparesEach w e (WithDone w e j) (AtName
 Meets w (Own i j e k) old new = ComparesEach w e (NameDone w e i j) (AtOwn w i j) (λ f. AtNamed w i j f.response) (drop k (firsts_at w.sets i)) old new
 Meets w (Close a b start) old new = Closes a b start old new
 Meets w (Opened i g e opening k) old new =
-    Opens w g opening.order.items
-    → SearchesOwing w e (λ M. All (λ h. Searched M e i h) opening.order.items) (λ M. All (λ h. Searched M e i h) (drop k opening.order.items)) (AtSearch w i g) old new
+    All (Reaches w g) opening.order.items
+    → SearchesOwing w e (λ M. All (SpreadsSearched w M e i) opening.order.items) (λ M. All (λ h. Searched M e i h) (drop k opening.order.items)) (AtSearch w i g) old new
 Meets w (Mark i start) old new = Keeps old new
-Meets w (Against i j e k) old new = Searches w e (λ M. All (λ h. Searched M e i h) (drop k (spreads_of w j))) (AtSearches w i j) old new
-Meets w (First f j e k) old new = f < length w.fragments → Searches w e (λ M. All (λ h. Pair M e f h) (drop k (spreads_of w j))) (AtFirst w f j) old new
-Meets w (Second i g e k) old new = g < length w.fragments → Searches w e (λ M. All (λ h. Pair M e h g) (drop k (spreads_of w i))) (AtSecond w i g) old new
-Meets w (Both i j e k) old new = Searches w e (λ M. All (λ g. All (λ h. Pair M e g h) (spreads_of w j)) (drop k (spreads_of w i))) (AtSpreads w i j) old new
+Meets w (Spreads s p e k) old new = IsThere w p → Searches w e (λ M. All (λ h. PartnerDone w e p h M) (drop k (spreads_of w s))) (AtPartners w s p) old new
 
 -- What the tasks make of it one after the other, the first one next.
 abbrev pub MeetsAll : World → List Task → Search → Search → Type 0
@@ -102,3 +131,7 @@ Leads w ts now R us old = (end : Search) → MeetsAll w ts now end → (mid : Se
 -- The same from any state on, since nothing was done yet.
 abbrev pub Waits : World → List Task → (Search → Search → Type 0) → List Task → Type 0
 Waits w ts R us = (now : Search) → Leads w ts now R us now
+
+-- From the old tasks and state to the new ones R was begun: it is done once the tasks that were added are.
+abbrev pub Turns : World → (Search → Search → Type 0) → List Task → List Task → Search → Search → Type 0
+Turns w R us ts old now = Leads w (reverse ts) now R (reverse us) old

@@ -1,13 +1,14 @@
 -- What is asked of the sets, one after another.
-use Rattle.std.specs.Prelude.{ℕ, ◌<◌, List, Some, true, false, ◌≡◌, ◌⊎◌, slice_get}
+use Rattle.std.specs.Prelude.{ℕ, ◌<◌, List, [], ◌∷◌, ◌++◌, Some, true, false, ◌≡◌, ◌⊎◌, slice_get}
 use Rattle.std.specs.List.{All, Contains}
 use Rattle.bit_matrix.specs.Set.{has}
 use Rattle.bit_matrix.specs.declared.set.BitSet.{BitSet}
 use Rattle.merge_search.specs.declared.node.Entry.{Entry}
 use Rattle.merge_search.specs.declared.state.Search.{Search}
 use Rattle.merge_search.specs.World.{World, own_of, spreads_of, set_of, Same}
+use Rattle.merge_search.specs.Plain.{IsPlain}
 use Rattle.merge_search.specs.Work.{Pair}
-use Rattle.merge_search.specs.Merging.{Stands, OwnWritten}
+use Rattle.merge_search.specs.Merging.{Stands}
 use Rattle.merge_search.specs.Reports.{Root, AtFragments}
 
 abbrev pub AtRest : Entry → List Entry → Root → Type 0
@@ -28,9 +29,13 @@ AtWithin w s r = AtBefore (own_of w s) r × Same r.left r.right
 abbrev pub AtWritten : World → ℕ → ℕ → Root → Type 0
 AtWritten w s f r = Contains (own_of w s) r.left × Stands w (set_of w f) r.right × Same r.left r.right
 
+-- An own field, and one of some fragments.
+abbrev pub AtSpreads : World → ℕ → List ℕ → Root → Type 0
+AtSpreads w s gs r = (f : ℕ) × Contains gs f × AtWritten w s f r
+
 -- An own field, and one of a fragment that the set spreads.
 abbrev pub AtSpread : World → ℕ → Root → Type 0
-AtSpread w s r = (f : ℕ) × Contains (spreads_of w s) f × AtWritten w s f r
+AtSpread w s r = AtSpreads w s (spreads_of w s) r
 
 -- An own field, and an own field after it or one that is spread.
 abbrev pub AtTop : World → ℕ → Root → Type 0
@@ -40,13 +45,22 @@ AtTop w s r = AtWithin w s r ⊎ AtSpread w s r
 abbrev pub AtListed : World → ℕ → List ℕ → Root → Type 0
 AtListed w f list r = (g : ℕ) × Contains list g × AtFragments w f g r
 
--- An own field and one of the fragment, or fields of the fragment and of another one of a list.
-abbrev pub AtWrittenOrListed : World → ℕ → ℕ → List ℕ → Root → Type 0
-AtWrittenOrListed w s f list r = AtWritten w s f r ⊎ AtListed w f list r
+-- Two fragments of a list.
+abbrev pub AtTwo : World → List ℕ → Root → Type 0
+AtTwo w list r = (f : ℕ) × Contains list f × AtListed w f list r
 
--- All that is asked of a spread of a set: its own fields with it, and it with each of the spreads, but for what is marked as plain.
-abbrev pub SpreadDone : World → Search → BitSet → ℕ → List ℕ → ℕ → Type 0
-SpreadDone w M plain s list f = OwnWritten w M s f × ((has plain (set_of w f) ≡ true) ⊎ All (Pair M false f) list)
+-- All that is asked of a fragment and a list, but for what is marked as plain.
+abbrev pub SpreadDone : World → Search → BitSet → List ℕ → ℕ → Type 0
+SpreadDone w M plain list f = (has plain (set_of w f) ≡ true) ⊎ All (Pair M false f) list
+
+-- The fragment was added, or it is plain.
+abbrev pub AddsUnmarked : World → ℕ → List ℕ → List ℕ → Type 0
+AddsUnmarked w f old new = (new ≡ old ++ f ∷ []) ⊎ ((new ≡ old) × IsPlain w (set_of w f))
+
+-- Some fragments of a list: of those that were seen all but plain ones.
+pub record AreAllBut (w : World) (list seen others : List ℕ) : Type 0 where
+  pub only : All (λ g. Contains list g) others
+  pub all : All (λ g. Contains others g ⊎ IsPlain w (set_of w g)) seen
 
 -- Each marked one of some fragments was noted with all that have smaller numbers.
 abbrev pub MarkedDone : World → Search → BitSet → List ℕ → ℕ → Type 0

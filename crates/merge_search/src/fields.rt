@@ -2,14 +2,14 @@
 ghost use Rattle.std.specs.Prelude.{◌≡◌, OnOk, Bool, reverse};
 ghost use Rattle.merge_search.specs.declared.state.Search.{Search};
 ghost use Rattle.merge_search.specs.World.{world};
-ghost use Rattle.merge_search.specs.Tasks.{Leads, Waits, Meets, MeetsFields, MeetsNested, MeetsBelow, Closes};
+ghost use Rattle.merge_search.specs.Tasks.{Turns, Waits, Meets, MeetsFields, MeetsNested, MeetsBelow, Closes};
 ghost use Rattle.merge_search.specs.declared.task.Task.{Task};
 
 use crate::graph::Graph;
 use crate::judge::Judge;
 use crate::node::Entry;
 use crate::state::{Finding, Search, report};
-use crate::task::{Task, wait};
+use crate::task::{Partner, Task, wait};
 use crate::view::{
     are_exclusive, are_in_conflict, are_plainly_alike, first_of_names, group, spreads,
 };
@@ -29,8 +29,7 @@ pub(crate) fn begin_fields<J: Judge>(
     search: &mut Search,
 ) -> Result<(), AllocError>
     ensures { let w = world J.judgement graph.now in
-        OnOk result
-        (Leads w (reverse tasks.new.items) search.new (MeetsFields w e a b) (reverse tasks.old.items) search.old) }
+        OnOk result (Turns w (MeetsFields w e a b) tasks.old.items tasks.new.items search.old search.new) }
 {
     if are_in_conflict(graph, e, a, b) {
         return report(search, Finding::Direct(a, b, e));
@@ -53,8 +52,7 @@ fn begin_nested<J: Judge>(
     search: &Search,
 ) -> Result<(), AllocError>
     ensures { let w = world J.judgement graph.now in
-        OnOk result
-        (Leads w (reverse tasks.new.items) search.now (MeetsNested w e a b i j) (reverse tasks.old.items) search.now) }
+        OnOk result (Turns w (MeetsNested w e a b i j) tasks.old.items tasks.new.items search.now search.now) }
 {
     tasks.push(Task::Close(a, b, search.found.len()))?;
     wait_below(graph, i, j, are_exclusive(graph, e, a, b), tasks)
@@ -73,9 +71,9 @@ fn wait_below<J: Judge>(
 {
     let left = spreads(graph, i).len();
     let right = spreads(graph, j).len();
-    wait(tasks, Task::Both(i, j, e, 0), left)?;
-    wait(tasks, Task::Against(j, i, e, 0), left)?;
-    wait(tasks, Task::Against(i, j, e, 0), right)?;
+    wait(tasks, Task::Spreads(i, Partner::Each(j), e, 0), left)?;
+    wait(tasks, Task::Spreads(i, Partner::Own(j), e, 0), left)?;
+    wait(tasks, Task::Spreads(j, Partner::Own(i), e, 0), right)?;
     wait(tasks, Task::Own(i, j, e, 0), first_of_names(graph, i).len())
 }
 
@@ -94,9 +92,7 @@ pub(crate) fn next_with<J: Judge>(
     search: &mut Search,
 ) -> Result<(), AllocError>
     ensures { let w = world J.judgement graph.now in
-        OnOk result
-        (Leads w (reverse tasks.new.items) search.new (Meets w (Task.With a j e n)) (reverse tasks.old.items)
-        search.old) }
+        OnOk result (Turns w (Meets w (Task.With a j e n)) tasks.old.items tasks.new.items search.old search.new) }
 {
     let fields = group(graph, j, a.response);
     if n >= fields.len() {
@@ -123,9 +119,7 @@ pub(crate) fn next_named<J: Judge>(
     search: &mut Search,
 ) -> Result<(), AllocError>
     ensures { let w = world J.judgement graph.now in
-        OnOk result
-        (Leads w (reverse tasks.new.items) search.new (Meets w (Task.Named i j name e m)) (reverse tasks.old.items)
-        search.old) }
+        OnOk result (Turns w (Meets w (Task.Named i j name e m)) tasks.old.items tasks.new.items search.old search.new) }
 {
     let fields = group(graph, i, name);
     if m >= fields.len() {
@@ -173,9 +167,7 @@ pub(crate) fn next_own<J: Judge>(
     search: &mut Search,
 ) -> Result<(), AllocError>
     ensures { let w = world J.judgement graph.now in
-        OnOk result
-        (Leads w (reverse tasks.new.items) search.new (Meets w (Task.Own i j e k)) (reverse tasks.old.items)
-        search.old) }
+        OnOk result (Turns w (Meets w (Task.Own i j e k)) tasks.old.items tasks.new.items search.old search.new) }
 {
     let firsts = first_of_names(graph, i);
     let next = next_shared(graph, i, j, k);

@@ -1,18 +1,19 @@
 //! The steps of a search that compare fragments.
-ghost use Rattle.std.specs.Prelude.{◌≡◌, ◌<◌, OnOk, length, reverse};
+ghost use Rattle.std.specs.Prelude.{◌≡◌, ◌<◌, OnOk, length};
 ghost use Rattle.merge_search.specs.World.{world};
-ghost use Rattle.merge_search.specs.Tasks.{Leads, Meets, MeetsSearch, MeetsOne, MeetsFragments};
+ghost use Rattle.merge_search.specs.Tasks.{Meets, MeetsFragments, MeetsOne, MeetsPartner, MeetsSearch, Turns};
 ghost use Rattle.merge_search.specs.declared.task.Task.{Task};
 
 use crate::fields::next_own;
 use crate::graph::Graph;
 use crate::judge::Judge;
 use crate::opening::{Opening, opened};
-use crate::repeats::is_settled;
+use crate::repeats::{Seeker, is_settled};
 use crate::state::{Search, is_compared, note_pair, note_search, put_opening};
-use crate::task::{Task, wait};
+use crate::task::{Partner, Task, wait};
 use crate::view::{set, spreads};
 use std::alloc::AllocError;
+use std::slice;
 
 /// Compares the own fields of `i` with those of one fragment that a search opens.
 fn begin_one<J: Judge>(
@@ -24,8 +25,7 @@ fn begin_one<J: Judge>(
     search: &mut Search,
 ) -> Result<(), AllocError>
     ensures { let w = world J.judgement graph.now in
-        OnOk result
-        (Leads w (reverse tasks.new.items) search.new (MeetsOne w e i g) (reverse tasks.old.items) search.old) }
+        OnOk result (Turns w (MeetsOne w e i g) tasks.old.items tasks.new.items search.old search.new) }
 {
     if is_settled(graph, search, i, g, e) {
         return Ok(());
@@ -52,8 +52,7 @@ pub(crate) fn next_opened<J: Judge>(
 ) -> Result<(), AllocError>
     ensures { let w = world J.judgement graph.now in
         OnOk result
-        (Leads w (reverse tasks.new.items) search.new (Meets w (Task.Opened i g e opening k)) (reverse tasks.old.items)
-        search.old) }
+        (Turns w (Meets w (Task.Opened i g e opening k)) tasks.old.items tasks.new.items search.old search.new) }
 {
     if k >= opening.order.len() {
         return put_opening(search, opening);
@@ -74,41 +73,13 @@ fn begin_search<J: Judge>(
 ) -> Result<(), AllocError>
     requires { g < length graph.now.fragments.items }
     ensures { let w = world J.judgement graph.now in
-        OnOk result
-        (Leads w (reverse tasks.new.items) search.new (MeetsSearch w e i g) (reverse tasks.old.items) search.old) }
+        OnOk result (Turns w (MeetsSearch w e i g) tasks.old.items tasks.new.items search.old search.new) }
 {
     if is_settled(graph, search, i, g, e) {
         return Ok(());
     }
-    let opening = opened(graph, g, search)?;
+    let opening = opened(graph, slice::from_ref(&g), Seeker::Below(i, e), search)?;
     next_opened(graph, i, g, e, opening, 0, tasks, search)
-}
-
-/// Compares the own fields of `i` with the next fragment that `j` spreads.
-///
-/// # Errors
-///
-/// Out of memory.
-pub(crate) fn next_against<J: Judge>(
-    graph: &Graph<J>,
-    i: usize,
-    j: usize,
-    e: bool,
-    k: usize,
-    tasks: &mut Vec<Task>,
-    search: &mut Search,
-) -> Result<(), AllocError>
-    ensures { let w = world J.judgement graph.now in
-        OnOk result
-        (Leads w (reverse tasks.new.items) search.new (Meets w (Task.Against i j e k)) (reverse tasks.old.items)
-        search.old) }
-{
-    let list = spreads(graph, j);
-    if k >= list.len() {
-        return Ok(());
-    }
-    wait(tasks, Task::Against(i, j, e, k + 1), list.len() - (k + 1))?;
-    begin_search(graph, i, list[k], e, tasks, search)
 }
 
 /// Compares two fragments, both written out.
@@ -125,8 +96,7 @@ pub(crate) fn begin_fragments<J: Judge>(
     search: &mut Search,
 ) -> Result<(), AllocError>
     ensures { let w = world J.judgement graph.now in
-        OnOk result
-        (Leads w (reverse tasks.new.items) search.new (MeetsFragments w e f g) (reverse tasks.old.items) search.old) }
+        OnOk result (Turns w (MeetsFragments w e f g) tasks.old.items tasks.new.items search.old search.new) }
 {
     if f == g {
         return Ok(());
@@ -139,47 +109,46 @@ pub(crate) fn begin_fragments<J: Judge>(
     let right = set(graph, g);
     let on_left = spreads(graph, left).len();
     let on_right = spreads(graph, right).len();
-    wait(tasks, Task::Second(left, g, e, 0), on_left)?;
-    wait(tasks, Task::First(f, right, e, 0), on_right)?;
+    let seconds = Task::Spreads(left, Partner::Second(g), e, 0);
+    wait(tasks, seconds, on_left)?;
+    let firsts = Task::Spreads(right, Partner::First(f), e, 0);
+    wait(tasks, firsts, on_right)?;
     next_own(graph, left, right, e, 0, tasks, search)
 }
 
-/// Compares a fragment with the next that `j` spreads.
-///
-/// # Errors
-///
-/// Out of memory.
-pub(crate) fn next_first<J: Judge>(
+/// Compares a fragment with its partner.
+fn begin_spread<J: Judge>(
     graph: &Graph<J>,
     f: usize,
-    j: usize,
+    partner: Partner,
     e: bool,
-    k: usize,
     tasks: &mut Vec<Task>,
     search: &mut Search,
 ) -> Result<(), AllocError>
+    requires { f < length graph.now.fragments.items }
     ensures { let w = world J.judgement graph.now in
-        OnOk result
-        (Leads w (reverse tasks.new.items) search.new (Meets w (Task.First f j e k)) (reverse tasks.old.items)
-        search.old) }
+        OnOk result (Turns w (MeetsPartner w e f partner) tasks.old.items tasks.new.items search.old search.new) }
 {
-    let list = spreads(graph, j);
-    if k >= list.len() {
-        return Ok(());
+    match partner {
+        Partner::Own(i) => begin_search(graph, i, f, e, tasks, search),
+        Partner::First(g) => begin_fragments(graph, g, f, e, tasks, search),
+        Partner::Second(g) => begin_fragments(graph, f, g, e, tasks, search),
+        Partner::Each(j) => {
+            let rest = Task::Spreads(j, Partner::First(f), e, 0);
+            wait(tasks, rest, spreads(graph, j).len())
+        }
     }
-    wait(tasks, Task::First(f, j, e, k + 1), list.len() - (k + 1))?;
-    begin_fragments(graph, f, list[k], e, tasks, search)
 }
 
-/// Compares the next fragment that `i` spreads with a fragment.
+/// Compares the next fragment that a set spreads with its partner.
 ///
 /// # Errors
 ///
 /// Out of memory.
-pub(crate) fn next_second<J: Judge>(
+pub(crate) fn next_spread<J: Judge>(
     graph: &Graph<J>,
-    i: usize,
-    g: usize,
+    s: usize,
+    partner: Partner,
     e: bool,
     k: usize,
     tasks: &mut Vec<Task>,
@@ -187,40 +156,13 @@ pub(crate) fn next_second<J: Judge>(
 ) -> Result<(), AllocError>
     ensures { let w = world J.judgement graph.now in
         OnOk result
-        (Leads w (reverse tasks.new.items) search.new (Meets w (Task.Second i g e k)) (reverse tasks.old.items)
-        search.old) }
+        (Turns w (Meets w (Task.Spreads s partner e k)) tasks.old.items tasks.new.items search.old search.new) }
 {
-    let list = spreads(graph, i);
+    let list = spreads(graph, s);
     if k >= list.len() {
         return Ok(());
     }
-    wait(tasks, Task::Second(i, g, e, k + 1), list.len() - (k + 1))?;
-    begin_fragments(graph, list[k], g, e, tasks, search)
-}
-
-/// Compares the next fragment that `i` spreads with each that `j` spreads.
-///
-/// # Errors
-///
-/// Out of memory.
-pub(crate) fn next_both<J: Judge>(
-    graph: &Graph<J>,
-    i: usize,
-    j: usize,
-    e: bool,
-    k: usize,
-    tasks: &mut Vec<Task>,
-    search: &mut Search,
-) -> Result<(), AllocError>
-    ensures { let w = world J.judgement graph.now in
-        OnOk result
-        (Leads w (reverse tasks.new.items) search.new (Meets w (Task.Both i j e k)) (reverse tasks.old.items)
-        search.old) }
-{
-    let list = spreads(graph, i);
-    if k >= list.len() {
-        return Ok(());
-    }
-    wait(tasks, Task::Both(i, j, e, k + 1), list.len() - (k + 1))?;
-    next_first(graph, list[k], j, e, 0, tasks, search)
+    let rest = Task::Spreads(s, partner, e, k + 1);
+    wait(tasks, rest, list.len() - (k + 1))?;
+    begin_spread(graph, list[k], partner, e, tasks, search)
 }

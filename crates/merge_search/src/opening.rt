@@ -1,13 +1,15 @@
 //! The fragments that a search opens, each once.
 ghost use Rattle.std.specs.Prelude.{◌≡◌, ◌<◌, ◌∷◌, [], ℕ, false, OnOk, IfOk, length};
+ghost use Rattle.std.specs.List.{All};
 ghost use Rattle.bit_matrix.specs.Set.{has};
-ghost use Rattle.merge_search.specs.World.{world, set_of, spreads_of};
-ghost use Rattle.merge_search.specs.Opening.{Opens};
-ghost use Rattle.merge_search.specs.Sound.{Gains};
+ghost use Rattle.merge_search.specs.World.{world};
+ghost use Rattle.merge_search.specs.Opening.{Opens, WasSearched};
+ghost use Rattle.merge_search.specs.Sound.{Gains, GoesOn};
 ghost use Rattle.merge_search.specs.State.{CountsList};
 
 use crate::graph::Graph;
 use crate::judge::Judge;
+use crate::repeats::{Seeker, is_passed};
 use crate::state::{Search, count_list, take_opening};
 use crate::view::{set, spreads};
 use bit_matrix::set::BitSet;
@@ -45,15 +47,31 @@ fn open(opening: &mut Opening, f: usize) -> Result<(), AllocError>
     Ok(())
 }
 
-// Opens the fragments that one spreads.
-fn follow<J: Judge>(graph: &Graph<J>, f: usize, opening: &mut Opening) -> Result<(), AllocError>
-    ensures { let w = world J.judgement graph.now in
-        OnOk result (Gains (spreads_of w (set_of w f)) (spreads_of w (set_of w f)) opening.old opening.new) }
+// Opens some fragments.
+fn open_all(fragments: &[usize], opening: &mut Opening) -> Result<(), AllocError>
+    ensures { OnOk result (Gains fragments.now fragments.now opening.old opening.new) }
 {
-    for h in spreads(graph, set(graph, f)) {
-        open(opening, *h)?;
+    for f in fragments {
+        open(opening, *f)?;
     }
     Ok(())
+}
+
+// Opens the fragments that one spreads, unless a search need not go on with them.
+fn go_on<J: Judge>(
+    graph: &Graph<J>,
+    f: usize,
+    seeker: Seeker,
+    search: &Search,
+    opening: &mut Opening,
+) -> Result<(), AllocError>
+    ensures { let w = world J.judgement graph.now in
+        OnOk result (GoesOn w (WasSearched search.now seeker) f opening.old opening.new) }
+{
+    if is_passed(search, seeker, f) {
+        return Ok(());
+    }
+    open_all(spreads(graph, set(graph, f)), opening)
 }
 
 // Closes all that is open. The room stays, for the next search.
@@ -67,37 +85,47 @@ fn close_all(opening: &mut Opening)
     opening.waiting.clear();
 }
 
-// Opens what `g` reaches, and nothing else.
-fn open_from<J: Judge>(graph: &Graph<J>, g: usize, opening: &mut Opening) -> Result<(), AllocError>
-    requires { g < length graph.now.fragments.items }
-    ensures { OnOk result (Opens (world J.judgement graph.now) g opening.new.order.items) }
+// Opens what some fragments reach, but for what a search need not go on with, and nothing else.
+fn open_from<J: Judge>(
+    graph: &Graph<J>,
+    starts: &[usize],
+    seeker: Seeker,
+    search: &Search,
+    opening: &mut Opening,
+) -> Result<(), AllocError>
+    requires { All (λ g. g < length graph.now.fragments.items) starts.now }
+    ensures { let w = world J.judgement graph.now in
+        OnOk result (Opens w (WasSearched search.now seeker) starts.now opening.new.order.items) }
 {
     close_all(opening);
-    open(opening, g)?;
+    open_all(starts, opening)?;
     while let Some(f) = opening.waiting.pop() {
-        follow(graph, f, opening)?;
+        go_on(graph, f, seeker, search, opening)?;
     }
     Ok(())
 }
 
-/// Lists the fragments that `g` reaches, in the order in which a search opens them, and counts them.
+/// Lists the fragments that some reach, in the order in which a search opens them, and counts them.
 ///
-/// All fragments that one spreads are opened in turn, and the search continues with the one that it opened last.
+/// All fragments that one spreads are opened in turn, and the search continues with the one that it opened last. What
+/// the seeker was compared with before is not followed.
 ///
 /// # Errors
 ///
 /// Out of memory.
 pub fn opened<J: Judge>(
     graph: &Graph<J>,
-    g: usize,
+    starts: &[usize],
+    seeker: Seeker,
     search: &mut Search,
 ) -> Result<Opening, AllocError>
-    requires { g < length graph.now.fragments.items }
-    ensures opens { IfOk result (λ o. Opens (world J.judgement graph.now) g o.order.items) }
+    requires { All (λ g. g < length graph.now.fragments.items) starts.now }
+    ensures opens { let w = world J.judgement graph.now in
+        IfOk result (λ o. Opens w (WasSearched search.old seeker) starts.now o.order.items) }
     ensures counted { IfOk result (λ o. CountsList (length o.order.items) search.old search.new) }
 {
     let mut opening = take_opening(search);
-    open_from(graph, g, &mut opening)?;
+    open_from(graph, starts, seeker, search, &mut opening)?;
     count_list(search, opening.order.len());
     Ok(opening)
 }

@@ -5,6 +5,7 @@
 //! taking long.
 ghost use Rattle.std.specs.Prelude.{◌≡◌, ◌≤◌, true};
 ghost use Rattle.merge_search.specs.Log.{covers_of};
+ghost use Rattle.merge_search.specs.Opening.{WasSearched};
 ghost use Rattle.merge_search.specs.Work.{search_in};
 
 use crate::graph::Graph;
@@ -26,8 +27,38 @@ pub fn is_settled<J: Judge>(graph: &Graph<J>, search: &Search, i: usize, g: usiz
     is_searched(search, i, g, e) && !may_repeat(graph, search, i, set(graph, g))
 }
 
+/// Who opens fragments: a set at the top, or the own fields of a set below a field, under a flag.
+#[derive(Clone, Copy)]
+pub enum Seeker {
+    Top,
+    Below(usize, bool),
+}
+
+/// Whether a search need not go on with what a fragment spreads: the same set was compared with all of that before,
+/// under the flag or without one, and nothing of it is repeated. At the top each set is compared with all anew.
+pub fn is_passed(search: &Search, seeker: Seeker, g: usize) -> bool
+    ensures { result ≡ true → WasSearched search.now seeker g }
+{
+    match seeker {
+        Seeker::Top => false,
+        Seeker::Below(i, e) => is_closed(search, i, g, e),
+    }
+}
+
+// Whether a set was compared with a fragment, under the flag or without one, and nothing of it is repeated.
+fn is_closed(search: &Search, i: usize, g: usize, e: bool) -> bool
+    ensures { result ≡ true → covers_of (search_in search.now) e i g ≡ true }
+{
+    is_searched(search, i, g, e) && !are_repeated(search, i)
+}
+
+// Whether searches of a set are repeated, where the fields are few.
+fn are_repeated(search: &Search, i: usize) -> bool {
+    search.repeats > 0 && search.conflicting.contains(i)
+}
+
 fn may_repeat<J: Judge>(graph: &Graph<J>, search: &Search, i: usize, j: usize) -> bool {
-    search.repeats > 0 && search.conflicting.contains(i) && are_few(graph, i, j)
+    are_repeated(search, i) && are_few(graph, i, j)
 }
 
 fn are_few<J: Judge>(graph: &Graph<J>, i: usize, j: usize) -> bool {

@@ -4,13 +4,11 @@ ghost use Rattle.merge_search.specs.World.{world};
 ghost use Rattle.merge_search.specs.State.{Keeps};
 ghost use Rattle.merge_search.specs.Work.{Did, Done, Pair, OwnPairs};
 ghost use Rattle.merge_search.specs.Reports.{Finds, FindsAll, AtFields, AtOwn, AtFragments};
-ghost use Rattle.merge_search.specs.Tasks.{Leads, Meets, MeetsAll};
+ghost use Rattle.merge_search.specs.Tasks.{Meets, MeetsAll, Turns};
 ghost use Rattle.merge_search.specs.declared.state.Search.{Search};
 
 use crate::fields::{begin_fields, close, next_named, next_own, next_with};
-use crate::fragments::{
-    begin_fragments, next_against, next_both, next_first, next_opened, next_second,
-};
+use crate::fragments::{begin_fragments, next_opened, next_spread};
 use crate::graph::Graph;
 use crate::judge::Judge;
 use crate::node::Entry;
@@ -125,8 +123,7 @@ fn step<J: Judge>(
     search: &mut Search,
 ) -> Result<(), AllocError>
     ensures { let w = world J.judgement graph.now in
-        OnOk result
-        (Leads w (reverse tasks.new.items) search.new (Meets w task) (reverse tasks.old.items) search.old) }
+        OnOk result (Turns w (Meets w task) tasks.old.items tasks.new.items search.old search.new) }
 {
     match task {
         Task::With(a, j, e, n) => next_with(graph, a, j, e, n, tasks, search),
@@ -137,9 +134,6 @@ fn step<J: Judge>(
             next_opened(graph, i, g, e, opening, k, tasks, search)
         }
         Task::Mark(i, start) => note_conflicts(search, i, start),
-        Task::Against(i, j, e, k) => next_against(graph, i, j, e, k, tasks, search),
-        Task::First(f, j, e, k) => next_first(graph, f, j, e, k, tasks, search),
-        Task::Second(i, g, e, k) => next_second(graph, i, g, e, k, tasks, search),
-        Task::Both(i, j, e, k) => next_both(graph, i, j, e, k, tasks, search),
+        Task::Spreads(s, partner, e, k) => next_spread(graph, s, partner, e, k, tasks, search),
     }
 }

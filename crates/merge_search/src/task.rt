@@ -11,6 +11,19 @@ use crate::state::Search;
 use std::alloc::AllocError;
 use std::mem;
 
+/// What a fragment is compared with.
+#[derive(Clone, Copy)]
+pub enum Partner {
+    /// The own fields of a set.
+    Own(usize),
+    /// A fragment, the first of the two.
+    First(usize),
+    /// A fragment, the second of the two.
+    Second(usize),
+    /// Each fragment that a set spreads.
+    Each(usize),
+}
+
 /// A part of the work of a search. Two things are compared under a flag; the number at the end is a place in a list.
 #[derive(Drop)]
 pub enum Task {
@@ -26,14 +39,8 @@ pub enum Task {
     Opened(usize, usize, bool, Opening, usize),
     /// The end of a fragment that a search opens: the set conflicts with it if something was found since then.
     Mark(usize, usize),
-    /// The own fields of a set with each fragment that another set spreads, from that place on.
-    Against(usize, usize, bool, usize),
-    /// A fragment with each that a set spreads, from that place on.
-    First(usize, usize, bool, usize),
-    /// Each fragment that a set spreads, from that place on, with a fragment.
-    Second(usize, usize, bool, usize),
-    /// Each fragment that a set spreads, from that place on, with each that another set spreads.
-    Both(usize, usize, bool, usize),
+    /// Each fragment that a set spreads, from that place on, with a partner.
+    Spreads(usize, Partner, bool, usize),
 }
 
 /// Puts a task before the others, unless nothing is left of it.

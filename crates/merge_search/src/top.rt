@@ -7,7 +7,7 @@ ghost use Rattle.merge_search.specs.Work.{Did, Done, OwnPairs, Pair};
 ghost use Rattle.merge_search.specs.Merging.{Top, OwnWithin, OwnWritten};
 ghost use Rattle.merge_search.specs.Reports.{Finds, FindsAll, AtFragments, AtPlaces, Judged};
 ghost use Rattle.merge_search.specs.Plain.{ArePlain};
-ghost use Rattle.merge_search.specs.Tops.{AllBefore, AtBefore, AtListed, AtRest, AtSpread, AtTop, AtWithin, AtWritten, AtWrittenOrListed, MarkedDone, SpreadDone, Together};
+ghost use Rattle.merge_search.specs.Tops.{AddsUnmarked, AllBefore, AreAllBut, AtBefore, AtListed, AtRest, AtSpread, AtSpreads, AtTop, AtTwo, AtWithin, MarkedDone, SpreadDone, Together};
 
 use crate::graph::Graph;
 use crate::judge::Judge;
@@ -15,6 +15,7 @@ use crate::node::Entry;
 use crate::opening::opened;
 use crate::passing::{note_plain, pass_over};
 use crate::plain::{is_plain, passed_over};
+use crate::repeats::Seeker;
 use crate::search::{compare_fields, compare_fragments, compare_own};
 use crate::state::{Search, no_search, put_opening};
 use crate::view::{are_plainly_alike, firsts, group, order, set, spreads};
@@ -76,19 +77,19 @@ fn compare_within<J: Judge>(
     Ok(())
 }
 
-// Compares the own fields of a set with those of each fragment that a search from `g` opens.
+// Compares the own fields of a set with those of each fragment that a search from `starts` opens.
 fn write_all<J: Judge>(
     graph: &Graph<J>,
     s: usize,
-    g: usize,
+    starts: &[usize],
     opening: &[usize],
     search: &mut Search,
 ) -> Result<(), AllocError>
-    requires { Opens (world J.judgement graph.now) g opening.now }
+    requires { Opens (world J.judgement graph.now) (λ h. ⊥) starts.now opening.now }
     ensures done { let w = world J.judgement graph.now in
         OnOk result (Did w (λ M. All (λ h. OwnPairs w M false s (set_of w h)) opening.now) search.old search.new) }
     ensures real { let w = world J.judgement graph.now in
-        OnOk result (FindsAll w false (AtWritten w s g) (AtWritten w s g) search.old search.new) }
+        OnOk result (FindsAll w false (AtSpreads w s starts.now) (AtSpreads w s starts.now) search.old search.new) }
 {
     for h in opening {
         compare_own(graph, s, set(graph, *h), false, search)?;
@@ -96,41 +97,81 @@ fn write_all<J: Judge>(
     Ok(())
 }
 
-// Compares the own fields of a set with a fragment written out. This search always runs.
+// Compares the own fields of a set with some fragments written out, by one search. It always runs.
 fn write_out<J: Judge>(
     graph: &Graph<J>,
     s: usize,
-    g: usize,
+    starts: &[usize],
     search: &mut Search,
 ) -> Result<(), AllocError>
-    requires { g < length graph.now.fragments.items }
+    requires some { 0 < length graph.now.fragments.items }
+    requires starts { All (λ g. g < length graph.now.fragments.items) starts.now }
     ensures done { let w = world J.judgement graph.now in
-        OnOk result (Did w (λ M. OwnWritten w M s g) search.old search.new) }
+        OnOk result (Did w (λ M. All (λ g. OwnWritten w M s g) starts.now) search.old search.new) }
     ensures real { let w = world J.judgement graph.now in
-        OnOk result (FindsAll w false (AtWritten w s g) (AtWritten w s g) search.old search.new) }
+        OnOk result (FindsAll w false (AtSpreads w s starts.now) (AtSpreads w s starts.now) search.old search.new) }
 {
-    let opening = opened(graph, g, search)?;
-    write_all(graph, s, g, opening.order.as_slice(), search)?;
+    let opening = opened(graph, starts, Seeker::Top, search)?;
+    write_all(graph, s, starts, opening.order.as_slice(), search)?;
     put_opening(search, opening)
 }
 
-// The same, if the set has fields of its own: without them there is nothing to compare.
+// Adds a fragment, unless it is marked as plain.
+fn add_unmarked<J: Judge>(
+    graph: &Graph<J>,
+    f: usize,
+    plain: &BitSet,
+    others: &mut Vec<usize>,
+) -> Result<(), AllocError>
+    requires { ArePlain (world J.judgement graph.now) plain.now }
+    ensures { OnOk result (AddsUnmarked (world J.judgement graph.now) f others.old.items others.new.items) }
+{
+    if is_plain(graph, f, plain) {
+        return Ok(());
+    }
+    others.push(f)?;
+    Ok(())
+}
+
+// The fragments of a list that aren't marked as plain.
+fn unmarked<J: Judge>(
+    alloc: Global,
+    graph: &Graph<J>,
+    list: &[usize],
+    plain: &BitSet,
+) -> Result<Vec<usize>, AllocError>
+    requires { ArePlain (world J.judgement graph.now) plain.now }
+    ensures { IfOk result (λ others. AreAllBut (world J.judgement graph.now) list.now list.now others.items) }
+{
+    let mut others = Vec::new(alloc);
+    for g in list {
+        add_unmarked(graph, *g, plain, &mut others)?;
+    }
+    Ok(others)
+}
+
+// Compares the own fields of a set with the fragments of a list, written out. Where it has no field, and with what is
+// plain, there is nothing to compare.
 fn write_own<J: Judge>(
     graph: &Graph<J>,
     s: usize,
-    g: usize,
+    list: &[usize],
+    plain: &BitSet,
     search: &mut Search,
 ) -> Result<(), AllocError>
-    requires { g < length graph.now.fragments.items }
+    requires some { 0 < length graph.now.fragments.items }
+    requires list { All (λ g. g < length graph.now.fragments.items) list.now }
+    requires plain { ArePlain (world J.judgement graph.now) plain.now }
     ensures done { let w = world J.judgement graph.now in
-        OnOk result (Did w (λ M. OwnWritten w M s g) search.old search.new) }
+        OnOk result (Did w (λ M. All (λ g. OwnWritten w M s g) list.now) search.old search.new) }
     ensures real { let w = world J.judgement graph.now in
-        OnOk result (FindsAll w false (AtWritten w s g) (AtWritten w s g) search.old search.new) }
+        OnOk result (FindsAll w false (AtSpreads w s list.now) (AtSpreads w s list.now) search.old search.new) }
 {
     if firsts(graph, s).is_empty() {
         return Ok(());
     }
-    write_out(graph, s, g, search)
+    let others = unmarked(search.alloc, graph, list, plain)?;
+    write_out(graph, s, others.as_slice(), search)
 }
 
 // Compares two fragments.
@@ -176,10 +217,9 @@ fn pair_all<J: Judge>(
     Ok(())
 }
 
-// Compares a spread of a set with its own fields and with each spread. A plain one is left to `note_plain`.
+// Compares a spread of a set with each spread. A plain one is left to `note_plain`.
 fn compare_spread<J: Judge>(
     graph: &Graph<J>,
-    s: usize,
     f: usize,
     list: &[usize],
     plain: &BitSet,
@@ -189,18 +229,37 @@ fn compare_spread<J: Judge>(
     requires list { All (λ g. g < length graph.now.fragments.items) list.now }
     requires plain { ArePlain (world J.judgement graph.now) plain.now }
     ensures done { let w = world J.judgement graph.now in
-        OnOk result (Did w (λ M. SpreadDone w M plain.now s list.now f) search.old search.new) }
+        OnOk result (Did w (λ M. SpreadDone w M plain.now list.now f) search.old search.new) }
     ensures real { let w = world J.judgement graph.now in
-        OnOk result (FindsAll w false (AtWrittenOrListed w s f list.now) (AtWritten w s f) search.old search.new) }
+        OnOk result (Finds w false (AtListed w f list.now) search.old search.new) }
 {
     if is_plain(graph, f, plain) {
         return Ok(());
     }
-    write_own(graph, s, f, search)?;
     pair_all(graph, f, list, plain, search)
 }
 
-// Compares each spread of a set with its own fields and with the other spreads.
+// Compares each two spreads of a set.
+fn compare_pairs<J: Judge>(
+    graph: &Graph<J>,
+    list: &[usize],
+    plain: &BitSet,
+    search: &mut Search,
+) -> Result<(), AllocError>
+    requires list { All (λ g. g < length graph.now.fragments.items) list.now }
+    requires plain { ArePlain (world J.judgement graph.now) plain.now }
+    ensures done { let w = world J.judgement graph.now in
+        OnOk result (Did w (λ M. AllBefore (Pair M false) list.now) search.old search.new) }
+    ensures real { let w = world J.judgement graph.now in
+        OnOk result (Finds w false (AtTwo w list.now) search.old search.new) }
+{
+    for f in list {
+        compare_spread(graph, *f, list, plain, search)?;
+    }
+    note_plain(graph, list, plain, search)
+}
+
+// Compares the spreads of a set with its own fields and with each other.
 fn compare_spreads<J: Judge>(
     graph: &Graph<J>,
     s: usize,
@@ -215,10 +274,11 @@ fn compare_spreads<J: Judge>(
         OnOk result (FindsAll w false (AtPlaces w s) (AtSpread w s) search.old search.new) }
 {
     let list = spreads(graph, s);
-    for f in list {
-        compare_spread(graph, s, *f, list, plain, search)?;
+    if list.is_empty() {
+        return Ok(());
     }
-    note_plain(graph, list, plain, search)
+    write_own(graph, s, list, plain, search)?;
+    compare_pairs(graph, list, plain, search)
 }
 
 // Compares all that stands in one set.

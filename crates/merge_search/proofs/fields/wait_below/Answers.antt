@@ -1,11 +1,12 @@
 use Rattle.std.proofs.Common.{arith}
 use Rattle.std.proofs.lemmas.Result.{on_ok_weaker}
 use Rattle.std.specs.List.{All}
-use Rattle.merge_search.specs.declared.task.Task.TheVariants.{Own, Against, Both}
+use Rattle.merge_search.specs.declared.task.Task.TheVariants.{Own, Spreads}
+use Rattle.merge_search.specs.declared.task.Partner.TheVariants as partner
 use Rattle.merge_search.specs.World.{world, spreads_of}
 use Rattle.merge_search.specs.Work.{Searched, Pair}
-use Rattle.merge_search.specs.Reports.{AtOwn, AtNamed, AtSearches, AtSpreads}
-use Rattle.merge_search.specs.Tasks.{Meets, MeetsBelow, NameDone, firsts_at}
+use Rattle.merge_search.specs.Reports.{AtOwn, AtNamed}
+use Rattle.merge_search.specs.Tasks.{AtPartners, Meets, MeetsBelow, NameDone, firsts_at}
 use Rattle.merge_search.proofs.Leading.{waits_four}
 use Rattle.merge_search.proofs.Steps.{drop_end, each_none, searches_none, below_whole}
 use Rattle.merge_search.proofs.fields.wait_below.Goals as goal
@@ -17,10 +18,10 @@ returns g c =
     let i = c.args.i in
     let j = c.args.j in
     on_ok_weaker c.wait-4.result
-    (λ own. waits_four v (Meets v (Own i j e 0)) (Meets v (Against i j e 0)) (Meets v (Against j i e 0)) (Meets v (Both i j e 0)) (MeetsBelow v e i j) _ _ _ _ _
-    (below_whole v e i j)
+    (λ own. waits_four v (Meets v (Own i j e 0)) (Meets v (Spreads j (partner.Own i) e 0)) (Meets v (Spreads i (partner.Own j) e 0)) (Meets v (Spreads i (partner.Each j) e 0)) (MeetsBelow v e i j) _ _ _ _ _
+    (λ s t u x z own forth back both. below_whole v e i j s t u x z own (forth tt) (back tt) (both tt))
     (own v (λ none s. each_none v e (NameDone v e i j) (AtOwn v i j) (λ f. AtNamed v i j f.response) _ s (drop_end _ (firsts_at v.sets i) 0 c.first_of_names.ensures (omega (arith, none)))))
-    (c.in_ok-wait-3.ensures v (λ none s. searches_none v e (λ h M. Searched M e i h) (AtSearches v i j) _ s (drop_end _ (spreads_of v j) 0 c.spreads-right.ensures (omega (arith, none)))))
-    (c.in_ok-wait-2.ensures v (λ none s. searches_none v e (λ h M. Searched M e j h) (AtSearches v j i) _ s (drop_end _ (spreads_of v i) 0 c.spreads-left.ensures (omega (arith, none)))))
-    (c.in_ok-wait.ensures v (λ none s. searches_none v e (λ k M. All (λ h. Pair M e k h) (spreads_of v j)) (AtSpreads v i j) _ s (drop_end _ (spreads_of v i) 0 c.spreads-left.ensures (omega (arith, none))))))
+    (c.in_ok-wait-3.ensures v (λ none s there. searches_none v e (λ h M. Searched M e i h) (AtPartners v j (partner.Own i)) _ s (drop_end _ (spreads_of v j) 0 c.spreads-right.ensures (omega (arith, none)))))
+    (c.in_ok-wait-2.ensures v (λ none s there. searches_none v e (λ h M. Searched M e j h) (AtPartners v i (partner.Own j)) _ s (drop_end _ (spreads_of v i) 0 c.spreads-left.ensures (omega (arith, none)))))
+    (c.in_ok-wait.ensures v (λ none s there. searches_none v e (λ k M. All (λ h. Pair M e k h) (spreads_of v j)) (AtPartners v i (partner.Each j)) _ s (drop_end _ (spreads_of v i) 0 c.spreads-left.ensures (omega (arith, none))))))
     c.wait-4.ensures

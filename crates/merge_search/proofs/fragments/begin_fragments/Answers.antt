@@ -1,11 +1,12 @@
 use Rattle.std.proofs.Common.{ℕ, arith, sym, subst, ◌∙◌, inl, inr}
 use Rattle.std.proofs.lemmas.Result.{on_ok_weaker}
-use Rattle.merge_search.specs.declared.task.Task.TheVariants.{Own, First, Second}
+use Rattle.merge_search.specs.declared.task.Task.TheVariants.{Own, Spreads}
+use Rattle.merge_search.specs.declared.task.Partner.TheVariants as partner
 use Rattle.merge_search.specs.declared.state.Search.{Search}
 use Rattle.merge_search.specs.World.{world, spreads_of, set_of}
 use Rattle.merge_search.specs.Work.{pair_in, Pair}
-use Rattle.merge_search.specs.Reports.{AtFirst, AtSecond}
-use Rattle.merge_search.specs.Tasks.{Meets, MeetsFragments}
+use Rattle.merge_search.specs.Reports.{AtFirst}
+use Rattle.merge_search.specs.Tasks.{AtPartners, Meets, MeetsFragments}
 use Rattle.merge_search.proofs.Work.{did_none, covers_yes, covers_no}
 use Rattle.merge_search.proofs.Adding.{adds_none}
 use Rattle.merge_search.proofs.Leading.{leads_done, leads_both}
@@ -37,12 +38,12 @@ returns g c =
     let left : ℕ = c.set-left.result in
     let right : ℕ = c.set-right.result in
     on_ok_weaker c.next_own.result
-    (λ go. leads_both v (Meets v (Own left right e 0)) (Meets v (First f right e 0)) (Meets v (Second left h e 0)) (MeetsFragments v e f h) _ _ _ _ _ t s
+    (λ go. leads_both v (Meets v (Own left right e 0)) (Meets v (Spreads right (partner.First f) e 0)) (Meets v (Spreads left (partner.Second h) e 0)) (MeetsFragments v e f h) _ _ _ _ _ t s
     (λ u z q own first second. fragments_noted v e f h s t u z q c.if-f-g.false
     (covers_no (pair_in s) e f h (sym c.is_compared.ensures ∙ c.if-is_compared.false)) c.in_ok-note_pair.ensures
     (subst (λ (k : ℕ). Meets v (Own (set_of v f) k e 0) t u) c.set-right.ensures (subst (λ (k : ℕ). Meets v (Own k right e 0) t u) c.set-left.ensures own))
-    (subst (λ (k : ℕ). Meets v (First f k e 0) u z) c.set-right.ensures first)
-    (subst (λ (k : ℕ). Meets v (Second k h e 0) z q) c.set-left.ensures second))
+    (subst (λ (k : ℕ). Meets v (Spreads k (partner.First f) e 0) u z) c.set-right.ensures first)
+    (subst (λ (k : ℕ). Meets v (Spreads k (partner.Second h) e 0) z q) c.set-left.ensures second))
     (c.in_ok-wait-2.ensures v (λ none q lf. searches_none v e (λ k M. Pair M e f k) (AtFirst v f right) _ q (drop_end _ (spreads_of v right) 0 c.spreads-on_right.ensures (omega (arith, none)))))
-    (c.in_ok-wait.ensures v (λ none q lf. searches_none v e (λ k M. Pair M e k h) (AtSecond v left h) _ q (drop_end _ (spreads_of v left) 0 c.spreads-on_left.ensures (omega (arith, none))))) go)
+    (c.in_ok-wait.ensures v (λ none q lf. searches_none v e (λ k M. Pair M e k h) (AtPartners v left (partner.Second h)) _ q (drop_end _ (spreads_of v left) 0 c.spreads-on_left.ensures (omega (arith, none))))) go)
     c.next_own.ensures

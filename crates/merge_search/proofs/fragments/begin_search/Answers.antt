@@ -1,12 +1,17 @@
+use Rattle.std.proofs.Common.{◌<◌, ◌∷◌, [], length, subst, sym}
+use Rattle.std.specs.List.{All}
+use Rattle.std.proofs.lemmas.List.Elements.{All-cons, All-nil}
 use Rattle.std.proofs.lemmas.Result.{on_ok_weaker}
 use Rattle.merge_search.specs.declared.task.Task.TheVariants.{Opened}
 use Rattle.merge_search.specs.declared.state.Search.{Search}
 use Rattle.merge_search.specs.World.{world}
-use Rattle.merge_search.specs.Work.{search_in}
+use Rattle.merge_search.specs.Opening.{Opens}
+use Rattle.merge_search.specs.Work.{search_in, Searched}
 use Rattle.merge_search.specs.Tasks.{Meets, MeetsSearch}
 use Rattle.merge_search.proofs.Work.{did_none, covers_yes}
 use Rattle.merge_search.proofs.Adding.{adds_none}
 use Rattle.merge_search.proofs.Leading.{leads_done, leads_turn}
+use Rattle.merge_search.proofs.Opened.{reached_one}
 use Rattle.merge_search.proofs.Steps.{search_counted}
 use Rattle.merge_search.proofs.fragments.begin_search.Goals as goal
 
@@ -18,6 +23,11 @@ returns-then-is_settled g c =
       real = adds_none v c.args.e _ _;
     })
 
+pub opened-requires : goal.opened-requires
+opened-requires g c =
+    subst (λ zs. All (λ k. k < length c.args.graph.now.fragments.items) zs) (sym c.from_ref.ensures.value)
+    (All-cons (λ k. k < length c.args.graph.now.fragments.items) c.args.g [] c.requires (All-nil (λ k. k < length c.args.graph.now.fragments.items)))
+
 pub returns : goal.returns
 returns g c =
     let v = world g.J.Judge.judgement c.args.graph.now in
@@ -26,7 +36,8 @@ returns g c =
     let s = c.args.search.now in
     let t : Search = c.opened.new.search in
     let o = c.in_ok-opening.opening in
+    let opens : Opens v (λ h. Searched s e i h) (c.args.g ∷ []) o.order.items = subst (λ zs. Opens v (λ h. Searched s e i h) zs o.order.items) c.from_ref.ensures.value c.in_ok-opening.ensures.opens in
     on_ok_weaker c.next_opened.result
     (λ go. leads_turn v (Meets v (Opened i c.args.g e o 0)) (MeetsSearch v e i c.args.g) _ _ t s _
-    (λ u d. search_counted v e i c.args.g o.order.items s t u c.requires c.in_ok-opening.ensures.opens c.in_ok-opening.ensures.counted (d c.in_ok-opening.ensures.opens)) go)
+    (λ u d. search_counted v e i c.args.g o.order.items s t u c.requires opens c.in_ok-opening.ensures.counted (d (reached_one v c.args.g o.order.items opens.reached))) go)
     c.next_opened.ensures

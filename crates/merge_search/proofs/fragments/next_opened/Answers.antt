@@ -1,13 +1,13 @@
 use Rattle.std.proofs.Common.{◌≡◌, ◌+◌, ◌<◌, ◌∷◌, ◌∙◌, ap, sym, ℕ, length, drop, get_or, rules, refl}
 use Rattle.std.proofs.lemmas.Result.{on_ok_weaker}
-use Rattle.std.proofs.lemmas.List.Elements.{All-contains, Contains-get_or}
+use Rattle.std.proofs.lemmas.List.Elements.{All-contains}
 use Rattle.std.specs.List.{All, Contains}
 use Rattle.merge_search.specs.declared.task.Task.TheVariants.{Opened}
-use Rattle.merge_search.specs.World.{world, spreads_of, set_of}
+use Rattle.merge_search.specs.World.{world, set_of}
 use Rattle.merge_search.specs.Opening.{Reaches}
 use Rattle.merge_search.specs.Work.{Searched}
 use Rattle.merge_search.specs.Reports.{AtSearch, AtOwn}
-use Rattle.merge_search.specs.Tasks.{Meets, MeetsOne}
+use Rattle.merge_search.specs.Tasks.{Meets, MeetsOne, SpreadsSearched}
 use Rattle.merge_search.proofs.Rows.{row_opened}
 use Rattle.merge_search.proofs.Leading.{leads_done, leads_next, waits_pushed}
 use Rattle.merge_search.proofs.Steps.{drop_end, drop_next, opened_end, opened_next}
@@ -21,7 +21,7 @@ returns-then-k-len g c =
     let hs = c.args.opening.order.items in
     on_ok_weaker c.put_opening.result
     (λ k. leads_done v (Meets v (Opened i c.args.g e c.args.opening c.args.k)) _
-    (λ opens. opened_end v e (λ M. All (λ h. Searched M e i h) hs) (λ h M. Searched M e i h) (AtSearch v i c.args.g) _ _ _ (drop_end hs hs c.args.k refl (search rules)) k))
+    (λ reached. opened_end v e (λ M. All (SpreadsSearched v M e i) hs) (λ h M. Searched M e i h) (AtSearch v i c.args.g) _ _ _ (drop_end hs hs c.args.k refl (search rules)) k))
     c.put_opening.ensures
 
 pub returns : goal.returns
@@ -37,9 +37,9 @@ returns g c =
     let at : Contains hs h = (k, less, sym is) in
     on_ok_weaker c.begin_one.result
     (λ go. leads_next v (MeetsOne v e i h) (Meets v (Opened i c.args.g e c.args.opening (k + 1))) (Meets v (Opened i c.args.g e c.args.opening k)) _ _ _ _ c.args.search.now
-    (λ t u one more opens. opened_next v e (λ M. All (λ h. Searched M e i h) hs) (λ M. All (λ n. Searched M e i n) (spreads_of v (set_of v h))) (λ h M. Searched M e i h) (AtSearch v i c.args.g) (AtOwn v i (set_of v h)) h (drop (k + 1) hs) (drop k hs) _ t u
+    (λ t u one more reached. opened_next v e (λ M. All (SpreadsSearched v M e i) hs) (λ M. SpreadsSearched v M e i h) (λ h M. Searched M e i h) (AtSearch v i c.args.g) (AtOwn v i (set_of v h)) h (drop (k + 1) hs) (drop k hs) _ t u
     (drop_next hs hs k h refl less ∙ ap (λ x. x ∷ drop (k + 1) hs) (sym is))
-    (λ M all n d l. All-contains (λ m. Searched M e i m) hs (get_or (spreads_of v (set_of v h)) n d) all (opens.followed h (get_or (spreads_of v (set_of v h)) n d) at (Contains-get_or (spreads_of v (set_of v h)) n d l)))
-    (row_opened v i c.args.g h (All-contains (Reaches v c.args.g) hs h opens.reached at)) one (more opens))
+    (λ M all. All-contains (SpreadsSearched v M e i) hs h all at)
+    (row_opened v i c.args.g h (All-contains (Reaches v c.args.g) hs h reached at)) one (more reached))
     (waits_pushed v (Opened i c.args.g e c.args.opening (k + 1)) _ _ c.in_ok-push.ensures.items) go)
     c.begin_one.ensures

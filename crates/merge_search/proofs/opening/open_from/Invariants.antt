@@ -1,10 +1,11 @@
 use Rattle.std.proofs.Common.{◌+◌, ◌-◌, ◌*◌, length}
 use Rattle.merge_search.specs.World.{world}
+use Rattle.merge_search.specs.Opening.{WasSearched}
 use Rattle.merge_search.specs.Sound.{Sound}
 use Rattle.merge_search.proofs.opening.open_from.Given as goal
 
 abbrev pub invariant-loop-f : goal.invariant-loop-f
-invariant-loop-f g l = Sound (world g.J.Judge.judgement l.graph) l.g l.opening
+invariant-loop-f g l = Sound (world g.J.Judge.judgement l.graph) (WasSearched l.search l.seeker) l.starts l.opening
 
 abbrev pub decreases-loop-f : goal.decreases-loop-f
 decreases-loop-f g l = (2 * length l.graph.fragments.items + length l.opening.waiting.items) - 2 * length l.opening.order.items

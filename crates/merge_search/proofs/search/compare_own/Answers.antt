@@ -1,10 +1,10 @@
-use Rattle.std.proofs.Common.{◌≡◌, [], ◌<◌, ℕ, length, reverse}
+use Rattle.std.proofs.Common.{reverse}
 use Rattle.std.proofs.lemmas.Result.{on_ok_weaker}
-use Rattle.merge_search.specs.Work.{Done, OwnPairs, Pair}
-use Rattle.merge_search.specs.Reports.{AtFields, AtOwn, AtFragments}
+use Rattle.merge_search.specs.Work.{OwnPairs}
+use Rattle.merge_search.specs.Reports.{AtOwn}
 use Rattle.merge_search.specs.declared.task.Task.TheVariants.{Own}
-use Rattle.merge_search.specs.Tasks.{MeetsAll, Meets, MeetsFields, MeetsFragments}
-use Rattle.merge_search.proofs.Steps.{own_whole, compares_kept, searches_kept}
+use Rattle.merge_search.specs.Tasks.{MeetsAll, Meets}
+use Rattle.merge_search.proofs.Steps.{own_whole, compares_kept}
 use Rattle.merge_search.specs.State.{Keeps}
 use Rattle.merge_search.specs.declared.state.Search.{Search}
 use Rattle.merge_search.specs.World.{world}

@@ -1,60 +1,71 @@
-use Rattle.std.proofs.Common.{ℕ, ◌<◌, length, get_or, inl, inr, refl, sym, subst, false}
+use Rattle.std.proofs.Common.{◌≡◌, ℕ, ◌<◌, List, [], length, sym, subst, false, arith, ap, ◌∙◌}
 use Rattle.std.specs.List.{All, Contains}
-use Rattle.std.proofs.lemmas.List.Elements.{All-get_or, All-weaker, Contains-get_or}
+use Rattle.std.proofs.lemmas.List.{nil_from_length}
+use Rattle.std.proofs.lemmas.List.Elements.{All-weaker, All-nil}
+use Rattle.std.proofs.lemmas.Option.{slice_get_within}
 use Rattle.std.proofs.lemmas.Result.{on_ok_weaker}
-use Rattle.merge_search.specs.World.{world, spreads_of, set_of}
-use Rattle.merge_search.specs.Reports.{AddsAll, AtPlaces}
-use Rattle.merge_search.specs.Tops.{AtSpread, AtWritten, SpreadDone}
-use Rattle.merge_search.proofs.Adding.{all_start, all_more, all_done}
+use Rattle.merge_search.specs.World.{World, world, spreads_of, set_of}
+use Rattle.merge_search.specs.Graph.{Falling}
+use Rattle.merge_search.specs.declared.state.Search.{Search}
+use Rattle.merge_search.specs.Merging.{OwnWritten}
+use Rattle.merge_search.specs.Work.{Pair}
+use Rattle.merge_search.specs.Reports.{AtPlaces}
+use Rattle.merge_search.specs.Tops.{AllBefore, AtSpread, AtSpreads, AtTwo}
+use Rattle.merge_search.proofs.Adding.{adds_none, all_map, all_told, all_plus}
+use Rattle.merge_search.proofs.Falls.{spread_falls}
 use Rattle.merge_search.proofs.Judging.{places_written, places_listed}
-use Rattle.merge_search.proofs.Spreads.{spreads_done}
-use Rattle.merge_search.proofs.Work.{did_start, did_then, did_map, did_more, did_all}
+use Rattle.merge_search.proofs.Work.{did_none, did_then, did_map}
 use Rattle.merge_search.proofs.top.compare_spreads.Goals as goal
 
-pub compare_spread-requires : goal.compare_spread-requires
-compare_spread-requires g c =
-    let v = world g.J.Judge.judgement c.args.graph.now in
-    let inside : All (λ (k : ℕ). k < length v.fragments) c.spreads-list.result.now = subst (λ zs. All (λ k. k < length v.fragments) zs) (sym c.loop-f.invariant.0)
-    (All-weaker (λ k. (k < length v.fragments) × (set_of v k < c.args.s)) (λ k. k < length v.fragments) (λ k z. z.0) (spreads_of v c.args.s) (c.args.graph.now.falling c.args.s).1) in
-    record { first = All-get_or (λ (k : ℕ). k < length v.fragments) c.spreads-list.result.now c.loop-f.f-index 0 c.loop-f-test.true inside; list = inside; plain = c.requires }
+-- what a set spreads is there
+are_there : (w : World) (s : ℕ) (list : List ℕ) → Falling w.sets w.fragments → list ≡ spreads_of w s → All (λ k. k < length w.fragments) list
+are_there w s list falling is = subst (λ zs. All (λ k. k < length w.fragments) zs) (sym is)
+    (All-weaker (λ k. (k < length w.fragments) × (set_of w k < s)) (λ k. k < length w.fragments) (λ k z. z.0) (spreads_of w s) (falling s).1)
 
-pub note_plain-requires : goal.note_plain-requires
-note_plain-requires g c =
+-- where nothing is spread
+none_spread : (w : World) (M : Search) (s : ℕ) → spreads_of w s ≡ [] → All (λ f. OwnWritten w M s f) (spreads_of w s) × AllBefore (Pair M false) (spreads_of w s)
+none_spread w M s none = subst (λ zs. All (λ f. OwnWritten w M s f) zs × AllBefore (Pair M false) zs) (sym none)
+    (All-nil (λ f. OwnWritten w M s f), λ k l a b less p q. absurd (omega (arith, slice_get_within [] k a p)))
+
+pub returns-then-is_empty : goal.returns-then-is_empty
+returns-then-is_empty g c =
     let v = world g.J.Judge.judgement c.args.graph.now in
+    let empty : length c.spreads-list.result.now ≡ 0 = grind (arith, c.is_empty.ensures, c.if-is_empty.true) in
+    let none : spreads_of v c.args.s ≡ [] = sym c.spreads-list.ensures ∙ nil_from_length c.spreads-list.result.now empty in
     record {
-      list = subst (λ zs. All (λ k. k < length v.fragments) zs) (sym c.loop-f.invariant.0)
-          (All-weaker (λ k. (k < length v.fragments) × (set_of v k < c.args.s)) (λ k. k < length v.fragments) (λ k z. z.0) (spreads_of v c.args.s) (c.args.graph.now.falling c.args.s).1);
+      done = did_none v _ c.args.search.now (λ M grown. none_spread v M c.args.s none);
+      real = record {
+        adds = adds_none v false (AtPlaces v c.args.s) c.args.search.now.found.items;
+        tells = λ r at fails. absurd (omega (arith, at.1.1, ap length none));
+      };
+    }
+
+pub write_own-requires : goal.write_own-requires
+write_own-requires g c =
+    let v = world g.J.Judge.judgement c.args.graph.now in
+    let list = c.spreads-list.result.now in
+    let some : 0 < length list = grind (arith, c.is_empty.ensures, c.if-is_empty.false) in
+    record {
+      some = omega (arith, (spread_falls v c.args.s list 0 c.args.graph.now.falling c.spreads-list.ensures some).0);
+      list = are_there v c.args.s list c.args.graph.now.falling c.spreads-list.ensures;
       plain = c.requires;
     }
 
-pub loop-f-init : goal.loop-f-init
-loop-f-init g c =
-    let v = world g.J.Judge.judgement c.args.graph.now in (
-      c.spreads-list.ensures,
-      did_start v (λ f M. SpreadDone v M c.args.plain.now c.args.s c.spreads-list.result.now f) c.spreads-list.result.now c.args.search.now,
-      all_start v false _ (λ f. AtWritten v c.args.s f) c.spreads-list.result.now 0 _,
-    )
-
-pub loop-f-preserved : goal.loop-f-preserved
-loop-f-preserved g c =
+pub compare_pairs-requires : goal.compare_pairs-requires
+compare_pairs-requires g c =
     let v = world g.J.Judge.judgement c.args.graph.now in
-    let list = c.spreads-list.result.now in
-    let there = Contains-get_or list c.loop-f.f-index 0 c.loop-f-test.true in (
-      c.loop-f.invariant.0,
-      did_more v (λ f M. SpreadDone v M c.args.plain.now c.args.s list f) list c.loop-f.f-index 0 c.loop-f-test.true c.loop-f.invariant.1 c.in_ok-compare_spread.ensures.done,
-      all_more v false _ _ (λ f. AtWritten v c.args.s f) list c.loop-f.f-index 0 (λ r z. elim z [
-        | inl at ↦ places_written v c.args.s (get_or list c.loop-f.f-index 0) (subst (λ zs. Contains zs (get_or list c.loop-f.f-index 0)) c.loop-f.invariant.0 there) r at
-        | inr at ↦ places_listed v c.args.s (get_or list c.loop-f.f-index 0) list c.loop-f.invariant.0 there r at
-      ]) c.loop-f.invariant.2 c.in_ok-compare_spread.ensures.real,
-    )
+    record { list = are_there v c.args.s c.spreads-list.result.now c.args.graph.now.falling c.spreads-list.ensures; plain = c.requires }
 
 pub returns : goal.returns
 returns g c =
     let v = world g.J.Judge.judgement c.args.graph.now in
+    let s = c.args.s in
     let list = c.spreads-list.result.now in
+    let is : list ≡ spreads_of v s = c.spreads-list.ensures in
     record {
-      done = on_ok_weaker c.note_plain.result (λ d. did_map v _ _ (λ M h. spreads_done v M c.args.plain.now c.args.s list c.loop-f.invariant.0 h.0 h.1)
-          (did_then v _ _ (did_all v (λ f M. SpreadDone v M c.args.plain.now c.args.s list f) list list c.loop-f.f-index c.loop-f-test.false refl c.loop-f.invariant.1) d)) c.note_plain.ensures.done;
-      real = on_ok_weaker c.note_plain.result (λ e. subst (λ zs. AddsAll v false (AtPlaces v c.args.s) (AtSpread v c.args.s) c.args.search.now.found.items zs) (sym e)
-          (all_done v false _ _ (λ f. AtWritten v c.args.s f) list c.loop-f.f-index 0 c.loop-f-test.false (λ r z. (z.0, subst (λ zs. Contains zs z.0) (sym c.loop-f.invariant.0) z.1, z.2)) c.loop-f.invariant.2)) c.note_plain.ensures.real;
+      done = on_ok_weaker c.compare_pairs.result
+          (λ d. did_map v _ _ (λ M h. subst (λ zs. All (λ f. OwnWritten v M s f) zs × AllBefore (Pair M false) zs) is h) (did_then v _ _ c.in_ok-write_own.ensures.done d)) c.compare_pairs.ensures.done;
+      real = on_ok_weaker c.compare_pairs.result (λ d. all_plus v false (AtPlaces v s) (AtSpread v s) (AtTwo v list) (λ r z. places_listed v s z.0 list is z.1 r z.2)
+          (all_told v false (AtPlaces v s) (AtSpreads v s list) (AtSpread v s) (λ r z. (z.0, subst (λ zs. Contains zs z.0) (sym is) z.1, z.2))
+          (all_map v false (AtSpreads v s list) (AtPlaces v s) (AtSpreads v s list) (λ r z. places_written v s z.0 (subst (λ zs. Contains zs z.0) is z.1) r z.2) c.in_ok-write_own.ensures.real)) d) c.compare_pairs.ensures.real;
     }

@@ -1,12 +1,11 @@
 use Rattle.std.proofs.Common.{ℕ, get_or, refl, sym, subst, false}
 use Rattle.std.proofs.lemmas.List.Elements.{All-get_or}
 use Rattle.merge_search.specs.World.{world, set_of}
-use Rattle.merge_search.specs.Opening.{Reaches}
+use Rattle.merge_search.specs.Opening.{ReachedFrom}
 use Rattle.merge_search.specs.Work.{OwnPairs}
 use Rattle.merge_search.specs.Reports.{AtOwn}
 use Rattle.merge_search.proofs.Adding.{all_start, all_more, all_done, all_change}
-use Rattle.merge_search.proofs.Judging.{tell_written}
-use Rattle.merge_search.proofs.Rows.{row_opened}
+use Rattle.merge_search.proofs.Judging.{tell_written, row_written}
 use Rattle.merge_search.proofs.Work.{did_start, did_map, did_more, did_all}
 use Rattle.merge_search.proofs.top.write_all.Goals as goal
 
@@ -21,7 +20,7 @@ loop-h-preserved g c =
     let h = get_or c.args.opening.now c.loop-h.h-index 0 in (
       did_more v (λ h M. OwnPairs v M false c.args.s (set_of v h)) c.args.opening.now c.loop-h.h-index 0 c.loop-h-test.true c.loop-h.invariant.0 (did_map v _ _ (λ M z. subst (λ (s : ℕ). OwnPairs v M false c.args.s s) c.set.ensures z) c.in_ok-compare_own.ensures.done),
       all_more v false _ _ (λ k. AtOwn v c.args.s (set_of v k)) c.args.opening.now c.loop-h.h-index 0
-          (row_opened v c.args.s c.args.g h (All-get_or (Reaches v c.args.g) c.args.opening.now c.loop-h.h-index 0 c.loop-h-test.true c.requires.reached)) c.loop-h.invariant.1
+          (row_written v c.args.s h c.args.starts.now (All-get_or (ReachedFrom v c.args.starts.now) c.args.opening.now c.loop-h.h-index 0 c.loop-h-test.true c.requires.reached)) c.loop-h.invariant.1
           (all_change v false _ (AtOwn v c.args.s (set_of v h)) _ (AtOwn v c.args.s (set_of v h)) (λ r z. subst (λ (s : ℕ). AtOwn v c.args.s s r) c.set.ensures z) (λ r z. subst (λ (s : ℕ). AtOwn v c.args.s s r) (sym c.set.ensures) z) c.in_ok-compare_own.ensures.real),
     )
 
@@ -30,5 +29,5 @@ returns g c =
     let v = world g.J.Judge.judgement c.args.graph.now in
     record {
       done = did_all v (λ h M. OwnPairs v M false c.args.s (set_of v h)) c.args.opening.now c.args.opening.now c.loop-h.h-index c.loop-h-test.false refl c.loop-h.invariant.0;
-      real = all_done v false _ _ (λ h. AtOwn v c.args.s (set_of v h)) c.args.opening.now c.loop-h.h-index 0 c.loop-h-test.false (tell_written v c.args.s c.args.g c.args.opening.now c.requires) c.loop-h.invariant.1;
+      real = all_done v false _ _ (λ h. AtOwn v c.args.s (set_of v h)) c.args.opening.now c.loop-h.h-index 0 c.loop-h-test.false (tell_written v c.args.s c.args.starts.now c.args.opening.now c.requires) c.loop-h.invariant.1;
     }

@@ -3,11 +3,11 @@ use Rattle.std.specs.List.{All}
 use Rattle.merge_search.specs.World.{world, set_of}
 use Rattle.merge_search.specs.Work.{Did, OwnPairs}
 use Rattle.merge_search.specs.Reports.{AddsAll, AtOwn}
-use Rattle.merge_search.specs.Tops.{AtWritten}
+use Rattle.merge_search.specs.Tops.{AtSpreads}
 use Rattle.merge_search.proofs.Adding.{Upto}
 use Rattle.merge_search.proofs.top.write_all.Given as goal
 
 abbrev pub invariant-loop-h : goal.invariant-loop-h
 invariant-loop-h g l =
     Did (world g.J.Judge.judgement l.graph) (λ M. All (λ h. OwnPairs (world g.J.Judge.judgement l.graph) M false l.s (set_of (world g.J.Judge.judgement l.graph) h)) (take l.h-index l.opening)) l.fn.search l.search
-    × AddsAll (world g.J.Judge.judgement l.graph) false (AtWritten (world g.J.Judge.judgement l.graph) l.s l.g) (Upto l.opening l.h-index 0 (λ h. AtOwn (world g.J.Judge.judgement l.graph) l.s (set_of (world g.J.Judge.judgement l.graph) h))) l.fn.search.found.items l.search.found.items
+    × AddsAll (world g.J.Judge.judgement l.graph) false (AtSpreads (world g.J.Judge.judgement l.graph) l.s l.starts) (Upto l.opening l.h-index 0 (λ h. AtOwn (world g.J.Judge.judgement l.graph) l.s (set_of (world g.J.Judge.judgement l.graph) h))) l.fn.search.found.items l.search.found.items
