@@ -6,4 +6,3 @@ pub mod OwnFieldLaws
 pub mod NumberedLaws
 pub mod SameTypes
 pub mod AlikeLaws
-pub mod WaitingLaws

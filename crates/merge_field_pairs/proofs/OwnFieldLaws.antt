@@ -1,7 +1,6 @@
 -- What each kind of selection has of its own.
 use Rattle.std.proofs.Common.{◌≡◌, List, [], ◌∷◌, ◌++◌, map, Option, refl, sym, ap, ◌∙◌}
 use Rattle.std.specs.List.{flat_map}
-use Rattle.std.proofs.lemmas.List.{map-append}
 use Rattle.std.proofs.lemmas.List.Folds.{flat_map-map}
 use Rattle.language.specs.declared.position.Span.{Span}
 use Rattle.language.specs.declared.position.Spanning.{Spanning}
@@ -57,6 +56,3 @@ module _ {S : Type 0} where
       ∙ fold-roll-Selection S Names Names Names spread_step no_spread_step inline_spread_step (opened.InlineFragment i)
       ∙ fold_out-InlineFragment S Names Names Names spread_step no_spread_step inline_spread_step i.item
       ∙ flat_map-map (λ ns. ns) own_spreads_of i.item.selection_set.items
-
-pub map-push : {X A : Type 0} (f : X → A) (xs ys : List X) (x : X) (one : List A) → ys ≡ xs ++ x ∷ [] → f x ∷ [] ≡ one → map f ys ≡ map f xs ++ one
-map-push f xs ys x one e h = ap (map f) e ∙ map-append f xs (x ∷ []) ∙ ap (λ zs. map f xs ++ zs) h

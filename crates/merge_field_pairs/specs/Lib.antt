@@ -6,4 +6,3 @@ pub mod Texts
 pub mod OwnFields
 pub mod Numbered
 pub mod Alike
-pub mod Waiting
