@@ -1,0 +1,12 @@
+pub mod Found
+pub mod Lists
+pub mod Names
+pub mod Numbers
+pub mod Passed
+pub mod Progress
+pub mod Quoted
+pub mod Read
+pub mod Runs
+pub mod Turns
+pub mod Unique
+pub mod Written

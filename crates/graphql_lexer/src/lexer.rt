@@ -1,4 +1,9 @@
 //! The token at the front of a text (GraphQL, October 2021, sections 2.1 and 2.9).
+ghost use Rattle.std.specs.Prelude.{◌≡◌, ◌≤◌, ◌<◌, length, drop, option_map, Some, None, IfSome, IfOk, MatchResult, false};
+ghost use Rattle.graphql_lexer.specs.Lexical.{is_comment_char, is_name_continue, is_number_byte as number_byte};
+ghost use Rattle.graphql_lexer.specs.Scanning as spec;
+ghost use Rattle.graphql_lexer.specs.Seen.{seen, seen_at};
+
 use std::str;
 
 /// A token that stands for itself (section 2.1.8).
@@ -36,12 +41,15 @@ pub enum Token<'a> {
     BlockString(&'a str),
     /// The end of the text.
     End,
-    /// No valid token: what was expected at the byte after its length.
-    Fault(&'static str),
+    /// No token begins here: what was expected, and after how many bytes.
+    Fault(&'static str, usize),
 }
 
 /// The token at the start of a text, and its length in bytes. Ignored tokens (section 2.1.7) must be skipped before.
-pub fn token_at(text: &[u8]) -> (Token<'_>, usize) {
+#[tactic(auto, unfolding(crate::specs::Scanning::token_at))]
+pub fn token_at(text: &[u8]) -> (Token<'_>, usize)
+    ensures { seen_at result ≡ spec.token_at text.now }
+{
     match text.first() {
         None => (Token::End, 0),
         Some(byte) => match *byte {
@@ -54,7 +62,10 @@ pub fn token_at(text: &[u8]) -> (Token<'_>, usize) {
     }
 }
 
-fn punctuator_at(byte: u8) -> (Token<'static>, usize) {
+#[tactic(auto, unfolding(crate::specs::Scanning::punctuator_of))]
+fn punctuator_at(byte: u8) -> (Token<'static>, usize)
+    ensures { seen_at result ≡ spec.punctuator_token (spec.punctuator_of byte) }
+{
     let punctuator = match byte {
         b'!' => Punctuator::Bang,
         b'$' => Punctuator::Dollar,
@@ -69,57 +80,80 @@ fn punctuator_at(byte: u8) -> (Token<'static>, usize) {
         b'{' => Punctuator::BraceOpen,
         b'|' => Punctuator::Pipe,
         b'}' => Punctuator::BraceClose,
-        _ => return (Token::Fault("a token"), 0),
+        _ => return (Token::Fault("a token", 0), 0),
     };
     (Token::Punctuator(punctuator), 1)
 }
 
-fn spread_at(text: &[u8]) -> (Token<'_>, usize) {
+#[tactic(auto, unfolding(crate::specs::Scanning::spread_at))]
+fn spread_at(text: &[u8]) -> (Token<'_>, usize)
+    ensures { seen_at result ≡ spec.spread_at text.now }
+{
     match text {
         [b'.', b'.', b'.', ..] => (Token::Punctuator(Punctuator::Spread), 3),
-        _ => (Token::Fault("a token"), 0),
+        _ => (Token::Fault("a token", 0), 0),
     }
 }
 
-fn name_at(text: &[u8]) -> (Token<'_>, usize) {
-    let length = text.iter().take_while(|byte| is_name_byte(**byte)).count();
+fn name_at(text: &[u8]) -> (Token<'_>, usize)
+    ensures { seen_at result ≡ spec.name_at text.now }
+{
+    let length = name_length(text);
     match front(text, length) {
         Some(name) => (Token::Name(name), length),
-        None => (Token::Fault("a name"), 0),
+        None => (Token::Fault("a name", 0), 0),
     }
+}
+
+#[tactic(auto, unfolding(crate::specs::Scanning::name_length))]
+fn name_length(text: &[u8]) -> usize
+    ensures exact { result ≡ spec.name_length text.now }
+    ensures within { result ≤ length text.now }
+{
+    text.iter().take_while(|byte| is_name_byte(**byte)).count()
 }
 
 // A sign, a whole part without a leading zero, a fraction and an exponent; no letter, digit or point may follow.
-fn number_at(text: &[u8]) -> (Token<'_>, usize) {
+#[tactic(auto, unfolding(crate::specs::Scanning::number_at, crate::specs::Scanning::sign_length))]
+fn number_at(text: &[u8]) -> (Token<'_>, usize)
+    ensures { seen_at result ≡ spec.number_at text.now }
+{
     let sign: usize = if text.starts_with(b"-") { 1 } else { 0 };
     let whole = sign.saturating_add(whole_digits(rest(text, sign)));
     if whole == sign {
-        return (Token::Fault("a digit"), sign);
+        return (Token::Fault("a digit", sign), 0);
     }
     let Some(fraction) = after_point(rest(text, whole)) else {
-        return (Token::Fault("a digit"), whole.saturating_add(1));
+        return (Token::Fault("a digit", whole.saturating_add(1)), 0);
     };
     let mantissa = whole.saturating_add(fraction);
     match after_exponent(rest(text, mantissa)) {
         Ok(exponent) => number_of(text, mantissa.saturating_add(exponent), whole),
-        Err(passed) => (Token::Fault("a digit"), mantissa.saturating_add(passed)),
+        Err(passed) => (Token::Fault("a digit", mantissa.saturating_add(passed)), 0),
     }
 }
 
 // The number of this length, whose whole part takes `whole` bytes.
-fn number_of(text: &[u8], length: usize, whole: usize) -> (Token<'_>, usize) {
-    match rest(text, length).first() {
-        Some(byte) if is_number_byte(*byte) => (Token::Fault("the end of the number"), length),
-        _ => match front(text, length) {
-            Some(number) if length == whole => (Token::Int(number), length),
-            Some(number) => (Token::Float(number), length),
-            None => (Token::Fault("a number"), 0),
+#[tactic(auto, unfolding(crate::specs::Scanning::number_of))]
+fn number_of(text: &[u8], count: usize, whole: usize) -> (Token<'_>, usize)
+    ensures { seen_at result ≡ spec.number_of text.now count whole }
+{
+    match rest(text, count).first() {
+        Some(byte) if is_number_byte(*byte) => (Token::Fault("the end of the number", count), 0),
+        _ => match front(text, count) {
+            Some(number) if count == whole => (Token::Int(number), count),
+            Some(number) => (Token::Float(number), count),
+            None => (Token::Fault("a number", 0), 0),
         },
     }
 }
 
 // The number of digits of a whole part: a leading zero stands alone.
-fn whole_digits(text: &[u8]) -> usize {
+#[tactic(auto, unfolding(crate::specs::Scanning::whole_length))]
+fn whole_digits(text: &[u8]) -> usize
+    ensures exact { result ≡ spec.whole_length text.now }
+    ensures within { result ≤ length text.now }
+{
     match text.first() {
         Some(b'0') => 1,
         _ => digits(text),
@@ -127,7 +161,11 @@ fn whole_digits(text: &[u8]) -> usize {
 }
 
 // The length of a fraction: 0 without a point, and `None` if no digit follows the point.
-fn after_point(text: &[u8]) -> Option<usize> {
+#[tactic(auto, unfolding(crate::specs::Scanning::fraction))]
+fn after_point(text: &[u8]) -> Option<usize>
+    ensures exact { result ≡ spec.fraction text.now }
+    ensures within { IfSome result (λ n. n ≤ length text.now) }
+{
     if !text.starts_with(b".") {
         return Some(0);
     }
@@ -138,7 +176,11 @@ fn after_point(text: &[u8]) -> Option<usize> {
 }
 
 // The length of an exponent, 0 if there is none; if a digit is missing, the number of bytes before it.
-fn after_exponent(text: &[u8]) -> Result<usize, usize> {
+#[tactic(auto, unfolding(crate::specs::Scanning::exponent))]
+fn after_exponent(text: &[u8]) -> Result<usize, usize>
+    ensures exact { MatchResult result (λ n. spec.exponent text.now ≡ Some n) (λ _. spec.exponent text.now ≡ None) }
+    ensures within { IfOk result (λ n. n ≤ length text.now) }
+{
     let lead: usize = match text {
         [b'e' | b'E', b'+' | b'-', ..] => 2,
         [b'e' | b'E', ..] => 1,
@@ -150,44 +192,64 @@ fn after_exponent(text: &[u8]) -> Result<usize, usize> {
     }
 }
 
-fn digits(text: &[u8]) -> usize {
+fn digits(text: &[u8]) -> usize
+    ensures exact { result ≡ spec.digits text.now }
+    ensures within { result ≤ length text.now }
+{
     text.iter().take_while(|byte| byte.is_ascii_digit()).count()
 }
 
-fn any_string_at(text: &[u8]) -> (Token<'_>, usize) {
+#[tactic(auto, unfolding(crate::specs::Scanning::any_string_at))]
+fn any_string_at(text: &[u8]) -> (Token<'_>, usize)
+    ensures { seen_at result ≡ spec.any_string_at text.now }
+{
     if text.starts_with(b"\"\"\"") {
         return block_string_at(text);
     }
+    string_at(text)
+}
+
+#[tactic(auto, unfolding(crate::specs::Scanning::string_at))]
+fn string_at(text: &[u8]) -> (Token<'_>, usize)
+    ensures { seen_at result ≡ spec.string_at text.now }
+{
     let body = rest(text, 1);
     let length = string_length(body);
     match front(body, length) {
-        Some(item) if body.get(length) == Some(&b'"') => (
+        Some(item) if rest(body, length).first().copied() == Some(b'"') => (
             Token::String(item),
             length.saturating_add(2),
         ),
         _ => (
-            Token::Fault("the string's closing quote"),
-            length.saturating_add(1),
+            Token::Fault("the string's closing quote", length.saturating_add(1)),
+            0,
         ),
     }
 }
 
 // The number of bytes before a string's closing quote, or before a byte that no string may hold.
-fn string_length(body: &[u8]) -> usize {
+#[tactic(auto, unfolding(crate::specs::Scanning::string_length))]
+fn string_length(body: &[u8]) -> usize
+    ensures exact { result ≡ spec.string_length false body.now }
+    ensures within { result ≤ length body.now }
+{
     let mut length: usize = 0;
     let mut is_escaped = false;
     for byte in body {
-        let is_quote = *byte == b'"' && !is_escaped;
-        if is_quote || (*byte < b' ' && *byte != b'\t') {
+        let is_quote = !is_escaped && *byte == b'"';
+        if is_quote || !is_line_byte(*byte) {
             return length;
         }
-        is_escaped = *byte == b'\\' && !is_escaped;
+        is_escaped = !is_escaped && *byte == b'\\';
         length = length.saturating_add(1);
     }
     length
 }
 
-fn block_string_at(text: &[u8]) -> (Token<'_>, usize) {
+#[tactic(auto, unfolding(crate::specs::Scanning::block_string_at))]
+fn block_string_at(text: &[u8]) -> (Token<'_>, usize)
+    ensures { seen_at result ≡ spec.block_string_at text.now }
+{
     let body = rest(text, 3);
     let length = block_length(body);
     match front(body, length) {
@@ -196,55 +258,93 @@ fn block_string_at(text: &[u8]) -> (Token<'_>, usize) {
             length.saturating_add(6),
         ),
         _ => (
-            Token::Fault("the block string's three closing quotes"),
-            length.saturating_add(3),
+            Token::Fault(
+                "the block string's three closing quotes",
+                length.saturating_add(3),
+            ),
+            0,
         ),
     }
 }
 
 // The number of bytes before a block string's closing quotes, or before a byte that no source text may hold.
 // Three quotes after a backslash are part of the text.
-fn block_length(body: &[u8]) -> usize {
-    let mut length: usize = 0;
-    let mut quotes: usize = 0;
-    let mut is_escaped = false;
-    for byte in body {
-        quotes = match *byte {
-            b'"' if is_escaped && quotes == 2 => 0,
-            b'"' => quotes.saturating_add(1),
-            _ => 0,
-        };
-        if quotes == 3 && !is_escaped {
-            return length.saturating_sub(2);
+#[tactic(auto, unfolding(crate::specs::Scanning::block_length))]
+fn block_length(body: &[u8]) -> usize
+    ensures exact { result ≡ spec.block_length 0 body.now }
+    ensures within { result ≤ length body.now }
+{
+    let mut escaped: usize = 0;
+    for index in 0..body.len() {
+        match block_turn(escaped, rest(body, index)) {
+            Some(left) => escaped = left,
+            None => return index,
         }
-        if is_refused(*byte) {
-            return length;
-        }
-        is_escaped = *byte == b'\\' || (is_escaped && quotes > 0);
-        length = length.saturating_add(1);
     }
-    length
+    body.len()
+}
+
+// The number of bytes of an escaped triple quote that are left after the first byte; `None` where the string ends.
+#[tactic(auto, unfolding(crate::specs::Scanning::block_turn))]
+fn block_turn(escaped: usize, ahead: &[u8]) -> Option<usize>
+    requires { 0 < length ahead.now }
+    ensures { result ≡ spec.block_turn escaped ahead.now }
+{
+    if escaped > 0 {
+        return Some(escaped - 1);
+    }
+    if ahead.starts_with(b"\"\"\"") || is_refused(ahead[0]) {
+        return None;
+    }
+    if ahead.starts_with(b"\\\"\"\"") {
+        Some(3)
+    } else {
+        Some(0)
+    }
+}
+
+// Whether a comment or a string on one line may hold the byte (sections 2.1.4 and 2.9.4).
+pub(crate) fn is_line_byte(byte: u8) -> bool
+    ensures { result ≡ is_comment_char byte }
+{
+    byte == b'\t' || byte >= b' '
 }
 
 // Whether no source text may hold the byte (section 2.1.1).
-fn is_refused(byte: u8) -> bool {
+fn is_refused(byte: u8) -> bool
+    ensures { result ≡ spec.is_refused byte }
+{
     byte < b' ' && !matches!(byte, b'\t' | b'\n' | b'\r')
 }
 
-// The text after `length` bytes.
-fn rest(text: &[u8], length: usize) -> &[u8] {
-    text.get(length..).unwrap_or(&[])
+// The text after `count` bytes.
+pub(crate) fn rest(text: &[u8], count: usize) -> &[u8]
+    ensures { result.now ≡ drop count text.now }
+{
+    text.get(count..).unwrap_or(&[])
 }
 
-// The first `length` bytes as text, if there are that many and they are valid UTF-8.
-fn front(text: &[u8], length: usize) -> Option<&str> {
-    str::from_utf8(text.get(..length)?).ok()
+// The first `count` bytes as text, if there are that many and they are valid UTF-8.
+fn front(text: &[u8], count: usize) -> Option<&str>
+    ensures { option_map (λ s. s.now) result ≡ spec.front text.now count }
+{
+    match text.get(..count) {
+        Some(bytes) => match str::from_utf8(bytes) {
+            Ok(written) => Some(written),
+            Err(_) => None,
+        },
+        None => None,
+    }
 }
 
-fn is_name_byte(byte: u8) -> bool {
+fn is_name_byte(byte: u8) -> bool
+    ensures { result ≡ is_name_continue byte }
+{
     matches!(byte, b'_' | b'0'..=b'9' | b'A'..=b'Z' | b'a'..=b'z')
 }
 
-fn is_number_byte(byte: u8) -> bool {
+fn is_number_byte(byte: u8) -> bool
+    ensures { result ≡ number_byte byte }
+{
     byte == b'.' || is_name_byte(byte)
 }

@@ -1,6 +1,14 @@
 //! The tokens of a text, with a lookahead of one (GraphQL, October 2021, section 2.1).
+ghost use Rattle.std.specs.Prelude.{◌≡◌, ◌≢◌, ◌↔◌, IsTrue, IfOk, OnOk, OnErr, List, ℕ, false};
+ghost use Rattle.graphql_lexer.specs.Ahead.{ahead_of, behind, left, last_end_of, IsTaken, IsFaultAt};
+ghost use Rattle.graphql_lexer.specs.Seen.{seen};
+ghost use Rattle.graphql_lexer.specs.Lexical.{end, fault as fault_token, name as name_token, punctuator as punctuator_token};
+ghost use Rattle.graphql_lexer.specs.Lexemes.{Lexeme, AreLexemes, is_last, position};
+
+use crate::cursor::Cursor;
 use crate::error::{Found, ReadError, SyntaxError, SyntaxFault};
-use crate::lexer::{Punctuator, Token, token_at};
+use crate::lexer::{Punctuator, Token};
+use crate::scan::{Scanned, scan};
 use language::position::{SourcePosition, Span, Spanning};
 use std::alloc::Global;
 use std::str;
@@ -10,35 +18,30 @@ use std::str;
 pub struct Tokens<'a> {
     alloc: Global,
     text: &'a [u8],
-    // The index after the next token.
-    index: usize,
-    line: usize,
-    line_start: usize,
-    // Whether the previous byte is a carriage return.
-    after_return: bool,
-    ahead: Token<'a>,
-    span: Span,
+    // The next token, and the text after it.
+    scanned: Scanned<'a>,
     // The end of the token that was taken last.
     last_end: SourcePosition,
 }
 
 impl<'a> Tokens<'a> {
-    /// All tokens of the text.
-    pub fn new(alloc: Global, text: &'a [u8]) -> Tokens<'a> {
-        let start = SourcePosition::new(0, 0, 0);
-        let mut tokens = Tokens {
-            alloc,
-            text,
+    /// All tokens of the text: those that the grammar has, up to its end or the first place where no token begins.
+    pub fn new(alloc: Global, text: &'a [u8]) -> Tokens<'a>
+        ensures lexemes { AreLexemes text.now (left result) }
+        ensures only { (lexemes : List Lexeme) → AreLexemes text.now lexemes → lexemes ≡ left result }
+    {
+        let origin = Cursor {
             index: 0,
             line: 0,
-            line_start: 0,
+            column: 0,
             after_return: false,
-            ahead: Token::End,
-            span: Span { start, end: start },
-            last_end: start,
         };
-        tokens.advance();
-        tokens
+        Tokens {
+            alloc,
+            text,
+            scanned: scan(origin, text),
+            last_end: position_of(origin),
+        }
     }
 
     /// The allocator.
@@ -47,22 +50,32 @@ impl<'a> Tokens<'a> {
     }
 
     /// The next token.
-    pub fn ahead(&self) -> Token<'a> {
-        self.ahead
+    pub fn ahead(&self) -> Token<'a>
+        ensures { seen result ≡ (ahead_of self.now).token }
+    {
+        self.scanned.token
     }
 
     /// The start of the next token.
-    pub fn start(&self) -> SourcePosition {
-        self.span.start
+    pub fn start(&self) -> SourcePosition
+        ensures { result ≡ (ahead_of self.now).start }
+    {
+        position_of(self.scanned.start)
     }
 
     /// The span of the next token.
-    pub fn span(&self) -> Span {
-        self.span
+    pub fn span(&self) -> Span
+        ensures start { result.start ≡ (ahead_of self.now).start }
+        ensures stop { result.end ≡ (ahead_of self.now).stop }
+    {
+        span_of(self.scanned)
     }
 
     /// The span from a position to the end of the token that was taken last.
-    pub fn span_from(&self, start: SourcePosition) -> Span {
+    pub fn span_from(&self, start: SourcePosition) -> Span
+        ensures start { result.start ≡ start }
+        ensures stop { result.end ≡ last_end_of self.now }
+    {
         Span {
             start,
             end: self.last_end,
@@ -75,44 +88,53 @@ impl<'a> Tokens<'a> {
     }
 
     /// Whether no token is left.
-    pub fn is_at_end(&self) -> bool {
-        matches!(self.ahead, Token::End)
+    pub fn is_at_end(&self) -> bool
+        ensures { IsTrue result ↔ ((ahead_of self.now).token ≡ end) }
+    {
+        matches!(self.scanned.token, Token::End)
     }
 
     /// The error that the next token is not what was expected.
-    pub fn fault(&self, expected: &'static str) -> ReadError<'a> {
-        match self.ahead {
-            Token::Fault(wanted) => ReadError::Syntax(SyntaxError {
-                position: self.span.end,
-                fault: SyntaxFault::Unexpected(
-                    wanted,
-                    character_at(self.text, self.span.end.index()),
-                ),
-            }),
+    pub fn fault(&self, expected: &'static str) -> ReadError<'a>
+        ensures { (ahead_of self.now).token ≢ fault_token → IsFaultAt (ahead_of self.now).start result }
+    {
+        match self.scanned.token {
+            Token::Fault(wanted, passed) => {
+                let position = position_of(self.scanned.passed(passed));
+                ReadError::Syntax(SyntaxError {
+                    position,
+                    fault: SyntaxFault::Unexpected(
+                        wanted,
+                        character_at(self.text, position.index()),
+                    ),
+                })
+            }
             _ => ReadError::Syntax(SyntaxError {
-                position: self.span.start,
+                position: position_of(self.scanned.start),
                 fault: SyntaxFault::Unexpected(expected, self.found()),
             }),
         }
     }
 
     /// The error that the next token opens one level more than the limit allows.
-    pub fn too_deep(&self, limit: usize) -> ReadError<'a> {
+    pub fn too_deep(&self, limit: usize) -> ReadError<'a>
+        ensures { IsFaultAt (ahead_of self.now).start result }
+    {
         ReadError::Syntax(SyntaxError {
-            position: self.span.start,
+            position: position_of(self.scanned.start),
             fault: SyntaxFault::TooDeep(limit),
         })
     }
 
     // The next token, as an error shows it.
     fn found(&self) -> Found<'a> {
-        match self.ahead {
+        match self.scanned.token {
             Token::End => Found::End,
             Token::String(_) | Token::BlockString(_) => Found::String,
             _ => {
                 let written = self
                     .text
-                    .get(self.span.start.index()..self.span.end.index());
+                    .get(self.scanned.start.index..self.scanned.stop.index);
                 match written.and_then(|bytes| str::from_utf8(bytes).ok()) {
                     Some(text) => Found::Text(text),
                     None => Found::Bytes,
@@ -122,47 +144,26 @@ impl<'a> Tokens<'a> {
     }
 
     /// Takes the next token.
-    pub fn advance(&mut self) {
-        self.last_end = self.span.end;
-        let ignored = ignored_length(self.text.get(self.index..).unwrap_or(&[]));
-        self.pass(ignored);
-        let start = self.place();
-        let (token, length) = token_at(self.text.get(self.index..).unwrap_or(&[]));
-        self.pass(length);
-        self.ahead = token;
-        self.span = Span {
-            start,
-            end: self.place(),
-        };
-    }
-
-    // Moves on by `length` bytes.
-    fn pass(&mut self, length: usize) {
-        let end = self.index.saturating_add(length);
-        for byte in self.text.get(self.index..end).unwrap_or(&[]) {
-            self.index = self.index.saturating_add(1);
-            if *byte == b'\r' || (*byte == b'\n' && !self.after_return) {
-                self.line = self.line.saturating_add(1);
-            }
-            if *byte == b'\r' || *byte == b'\n' {
-                self.line_start = self.index;
-            }
-            self.after_return = *byte == b'\r';
-        }
-    }
-
-    fn place(&self) -> SourcePosition {
-        let column = self.index.saturating_sub(self.line_start);
-        SourcePosition::new(self.index, self.line, column)
+    pub fn advance(&mut self)
+        ensures left { is_last (ahead_of self.old).token ≡ false → left self.new ≡ behind self.old }
+        ensures last_end { last_end_of self.new ≡ (ahead_of self.old).stop }
+    {
+        self.last_end = position_of(self.scanned.stop);
+        self.scanned = scan(self.scanned.stop, self.scanned.rest);
     }
 
     /// Whether this punctuator is next.
-    pub fn is(&self, punctuator: Punctuator) -> bool {
-        matches!(self.ahead, Token::Punctuator(ahead) if ahead == punctuator)
+    pub fn is(&self, punctuator: Punctuator) -> bool
+        ensures { IsTrue result ↔ ((ahead_of self.now).token ≡ punctuator_token punctuator) }
+    {
+        matches!(self.scanned.token, Token::Punctuator(ahead) if ahead == punctuator)
     }
 
     /// Takes this punctuator if it is next, and returns whether it was.
-    pub fn take(&mut self, punctuator: Punctuator) -> bool {
+    pub fn take(&mut self, punctuator: Punctuator) -> bool
+        ensures taken { IsTrue result → IsTaken (punctuator_token punctuator) self.old self.new }
+        ensures left { result ≡ false → ((ahead_of self.old).token ≢ punctuator_token punctuator) × (self.new ≡ self.old) }
+    {
         let is_ahead = self.is(punctuator);
         if is_ahead {
             self.advance();
@@ -179,7 +180,10 @@ impl<'a> Tokens<'a> {
         &mut self,
         punctuator: Punctuator,
         expected: &'static str,
-    ) -> Result<(), ReadError<'a>> {
+    ) -> Result<(), ReadError<'a>>
+        ensures taken { OnOk result (IsTaken (punctuator_token punctuator) self.old self.new) }
+        ensures left { OnErr result (((ahead_of self.old).token ≢ punctuator_token punctuator) × (self.new ≡ self.old)) }
+    {
         if self.take(punctuator) {
             Ok(())
         } else {
@@ -192,10 +196,14 @@ impl<'a> Tokens<'a> {
     /// # Errors
     ///
     /// Something else is next; nothing is taken then.
-    pub fn name(&mut self, expected: &'static str) -> Result<Spanning<&'a str>, ReadError<'a>> {
-        match self.ahead {
+    pub fn name(&mut self, expected: &'static str) -> Result<Spanning<&'a str>, ReadError<'a>>
+        ensures taken { IfOk result (λ n. IsTaken (name_token n.item.now) self.old self.new) }
+        ensures span { IfOk result (λ n. (n.span.start ≡ (ahead_of self.old).start) × (n.span.end ≡ (ahead_of self.old).stop)) }
+        ensures left { OnErr result (((s : List ℕ) → (ahead_of self.old).token ≢ name_token s) × (self.new ≡ self.old)) }
+    {
+        match self.scanned.token {
             Token::Name(item) => {
-                let span = self.span;
+                let span = span_of(self.scanned);
                 self.advance();
                 Ok(Spanning { item, span })
             }
@@ -204,15 +212,20 @@ impl<'a> Tokens<'a> {
     }
 
     /// Whether this name is next.
-    pub fn is_word(&self, word: &str) -> bool {
-        match self.ahead {
+    pub fn is_word(&self, word: &str) -> bool
+        ensures { IsTrue result ↔ ((ahead_of self.now).token ≡ name_token word.now) }
+    {
+        match self.scanned.token {
             Token::Name(name) => name == word,
             _ => false,
         }
     }
 
     /// Takes this name if it is next, and returns whether it was.
-    pub fn take_word(&mut self, word: &str) -> bool {
+    pub fn take_word(&mut self, word: &str) -> bool
+        ensures taken { IsTrue result → IsTaken (name_token word.now) self.old self.new }
+        ensures left { result ≡ false → ((ahead_of self.old).token ≢ name_token word.now) × (self.new ≡ self.old) }
+    {
         let is_ahead = self.is_word(word);
         if is_ahead {
             self.advance();
@@ -236,39 +249,20 @@ impl<'a> Tokens<'a> {
     }
 }
 
-// The number of leading bytes that are ignored: white space, line terminators, commas, comments, byte order marks.
-fn ignored_length(text: &[u8]) -> usize {
-    let mut length: usize = 0;
-    let mut is_comment = false;
-    for byte in text {
-        match *byte {
-            b'\n' | b'\r' => is_comment = false,
-            b'#' => is_comment = true,
-            b' ' | b'\t' | b',' => {}
-            other => if !is_comment && !is_mark(text, length, other) {
-                return length;
-            },
-        }
-        length = length.saturating_add(1);
+fn span_of(scanned: Scanned<'_>) -> Span
+    ensures start { result.start ≡ position scanned.entry.start }
+    ensures stop { result.end ≡ position scanned.entry.stop }
+{
+    Span {
+        start: position_of(scanned.start),
+        end: position_of(scanned.stop),
     }
-    length
 }
 
-// Whether the byte at an index is part of a byte order mark.
-fn is_mark(text: &[u8], index: usize, byte: u8) -> bool {
-    let back: usize = match byte {
-        0xEF => 0,
-        0xBB => 1,
-        0xBF => 2,
-        _ => return false,
-    };
-    match index.checked_sub(back) {
-        Some(start) => text
-            .get(start..)
-            .unwrap_or(&[])
-            .starts_with(b"\xEF\xBB\xBF"),
-        None => false,
-    }
+fn position_of(cursor: Cursor) -> SourcePosition
+    ensures { result ≡ position cursor }
+{
+    SourcePosition::new(cursor.index, cursor.line, cursor.column)
 }
 
 // The character at an index of a text, as an error shows it.
