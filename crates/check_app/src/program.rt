@@ -112,6 +112,14 @@ pub fn tell<E: Write>(failure: Failure, faults: &mut E) -> u8
     failure.status()
 }
 
+/// Why arguments can't be read; those that are not valid UTF-8 are invalid arguments.
+pub fn words_failure(error: &io::Error) -> Failure {
+    match error.kind() {
+        io::ErrorKind::OutOfMemory => Failure::OutOfMemory,
+        _ => Failure::Usage,
+    }
+}
+
 fn report_on<R: Read>(
     alloc: Global,
     checks: Checks,

@@ -1,16 +1,6 @@
 //! The program `check`: validates a document against a sample schema.
 #![tactic(auto)]
 
-#[cfg(test)]
-mod broken;
-#[cfg(test)]
-mod merge_rows;
-#[cfg(test)]
-mod rows;
-#[cfg(test)]
-mod runs;
-
-use check_app::failure::Failure;
 use check_app::program;
 use samples::build::Checks;
 use samples::checks::{
@@ -33,7 +23,7 @@ fn main(rt: HostRuntime) -> ExitCode {
             &mut rt.stdout(),
             &mut faults,
         ),
-        Err(error) => program::tell(words_failure(&error), &mut faults),
+        Err(error) => program::tell(program::words_failure(&error), &mut faults),
     };
     ExitCode::from(status)
 }
@@ -64,12 +54,4 @@ fn words<R: Env + AllocGlobal>(rt: &R) -> io::Result<Vec<String>> {
         .skip(1)
         .collect(rt.alloc())
         .map_err(io::Error::from)
-}
-
-// Arguments that are not valid UTF-8 are invalid arguments.
-fn words_failure(error: &io::Error) -> Failure {
-    match error.kind() {
-        io::ErrorKind::OutOfMemory => Failure::OutOfMemory,
-        _ => Failure::Usage,
-    }
 }

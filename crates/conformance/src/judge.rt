@@ -1,12 +1,12 @@
-//! The errors that this repository's code reports of a vector's document.
+//! The errors that this repository's code reports of a document.
 ghost use Rattle.std.specs.Prelude.{◌≡◌, IfOk, string_bytes};
 ghost use Rattle.conformance.specs.Told.{TellsConflicts, TellsErrors, error_lines};
 
-use crate::failure::Failure;
 use crate::variables::errors_of_values;
-use crate::vectors::{Mode, Vector};
-use sample_reader::read_document;
-use std::alloc::Global;
+use sample_reader::{ReadError, read_document};
+use samples::build::Checks;
+use samples::{boxes, pets};
+use std::alloc::{AllocError, Global};
 use validation::rules::overlapping_fields_can_be_merged;
 use validation::walk::visit_rules;
 use validation::{
@@ -14,24 +14,71 @@ use validation::{
     SchemaType, ValidatorContext,
 };
 
-/// The errors of a vector's document, one per line. For a document that can't be parsed, one line says so.
+/// Appends the errors of a document, one per line, or where it can't be parsed. Whether there is such a kind of rows.
 ///
 /// # Errors
 ///
 /// Out of memory.
-pub fn judge(alloc: Global, root: &RootNode, vector: &Vector<'_>) -> Result<String, Failure> {
-    let came = match vector.mode {
-        Mode::Plain | Mode::Closed => errors_of_text(alloc, root, vector.document),
-        Mode::Merge => conflicts_of_text(alloc, &root.schema, vector.document),
-        Mode::Variables => { errors_of_values(alloc, &root.schema, vector.document, vector.values) }
+pub fn tell_errors(
+    alloc: Global,
+    checks: Checks,
+    kind: &str,
+    text: &str,
+    came: &mut String,
+) -> Result<bool, AllocError> {
+    match errors_of_kind(alloc, checks, kind, text) {
+        Ok(None) => return Ok(false),
+        Ok(Some(errors)) => came.push_str(errors.as_str())?,
+        Err(ReadError::Fault(place)) => writeln!(came, "unread from {place}")?,
+        Err(ReadError::OutOfMemory) => came.push_str("out of memory\n")?,
+    }
+    Ok(true)
+}
+
+// The sample types are accepted, so only out of memory refuses them.
+fn errors_of_kind(
+    alloc: Global,
+    checks: Checks,
+    kind: &str,
+    text: &str,
+) -> Result<Option<String>, ReadError> {
+    let (sample, mode) = kind.split_once(' ').unwrap_or((kind, ""));
+    let types = match sample {
+        "pets" => pets::types(alloc, checks)?,
+        "boxes" => boxes::types(alloc, checks)?,
+        _ => return Ok(None),
     };
-    match came {
-        Err(Failure::Unread(place)) => Ok(format!(in alloc; "unread from {place}\n")?),
-        came => came,
+    match SchemaType::<DefaultScalarValue>::new(
+        alloc,
+        types,
+        "QueryRoot",
+        "_EmptyMutation",
+        "_EmptySubscription",
+    ) {
+        Ok(schema) => errors_by_mode(alloc, RootNode::new(schema), mode, text),
+        Err(_) => Err(ReadError::OutOfMemory),
     }
 }
 
-fn errors_of_text(alloc: Global, root: &RootNode, text: &[u8]) -> Result<String, Failure> {
+// By every rule, where introspection is disabled or not; by the rule `overlapping_fields_can_be_merged` alone; or by the
+// check of variable values.
+fn errors_by_mode(
+    alloc: Global,
+    root: RootNode,
+    mode: &str,
+    text: &str,
+) -> Result<Option<String>, ReadError> {
+    let errors = match mode {
+        "" => errors_of_text(alloc, &root, text.as_bytes()),
+        "closed" => errors_of_text(alloc, &root.disable_introspection(), text.as_bytes()),
+        "merge" => conflicts_of_text(alloc, &root.schema, text.as_bytes()),
+        "variables" => errors_of_values(alloc, &root.schema, text),
+        _ => return Ok(None),
+    };
+    Ok(Some(errors?))
+}
+
+fn errors_of_text(alloc: Global, root: &RootNode, text: &[u8]) -> Result<String, ReadError> {
     let document = read_document(alloc, text)?;
     errors_of(alloc, root, document.as_slice())
 }
@@ -41,7 +88,7 @@ fn errors_of(
     alloc: Global,
     root: &RootNode,
     document: &[Definition<'_, DefaultScalarValue>],
-) -> Result<String, Failure>
+) -> Result<String, ReadError>
     ensures { IfOk result
         (λ text. TellsErrors ⟦<DefaultScalarValue as AllRules<'static>>⟧.rules
         root.now.introspection_disabled root.now.schema document.now (string_bytes text)) }
@@ -55,7 +102,7 @@ fn conflicts_of_text(
     alloc: Global,
     schema: &SchemaType<DefaultScalarValue>,
     text: &[u8],
-) -> Result<String, Failure> {
+) -> Result<String, ReadError> {
     let document = read_document(alloc, text)?;
     conflicts_of(alloc, schema, document.as_slice())
 }
@@ -65,7 +112,7 @@ fn conflicts_of<'a>(
     alloc: Global,
     schema: &'a SchemaType<DefaultScalarValue>,
     document: &'a [Definition<'_, DefaultScalarValue>],
-) -> Result<String, Failure>
+) -> Result<String, ReadError>
     ensures { IfOk result (λ text. TellsConflicts ⟦<DefaultScalarValue as ScalarValue>⟧.eq schema.now document.now
         (string_bytes text)) }
 {
@@ -83,7 +130,7 @@ fn conflicts_of<'a>(
 /// # Errors
 ///
 /// Out of memory.
-pub fn lines_of(alloc: Global, errors: &[RuleError]) -> Result<String, Failure>
+pub fn lines_of(alloc: Global, errors: &[RuleError]) -> Result<String, ReadError>
     ensures { IfOk result (λ s. string_bytes s ≡ error_lines errors.now) }
 {
     let mut text = String::new(alloc);

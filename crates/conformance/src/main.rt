@@ -1,19 +1,60 @@
-//! The program `conformance`: validates documents for which the errors of juniper's own code are known, and reports
-//! where the errors differ.
+//! The program `conformance`: validates documents, and reports where what comes is not what is expected. Of most the
+//! errors of juniper's own code are known.
 #![tactic(auto)]
 
-mod failure;
 mod judge;
-mod lines;
-mod open;
-mod program;
-mod report;
-mod text;
+mod runs;
 mod variables;
-mod vectors;
 
+use row_files::{Judge, run};
+use samples::build::Checks;
+use samples::checks::{
+    check_boolean, check_complex_input, check_dog_command, check_id, check_int, check_pair_input,
+    check_string, refuse_token,
+};
+use std::alloc::{AllocError, Global};
 use std::process::ExitCode;
+use validation::meta::default_check::DefaultCheck;
+
+const FILES: &[&str] = &[
+    "pets.txt",
+    "boxes.txt",
+    "pets_closed.txt",
+    "pets_merge.txt",
+    "boxes_merge.txt",
+    "pets_variables.txt",
+    "check_documents.txt",
+    "check_merging.txt",
+    "check_texts.txt",
+];
+
+/// What this repository's code makes of documents.
+struct Validation;
+
+impl Judge for Validation {
+    fn judge(
+        &self,
+        alloc: Global,
+        kind: &str,
+        text: &str,
+        came: &mut String,
+    ) -> Result<bool, AllocError> {
+        let checks = Checks {
+            int: DefaultCheck::with_token(check_int, refuse_token),
+            string: DefaultCheck::with_token(check_string, refuse_token),
+            boolean: DefaultCheck::with_token(check_boolean, refuse_token),
+            id: DefaultCheck::with_token(check_id, refuse_token),
+            dog_command: DefaultCheck::new(check_dog_command),
+            complex_input: DefaultCheck::new(check_complex_input),
+            pair_input: DefaultCheck::new(check_pair_input),
+        };
+        match kind.strip_prefix("check ") {
+            Some(words) => runs::tell_run(alloc, checks, words, text, came),
+            None => judge::tell_errors(alloc, checks, kind, text, came),
+        }
+    }
+}
 
 fn main(rt: HostRuntime) -> ExitCode {
-    ExitCode::from(program::run(&rt))
+    ExitCode::from(run(&rt, &Validation, FILES))
 }

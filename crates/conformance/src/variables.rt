@@ -3,10 +3,9 @@ ghost use Rattle.std.specs.Prelude.{IfOk, string_bytes};
 ghost use Rattle.conformance.specs.Told.{TellsFaults};
 ghost use Rattle.variable_values.specs.Inputs.{HasInputTypes};
 
-use crate::failure::Failure;
 use crate::judge::lines_of;
-use crate::lines::Lines;
-use sample_reader::{read_document, read_type, read_value};
+use row_files::Lines;
+use sample_reader::{ReadError, read_document, read_type, read_value};
 use std::alloc::Global;
 use std::collections::BTreeMap;
 use std::mem;
@@ -19,7 +18,7 @@ use validation::{
 
 /// The errors of the values for the variables of a document's first operation, one per line.
 ///
-/// Before the values, a line `@NAME TYPE` gives the variable of this name another type.
+/// The values stand after a line `---`. Before them, a line `@NAME TYPE` gives the variable of this name another type.
 ///
 /// # Errors
 ///
@@ -27,11 +26,11 @@ use validation::{
 pub fn errors_of_values(
     alloc: Global,
     schema: &SchemaType<DefaultScalarValue>,
-    text: &[u8],
-    told: &[u8],
-) -> Result<String, Failure> {
-    let mut document = read_document(alloc, text)?;
-    let mut lines = Lines::new(told);
+    text: &str,
+) -> Result<String, ReadError> {
+    let (text, told) = text.split_once("\n---\n").unwrap_or((text, ""));
+    let mut document = read_document(alloc, text.as_bytes())?;
+    let mut lines = Lines::new(told.as_bytes());
     for definition in document.iter_mut() {
         if let Definition::Operation(operation) = definition {
             retype(alloc, &mut operation.item, &mut lines)?;
@@ -47,7 +46,7 @@ fn judge(
     schema: &SchemaType<DefaultScalarValue>,
     values: &Variables,
     operation: &Spanning<Operation<'_, DefaultScalarValue>>,
-) -> Result<String, Failure> {
+) -> Result<String, ReadError> {
     if has_input_types(schema, &operation.item) {
         faults_of(alloc, schema, values, operation)
     } else {
@@ -60,7 +59,7 @@ fn faults_of(
     schema: &SchemaType<DefaultScalarValue>,
     values: &Variables,
     operation: &Spanning<Operation<'_, DefaultScalarValue>>,
-) -> Result<String, Failure>
+) -> Result<String, ReadError>
     requires known { HasInputTypes schema.now operation.now.item }
     ensures { IfOk result (λ text. TellsFaults schema.now ⟦<DefaultScalarValue as CheckedScalar>⟧.may_answer
         ⟦<DefaultScalarValue as ScalarValue>⟧.text ⟦<DefaultScalarValue as ScalarValue>⟧.str_of values.now
@@ -76,7 +75,7 @@ fn retype(
     alloc: Global,
     operation: &mut Operation<'_, DefaultScalarValue>,
     lines: &mut Lines<'_>,
-) -> Result<(), Failure> {
+) -> Result<(), ReadError> {
     for _ in 0..lines.bound() {
         let Some(told) = lines.ahead().and_then(|line| line.strip_prefix(b"@")) else {
             break;
@@ -93,7 +92,7 @@ fn retype_one(
     alloc: Global,
     definitions: &mut [(Spanning<&str>, VariableDefinition<'_, DefaultScalarValue>)],
     told: &[u8],
-) -> Result<(), Failure> {
+) -> Result<(), ReadError> {
     let length = told.iter().take_while(|byte| **byte != b' ').count();
     let (name, written) = told.split_at_checked(length).unwrap_or((told, &[]));
     for definition in definitions {
@@ -104,7 +103,7 @@ fn retype_one(
     Ok(())
 }
 
-fn variables(alloc: Global, text: &[u8]) -> Result<Variables, Failure> {
+fn variables(alloc: Global, text: &[u8]) -> Result<Variables, ReadError> {
     let mut variables = BTreeMap::new(alloc);
     let mut value = read_value(alloc, text)?.item;
     if let InputValue::Object(entries) = &mut value {

@@ -1,5 +1,5 @@
 //! Lists that are accepted, with the roots of their schemas, and lists that are refused.
-use crate::said::{refusal, says};
+use crate::said::said;
 use crate::schemas::{Schema, demo_types, input_check, pets_types, schema_of};
 use language::error::OutOfMemory;
 use language::types::Type;
@@ -9,286 +9,43 @@ use samples::build::{argument, object, own_fields, union_of};
 use samples::documents::alone;
 use samples::rows::{ObjectRow, add_interfaces, add_objects, add_unions};
 use schema::model::TypeType;
-use std::alloc::{AllocError, Global};
+use std::alloc::Global;
 use std::process::Abort;
 
-/// What is added to a list; four kinds refer to another type.
-enum More {
-    Nothing,
-    /// A list type, which has no name.
-    List,
-    /// An object `Dog` with a name.
-    Dog,
-    /// The same, where the field `name` takes a `Dog`.
-    DogForDog,
-    /// An interface, and a union of it.
-    Friends,
-    /// A union of the type.
-    UnionOf,
-    /// An object that lists the type.
-    ObjectOf,
-    /// An interface that lists the type.
-    InterfaceOf,
-    /// An input object with a field of the type.
-    InputOf,
-}
-
-/// The name of a list.
-enum Sample {
-    Demo,
-    Pets,
-}
-
-/// The list, the type that is left out, what is added, for which type, the names of the three roots, and
-/// the result: the error, or the roots of the schema. The rows are flat, since nested ones are expensive
-/// to prove.
-type Row = (
-    Sample,
-    &'static str,
-    More,
-    &'static str,
-    &'static str,
-    &'static str,
-    &'static str,
-    &'static str,
-);
+/// The list, the type that is left out, what is added, for which type, the names of the three roots, and the result: the
+/// error, or the roots of the schema.
+///
+/// Added is `List`, a list type, which has no name; `Dog`, an object with a name; `DogForDog`, the same, where the field
+/// `name` takes a `Dog`; `Friends`, an interface and a union of it; or a union, an object, an interface or an input object
+/// that refers to the type.
+const ROWS: &str =
+    r#"demo - Nothing - QueryRoot _EmptyMutation _EmptySubscription: QueryRoot none none
+demo - Nothing - QueryRoot Dog _EmptySubscription: QueryRoot Dog none
+demo - Nothing - QueryRoot _EmptyMutation Dog: QueryRoot none Dog
+demo - Nothing - Dog QueryRoot String: Dog QueryRoot String
+demo - Nothing - QueryRoot Nope _EmptySubscription: MissingRoot("Nope")
+demo - Nothing - QueryRoot _EmptyMutation Nope: MissingRoot("Nope")
+demo - Nothing - QueryRoot _EmptySubscription _EmptySubscription: MissingRoot("_EmptySubscription")
+demo __Type Nothing - QueryRoot _EmptyMutation _EmptySubscription: UnknownType("__Type")
+demo - Nothing - Nope _EmptyMutation _EmptySubscription: MissingRoot("Nope")
+demo - Nothing - String _EmptyMutation _EmptySubscription: QueryNotObject
+demo - Dog - QueryRoot _EmptyMutation _EmptySubscription: RepeatedType("Dog")
+demo Dog DogForDog - QueryRoot _EmptyMutation _EmptySubscription: NotInputType("Dog")
+demo - List - QueryRoot _EmptyMutation _EmptySubscription: UnnamedType
+demo - Friends - QueryRoot _EmptyMutation _EmptySubscription: UnionMemberNotObject("Friend")
+demo - UnionOf Nope QueryRoot _EmptyMutation _EmptySubscription: UnknownType("Nope")
+demo - ObjectOf Nope QueryRoot _EmptyMutation _EmptySubscription: UnknownType("Nope")
+demo - InterfaceOf Nope QueryRoot _EmptyMutation _EmptySubscription: UnknownType("Nope")
+demo - InputOf Nope QueryRoot _EmptyMutation _EmptySubscription: UnknownType("Nope")
+demo - InputOf Dog QueryRoot _EmptyMutation _EmptySubscription: NotInputType("Dog")
+demo - InputOf String QueryRoot _EmptyMutation _EmptySubscription: QueryRoot none none
+pets - Nothing - QueryRoot _EmptyMutation _EmptySubscription: QueryRoot none none
+pets Boolean Nothing - QueryRoot _EmptyMutation _EmptySubscription: UnknownType("Boolean")
+pets - UnionOf Pet QueryRoot _EmptyMutation _EmptySubscription: UnionMemberNotObject("Pet")"#;
 
 const DOG: [ObjectRow; 1] = [("Dog", &[], &[("name", "String", &[])])];
 
 const DOG_FOR_DOG: [ObjectRow; 1] = [("Dog", &[], &[("name", "String", &[("x", "Dog")])])];
-
-const ROWS: [Row; 23] = [
-    (
-        Sample::Demo,
-        "",
-        More::Nothing,
-        "",
-        "QueryRoot",
-        "_EmptyMutation",
-        "_EmptySubscription",
-        "QueryRoot none none ",
-    ),
-    (
-        Sample::Demo,
-        "",
-        More::Nothing,
-        "",
-        "QueryRoot",
-        "Dog",
-        "_EmptySubscription",
-        "QueryRoot Dog none ",
-    ),
-    (
-        Sample::Demo,
-        "",
-        More::Nothing,
-        "",
-        "QueryRoot",
-        "_EmptyMutation",
-        "Dog",
-        "QueryRoot none Dog ",
-    ),
-    (
-        Sample::Demo,
-        "",
-        More::Nothing,
-        "",
-        "Dog",
-        "QueryRoot",
-        "String",
-        "Dog QueryRoot String ",
-    ),
-    (
-        Sample::Demo,
-        "",
-        More::Nothing,
-        "",
-        "QueryRoot",
-        "Nope",
-        "_EmptySubscription",
-        "MissingRoot(\"Nope\")",
-    ),
-    (
-        Sample::Demo,
-        "",
-        More::Nothing,
-        "",
-        "QueryRoot",
-        "_EmptyMutation",
-        "Nope",
-        "MissingRoot(\"Nope\")",
-    ),
-    (
-        Sample::Demo,
-        "",
-        More::Nothing,
-        "",
-        "QueryRoot",
-        "_EmptySubscription",
-        "_EmptySubscription",
-        "MissingRoot(\"_EmptySubscription\")",
-    ),
-    (
-        Sample::Demo,
-        "__Type",
-        More::Nothing,
-        "",
-        "QueryRoot",
-        "_EmptyMutation",
-        "_EmptySubscription",
-        "UnknownType(\"__Type\")",
-    ),
-    (
-        Sample::Demo,
-        "",
-        More::Nothing,
-        "",
-        "Nope",
-        "_EmptyMutation",
-        "_EmptySubscription",
-        "MissingRoot(\"Nope\")",
-    ),
-    (
-        Sample::Demo,
-        "",
-        More::Nothing,
-        "",
-        "String",
-        "_EmptyMutation",
-        "_EmptySubscription",
-        "QueryNotObject",
-    ),
-    (
-        Sample::Demo,
-        "",
-        More::Dog,
-        "",
-        "QueryRoot",
-        "_EmptyMutation",
-        "_EmptySubscription",
-        "RepeatedType(\"Dog\")",
-    ),
-    (
-        Sample::Demo,
-        "Dog",
-        More::DogForDog,
-        "",
-        "QueryRoot",
-        "_EmptyMutation",
-        "_EmptySubscription",
-        "NotInputType(\"Dog\")",
-    ),
-    (
-        Sample::Demo,
-        "",
-        More::List,
-        "",
-        "QueryRoot",
-        "_EmptyMutation",
-        "_EmptySubscription",
-        "UnnamedType",
-    ),
-    (
-        Sample::Demo,
-        "",
-        More::Friends,
-        "",
-        "QueryRoot",
-        "_EmptyMutation",
-        "_EmptySubscription",
-        "UnionMemberNotObject(\"Friend\")",
-    ),
-    (
-        Sample::Demo,
-        "",
-        More::UnionOf,
-        "Nope",
-        "QueryRoot",
-        "_EmptyMutation",
-        "_EmptySubscription",
-        "UnknownType(\"Nope\")",
-    ),
-    (
-        Sample::Demo,
-        "",
-        More::ObjectOf,
-        "Nope",
-        "QueryRoot",
-        "_EmptyMutation",
-        "_EmptySubscription",
-        "UnknownType(\"Nope\")",
-    ),
-    (
-        Sample::Demo,
-        "",
-        More::InterfaceOf,
-        "Nope",
-        "QueryRoot",
-        "_EmptyMutation",
-        "_EmptySubscription",
-        "UnknownType(\"Nope\")",
-    ),
-    (
-        Sample::Demo,
-        "",
-        More::InputOf,
-        "Nope",
-        "QueryRoot",
-        "_EmptyMutation",
-        "_EmptySubscription",
-        "UnknownType(\"Nope\")",
-    ),
-    (
-        Sample::Demo,
-        "",
-        More::InputOf,
-        "Dog",
-        "QueryRoot",
-        "_EmptyMutation",
-        "_EmptySubscription",
-        "NotInputType(\"Dog\")",
-    ),
-    (
-        Sample::Demo,
-        "",
-        More::InputOf,
-        "String",
-        "QueryRoot",
-        "_EmptyMutation",
-        "_EmptySubscription",
-        "QueryRoot none none ",
-    ),
-    (
-        Sample::Pets,
-        "",
-        More::Nothing,
-        "",
-        "QueryRoot",
-        "_EmptyMutation",
-        "_EmptySubscription",
-        "QueryRoot none none ",
-    ),
-    (
-        Sample::Pets,
-        "Boolean",
-        More::Nothing,
-        "",
-        "QueryRoot",
-        "_EmptyMutation",
-        "_EmptySubscription",
-        "UnknownType(\"Boolean\")",
-    ),
-    (
-        Sample::Pets,
-        "",
-        More::UnionOf,
-        "Pet",
-        "QueryRoot",
-        "_EmptyMutation",
-        "_EmptySubscription",
-        "UnionMemberNotObject(\"Pet\")",
-    ),
-];
 
 /// The list of the type of this name.
 pub fn one_type(alloc: Global, name: &str) -> Result<Vec<Type>, OutOfMemory> {
@@ -325,79 +82,93 @@ fn add_friends(alloc: Global, types: &mut Vec<MetaType>) -> Result<(), OutOfMemo
 fn add(
     alloc: Global,
     types: &mut Vec<MetaType>,
-    more: &More,
+    more: &str,
     name: &str,
 ) -> Result<(), OutOfMemory> {
     match more {
-        More::Nothing => Ok(()),
-        More::List => push(types, list(alloc)?),
-        More::Dog => add_objects(alloc, types, &DOG),
-        More::DogForDog => add_objects(alloc, types, &DOG_FOR_DOG),
-        More::Friends => add_friends(alloc, types),
-        More::UnionOf => push(types, union_of(alloc, "Pets", &[name])?),
-        More::ObjectOf => push(types, object(alloc, "Puppy", &[name], own_fields(alloc)?)?),
-        More::InterfaceOf => push(types, interface_of(alloc, name)?),
-        More::InputOf => push(types, input_of(alloc, name)?),
+        "List" => push(types, list(alloc)?),
+        "Dog" => add_objects(alloc, types, &DOG),
+        "DogForDog" => add_objects(alloc, types, &DOG_FOR_DOG),
+        "Friends" => add_friends(alloc, types),
+        "UnionOf" => push(types, union_of(alloc, "Pets", &[name])?),
+        "ObjectOf" => push(types, object(alloc, "Puppy", &[name], own_fields(alloc)?)?),
+        "InterfaceOf" => push(types, interface_of(alloc, name)?),
+        "InputOf" => push(types, input_of(alloc, name)?),
+        _ => Ok(()),
     }
 }
 
-/// The list with the row's change.
-fn changed(rt: &impl Abort, alloc: Global, row: &Row) -> Vec<MetaType> {
-    let types = match row.0 {
-        Sample::Demo => demo_types(alloc),
-        Sample::Pets => pets_types(alloc),
+/// The list of the name, without a type and with what is added.
+fn changed(
+    rt: &impl Abort,
+    alloc: Global,
+    sample: &str,
+    without: &str,
+    more: &str,
+    name: &str,
+) -> Vec<MetaType> {
+    let types = if sample == "demo" {
+        demo_types(alloc)
+    } else {
+        pets_types(alloc)
     };
     let mut types = types.expect(rt, "the list");
-    types.retain(|meta| meta.name() != Some(row.1));
-    add(alloc, &mut types, &row.2, row.3).expect(rt, "memory");
+    types.retain(|meta| meta.name() != Some(without));
+    add(alloc, &mut types, more, name).expect(rt, "memory");
     types
 }
 
-/// Appends the printed root and a space.
-fn add_type(rt: &impl Abort, text: &mut String, root: Option<TypeType<'_, DefaultScalarValue>>) {
-    match root {
-        Some(root) => write!(text, "{root} ").expect(rt, "memory"),
-        None => text.push_str("none ").expect(rt, "memory"),
-    }
-}
-
-/// The printed roots.
-fn types_of_roots(rt: &impl Abort, alloc: Global, schema: &Schema) -> String {
-    let mut text = String::new(alloc);
-    add_type(rt, &mut text, Some(schema.query_type()));
-    add_type(rt, &mut text, schema.mutation_type());
-    add_type(rt, &mut text, schema.subscription_type());
-    text
-}
-
-fn name_of(root: Option<&MetaType>) -> &str {
-    match root {
+/// Appends a root: its printed form, which is the name of its metadata, or both.
+fn show_root(
+    rt: &impl Abort,
+    root: Option<TypeType<'_, DefaultScalarValue>>,
+    meta: Option<&MetaType>,
+    alloc: Global,
+    came: &mut String,
+) {
+    let name = match meta {
         Some(meta) => meta.name().unwrap_or("?"),
         None => "none",
-    }
+    };
+    let mut printed = String::new(alloc);
+    let shown = match root {
+        Some(root) => write!(printed, "{root}"),
+        None => printed.push_str("none"),
+    };
+    shown.expect(rt, "memory");
+    assert_eq!(rt; printed.as_str(), name);
+    write!(came, " {name}").expect(rt, "memory");
 }
 
-/// The roots, by the names of their metadata.
-fn names_of_roots(alloc: Global, schema: &Schema) -> Result<String, AllocError> {
-    let query = name_of(Some(schema.concrete_query_type()));
-    let mutation = name_of(schema.concrete_mutation_type());
-    let subscription = name_of(schema.concrete_subscription_type());
-    format!(in alloc; "{query} {mutation} {subscription} ")
-}
-
-/// Asserts that the schema has these roots.
-fn has_roots(rt: &impl Abort, alloc: Global, schema: &Schema, want: &str) {
-    says(rt, Ok(types_of_roots(rt, alloc, schema)), want);
-    says(rt, names_of_roots(alloc, schema), want);
+/// Appends the roots of the schema.
+fn show_roots(rt: &impl Abort, alloc: Global, schema: &Schema, came: &mut String) {
+    let query = Some(schema.concrete_query_type());
+    show_root(rt, Some(schema.query_type()), query, alloc, came);
+    let mutation = schema.concrete_mutation_type();
+    show_root(rt, schema.mutation_type(), mutation, alloc, came);
+    let subscription = schema.concrete_subscription_type();
+    show_root(rt, schema.subscription_type(), subscription, alloc, came);
 }
 
 #[test]
 fn lists_are_accepted_or_refused_by_name(rt: HostRuntime) {
     let alloc = rt.alloc();
-    for row in &ROWS {
-        match schema_of(alloc, changed(&rt, alloc, row), row.4, row.5, row.6) {
-            Ok(schema) => has_roots(&rt, alloc, &schema, row.7),
-            Err(refused) => says(&rt, refusal(alloc, refused), row.7),
+    for line in ROWS.lines() {
+        let row = line.split_once(':').unwrap_or((line, "")).0;
+        let mut words = row.split(' ');
+        let sample = words.next().unwrap_or("");
+        let without = words.next().unwrap_or("");
+        let more = words.next().unwrap_or("");
+        let name = words.next().unwrap_or("");
+        let types = changed(&rt, alloc, sample, without, more, name);
+        let query = words.next().unwrap_or("");
+        let mutation = words.next().unwrap_or("");
+        let subscription = words.next().unwrap_or("");
+        let mut came = said(&rt, alloc, row);
+        match schema_of(alloc, types, query, mutation, subscription) {
+            Ok(schema) => show_roots(&rt, alloc, &schema, &mut came),
+            Err(refused) => write!(came, " {refused:?}").expect(&rt, "memory"),
         }
+        assert_eq!(rt; came.as_str(), line);
     }
 }

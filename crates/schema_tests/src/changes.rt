@@ -1,6 +1,6 @@
 //! Changes to the schema `pets`.
-use crate::relations::directive_names;
-use crate::said::{refusal, says, words};
+use crate::relations::show_directives;
+use crate::said::said;
 use crate::schemas::{Schema, pets_schema};
 use language::error::OutOfMemory;
 use language::value::DefaultScalarValue;
@@ -8,58 +8,28 @@ use samples::build::argument;
 use samples::documents::alone;
 use schema::error::SchemaError;
 use schema::model::DirectiveType;
-use std::alloc::{AllocError, Global};
+use std::alloc::Global;
 use std::process::Abort;
 
 type Directive = DirectiveType<DefaultScalarValue>;
 
-/// What to do with the schema.
-enum Step {
-    /// A directive `flag` with an argument of the type is added.
-    AddFlag,
-    /// A directive `skip` without arguments is added.
-    AddSkip,
-    /// The number of arguments of `skip`.
-    SkipArguments,
-    DirectiveList,
-    SetDescription,
-    Description,
-}
-
-/// Steps in sequence, each with its type or its text, and its result.
-const STEPS: [(Step, &str, &str); 15] = [
-    (Step::AddFlag, "Dog", "NotInputType(\"Dog\")"),
-    (
-        Step::DirectiveList,
-        "",
-        "deprecated include skip specifiedBy ",
-    ),
-    (Step::AddFlag, "Nope", "UnknownType(\"Nope\")"),
-    (
-        Step::DirectiveList,
-        "",
-        "deprecated include skip specifiedBy ",
-    ),
-    (Step::SkipArguments, "", "1"),
-    (Step::AddSkip, "", "done"),
-    (Step::SkipArguments, "", "0"),
-    (
-        Step::DirectiveList,
-        "",
-        "deprecated include skip specifiedBy ",
-    ),
-    (Step::AddFlag, "Int", "done"),
-    (
-        Step::DirectiveList,
-        "",
-        "deprecated flag include skip specifiedBy ",
-    ),
-    (Step::Description, "", "none"),
-    (Step::SetDescription, "animals", "done"),
-    (Step::Description, "", "animals"),
-    (Step::SetDescription, "beasts", "done"),
-    (Step::Description, "", "beasts"),
-];
+/// Steps in sequence, each with its result: a directive `flag` with an argument of the type is added, or a directive `skip`
+/// without arguments; how many arguments `skip` has; the directives; the description is set, or asked for.
+const STEPS: &str = r#"add_flag Dog: NotInputType("Dog")
+directives: deprecated include skip specifiedBy
+add_flag Nope: UnknownType("Nope")
+directives: deprecated include skip specifiedBy
+arguments_of skip: 1
+add_skip: done
+arguments_of skip: 0
+directives: deprecated include skip specifiedBy
+add_flag Int: done
+directives: deprecated flag include skip specifiedBy
+description: none
+describe animals: done
+description: animals
+describe beasts: done
+description: beasts"#;
 
 /// The directive `flag` with an argument of this type.
 fn flag(alloc: Global, type_name: &str) -> Result<Directive, OutOfMemory> {
@@ -72,54 +42,64 @@ fn bare_skip(alloc: Global) -> Result<Directive, OutOfMemory> {
     DirectiveType::new(alloc, "skip", Vec::new(alloc), Vec::new(alloc), false)
 }
 
-/// The result of a change.
-fn outcome(alloc: Global, change: Result<(), SchemaError>) -> Result<String, AllocError> {
-    match change {
-        Ok(()) => words(alloc, "done"),
-        Err(refused) => refusal(alloc, refused),
-    }
-}
-
-fn arguments_of_skip(alloc: Global, schema: &Schema) -> Result<String, AllocError> {
-    match schema.directive_by_name("skip") {
-        Some(skip) => skip.arguments.len().to_string(alloc),
-        None => words(alloc, "no skip"),
-    }
-}
-
-fn added(
+/// Adds the directive, and appends the result.
+fn add(
     rt: &impl Abort,
     schema: &mut Schema,
     directive: Result<Directive, OutOfMemory>,
-) -> Result<(), SchemaError> {
-    schema.add_directive(directive.expect(rt, "memory"))
+    came: &mut String,
+) {
+    let shown = match schema.add_directive(directive.expect(rt, "memory")) {
+        Ok(()) => came.push_str(" done"),
+        Err(refused) => write!(came, " {refused:?}"),
+    };
+    shown.expect(rt, "memory");
+}
+
+fn count_arguments(schema: &Schema, name: &str) -> usize {
+    match schema.directive_by_name(name) {
+        Some(directive) => directive.arguments.len(),
+        None => usize::MAX,
+    }
 }
 
 fn take(
     rt: &impl Abort,
     alloc: Global,
     schema: &mut Schema,
-    step: &Step,
-    text: &str,
-) -> Result<String, AllocError> {
-    match step {
-        Step::AddFlag => outcome(alloc, added(rt, schema, flag(alloc, text))),
-        Step::AddSkip => outcome(alloc, added(rt, schema, bare_skip(alloc))),
-        Step::SkipArguments => arguments_of_skip(alloc, schema),
-        Step::DirectiveList => Ok(directive_names(rt, alloc, schema)),
-        Step::SetDescription => {
-            schema.set_description(text).expect(rt, "memory");
-            words(alloc, "done")
+    step: &str,
+    name: &str,
+    came: &mut String,
+) {
+    let shown = match step {
+        "add_flag" => return add(rt, schema, flag(alloc, name), came),
+        "add_skip" => return add(rt, schema, bare_skip(alloc), came),
+        "directives" => return show_directives(rt, alloc, schema, came),
+        "arguments_of" => {
+            let count = count_arguments(schema, name);
+            write!(came, " {count}")
         }
-        Step::Description => words(alloc, schema.description().unwrap_or("none")),
-    }
+        "describe" => {
+            schema.set_description(name).expect(rt, "memory");
+            came.push_str(" done")
+        }
+        _ => {
+            let description = schema.description().unwrap_or("none");
+            write!(came, " {description}")
+        }
+    };
+    shown.expect(rt, "memory");
 }
 
 #[test]
 fn changes_are_kept_or_refused(rt: HostRuntime) {
     let alloc = rt.alloc();
     let mut schema = pets_schema(&rt, alloc);
-    for row in &STEPS {
-        says(&rt, take(&rt, alloc, &mut schema, &row.0, row.1), row.2);
+    for line in STEPS.lines() {
+        let step = line.split_once(':').unwrap_or((line, "")).0;
+        let (asked, name) = step.split_once(' ').unwrap_or((step, ""));
+        let mut came = said(&rt, alloc, step);
+        take(&rt, alloc, &mut schema, asked, name, &mut came);
+        assert_eq!(rt; came.as_str(), line);
     }
 }

@@ -1,5 +1,4 @@
 //! Texts in assertions.
-use schema::error::SchemaError;
 use std::alloc::{AllocError, Global};
 use std::process::Abort;
 
@@ -14,7 +13,9 @@ pub fn words(alloc: Global, text: &str) -> Result<String, AllocError> {
     String::from_str(alloc, text)
 }
 
-/// The debug form of the error.
-pub fn refusal(alloc: Global, refused: SchemaError) -> Result<String, AllocError> {
-    format!(in alloc; "{refused:?}")
+/// An owned copy of the question, and a colon, behind which the answer goes.
+pub fn said(rt: &impl Abort, alloc: Global, question: &str) -> String {
+    let mut said = words(alloc, question).expect(rt, "memory");
+    said.push_str(":").expect(rt, "memory");
+    said
 }

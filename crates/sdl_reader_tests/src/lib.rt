@@ -1,9 +1,5 @@
-//! Tests of the crate `sdl_reader`: schemas that are read and what they hold, and faults with their positions.
+//! A test of the crate `sdl_reader`: memory is refused. What comes of texts is in the rows of `reader_rows`.
 #![tactic(auto)]
 
 #[cfg(test)]
-mod faults;
-#[cfg(test)]
-mod schemas;
-#[cfg(test)]
-mod shown;
+mod refused_memory;

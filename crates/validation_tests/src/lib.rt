@@ -1,15 +1,10 @@
-//! What `validation` reports for texts: the rows, rules that are tried alone, a directive of the schema's own, root nodes, values
-//! against types with sizes, documents that are made to hurt, and requests for memory refused in turn.
+//! What `validation` reports for texts: by single rules and by chosen ones, of texts that are made to hurt, where a schema
+//! has a directive of its own, by root nodes, of events out of order, of values against types with sizes, and where requests
+//! for memory are refused in turn.
 #![tactic(auto)]
 
 #[cfg(test)]
-mod alone;
-#[cfg(test)]
 mod boxes;
-#[cfg(test)]
-mod judged;
-#[cfg(test)]
-mod looked;
 #[cfg(test)]
 mod pets;
 #[cfg(test)]
@@ -27,4 +22,4 @@ mod sized_types;
 #[cfg(test)]
 mod texts;
 #[cfg(test)]
-mod values_rows;
+mod told;

@@ -2,7 +2,7 @@
 //!
 //! One request of a run is refused. What it refuses is out of memory, and gives the expected result at a second try.
 
-use crate::values_rows::said;
+use crate::told::told_of_values;
 use crate::{boxes, pets};
 use language::value::{InputValue, Variables};
 use sample_reader::{ReadError, read_document, read_value};
@@ -58,72 +58,52 @@ fn document<'t>(
     }
 }
 
-/// A validation of the text, and a second one if it was refused, tells this.
-fn is_told(rt: &impl Abort, alloc: Global, sample: Sample, text: &str, want: &str) {
-    let schema = schema(rt, alloc, sample);
-    let document = document(rt, alloc, text);
-    let told = match told_by_all(alloc, &schema, document.as_slice()) {
-        Ok(told) => told,
-        Err(_) => told_by_all(alloc, &schema, document.as_slice()).expect(rt, AGAIN),
-    };
-    if told.as_str() != want {
-        rt.panic(told);
-    }
-}
-
-#[test]
-fn a_refused_request_at_repeated_arguments(rt: HostRuntime) {
-    is_told(
-        &rt,
-        rt.alloc(),
+/// A sample schema, a text, and what all rules report of it.
+const ROWS: [(Sample, &str, &str); 5] = [
+    // Repeated arguments.
+    (
         Sample::Pets,
         "{ dog { name(surname: true, surname: 1) } }",
         "There can only be one argument named \"surname\". At 0:13, 0:28\nInvalid value for argument \"surname\", reason: Invalid value \"1\" for type \"Boolean\". At 0:37\n0",
-    );
-}
-
-#[test]
-fn a_refused_request_at_repeated_operations(rt: HostRuntime) {
-    is_told(
-        &rt,
-        rt.alloc(),
+    ),
+    // Repeated operations.
+    (
         Sample::Pets,
         "query Q($a: Int) { complicatedArgs { intArgField(intArg: $a) } } query Q { complicatedArgs { intArgField(intArg: $a) } }",
         "There can only be one operation named Q. At 0:0, 0:65\nVariable \"$a\" is not defined by operation \"Q\". At 0:57, 0:65\nVariable \"$a\" is not defined by operation \"Q\". At 0:113, 0:65\n0",
-    );
-}
-
-#[test]
-fn a_refused_request_at_fragments_that_merge(rt: HostRuntime) {
-    is_told(
-        &rt,
-        rt.alloc(),
+    ),
+    // Fragments that merge.
+    (
         Sample::Pets,
         "{ dog { ...A ...B } } fragment A on Dog { ...C } fragment B on Dog { ...C } fragment C on Dog { name }",
         "3",
-    );
-}
-
-#[test]
-fn a_refused_request_at_fragments_that_conflict(rt: HostRuntime) {
-    is_told(
-        &rt,
-        rt.alloc(),
+    ),
+    // Fragments that conflict.
+    (
         Sample::Boxes,
         "{ a: someBox { ... on IntBox { deepBox { ...X } } } a: someBox { ... on StringBox { deepBox { ...Y } } } b: someBox { ...X } b: someBox { ...Y } } fragment X on SomeBox { otherField } fragment Y on SomeBox { otherField: unrelatedField }",
         "Fields \"b\" conflict because subfields \"otherField\" conflict because otherField and unrelatedField are different fields. Use different aliases on the fields to fetch both if this was intentional. At 0:105, 0:171, 0:125, 0:208\n2",
-    );
-}
-
-#[test]
-fn a_refused_request_at_fields_that_conflict(rt: HostRuntime) {
-    is_told(
-        &rt,
-        rt.alloc(),
+    ),
+    // Fields that conflict.
+    (
         Sample::Pets,
         "{ dog { x: name } dog { x: barks } }",
         "Fields \"dog\" conflict because subfields \"x\" conflict because name and barks are different fields. Use different aliases on the fields to fetch both if this was intentional. At 0:2, 0:8, 0:18, 0:24\n0",
-    );
+    ),
+];
+
+#[test]
+fn a_refused_request_at_documents(rt: HostRuntime) {
+    let alloc = rt.alloc();
+    for (sample, text, want) in ROWS {
+        let schema = schema(&rt, alloc, sample);
+        let document = document(&rt, alloc, text);
+        let told = match told_by_all(alloc, &schema, document.as_slice()) {
+            Ok(told) => told,
+            Err(_) => told_by_all(alloc, &schema, document.as_slice()).expect(&rt, AGAIN),
+        };
+        assert_eq!(rt; told.as_str(), want);
+    }
 }
 
 fn value_of_c(
@@ -156,9 +136,9 @@ fn a_refused_request_at_values(rt: HostRuntime) {
     let schema = schema(&rt, alloc, Sample::Pets);
     let document = document(&rt, alloc, TEXT_OF_VALUES);
     let values = values(&rt, alloc);
-    let said = match said(alloc, &schema, document.as_slice(), &values) {
+    let said = match told_of_values(alloc, &schema, document.as_slice(), &values) {
         Ok(said) => said,
-        Err(_) => said(alloc, &schema, document.as_slice(), &values).expect(&rt, AGAIN),
+        Err(_) => told_of_values(alloc, &schema, document.as_slice(), &values).expect(&rt, AGAIN),
     };
     assert_eq!(rt;
         said.as_str(),

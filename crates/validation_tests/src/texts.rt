@@ -1,30 +1,19 @@
-//! The texts.
+//! Texts that are made to hurt.
 
 use std::alloc::{AllocError, Global};
 use std::fmt::Write;
 
-/// A document that is made to hurt.
-#[derive(Clone, Copy)]
-pub enum Hostile {
-    /// Two towers of fragments, of which each spreads the next below two fields; the last of the second has this field.
-    Towers(&'static str),
-    /// A tower of two fragments a level, of which each spreads both of the next level.
-    Crossing,
-    /// A hundred sets, each inside the last.
-    Nested,
-    /// Two fragments, each with one field five thousand times.
-    Repeated,
-}
-
-impl Hostile {
-    /// Its text.
-    pub fn text(self, alloc: Global) -> Result<String, AllocError> {
-        match self {
-            Hostile::Towers(last) => towers(alloc, last),
-            Hostile::Crossing => crossing(alloc),
-            Hostile::Nested => nested(alloc),
-            Hostile::Repeated => repeated(alloc),
-        }
+/// A text that is made, or else as it is written.
+///
+/// `towers FIELD` are two towers of fragments, of which each spreads the next below two fields; the last of the second has
+/// this field. `crossing` is a tower of two fragments a level, of which each spreads both of the next level.
+pub fn written(alloc: Global, text: &str) -> Result<String, AllocError> {
+    if text == "crossing" {
+        return crossing(alloc);
+    }
+    match text.strip_prefix("towers ") {
+        Some(last) => towers(alloc, last),
+        None => String::from_str(alloc, text),
     }
 }
 
@@ -64,31 +53,4 @@ fn push_crossing(text: &mut String, name: &str, level: u32, next: u32) -> Result
         text,
         " fragment {name}{level} on Human {{ ...A{next} ...C{next} }}"
     )
-}
-
-fn nested(alloc: Global) -> Result<String, AllocError> {
-    let mut text = String::from_str(alloc, "{ human {")?;
-    for _ in 0..100u32 {
-        text.push_str(" relatives {")?;
-    }
-    text.push_str(" name")?;
-    for _ in 0..102u32 {
-        text.push_str(" }")?;
-    }
-    Ok(text)
-}
-
-fn repeated(alloc: Global) -> Result<String, AllocError> {
-    let mut text = String::from_str(alloc, "{ dog { ...A ...B } }")?;
-    push_repeated(&mut text, "A")?;
-    push_repeated(&mut text, "B")?;
-    Ok(text)
-}
-
-fn push_repeated(text: &mut String, name: &str) -> Result<(), AllocError> {
-    write!(text, " fragment {name} on Dog {{")?;
-    for _ in 0..5_000u32 {
-        text.push_str(" name")?;
-    }
-    text.push_str(" }")
 }

@@ -197,17 +197,19 @@ fn refuses_all<'a>(
 ) -> bool {
     let reports = ctx.report_error("m", &[]).is_err();
     let appends = ctx.append_errors(Vec::new(alloc)).is_err();
-    let pushes = refuses_pushes(&mut ctx);
+    let pushes = pushes(&mut ctx) == [false; 3];
     let walks = recorded(alloc, &mut ctx, document).is_err();
     let ends = ctx.into_errors().is_err();
     reports && appends && pushes && walks && ends
 }
 
-fn refuses_pushes(ctx: &mut Context<'_>) -> bool {
-    let pushes = ctx.with_pushed_type(None, |_ctx| ()).is_err();
-    let pushes_parent = ctx.with_pushed_parent_type(|_ctx| ()).is_err();
-    let pushes_input = ctx.with_pushed_input_type(None, |_ctx| ()).is_err();
-    pushes && pushes_parent && pushes_input
+/// Whether a type, a parent type and an input type can be pushed.
+fn pushes(ctx: &mut Context<'_>) -> [bool; 3] {
+    [
+        ctx.with_pushed_type(None, |_ctx| ()).is_ok(),
+        ctx.with_pushed_parent_type(|_ctx| ()).is_ok(),
+        ctx.with_pushed_input_type(None, |_ctx| ()).is_ok(),
+    ]
 }
 
 /// The schema of the walks.
@@ -215,14 +217,31 @@ fn schema(rt: &impl Abort, alloc: Global) -> SchemaType<DefaultScalarValue> {
     sample_schema(alloc).expect(rt, "a schema")
 }
 
+/// Whether a walk tells of every kind of node. Or else it answers a refusal, and the context has failed.
+fn tells(
+    rt: &impl Abort,
+    alloc: Global,
+    schema: &SchemaType<DefaultScalarValue>,
+    document: &[Definition<'_, DefaultScalarValue>],
+) -> bool {
+    match recorded_afresh(alloc, schema, document) {
+        Ok(visitors) => {
+            assert_eq!(rt; visitors.newest().text.as_str(), WALK);
+            true
+        }
+        Err(refuses) => {
+            assert!(rt; refuses);
+            false
+        }
+    }
+}
+
 #[test]
 fn every_kind_of_node_is_told(rt: HostRuntime) {
     let alloc = rt.alloc();
     let schema = schema(&rt, alloc);
     let document = read_document(alloc, DOCUMENT).expect(&rt, "a document");
-    let recorded = recorded_afresh(alloc, &schema, document.as_slice());
-    let visitors = recorded.expect(&rt, "memory");
-    assert_eq!(rt; visitors.newest().text.as_str(), WALK);
+    assert!(rt; tells(&rt, alloc, &schema, document.as_slice()));
 }
 
 /// A rule keeps the fields of a document that is freed after the walk: the walk above enters twelve.
@@ -235,50 +254,30 @@ fn fields_are_kept(rt: HostRuntime) {
     assert_eq!(rt; count, 12);
 }
 
-/// A walk tells of every kind of node, or it answers a refusal and the context has failed.
-fn tells_or_refuses(
-    rt: &impl Abort,
-    alloc: Global,
-    schema: &SchemaType<DefaultScalarValue>,
-    document: &[Definition<'_, DefaultScalarValue>],
-) {
-    match recorded_afresh(alloc, schema, document) {
-        Ok(visitors) => assert_eq!(rt; visitors.newest().text.as_str(), WALK),
-        Err(refuses) => assert!(rt; refuses),
-    }
-}
-
 /// Run with each request for memory refused in turn, a walk tells the same, or it answers a refusal and the context has failed.
 #[test]
 fn a_refused_request_changes_no_walk(rt: HostRuntime) {
     let alloc = rt.alloc();
     if let Ok(schema) = sample_schema(alloc) {
         if let Ok(document) = read_document(alloc, DOCUMENT) {
-            tells_or_refuses(&rt, alloc, &schema, document.as_slice());
+            tells(&rt, alloc, &schema, document.as_slice());
         }
     }
 }
 
-/// The types at hand: with a type pushed, and with that type as the parent too.
-fn show_pushed(rt: &impl Abort, ctx: &mut Context<'_>, text: &mut String) {
+/// Writes the types at hand: with a type pushed, and with that type as the parent too; with an input type pushed; and with
+/// nothing.
+fn show_pushed(ctx: &mut Context<'_>, text: &mut String) -> Result<(), OutOfMemory> {
     let dog = Some(BorrowedType::non_null("Dog"));
-    let shown = ctx.with_pushed_type(dog, |ctx| show_types(text, ctx));
-    shown.expect(rt, "memory").expect(rt, "memory");
-    let as_parent = ctx.with_pushed_type(dog, |ctx| {
-        ctx.with_pushed_parent_type(|ctx| show_types(text, ctx))
-    });
-    as_parent
-        .expect(rt, "memory")
-        .expect(rt, "memory")
-        .expect(rt, "memory");
+    ctx.with_pushed_type(dog, |ctx| show_twice(ctx, text))??;
+    let int = Some(BorrowedType::nullable("Int"));
+    ctx.with_pushed_input_type(int, |ctx| show_types(text, ctx))??;
+    Ok(show_types(text, ctx)?)
 }
 
-/// The same with an input type pushed, and with nothing.
-fn show_input(rt: &impl Abort, ctx: &mut Context<'_>, text: &mut String) {
-    let int = Some(BorrowedType::nullable("Int"));
-    let shown = ctx.with_pushed_input_type(int, |ctx| show_types(text, ctx));
-    shown.expect(rt, "memory").expect(rt, "memory");
-    show_types(text, ctx).expect(rt, "memory");
+fn show_twice(ctx: &mut Context<'_>, text: &mut String) -> Result<(), OutOfMemory> {
+    show_types(text, ctx)?;
+    Ok(ctx.with_pushed_parent_type(|ctx| show_types(text, ctx))??)
 }
 
 fn early() -> SourcePosition {
@@ -320,11 +319,9 @@ fn a_context_keeps_types(rt: HostRuntime) {
     let alloc = rt.alloc();
     let schema = schema(&rt, alloc);
     let mut ctx = ValidatorContext::new(alloc, &schema, &[]).expect(&rt, "memory");
-    let known = (ctx.is_known_fragment("F"), ctx.has_errors());
-    assert_eq!(rt; known, (false, false));
+    assert!(rt; !ctx.is_known_fragment("F") && !ctx.has_errors());
     let mut text = String::new(alloc);
-    show_pushed(&rt, &mut ctx, &mut text);
-    show_input(&rt, &mut ctx, &mut text);
+    show_pushed(&mut ctx, &mut text).expect(&rt, "memory");
     assert_eq!(rt;
         text.as_str(),
         " Dog Dog! - -\n Dog Dog! Dog -\n - - - Int\n - - - -\n"
@@ -343,16 +340,7 @@ fn a_context_sorts_its_errors(rt: HostRuntime) {
     assert_eq!(rt; messages.next(), None);
 }
 
-/// Reports an error and more, and pushes types.
-fn report_and_push(ctx: &mut Context<'_>, more: Vec<RuleError>) -> Result<(), OutOfMemory> {
-    ctx.append_errors(more)?;
-    ctx.report_error("early", &[early()])?;
-    ctx.with_pushed_type(None, |_ctx| ())?;
-    ctx.with_pushed_parent_type(|_ctx| ())?;
-    ctx.with_pushed_input_type(None, |_ctx| ())
-}
-
-/// Whether a fresh context returns all errors, or refuses each call after the one that was refused.
+/// Whether a fresh context returns all errors and takes types, or refuses each call after the one that was refused.
 fn keeps_all_or_refuses(
     alloc: Global,
     schema: &SchemaType<DefaultScalarValue>,
@@ -361,7 +349,9 @@ fn keeps_all_or_refuses(
     let Ok(mut ctx) = ValidatorContext::new(alloc, schema, &[]) else {
         return true;
     };
-    if report_and_push(&mut ctx, more).is_err() {
+    let appends = ctx.append_errors(more).is_ok();
+    let reports = appends && ctx.report_error("early", &[early()]).is_ok();
+    if !reports || pushes(&mut ctx) != [true; 3] {
         return refuses_all(alloc, ctx, &[]);
     }
     match ctx.into_errors() {

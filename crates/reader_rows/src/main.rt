@@ -1,0 +1,46 @@
+//! The program `reader_rows`: reads texts by `graphql_reader` and `sdl_reader`, and reports where what comes is not what
+//! is expected.
+#![tactic(auto)]
+
+mod questions;
+mod shown;
+mod trees;
+mod values;
+
+use row_files::{Judge, run};
+use std::alloc::{AllocError, Global};
+use std::process::ExitCode;
+
+const FILES: &[&str] = &[
+    "documents.txt",
+    "tokens.txt",
+    "type_systems.txt",
+    "examples.txt",
+    "nested.txt",
+    "values.txt",
+    "schemas.txt",
+];
+
+/// What the readers make of texts.
+struct Readers;
+
+impl Judge for Readers {
+    fn judge(
+        &self,
+        alloc: Global,
+        kind: &str,
+        text: &str,
+        came: &mut String,
+    ) -> Result<bool, AllocError> {
+        match kind {
+            "value" => values::tell_value(alloc, text, came)?,
+            "schema" => questions::tell_schema(alloc, text, came)?,
+            _ => return trees::tell_count(alloc, kind, text, came),
+        }
+        Ok(true)
+    }
+}
+
+fn main(rt: HostRuntime) -> ExitCode {
+    ExitCode::from(run(&rt, &Readers, FILES))
+}
