@@ -1,31 +1,27 @@
 -- What the scanner takes for a token is one, with what may follow it.
 use Rattle.std.proofs.Common.{◌≡◌, ◌⊎◌, ◌<◌, ◌≤◌, ◌+◌, inl, inr, ℕ, zero, suc, List, [], ◌∷◌, ◌++◌, Bool, true, false, not, ◌&&◌, ◌||◌, ◌==◌, nat_le, if◌then◌else◌, Option, Some, None, length, take, drop, refl, sym, ap, subst, ◌∙◌, arith, zero-add, append_assoc, length-drop}
 use Rattle.std.proofs.lemmas.Bool.Decides.{nat_tests}
-use Rattle.std.specs.List.{prefix_len, list_all}
+use Rattle.std.specs.List.{prefix_len}
 use Rattle.std.proofs.lemmas.List.Folds.{length-prefix_len}
-use Rattle.std.specs.Str.{is_utf8, IsUtf8}
+use Rattle.std.specs.Str.{is_utf8}
 use Rattle.std.proofs.lemmas.Str.{IsUtf8-from_is_utf8}
 use Rattle.std.proofs.lemmas.List.{take-append-drop}
 use Rattle.std.proofs.Math.Seq.{take-add}
-use Rattle.graphql_lexer.specs.Lexical.{Token, punctuator, name, int, float, string, block_string, end, fault, at, begins, is_digit, is_name_start, is_name_continue, is_number_byte, is_sign, is_indicator, is_source, is_string_char, three_quotes, escaped_quotes, IsName, EndsName, IsDigits, IsWhole, IsIntegerPart, IsFraction, IsExponent, IsFloat, EndsNumber, IsStringText, no_char, char, escaped, IsBlockText, no_block_char, block_char, escaped_block, spelling, IsToken}
-use Rattle.graphql_lexer.specs.Lexemes.{is_last}
-use Rattle.graphql_lexer.specs.Scanning.{digits, led, name_length, sign_length, whole_length, fraction, exponent, written, name_at, number_of, and_then, number_at, punctuator_of, punctuator_token, spread_at, string_length, string_at, block_length, block_turn, counted, block_string_at, any_string_at, token_at}
+use Rattle.graphql_lexer.specs.Lexical.{Token, punctuator, name, int, float, string, block_string, fault, at, begins, is_digit, is_name_start, is_name_continue, is_number_byte, is_sign, is_indicator, is_source, is_string_char, three_quotes, escaped_quotes, IsName, IsDigits, IsWhole, IsIntegerPart, IsFraction, IsExponent, IsFloat, EndsNumber, IsStringText, no_char, char, escaped, IsBlockText, no_block_char, block_char, escaped_block, spelling, IsToken}
+use Rattle.graphql_lexer.specs.Lexemes.{is_last, IsFront}
+use Rattle.graphql_lexer.specs.Scanning.{digits, led, name_length, sign_length, whole_length, fraction, exponent, written, name_at, number_of, and_then, number_at, punctuator_of, punctuator_token, spread_at, string_length, string_at, block_length, block_turn, block_string_at, any_string_at, token_at}
 use Rattle.graphql_lexer.specs.declared.lexer.Punctuator.{Punctuator}
 use Rattle.graphql_lexer.specs.declared.lexer.Punctuator.TheVariants.{Bang, Dollar, Ampersand, ParenOpen, ParenClose, Spread, Colon, Equals, At, BracketOpen, BracketClose, BraceOpen, Pipe, BraceClose}
 use Rattle.graphql_lexer.proofs.Quoted.{block_plain, block_escape, closing}
 use Rattle.graphql_lexer.proofs.Runs.{run_all, run_stops, begins_split}
 
--- r is a token at the front of the text, and its length; or a fault, or the end where nothing is left
-abbrev pub Found : List ℕ → Token × ℕ → Type 0
-Found text r = (is_last r.0 ≡ false → IsToken r.0 (take r.1 text) (drop r.1 text)) × (is_last r.0 ≡ true → r.1 ≡ 0) × (r.0 ≡ end → text ≡ [])
-
-found_fault : (text : List ℕ) → Found text (fault, 0)
+found_fault : (text : List ℕ) → IsFront text (fault, 0)
 found_fault text = (λ e. cc, λ e. refl, λ e. cc)
 
-here : (text : List ℕ) (t : Token) (n : ℕ) → is_last t ≡ false → IsToken t (take n text) (drop n text) → Found text (t, n)
+here : (text : List ℕ) (t : Token) (n : ℕ) → is_last t ≡ false → IsToken t (take n text) (drop n text) → IsFront text (t, n)
 here text t n k h = (λ _. h, λ e. cc, λ e. let last = ap is_last e in cc)
 
-found_if : (text : List ℕ) (b : Bool) (x y : Token × ℕ) → (b ≡ true → Found text x) → (b ≡ false → Found text y) → Found text (if b then x else y)
+found_if : (text : List ℕ) (b : Bool) (x y : Token × ℕ) → (b ≡ true → IsFront text x) → (b ≡ false → IsFront text y) → IsFront text (if b then x else y)
 found_if text true x y h k = h refl
 found_if text false x y h k = k refl
 
@@ -38,7 +34,7 @@ name_front c cs h =
 start_continues : (c : ℕ) → is_name_start c ≡ true → is_name_continue c ≡ true
 start_continues c h = grind (arith, nat_tests)
 
-found_name : (c : ℕ) (cs : List ℕ) → is_name_start c ≡ true → Found (c ∷ cs) (name_at (c ∷ cs))
+found_name : (c : ℕ) (cs : List ℕ) → is_name_start c ≡ true → IsFront (c ∷ cs) (name_at (c ∷ cs))
 unfolding name_length
 found_name c cs h =
     let n = prefix_len is_name_continue (c ∷ cs) in
@@ -143,13 +139,13 @@ at_drop text zero = refl
 at_drop [] (suc n) = refl
 at_drop (c ∷ cs) (suc n) = at_drop cs n
 
-found_written_number : (text : List ℕ) (n : ℕ) (kind : List ℕ → Token) → is_last (kind (take n text)) ≡ false → IsToken (kind (take n text)) (take n text) (drop n text) → Found text (written kind text n n)
+found_written_number : (text : List ℕ) (n : ℕ) (kind : List ℕ → Token) → is_last (kind (take n text)) ≡ false → IsToken (kind (take n text)) (take n text) (drop n text) → IsFront text (written kind text n n)
 found_written_number text n kind k h = found_if text (nat_le n (length text) && is_utf8 (take n text)) (kind (take n text), n) (fault, 0) (λ _. here text (kind (take n text)) n k h) (λ _. found_fault text)
 
 same_length : (a b : ℕ) → (a == b) ≡ true → b ≡ a
 same_length a b h = grind (arith, nat_tests)
 
-found_number_of : (text : List ℕ) (n whole : ℕ) → IsIntegerPart (take whole text) → ((n == whole) ≡ false → IsFloat (take n text)) → Found text (number_of text n whole)
+found_number_of : (text : List ℕ) (n whole : ℕ) → IsIntegerPart (take whole text) → ((n == whole) ≡ false → IsFloat (take n text)) → IsFront text (number_of text n whole)
 unfolding number_of
 found_number_of text n whole h k =
     found_if text (is_number_byte (at text n)) (fault, 0) (if n == whole then written int text n n else written float text n n) (λ _. found_fault text)
@@ -158,7 +154,7 @@ found_number_of text n whole h k =
     (λ s. found_written_number text n int refl (refl, subst (λ m. IsIntegerPart (take m text)) (same_length n whole s) h, ends))
     (λ s. found_written_number text n float refl (refl, k s, ends)))
 
-found_and_then : (text : List ℕ) (p : Option ℕ) (before : ℕ) (next : ℕ → Token × ℕ) → ((n : ℕ) → p ≡ Some n → Found text (next (before + n))) → Found text (and_then p before next)
+found_and_then : (text : List ℕ) (p : Option ℕ) (before : ℕ) (next : ℕ → Token × ℕ) → ((n : ℕ) → p ≡ Some n → IsFront text (next (before + n))) → IsFront text (and_then p before next)
 found_and_then text (Some n) before next k = k n refl
 found_and_then text None before next k = found_fault text
 
@@ -171,7 +167,7 @@ float_of a b c l h (inl z) (inr q) n = (take a l, take b (drop a l), take c (dro
 float_of a b c l h (inr p) (inl w) n = (take a l, take b (drop a l), take c (drop (a + b) l), three_parts a b c l, h, inr (inl (p, ap (λ k. take k (drop (a + b) l)) w)))
 float_of a b c l h (inr p) (inr q) n = (take a l, take b (drop a l), take c (drop (a + b) l), three_parts a b c l, h, inl (p, q))
 
-found_number : (text : List ℕ) → Found text (number_at text)
+found_number : (text : List ℕ) → IsFront text (number_at text)
 unfolding number_at
 found_number text =
     let sign = sign_length text in
@@ -237,7 +233,7 @@ quoted_front body n h =
     let m : n + 2 ≡ suc (n + 1) = omega arith in
     ap (λ k. take k (34 ∷ body)) m ∙ ap (λ t. 34 ∷ t) (take-add n 1 body ∙ ap (λ t. take n body ++ t) (one_after body n h))
 
-found_string : (body : List ℕ) → begins three_quotes (34 ∷ body) ≡ false → Found (34 ∷ body) (string_at (34 ∷ body))
+found_string : (body : List ℕ) → begins three_quotes (34 ∷ body) ≡ false → IsFront (34 ∷ body) (string_at (34 ∷ body))
 unfolding string_at
 found_string body single =
     let n = string_length false body in
@@ -302,7 +298,7 @@ three_after body n h =
     let m : n + 6 ≡ suc (suc (suc (n + 3))) = omega arith in
     ap (λ k. take k (34 ∷ 34 ∷ 34 ∷ body)) m ∙ ap (λ t. 34 ∷ 34 ∷ 34 ∷ t) (take-add n 3 body ∙ ap (λ t. take n body ++ t) (ap (take 3) (begins_split three_quotes (drop n body) h)))
 
-found_block : (body : List ℕ) → Found (34 ∷ 34 ∷ 34 ∷ body) (block_string_at (34 ∷ 34 ∷ 34 ∷ body))
+found_block : (body : List ℕ) → IsFront (34 ∷ 34 ∷ 34 ∷ body) (block_string_at (34 ∷ 34 ∷ 34 ∷ body))
 unfolding block_string_at
 found_block body =
     let n = block_length 0 body in
@@ -313,10 +309,10 @@ found_block body =
     here text (block_string (take n body)) (n + 6) refl (three_after body n parts.1, block_front (length body) body (omega arith) parts.1, IsUtf8-from_is_utf8 (take n body) valid.1))
     (λ _. found_fault text)
 
-found_triple : (text : List ℕ) → begins three_quotes text ≡ true → Found text (block_string_at text)
-found_triple text h = subst (λ t. Found t (block_string_at t)) (sym (begins_split three_quotes text h)) (found_block (drop 3 text))
+found_triple : (text : List ℕ) → begins three_quotes text ≡ true → IsFront text (block_string_at text)
+found_triple text h = subst (λ t. IsFront t (block_string_at t)) (sym (begins_split three_quotes text h)) (found_block (drop 3 text))
 
-found_any_string : (cs : List ℕ) → Found (34 ∷ cs) (any_string_at (34 ∷ cs))
+found_any_string : (cs : List ℕ) → IsFront (34 ∷ cs) (any_string_at (34 ∷ cs))
 unfolding any_string_at
 found_any_string cs = found_if (34 ∷ cs) (begins three_quotes (34 ∷ cs)) (block_string_at (34 ∷ cs)) (string_at (34 ∷ cs)) (λ h. found_triple (34 ∷ cs) h) (λ h. found_string cs h)
 
@@ -333,18 +329,18 @@ three_points (a ∷ b ∷ c ∷ r) h =
     let z = point_is c parts.1 in
     cc
 
-found_spread : (text : List ℕ) → Found text (spread_at text)
+found_spread : (text : List ℕ) → IsFront text (spread_at text)
 unfolding spread_at
 found_spread text = found_if text (((at text 0 == 46) && (at text 1 == 46)) && (at text 2 == 46)) (punctuator Spread, 3) (fault, 0) (λ h. here text (punctuator Spread) 3 refl (three_points text h)) (λ _. found_fault text)
 
 is_byte : (c k : ℕ) → (c == k) ≡ true → c ≡ k
 is_byte c k h = grind (arith, nat_tests)
 
-found_choice : (c : ℕ) (cs : List ℕ) (k : ℕ) (p : Punctuator) (b : Bool) (o : Option Punctuator) → spelling p ≡ k ∷ [] → (c == k) ≡ b → Found (c ∷ cs) (punctuator_token o) → Found (c ∷ cs) (punctuator_token (if b then Some p else o))
+found_choice : (c : ℕ) (cs : List ℕ) (k : ℕ) (p : Punctuator) (b : Bool) (o : Option Punctuator) → spelling p ≡ k ∷ [] → (c == k) ≡ b → IsFront (c ∷ cs) (punctuator_token o) → IsFront (c ∷ cs) (punctuator_token (if b then Some p else o))
 found_choice c cs k p true o s h more = here (c ∷ cs) (punctuator p) 1 refl (ap (λ x. x ∷ []) (is_byte c k h) ∙ sym s)
 found_choice c cs k p false o s h more = more
 
-found_punctuator : (c : ℕ) (cs : List ℕ) → Found (c ∷ cs) (punctuator_token (punctuator_of c))
+found_punctuator : (c : ℕ) (cs : List ℕ) → IsFront (c ∷ cs) (punctuator_token (punctuator_of c))
 unfolding punctuator_of
 found_punctuator c cs =
     found_choice c cs 33 Bang (c == 33) _ refl refl
@@ -361,8 +357,8 @@ found_punctuator c cs =
     (found_choice c cs 124 Pipe (c == 124) _ refl refl
     (found_choice c cs 125 BraceClose (c == 125) None refl refl (found_fault (c ∷ cs))))))))))))))
 
-found_quote : (c : ℕ) (cs : List ℕ) → (c == 34) ≡ true → Found (c ∷ cs) (any_string_at (c ∷ cs))
-found_quote c cs h = subst (λ x. Found (x ∷ cs) (any_string_at (x ∷ cs))) (sym (is_34 c h)) (found_any_string cs)
+found_quote : (c : ℕ) (cs : List ℕ) → (c == 34) ≡ true → IsFront (c ∷ cs) (any_string_at (c ∷ cs))
+found_quote c cs h = subst (λ x. IsFront (x ∷ cs) (any_string_at (x ∷ cs))) (sym (is_34 c h)) (found_any_string cs)
 
 abbrev rest_4 : ℕ → List ℕ → Token × ℕ
 rest_4 c cs = punctuator_token (punctuator_of c)
@@ -376,7 +372,7 @@ rest_2 c cs = if (c == 45) || is_digit c then number_at (c ∷ cs) else rest_3 c
 abbrev rest_1 : ℕ → List ℕ → Token × ℕ
 rest_1 c cs = if c == 46 then spread_at (c ∷ cs) else rest_2 c cs
 
-pub tokens_found : (text : List ℕ) → Found text (token_at text)
+pub tokens_found : (text : List ℕ) → IsFront text (token_at text)
 unfolding token_at
 tokens_found [] = (λ e. cc, λ e. refl, λ e. refl)
 tokens_found (c ∷ cs) =

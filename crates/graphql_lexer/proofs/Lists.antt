@@ -1,18 +1,17 @@
 -- The scanner's tokens are those of the grammar, and there are no others.
-use Rattle.std.proofs.Common.{◌≡◌, ◌<◌, ◌≤◌, ◌+◌, inl, inr, ℕ, zero, suc, List, [], ◌∷◌, ◌++◌, Bool, true, false, ◌||◌, ◌&&◌, ◌==◌, nat_le, if◌then◌else◌, length, take, drop, refl, sym, ap, subst, ◌∙◌, arith, length-drop}
-use Rattle.std.proofs.lemmas.Bool.Decides.{nat_tests}
+use Rattle.std.proofs.Common.{◌≡◌, ◌<◌, ◌≤◌, ◌+◌, ℕ, zero, suc, List, [], ◌∷◌, ◌++◌, Bool, true, false, if◌then◌else◌, length, take, drop, refl, sym, ap, subst, ◌∙◌, arith, length-drop}
 use Rattle.std.proofs.lemmas.List.{drop-drop, take-append-drop}
 use Rattle.std.proofs.lemmas.List.Sums.{fold-append}
-use Rattle.std.proofs.Math.Seq.{take-add, take-append_seam, drop-append_seam, take-append-add}
-use Rattle.graphql_lexer.specs.Lexical.{Token, punctuator, name, int, float, string, block_string, end, fault, is_blank, begins, byte_order_mark, IsIgnored, IsToken}
+use Rattle.std.proofs.Math.Seq.{take-add}
+use Rattle.graphql_lexer.specs.Lexical.{Token, punctuator, name, int, float, string, block_string, end, fault, IsIgnored, IsToken}
 use Rattle.graphql_lexer.specs.Lexemes.{Lexeme, is_last, position, origin, Reads, nothing, ignored, token, Stuck, Ends, last_at, AreLexemes}
 use Rattle.graphql_lexer.specs.Places.{after, after_all}
-use Rattle.graphql_lexer.specs.Scan.{gap, ahead, start_at, stop_at, rest_at, lexeme_at, lexemes, tokens_from, tokens}
-use Rattle.graphql_lexer.specs.Scanning.{ignored_at, ignored_length, token_at, punctuator_of}
+use Rattle.graphql_lexer.specs.Scan.{gap, ahead, start_at, stop_at, rest_at, lexeme_at, lexemes, tokens}
+use Rattle.graphql_lexer.specs.Scanning.{ignored_at, ignored_length, token_at}
 use Rattle.graphql_lexer.specs.declared.cursor.Cursor.{Cursor}
-use Rattle.graphql_lexer.proofs.Found.{Found, tokens_found}
+use Rattle.graphql_lexer.proofs.Found.{tokens_found}
 use Rattle.graphql_lexer.proofs.Passed.{ignored_read, ignored_some, ignored_found, skip_step, skip_none}
-use Rattle.graphql_lexer.proofs.Progress.{scanned, shorter}
+use Rattle.graphql_lexer.proofs.Progress.{shorter}
 use Rattle.graphql_lexer.proofs.Read.{tokens_read}
 
 -- ---- what ends a text

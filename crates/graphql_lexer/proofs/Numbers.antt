@@ -1,5 +1,5 @@
 -- Numbers are read as the grammar writes them.
-use Rattle.std.proofs.Common.{◌≡◌, ◌<◌, ◌+◌, inl, inr, ℕ, Bool, Option, List, [], ◌∷◌, ◌++◌, true, false, ◌||◌, ◌==◌, if◌then◌else◌, length, drop, refl, sym, subst, ◌∙◌, add-zero, zero-add, arith, Some, None, not, ap, append_assoc, length-append}
+use Rattle.std.proofs.Common.{◌≡◌, ◌<◌, ◌+◌, inl, inr, ℕ, List, [], ◌∷◌, ◌++◌, true, false, ◌||◌, ◌==◌, if◌then◌else◌, length, drop, refl, sym, subst, ◌∙◌, zero-add, arith, Some, ap, append_assoc, length-append}
 use Rattle.std.proofs.lemmas.Bool.Decides.{nat_tests}
 use Rattle.std.specs.List.{list_all}
 use Rattle.std.specs.Str.{IsAscii}
@@ -7,7 +7,7 @@ use Rattle.std.proofs.lemmas.Str.Ascii.{IsAscii-nil, IsAscii-cons}
 use Rattle.std.proofs.lemmas.Str.{IsAscii-append}
 use Rattle.std.proofs.Math.Seq.{drop-append_seam, drop-append-add}
 use Rattle.graphql_lexer.specs.Lexical.{Token, int, float, fault, at, is_digit, is_sign, is_indicator, is_number_byte, IsDigits, IsWhole, IsIntegerPart, IsFraction, IsExponent, IsFloat, EndsNumber}
-use Rattle.graphql_lexer.specs.Scanning.{digits, led, sign_length, whole_length, fraction, exponent, and_then, number_of, number_at, token_at}
+use Rattle.graphql_lexer.specs.Scanning.{digits, sign_length, whole_length, fraction, exponent, and_then, number_of, number_at, token_at}
 use Rattle.graphql_lexer.proofs.Names.{both, run_length, all_ascii, written_there, number_first}
 
 not_digit : (c : ℕ) → is_number_byte c ≡ false → is_digit c ≡ false

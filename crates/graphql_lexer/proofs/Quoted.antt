@@ -1,11 +1,11 @@
 -- Strings are read as the grammar writes them.
-use Rattle.std.proofs.Common.{◌≡◌, ◌<◌, ◌≤◌, ◌+◌, ℕ, zero, suc, List, [], ◌∷◌, ◌++◌, Bool, Option, Some, None, true, false, not, ◌&&◌, ◌||◌, ◌==◌, nat_le, if◌then◌else◌, length, take, drop, refl, sym, ap, subst, ◌∙◌, arith, append_assoc, length-append}
+use Rattle.std.proofs.Common.{◌≡◌, ◌+◌, ℕ, List, [], ◌∷◌, ◌++◌, Some, true, false, ◌==◌, nat_le, length, refl, ap, subst, ◌∙◌, arith, append_assoc, length-append}
 use Rattle.std.proofs.lemmas.Bool.Decides.{nat_tests}
 use Rattle.std.specs.Str.{is_utf8, IsUtf8}
 use Rattle.std.proofs.lemmas.Str.{is_utf8-from_IsUtf8}
 use Rattle.std.proofs.Math.Seq.{take-append_seam, drop-append_seam}
-use Rattle.graphql_lexer.specs.Lexical.{Token, string, block_string, fault, at, begins, is_source, is_string_char, three_quotes, escaped_quotes, IsStringText, no_char, char, escaped, IsBlockText, no_block_char, block_char, escaped_block}
-use Rattle.graphql_lexer.specs.Scanning.{front, string_length, string_at, block_length, block_turn, counted, block_string_at, any_string_at, token_at}
+use Rattle.graphql_lexer.specs.Lexical.{string, block_string, at, begins, is_source, is_string_char, three_quotes, escaped_quotes, IsStringText, no_char, char, escaped, IsBlockText, no_block_char, block_char, escaped_block}
+use Rattle.graphql_lexer.specs.Scanning.{front, string_length, string_at, block_length, block_turn, block_string_at, any_string_at, token_at}
 
 -- ---- on one line
 string_plain : (c : ℕ) (cs : List ℕ) → is_string_char c ≡ true → (c == 34) ≡ false → (c == 92) ≡ false → string_length false (c ∷ cs) ≡ 1 + string_length false cs

@@ -1,5 +1,5 @@
 -- Each token is read as it is written, whatever follows that may follow it.
-use Rattle.std.proofs.Common.{◌≡◌, ℕ, List, [], ◌∷◌, ◌++◌, false, length, refl, sym, subst}
+use Rattle.std.proofs.Common.{◌≡◌, ℕ, List, ◌++◌, false, length, refl, sym, subst}
 use Rattle.graphql_lexer.specs.Lexical.{Token, punctuator, name, int, float, string, block_string, end, fault, begins, three_quotes, spelling, IsToken}
 use Rattle.graphql_lexer.specs.Scanning.{token_at, punctuator_of, spread_at}
 use Rattle.graphql_lexer.specs.declared.lexer.Punctuator.{Punctuator}

@@ -1,7 +1,7 @@
 -- Runs at the front of a list, and lists that begin with a word.
-use Rattle.std.proofs.Common.{◌≡◌, ◌<◌, ◌≤◌, ◌+◌, ℕ, zero, suc, List, [], ◌∷◌, ◌++◌, Bool, true, false, ◌&&◌, ◌==◌, nat_eq, cond, length, take, drop, refl, sym, ap, subst, ◌∙◌, arith}
+use Rattle.std.proofs.Common.{◌≡◌, ◌+◌, ℕ, suc, List, [], ◌∷◌, ◌++◌, Bool, true, false, nat_eq, cond, length, take, drop, refl, subst, arith}
 use Rattle.std.proofs.lemmas.Bool.Decides.{nat_tests}
-use Rattle.std.specs.List.{prefix_len, list_all, starts_with}
+use Rattle.std.specs.List.{prefix_len, list_all}
 use Rattle.graphql_lexer.specs.Lexical.{at, begins}
 use Rattle.graphql_lexer.proofs.Names.{both}
 

@@ -1,5 +1,5 @@
 -- A count that goes from state to state, at a place of the text.
-use Rattle.std.proofs.Common.{◌≡◌, ◌<◌, ◌+◌, ℕ, List, Bool, Some, None, length, drop, drop-cons, add-one, refl, ap, sym, ◌∙◌}
+use Rattle.std.proofs.Common.{◌≡◌, ◌<◌, ◌+◌, ℕ, List, Some, None, length, drop, drop-cons, add-one, refl, ap, sym, ◌∙◌}
 use Rattle.graphql_lexer.specs.Scanning.{counted, block_turn, block_length}
 
 block_step : (left : ℕ) (text : List ℕ) (i : ℕ) → i < length text → block_length left (drop i text) ≡ counted (block_turn left (drop i text)) (λ next. block_length next (drop (i + 1) text))

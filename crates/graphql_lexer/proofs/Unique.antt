@@ -1,16 +1,16 @@
 -- A text has no other tokens than the scanner's.
-use Rattle.std.proofs.Common.{◌≡◌, ◌≢◌, ◌<◌, ◌≤◌, ◌+◌, ◌⊎◌, inl, inr, ℕ, zero, suc, List, [], ◌∷◌, ◌++◌, Bool, true, false, ◌||◌, ◌&&◌, ◌==◌, if◌then◌else◌, length, take, drop, refl, sym, ap, subst, ◌∙◌, arith}
+use Rattle.std.proofs.Common.{◌≡◌, ◌<◌, ◌+◌, ◌⊎◌, inl, inr, ℕ, zero, suc, List, [], ◌∷◌, ◌++◌, Bool, true, false, ◌==◌, if◌then◌else◌, length, take, drop, refl, sym, ap, ◌∙◌, arith}
 use Rattle.std.proofs.lemmas.Bool.Decides.{nat_tests}
 use Rattle.std.proofs.lemmas.List.{take-append-drop}
 use Rattle.std.proofs.lemmas.List.Sums.{fold-append}
 use Rattle.std.proofs.Math.Seq.{take-append_seam, drop-append_seam, take-append-add, drop-append-add}
 use Rattle.graphql_lexer.specs.Lexical.{Token, punctuator, name, int, float, string, block_string, end, fault, is_blank, begins, byte_order_mark, IsIgnored, IsToken}
-use Rattle.graphql_lexer.specs.Lexemes.{Lexeme, is_last, position, origin, Reads, nothing, ignored, token, Stuck, Ends, last_at, AreLexemes}
+use Rattle.graphql_lexer.specs.Lexemes.{Lexeme, is_last, position, Reads, nothing, ignored, token, Stuck, Ends, last_at, AreLexemes}
 use Rattle.graphql_lexer.specs.Places.{after, after_all}
-use Rattle.graphql_lexer.specs.Scan.{gap, ahead, start_at, tokens_from, tokens}
+use Rattle.graphql_lexer.specs.Scan.{gap, tokens_from, tokens}
 use Rattle.graphql_lexer.specs.Scanning.{comment_length, ignored_at, ignored_length, token_at, punctuator_of}
 use Rattle.graphql_lexer.specs.declared.cursor.Cursor.{Cursor}
-use Rattle.graphql_lexer.proofs.Found.{Found, tokens_found}
+use Rattle.graphql_lexer.proofs.Found.{tokens_found}
 use Rattle.graphql_lexer.proofs.Lists.{token_goes_on, end_there}
 use Rattle.graphql_lexer.proofs.Passed.{ignored_read, ignored_some, ignored_found, skip_step, skip_none}
 use Rattle.graphql_lexer.proofs.Progress.{scanned}

@@ -1,6 +1,7 @@
 -- What is left of a text, from the token ahead on.
-use Rattle.std.specs.Prelude.{◌≡◌, if◌then◌else◌, List, [], ◌∷◌}
+use Rattle.std.specs.Prelude.{◌≡◌, ◌≢◌, if◌then◌else◌, List, [], ◌∷◌}
 use Rattle.language.specs.declared.position.SourcePosition.{SourcePosition}
+use Rattle.language.specs.declared.position.Span.{Span}
 use Rattle.graphql_lexer.specs.Lexical.{Token}
 use Rattle.graphql_lexer.specs.Lexemes.{Lexeme, is_last, position}
 use Rattle.graphql_lexer.specs.Scan.{tokens_from}
@@ -28,6 +29,13 @@ last_end_of t = t.last_end
 -- the next token was t, and is taken
 abbrev pub IsTaken : Token → Tokens → Tokens → Type 0
 IsTaken t old new = ((ahead_of old).token ≡ t) × (left new ≡ behind old) × (last_end_of new ≡ (ahead_of old).stop)
+
+-- the next token is another than t, and is left
+abbrev pub IsLeft : Token → Tokens → Tokens → Type 0
+IsLeft t old new = ((ahead_of old).token ≢ t) × (new ≡ old)
+
+abbrev pub IsSpanOf : Lexeme → Span → Type 0
+IsSpanOf x span = (span.start ≡ x.start) × (span.end ≡ x.stop)
 
 -- a syntax error at this position
 abbrev pub IsFaultAt : SourcePosition → ReadError → Type 0

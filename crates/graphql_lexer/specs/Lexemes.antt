@@ -1,5 +1,5 @@
 -- The tokens of a text, each with its place.
-use Rattle.std.specs.Prelude.{◌≡◌, ℕ, Bool, true, false, List, [], ◌∷◌, ◌++◌}
+use Rattle.std.specs.Prelude.{◌≡◌, ℕ, Bool, true, false, List, [], ◌∷◌, ◌++◌, take, drop}
 use Rattle.language.specs.declared.position.SourcePosition.{SourcePosition}
 use Rattle.graphql_lexer.specs.Lexical.{Token, punctuator, name, int, float, string, block_string, end, fault, IsToken, IsIgnored}
 use Rattle.graphql_lexer.specs.Places.{after_all}
@@ -21,6 +21,12 @@ is_last (string s) = false
 is_last (block_string s) = false
 is_last end = true
 is_last fault = true
+
+-- r is a token at the front of the text, and its length; or it is a fault, or the end where nothing is left
+abbrev pub IsFront : List ℕ → Token × ℕ → Type 0
+IsFront text r =
+    (is_last r.0 ≡ false → IsToken r.0 (take r.1 text) (drop r.1 text))
+    × (is_last r.0 ≡ true → r.1 ≡ 0) × (r.0 ≡ end → text ≡ [])
 
 abbrev pub position : Cursor → SourcePosition
 position p = record { index = p.index; line = p.line; column = p.column }

@@ -1,6 +1,6 @@
 -- Tokens and ignored tokens, production by production (GraphQL, October 2021, appendix B.1), over the bytes of UTF-8.
 -- Each is a relation on the bytes of the token and on what follows it, which the restrictions on lookahead speak of.
-use Rattle.std.specs.Prelude.{◌≡◌, ◌≤◌, ◌<◌, ◌⊎◌, ℕ, Bool, true, false, not, ◌&&◌, ◌||◌, ◌==◌, nat_le, nat_eq, List, [], ◌∷◌, ◌++◌, length, slice_index}
+use Rattle.std.specs.Prelude.{◌≡◌, ◌<◌, ◌⊎◌, ℕ, Bool, true, false, ◌&&◌, ◌||◌, ◌==◌, nat_le, nat_eq, List, [], ◌∷◌, ◌++◌, length, slice_index}
 use Rattle.std.specs.List.{list_all, starts_with}
 use Rattle.std.specs.Str.{IsUtf8}
 use Rattle.graphql_lexer.specs.declared.lexer.Punctuator.{Punctuator}
@@ -148,7 +148,7 @@ three_quotes = 34 ∷ 34 ∷ 34 ∷ []
 abbrev pub escaped_quotes : List ℕ
 escaped_quotes = 92 ∷ three_quotes
 
--- A character of a string on one line, or behind a backslash in it. Strings has the escapes that GraphQL knows.
+-- A character of a string on one line, or behind a backslash in it. Which escapes there are, `string_value` decides.
 abbrev pub is_string_char : ℕ → Bool
 is_string_char c = is_comment_char c
 

@@ -5,7 +5,7 @@ ghost use Rattle.graphql_lexer.specs.Scanning as spec;
 use crate::lexer::{is_line_byte, rest};
 
 /// The number of bytes before the next token: white space, line terminators, commas, comments, byte order marks.
-#[tactic(auto, using(crate::proofs::Passed::skip_more, crate::proofs::Passed::skip_stop, crate::proofs::Passed::skip_end))]
+#[tactic(auto, using(crate::proofs::Passed::skip_stop, crate::proofs::Passed::skip_end))]
 pub(crate) fn ignored_length(text: &[u8]) -> usize
     ensures exact { result ≡ spec.ignored_length text.now }
     ensures within { result ≤ length text.now }

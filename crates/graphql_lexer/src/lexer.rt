@@ -1,6 +1,9 @@
 //! The token at the front of a text (GraphQL, October 2021, sections 2.1 and 2.9).
-ghost use Rattle.std.specs.Prelude.{◌≡◌, ◌≤◌, ◌<◌, length, drop, option_map, Some, None, IfSome, IfOk, MatchResult, false};
+ghost use Rattle.std.specs.Prelude.{◌≡◌, ◌≤◌, ◌<◌, ◌++◌, ℕ, List, length, drop, option_map, false};
+ghost use Rattle.std.specs.Prelude.{Some, None, IfSome, IfOk, MatchResult};
 ghost use Rattle.graphql_lexer.specs.Lexical.{is_comment_char, is_name_continue, is_number_byte as number_byte};
+ghost use Rattle.graphql_lexer.specs.Lexemes.{IsFront};
+ghost use Rattle.graphql_lexer.specs.Lexical.{Token as GrammarToken, IsToken};
 ghost use Rattle.graphql_lexer.specs.Scanning as spec;
 ghost use Rattle.graphql_lexer.specs.Seen.{seen, seen_at};
 
@@ -46,8 +49,16 @@ pub enum Token<'a> {
 }
 
 /// The token at the start of a text, and its length in bytes. Ignored tokens (section 2.1.7) must be skipped before.
-#[tactic(auto, unfolding(crate::specs::Scanning::token_at))]
 pub fn token_at(text: &[u8]) -> (Token<'_>, usize)
+    ensures found { IsFront text.now (seen_at result) }
+    ensures only { (t : GrammarToken) (s r : List ℕ) → IsToken t s r → text.now ≡ s ++ r → seen_at result ≡ (t, length s) }
+{
+    scanned_at(text)
+}
+
+/// The same, in the words of the scanner.
+#[tactic(auto, unfolding(crate::specs::Scanning::token_at))]
+pub(crate) fn scanned_at(text: &[u8]) -> (Token<'_>, usize)
     ensures { seen_at result ≡ spec.token_at text.now }
 {
     match text.first() {

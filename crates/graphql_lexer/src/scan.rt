@@ -7,7 +7,7 @@ ghost use Rattle.graphql_lexer.specs.Seen.{seen};
 
 use crate::cursor::{Cursor, after_all};
 use crate::ignored::ignored_length;
-use crate::lexer::{Token, rest, token_at};
+use crate::lexer::{Token, rest, scanned_at};
 
 /// A token, the positions before and after it, and the text after it.
 #[derive(Clone, Copy)]
@@ -40,7 +40,7 @@ pub(crate) fn scan<'a>(from: Cursor, text: &'a [u8]) -> Scanned<'a>
     let ignored = ignored_length(text);
     let start = after_all(from, front(text, ignored));
     let ahead = rest(text, ignored);
-    let (token, length) = token_at(ahead);
+    let (token, length) = scanned_at(ahead);
     Scanned {
         token,
         start,

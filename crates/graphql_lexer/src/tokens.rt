@@ -1,8 +1,9 @@
 //! The tokens of a text, with a lookahead of one (GraphQL, October 2021, section 2.1).
 ghost use Rattle.std.specs.Prelude.{◌≡◌, ◌≢◌, ◌↔◌, IsTrue, IfOk, OnOk, OnErr, List, ℕ, false};
-ghost use Rattle.graphql_lexer.specs.Ahead.{ahead_of, behind, left, last_end_of, IsTaken, IsFaultAt};
+ghost use Rattle.graphql_lexer.specs.Ahead.{ahead_of, behind, left, last_end_of, IsTaken, IsLeft, IsSpanOf, IsFaultAt};
 ghost use Rattle.graphql_lexer.specs.Seen.{seen};
-ghost use Rattle.graphql_lexer.specs.Lexical.{end, fault as fault_token, name as name_token, punctuator as punctuator_token};
+ghost use Rattle.graphql_lexer.specs.Lexical.{end, fault as fault_token, name as name_token};
+ghost use Rattle.graphql_lexer.specs.Lexical.{punctuator as punctuator_token};
 ghost use Rattle.graphql_lexer.specs.Lexemes.{Lexeme, AreLexemes, is_last, position};
 
 use crate::cursor::Cursor;
@@ -65,8 +66,7 @@ impl<'a> Tokens<'a> {
 
     /// The span of the next token.
     pub fn span(&self) -> Span
-        ensures start { result.start ≡ (ahead_of self.now).start }
-        ensures stop { result.end ≡ (ahead_of self.now).stop }
+        ensures { IsSpanOf (ahead_of self.now) result }
     {
         span_of(self.scanned)
     }
@@ -162,7 +162,7 @@ impl<'a> Tokens<'a> {
     /// Takes this punctuator if it is next, and returns whether it was.
     pub fn take(&mut self, punctuator: Punctuator) -> bool
         ensures taken { IsTrue result → IsTaken (punctuator_token punctuator) self.old self.new }
-        ensures left { result ≡ false → ((ahead_of self.old).token ≢ punctuator_token punctuator) × (self.new ≡ self.old) }
+        ensures left { result ≡ false → IsLeft (punctuator_token punctuator) self.old self.new }
     {
         let is_ahead = self.is(punctuator);
         if is_ahead {
@@ -182,7 +182,7 @@ impl<'a> Tokens<'a> {
         expected: &'static str,
     ) -> Result<(), ReadError<'a>>
         ensures taken { OnOk result (IsTaken (punctuator_token punctuator) self.old self.new) }
-        ensures left { OnErr result (((ahead_of self.old).token ≢ punctuator_token punctuator) × (self.new ≡ self.old)) }
+        ensures left { OnErr result (IsLeft (punctuator_token punctuator) self.old self.new) }
     {
         if self.take(punctuator) {
             Ok(())
@@ -198,8 +198,8 @@ impl<'a> Tokens<'a> {
     /// Something else is next; nothing is taken then.
     pub fn name(&mut self, expected: &'static str) -> Result<Spanning<&'a str>, ReadError<'a>>
         ensures taken { IfOk result (λ n. IsTaken (name_token n.item.now) self.old self.new) }
-        ensures span { IfOk result (λ n. (n.span.start ≡ (ahead_of self.old).start) × (n.span.end ≡ (ahead_of self.old).stop)) }
-        ensures left { OnErr result (((s : List ℕ) → (ahead_of self.old).token ≢ name_token s) × (self.new ≡ self.old)) }
+        ensures span { IfOk result (λ n. IsSpanOf (ahead_of self.old) n.span) }
+        ensures left { OnErr result ((s : List ℕ) → IsLeft (name_token s) self.old self.new) }
     {
         match self.scanned.token {
             Token::Name(item) => {
@@ -224,7 +224,7 @@ impl<'a> Tokens<'a> {
     /// Takes this name if it is next, and returns whether it was.
     pub fn take_word(&mut self, word: &str) -> bool
         ensures taken { IsTrue result → IsTaken (name_token word.now) self.old self.new }
-        ensures left { result ≡ false → ((ahead_of self.old).token ≢ name_token word.now) × (self.new ≡ self.old) }
+        ensures left { result ≡ false → IsLeft (name_token word.now) self.old self.new }
     {
         let is_ahead = self.is_word(word);
         if is_ahead {

@@ -1,6 +1,5 @@
-use Rattle.std.proofs.Common.{◌≡◌, List, sym, subst, ◌∙◌}
+use Rattle.std.proofs.Common.{List, sym, subst, ◌∙◌}
 use Rattle.graphql_lexer.specs.Lexemes.{Lexeme, AreLexemes, origin}
-use Rattle.graphql_lexer.specs.Scan.{tokens}
 use Rattle.graphql_lexer.specs.Seen.{seen}
 use Rattle.graphql_lexer.proofs.Lists.{tokens_are}
 use Rattle.graphql_lexer.proofs.Progress.{joined}
