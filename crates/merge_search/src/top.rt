@@ -195,28 +195,6 @@ fn compare_pair<J: Judge>(
     compare_fragments(graph, f, g, false, search)
 }
 
-// Compares a fragment with each of a list.
-fn pair_all<J: Judge>(
-    graph: &Graph<J>,
-    f: usize,
-    list: &[usize],
-    plain: &BitSet,
-    search: &mut Search,
-) -> Result<(), AllocError>
-    requires first { f < length graph.now.fragments.items }
-    requires list { All (λ g. g < length graph.now.fragments.items) list.now }
-    requires plain { ArePlain (world J.judgement graph.now) plain.now }
-    ensures done { let w = world J.judgement graph.now in
-        OnOk result (Did w (λ M. All (λ g. Pair M false f g) list.now) search.old search.new) }
-    ensures real { let w = world J.judgement graph.now in
-        OnOk result (Finds w false (AtListed w f list.now) search.old search.new) }
-{
-    for g in list {
-        compare_pair(graph, f, *g, plain, search)?;
-    }
-    Ok(())
-}
-
 // Compares a spread of a set with each spread. A plain one is left to `note_plain`.
 fn compare_spread<J: Judge>(
     graph: &Graph<J>,
@@ -236,7 +214,10 @@ fn compare_spread<J: Judge>(
     if is_plain(graph, f, plain) {
         return Ok(());
     }
-    pair_all(graph, f, list, plain, search)
+    for g in list {
+        compare_pair(graph, f, *g, plain, search)?;
+    }
+    Ok(())
 }
 
 // Compares each two spreads of a set.
