@@ -1,7 +1,10 @@
 //! Arguments of fields and directives, and fields of input objects.
-ghost use Rattle.std.specs.Prelude.{◌≡◌, IfOk, None, Some, codes, nat_eq, option_map, string_bytes};
+ghost use Rattle.std.specs.Prelude.{◌≡◌, IfOk, IsOk, None, Some, true, codes, nat_eq, option_map, string_bytes, option_copied};
 ghost use Rattle.std.specs.List.{starts_with};
+ghost use Rattle.meta.specs.Deprecation.{is_deprecated_status, reason_of};
 
+use crate::deprecation::DeprecationStatus;
+use crate::texts::copy_text;
 use language::error::OutOfMemory;
 use language::types::Type;
 use language::value::InputValue;
@@ -15,11 +18,12 @@ pub struct Argument<S> {
     pub description: Option<String>,
     pub arg_type: Type,
     pub default_value: Option<InputValue<S>>,
+    pub deprecation_status: DeprecationStatus,
 }
 
 impl<S> Argument<S> {
-    /// An argument of this name and this type, with no description and no default value (section
-    /// 3.6.1).
+    /// An argument of this name and this type, with no description and no default value, not
+    /// deprecated (section 3.6.1).
     ///
     /// # Errors
     ///
@@ -29,12 +33,14 @@ impl<S> Argument<S> {
         ensures arg_type { IfOk result (λ a. a.arg_type ≡ arg_type) }
         ensures description { IfOk result (λ a. a.description ≡ None) }
         ensures default_value { IfOk result (λ a. a.default_value ≡ None) }
+        ensures current { IfOk result (λ a. a.deprecation_status ≡ DeprecationStatus.Current) }
     {
         Ok(Argument {
             name: String::from_str(alloc, name)?,
             description: None,
             arg_type,
             default_value: None,
+            deprecation_status: DeprecationStatus::Current,
         })
     }
 
@@ -61,6 +67,25 @@ impl<S> Argument<S> {
     {
         self.default_value = Some(value);
         self
+    }
+
+    /// Marks the argument or input field as deprecated, with this reason, if one is given (section
+    /// 3.13.3).
+    ///
+    /// # Errors
+    ///
+    /// Out of memory; never if no reason is given.
+    pub fn deprecated(mut self, reason: Option<&str>) -> Result<Self, OutOfMemory>
+    where
+        S: Drop,
+        ensures deprecated { IfOk result (λ a. is_deprecated_status a.deprecation_status ≡ true) }
+        ensures reason { IfOk result (λ a. reason_of a.deprecation_status ≡ option_copied reason.entry) }
+        ensures others { IfOk result (λ a. a ≡ record self { deprecation_status = a.deprecation_status }) }
+        ensures succeeds { reason.entry ≡ None → IsOk result }
+    {
+        let reason = copy_text(*self.name.allocator(), reason)?;
+        self.deprecation_status = DeprecationStatus::Deprecated(reason);
+        Ok(self)
     }
 
     /// Whether the name begins with `__` (section 4.1).

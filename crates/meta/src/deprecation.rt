@@ -1,10 +1,10 @@
-//! The deprecation of fields and enum values.
+//! The deprecation of fields, arguments, input fields and enum values.
 ghost use Rattle.std.specs.Prelude.{◌≡◌, option_copied};
 ghost use Rattle.meta.specs.Deprecation.{is_deprecated_status, reason_of};
 
 use crate::texts::as_text;
 
-/// Whether a field or an enum value is deprecated (section 3.13.3).
+/// Whether a field, an argument, an input field or an enum value is deprecated (section 3.13.3).
 #[derive(Clone, Debug, PartialEq, Eq, Hash, Drop)]
 pub enum DeprecationStatus {
     /// Not deprecated.
@@ -14,7 +14,7 @@ pub enum DeprecationStatus {
 }
 
 impl DeprecationStatus {
-    /// Whether the field or the enum value is deprecated.
+    /// Whether it is deprecated.
     pub fn is_deprecated(&self) -> bool
         ensures { result ≡ is_deprecated_status self.now }
     {

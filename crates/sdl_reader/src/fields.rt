@@ -94,6 +94,7 @@ fn argument_of(
         description: copied(alloc, &defined.description)?,
         arg_type: defined.value_type.item.clone()?,
         default_value: default_of(&defined.default_value)?,
+        deprecation_status: deprecation(alloc, &defined.directives)?,
     })
 }
 
