@@ -1,9 +1,9 @@
 -- What holds when each node is finished.
 use Rattle.std.proofs.Common.{◌≡◌, ℕ, ◌<◌, ◌≤◌, List, [], ◌∷◌, length, refl, sym, subst, ap, arith, inl, inr, ◌⊎◌, Some, slice_get, ◌∙◌}
-use Rattle.std.specs.List.{Contains}
+use Rattle.std.specs.List.{All, Contains}
 use Rattle.std.proofs.lemmas.Option.{slice_get_within, slice_get_past}
 use Rattle.std.specs.Option.{option_map_or}
-use Rattle.std.proofs.lemmas.List.Elements.{Contains-append_right}
+use Rattle.std.proofs.lemmas.List.Elements.{All-head, Contains-append_right}
 use Rattle.fragment_graph.proofs.Lists.{same_item, none_some, get_some, contains_none, one_contains}
 use Rattle.fragment_graph.proofs.Judge.{below_length}
 use Rattle.type_system_circles.specs.declared.graph.Edge.{Edge}
@@ -23,6 +23,10 @@ inside graph l s = below_length (length graph) l.from (λ past.
 
 later : (xs : List Link) (x l : Link) → Contains xs l → Contains (x ∷ xs) l
 later xs x l h = Contains-append_right (x ∷ []) xs l h
+
+no_circles : (graph : List Node) (circles : List Circle) → All (λ c. IsCircle graph c.links.items) circles → ((ls : List Link) → IsCircle graph ls → ⊥) → circles ≡ []
+no_circles graph [] all none = refl
+no_circles graph (c ∷ cs) all none = absurd (none c.links.items (All-head (λ (z : Circle). IsCircle graph z.links.items) c cs all))
 
 at_front : (x : Link) (xs : List Link) → Contains (x ∷ xs) x
 at_front x xs = (0, omega arith, refl)
@@ -89,4 +93,24 @@ module _ (graph : List Node) (cs : List Colour) (looked : List ℕ) (circles : L
       ]
 
   pub found : FindsCircles graph circles
-  found = record { real = sound.real; first = sound.first; enough = λ ls c. met ls c.node c.walk c.some }
+  found = record {
+    real = sound.real;
+    first = sound.first;
+    enough = λ ls c. met ls c.node c.walk c.some;
+    none = (
+      λ e ls c.
+          let m = met ls c.node c.walk c.some in
+          contains_none m.2.0 (subst (λ (cs : List Circle). Contains cs m.2.0) e m.2.1),
+      λ none. no_circles graph circles sound.real none,
+    );
+  }
+
+  -- each edge of a node was looked at once
+  pub looked_once : (v n : ℕ) → slice_get looked v ≡ Some n → n ≡ length (edges_of graph v)
+  looked_once v n at =
+      let counted : length looked ≡ length graph = sound.counted in
+      let room : v < length looked = slice_get_within looked v n at in
+      let r = rank v (omega (arith, counted, room)) in
+      let most : length (edges_of graph v) ≤ n = sound.complete v r.0 n r.1 at in
+      let least : n ≤ length (edges_of graph v) = sound.bounded v n at in
+      omega (arith, most, least)

@@ -51,6 +51,7 @@ module _ (graph : List Node) where
         placed = λ i v g. absurd (none_some v g);
         stands = λ i v g. absurd (new_work i (all v (InWork i) g));
         ranked = λ v r g. absurd (new_finished r (all v (Finished r) g));
+        bounded = λ v m at. let z : 0 ≡ m = zeros v m at in omega (arith, z);
         complete = λ v r m g at. absurd (new_finished r (all v (Finished r) g));
         settled = λ v m k e at lt ed. let z : 0 ≡ m = zeros v m at in absurd (omega (arith, z, lt));
         real = All-nil (λ c. IsCircle graph c.links.items);
@@ -66,6 +67,7 @@ module _ (graph : List Node) where
     placed = h.placed;
     stands = h.stands;
     ranked = h.ranked;
+    bounded = h.bounded;
     complete = h.complete;
     settled = λ v n k e at lt ed. elim (h.settled v n k e at lt ed) [ inl t ↦ inl (told_more circles c (record { from = v; edge = e }) t) | inr o ↦ inr o ];
     real = All-push (λ (z : Circle). IsCircle graph z.links.items) circles c h.real is;
@@ -96,6 +98,7 @@ module _ (graph : List Node) where
           | inr ne ↦ get_more path (t ∷ []) i v (h.stands i v (sym (set_other cs t v w ne) ∙ g))
         ];
         ranked = λ v r g. h.ranked v r (was v r g);
+        bounded = h.bounded;
         complete = λ v r n g. h.complete v r n (was v r g);
         settled = λ v n k e is lt ed. elim (h.settled v n k e is lt ed) [
           | inl told ↦ inl told
@@ -143,6 +146,7 @@ module _ (graph : List Node) where
               omega (arith, same, next)
           | inr ne ↦ let low : r < count = h.ranked v r (sym (set_other cs u v z ne) ∙ g) in omega (arith, low, next)
         ];
+        bounded = h.bounded;
         complete = λ v r n g is. elim (cases_eq v u) [
           | inl e ↦ subst (λ (k : ℕ). length (edges_of graph k) ≤ n) (sym e) (all n (subst (λ (k : ℕ). slice_get looked k ≡ Some n) e is))
           | inr ne ↦ h.complete v r n (sym (set_other cs u v z ne) ∙ g) is
@@ -188,6 +192,14 @@ module _ (graph : List Node) where
         placed = h.placed;
         stands = h.stands;
         ranked = h.ranked;
+        bounded = λ v k is. elim (cases_eq v u) [
+          | inl same ↦
+              let one : m ≡ k = same_item m k (slice_get new u) here (subst (λ (z : ℕ). slice_get new z ≡ Some k) same is) in
+              let room : n < length (edges_of graph u) = slice_get_within (edges_of graph u) n e edge in
+              let more : k ≤ length (edges_of graph u) = omega (arith, one, next, room) in
+              subst (λ (z : ℕ). k ≤ length (edges_of graph z)) (sym same) more
+          | inr ne ↦ h.bounded v k (sym (set_other looked u v m ne) ∙ is)
+        ];
         complete = λ v r k g is. elim (cases_eq v u) [
           | inl same ↦
               let one : m ≡ k = same_item m k (slice_get new u) here (subst (λ (z : ℕ). slice_get new z ≡ Some k) same is) in

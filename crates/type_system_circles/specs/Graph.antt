@@ -1,11 +1,12 @@
 -- Graphs of numbered nodes, and the circles in them.
-use Rattle.std.specs.Prelude.{◌≡◌, ◌<◌, ◌≤◌, ℕ, List, [], ◌∷◌, length, Some, slice_get}
+use Rattle.std.specs.Prelude.{◌≡◌, ◌<◌, ◌≤◌, ◌↔◌, ℕ, List, [], ◌∷◌, length, Some, slice_get}
 use Rattle.std.specs.List.{All, Contains}
 use Rattle.std.specs.Option.{option_map_or}
 use Rattle.type_system_circles.specs.declared.graph.Edge.{Edge}
 use Rattle.type_system_circles.specs.declared.graph.Link.{Link}
 use Rattle.type_system_circles.specs.declared.graph.Node.{Node}
 use Rattle.type_system_circles.specs.declared.search.Circle.{Circle}
+use Rattle.type_system_circles.specs.declared.search.Found.{Found}
 
 abbrev pub edges_of : List Node → ℕ → List Edge
 edges_of graph v = option_map_or (λ n. n.edges.items) (slice_get graph v) []
@@ -42,8 +43,16 @@ BeginsFirst (l ∷ ls) = IsFirst l (l ∷ ls)
 abbrev pub Told : List Circle → Link → Type 0
 Told circles l = (c : Circle) × Contains circles c × Contains c.links.items l
 
--- Each is a circle and begins at its first node, and each circle of the graph has a link of one of them.
+-- Each is a circle and begins at its first node, and each circle of the graph has a link of one of them. There is none
+-- if and only if the graph has no circle.
 pub record FindsCircles (graph : List Node) (circles : List Circle) : Type 0 where
   pub real : All (λ c. IsCircle graph c.links.items) circles
   pub first : All (λ c. BeginsFirst c.links.items) circles
   pub enough : (ls : List Link) → IsCircle graph ls → (l : Link) × Contains ls l × Told circles l
+  pub none : (circles ≡ []) ↔ ((ls : List Link) → IsCircle graph ls → ⊥)
+
+-- What a search found, and that it looked at each edge of each node once.
+pub record Searched (graph : List Node) (f : Found) : Type 0 where
+  pub circles : FindsCircles graph f.circles.items
+  pub sized : length f.looked.items ≡ length graph
+  pub looked : (v n : ℕ) → slice_get f.looked.items v ≡ Some n → n ≡ length (edges_of graph v)

@@ -25,6 +25,7 @@ pub record Sound (graph : List Node) (path : List ℕ) (trail : List Link) (cs :
   pub placed : (i v : ℕ) → slice_get path i ≡ Some v → slice_get cs v ≡ Some (InWork i)
   pub stands : (i v : ℕ) → slice_get cs v ≡ Some (InWork i) → slice_get path i ≡ Some v
   pub ranked : (v r : ℕ) → slice_get cs v ≡ Some (Finished r) → r < count
+  pub bounded : (v n : ℕ) → slice_get looked v ≡ Some n → n ≤ length (edges_of graph v)
   -- of a finished node each edge was looked at, and each that was looked at is settled
   pub complete : (v r n : ℕ) → slice_get cs v ≡ Some (Finished r) → slice_get looked v ≡ Some n → length (edges_of graph v) ≤ n
   pub settled : (v n k : ℕ) (e : Edge) → slice_get looked v ≡ Some n → k < n → slice_get (edges_of graph v) k ≡ Some e → Settled trail cs circles (record { from = v; edge = e })

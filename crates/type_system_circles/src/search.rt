@@ -1,6 +1,6 @@
 //! A depth-first search for circles: each node is new, in work or finished.
 ghost use Rattle.std.specs.Prelude.{◌≡◌, ◌≢◌, ◌<◌, ◌≤◌, ◌++◌, ◌∷◌, [], length, Some, OnOk, IfOk, slice_get, drop, replicate, ℕ, ◌^◌};
-ghost use Rattle.type_system_circles.specs.Graph.{FindsCircles, IsGraph, Stands, edges_of};
+ghost use Rattle.type_system_circles.specs.Graph.{IsGraph, Searched, Stands, edges_of};
 ghost use Rattle.type_system_circles.specs.Sound.{At, Ends, Idle, Keeps, Settles};
 ghost use Rattle.type_system_circles.specs.declared.search.Colour.TheVariants.{New};
 
@@ -13,6 +13,13 @@ use std::alloc::Global;
 #[derive(Debug, Drop)]
 pub struct Circle {
     pub links: Vec<Link>,
+}
+
+/// What a search found: circles, and of each node how many of its edges it looked at.
+#[derive(Debug, Drop)]
+pub struct Found {
+    pub circles: Vec<Circle>,
+    pub looked: Vec<usize>,
 }
 
 // The state of a node: in work, with its place on the way from the root, or finished, with its rank.
@@ -215,14 +222,19 @@ fn new_search(alloc: Global, count: usize) -> Result<Search, OutOfMemory>
 /// # Errors
 ///
 /// Out of memory.
-pub fn circles_of(alloc: Global, graph: &[Node]) -> Result<Vec<Circle>, OutOfMemory>
+pub fn circles_of(alloc: Global, graph: &[Node]) -> Result<Found, OutOfMemory>
     requires { IsGraph graph.now }
-    ensures { IfOk result (λ v. FindsCircles graph.now v.items) }
+    ensures { IfOk result (Searched graph.now) }
 {
     let count = graph.len();
     let mut search = new_search(alloc, count)?;
     for root in 0..count {
         visit(graph, root, &mut search)?;
     }
-    Ok(search.circles)
+    let Search {
+        circles,
+        looked,
+        ..
+    } = search;
+    Ok(Found { circles, looked })
 }

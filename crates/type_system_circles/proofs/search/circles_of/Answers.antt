@@ -4,7 +4,7 @@ use Rattle.type_system_circles.specs.declared.graph.Link.{Link}
 use Rattle.type_system_circles.specs.declared.search.Circle.{Circle}
 use Rattle.type_system_circles.specs.declared.search.Colour.TheVariants.{New}
 use Rattle.type_system_circles.specs.Sound.{Sound}
-use Rattle.type_system_circles.proofs.Judge.{found}
+use Rattle.type_system_circles.proofs.Judge.{found, looked_once}
 use Rattle.type_system_circles.proofs.Steps.{sound_start}
 use Rattle.type_system_circles.proofs.search.circles_of.Goals as goal
 
@@ -40,6 +40,10 @@ returns c =
     let s = c.loop-root.search in
     let i = c.loop-root.invariant.0 in
     let past = c.loop-root-test.false in
-    found g s.colours.items s.looked.items s.circles.items (length s.order.items)
-    (subst (λ (tr : List Link). Sound g [] tr s.colours.items s.looked.items s.circles.items (length s.order.items)) i.none i.sound)
-    (λ v lt new. c.loop-root.invariant.1 v (omega (arith, lt, past)) new)
+    let sound = subst (λ (tr : List Link). Sound g [] tr s.colours.items s.looked.items s.circles.items (length s.order.items)) i.none i.sound in
+    let begun : (v : ℕ) → v < length g → slice_get s.colours.items v ≡ Some New → ⊥ = λ v lt new. c.loop-root.invariant.1 v (omega (arith, lt, past)) new in
+    record {
+      circles = found g s.colours.items s.looked.items s.circles.items (length s.order.items) sound begun;
+      sized = i.sound.counted;
+      looked = looked_once g s.colours.items s.looked.items s.circles.items (length s.order.items) sound begun;
+    }
