@@ -1,0 +1,5 @@
+pub mod Walks
+pub mod Steps
+pub mod Ends
+pub mod Firsts
+pub mod Judge
