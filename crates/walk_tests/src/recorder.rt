@@ -41,12 +41,27 @@ pub fn show_types(
     out: &mut String,
     ctx: &ValidatorContext<'_, DefaultScalarValue>,
 ) -> Result<(), AllocError> {
-    let current = name_of(ctx.current_type());
+    show_four(
+        out,
+        name_of(ctx.current_type()),
+        ctx.current_type_literal(),
+        name_of(ctx.parent_type()),
+        ctx.current_input_type_literal(),
+    )
+}
+
+// A function of its own: where it may return early, a proof need not look at the context again.
+fn show_four(
+    out: &mut String,
+    current: &str,
+    written: Option<BorrowedType<'_>>,
+    parent: &str,
+    input: Option<BorrowedType<'_>>,
+) -> Result<(), AllocError> {
     write!(out, " {current} ")?;
-    show(out, ctx.current_type_literal())?;
-    let parent = name_of(ctx.parent_type());
+    show(out, written)?;
     write!(out, " {parent} ")?;
-    show(out, ctx.current_input_type_literal())?;
+    show(out, input)?;
     out.push('\n')
 }
 
