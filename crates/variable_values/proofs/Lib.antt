@@ -1,11 +1,11 @@
 pub mod Accepted
+pub mod BegunLaws
 pub mod FieldInputs
 pub mod InTurns
 pub mod KeyLaws
 pub mod LastValues
 pub mod ObjectLaws
 pub mod OneList
-pub mod PlaceLaws
 pub mod PlacesOfEntries
 pub mod RowLaws
 pub mod Told

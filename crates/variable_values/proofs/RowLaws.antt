@@ -5,7 +5,7 @@ use Rattle.variable_values.specs.declared.rows.Row.{Row}
 use Rattle.variable_values.specs.declared.rows.Row.TheVariants as r
 use Rattle.variable_values.specs.Inputs.{is_input_in}
 use Rattle.std.proofs.Common.{◌≡◌, false, ℕ, ◌-◌, ◌+◌, ◌<◌, List, [], ◌∷◌, ◌++◌, Option, Some, None, true, length, take, get_or, reverse, append_assoc, refl, ap, sym, ◌∙◌, subst, arith}
-use Rattle.std.specs.Prelude.{Vec, is_some, slice_get}
+use Rattle.std.specs.Prelude.{Vec, if◌then◌else◌, is_some, slice_get}
 use Rattle.std.specs.declared.alloc.Global.{Global}
 use Rattle.language.specs.declared.position.Span.{Span}
 use Rattle.language.specs.declared.position.Spanning.{Spanning}
@@ -23,9 +23,10 @@ use Rattle.language.specs.Values.{list_items, items_layer}
 use Rattle.meta.specs.Answers.{Answers}
 use Rattle.meta.specs.declared.kinds.MetaTypeOf.{MetaTypeOf}
 use Rattle.schema.specs.Catalog.{Catalog, type_in}
-use Rattle.variable_values.specs.Faults.{Fault, Faults, Of, OfMeta, OfNamed, here, judge_of, within, wrong_length}
+use Rattle.schema.specs.Possible.{is_among}
+use Rattle.variable_values.specs.Faults.{Fault, Faults, Of, OfMeta, OfNamed, enum_faults, here, judge_of, within, wrong_length}
 use Rattle.variable_values.specs.Rows.{ByMeta, ByName, HasName, IsKnownRow, OfItems, Others, SaysItems, length_of_one, lengths_at, lengths_of, lengths_of_one}
-use Rattle.variable_values.specs.Texts.{null_text}
+use Rattle.variable_values.specs.Texts.{enum_text, null_text}
 use Rattle.variable_values.proofs.Unfold.{faults-roll}
 
 -- ---- types
@@ -76,6 +77,10 @@ within_wrap x t = sym (within_of (wrapped_by x t)) ∙ ap (λ ms. within ms t.na
 -- ---- lengths of lists of one
 lengths_more : (x : TypeModifier) (t : TypeShape) → lengths_of_one (reverse (wrapped_by x t).modifiers) ≡ lengths_of_one (x ∷ reverse t.modifiers)
 lengths_more x t = ap lengths_of_one (reverse-append t.modifiers (x ∷ []))
+
+-- a name that no value of the enum has
+pub enum_unlisted : (name : List ℕ) (values : List (List ℕ)) (o : Option (List ℕ)) (n : List ℕ) → o ≡ Some n → is_among values n ≡ false → here (enum_text name) ∷ [] ≡ enum_faults name values o
+enum_unlisted name values o n e h = ap (λ b. if b then [] else here (enum_text name) ∷ []) (sym h) ∙ ap (enum_faults name values) (sym e)
 
 module _ {S : Type 0} where
   is_out : (value : InputValue S) (x : v.InputValue-F S (InputValue S)) → value ≡ roll-InputValue S x → out-InputValue S value ≡ x

@@ -56,7 +56,7 @@ none-told before old new fs e n =
     let same : length (map (told_after before) fs) ≡ length fs = length-map fs (told_after before) in
     length-zero fs (omega arith)
 
-as_long : (v : Vec (String Global) Global) (n : ℕ) → n ≡ vec_len v → length (texts_of v) ≡ n
+pub as_long : (v : Vec (String Global) Global) (n : ℕ) → n ≡ vec_len v → length (texts_of v) ≡ n
 as_long v n e = let ok = v.ok.0 in let same = length-map v.items (λ t. string_bytes t) in omega (arith, ok, same)
 
 -- lists of messages that are as long

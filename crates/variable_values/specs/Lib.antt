@@ -1,4 +1,5 @@
 pub mod Asks
+pub mod Begun
 pub mod Entries
 pub mod Faults
 pub mod InTurn

@@ -1,23 +1,27 @@
 //! The faults of a value against a type.
-ghost use Rattle.std.specs.Prelude.{◌≡◌, [], IfOk, List, OnOk, Some, map, option_copied, option_map, reverse, string_bytes, true};
+ghost use Rattle.std.specs.Prelude.{◌≡◌, ◌<◌, [], IfOk, IfSome, List, OnOk, Some, length, map, option_copied, option_map, reverse, string_bytes, true};
+ghost use Rattle.std.specs.List.{All};
 ghost use Rattle.schema.specs.Possible.{is_among};
 ghost use Rattle.language.specs.declared.value.InputValue.{out-InputValue};
 ghost use Rattle.language.specs.Types.{borrowed_shape, shape};
 ghost use Rattle.language.specs.ValuesPrinted.{printed_value};
 ghost use Rattle.language.specs.Values.{last_value};
-ghost use Rattle.variable_values.specs.Entries.{HasPlaces};
 ghost use Rattle.meta.specs.Kept.{input_object_check, scalar_check};
 ghost use Rattle.meta.specs.Kinds.{is_input_meta};
+ghost use Rattle.variable_values.specs.Begun.{BeginsAt, EndsObject, GoesOn, IsBegunOf, IsKnown, Leads, Left, OfGiven, all_but_first};
+ghost use Rattle.variable_values.specs.Entries.{HasPlaces};
 ghost use Rattle.variable_values.specs.Faults.{Checked, Faults, absent, accepted_faults, enum_faults, name_in, wrong_length};
 ghost use Rattle.variable_values.specs.Inputs.{is_input_in};
-ghost use Rattle.variable_values.specs.Places.{AddsAt};
-ghost use Rattle.variable_values.specs.Rows.{Answered, ByMeta, ByName, IsIn, OfField, OfFields, OfItems, OfWhole, Others, length_of_one, lengths_of, lengths_of_one};
+ghost use Rattle.variable_values.specs.Messages.{Adds, invalid_text, texts_of};
+ghost use Rattle.variable_values.specs.Places.{AddsAt, before_path};
+ghost use Rattle.variable_values.specs.Rows.{Answered, ByMeta, ByName, IsIn, Others, length_of_one, lengths_of, lengths_of_one};
 ghost use Rattle.variable_values.specs.Texts.{input_text, scalar_text};
 
+use crate::begun::{Begun, BegunObject};
 use crate::entries::{last_places, place_of};
 use crate::keys::add_unknown_keys;
 use crate::messages::add;
-use crate::place::Place;
+use crate::place::{PathStep, Place};
 use crate::rows::{Row, input_type, known_row, type_of_field};
 use crate::texts::{
     enum_message, input_message, length_message, list_message, no_name_message, no_object_message,
@@ -28,7 +32,6 @@ use language::position::Spanning;
 use language::scalar::ScalarValue;
 use language::types::{BorrowedType, TypeModifier};
 use language::value::InputValue;
-use meta::arguments::Argument;
 use meta::check::CheckedScalar;
 use meta::enum_values::EnumValue;
 use meta::enums::EnumMetaOf;
@@ -39,231 +42,444 @@ use schema::model::SchemaType;
 use std::alloc::Global;
 use std::collections::BTreeMap;
 
-/// Reports each fault of a value against a type, by a message behind those in `messages`.
+/// Reports each fault of the value of a variable against a type, by a message behind those in `messages`.
 ///
-/// A message is made only where a fault is found. An object takes memory for a map of its values and a set of the
-/// names of its fields.
+/// A message is made only where a fault is found. The lists and objects around the value that is checked, and the
+/// steps to it, stand on lists in memory, so no depth is too deep. An object takes memory for a map of its values and
+/// a set of the names of its fields.
 ///
 /// # Errors
 ///
 /// Out of memory. Some messages may have been added.
-#[cycle(faults)]
 pub fn add_faults<'p, S: CheckedScalar>(
     alloc: Global,
     schema: &'p SchemaType<S>,
     value: &InputValue<S>,
     expected: BorrowedType<'p>,
-    place: &'p Place<'p>,
+    variable: &str,
     messages: &mut Vec<String>,
 ) -> Result<(), OutOfMemory>
     requires { is_input_in schema.now (borrowed_shape expected).name ≡ true }
     ensures { OnOk result
-        (AddsAt (Faults schema.now S.may_answer S.text S.str_of value.now (borrowed_shape expected.entry))
-        place.now messages.old messages.new) }
+        (Adds (Faults schema.now S.may_answer S.text S.str_of value.now (borrowed_shape expected.entry))
+        (invalid_text variable.now) (texts_of messages.old) (texts_of messages.new)) }
 {
-    add_lengths_of_one(alloc, value, expected, place, messages)?;
-    add_other_faults(alloc, schema, value, expected, place, messages)
+    let mut steps = Vec::new(alloc);
+    let mut begun = Vec::new(alloc);
+    begin(
+        alloc, schema, value, expected, variable, &mut steps, &mut begun, messages,
+    )?;
+    for _ in 0..u64::MAX {
+        if begun.is_empty() {
+            return Ok(());
+        }
+        go_on_last(alloc, schema, variable, &mut steps, &mut begun, messages)?;
+    }
+    Err(OutOfMemory)
 }
 
-// Reports each fault of a value against a type, except those of a value that stands for lists of one.
-#[cycle(faults)]
-fn add_other_faults<'p, S: CheckedScalar>(
+// Reports the faults of what is left of the last part, as far as it is checked. What is then left is added.
+fn go_on_last<'p, 'v, S: CheckedScalar>(
     alloc: Global,
     schema: &'p SchemaType<S>,
-    value: &InputValue<S>,
+    variable: &str,
+    steps: &mut Vec<PathStep<'p>>,
+    begun: &mut Vec<Begun<'p, 'v, S, S::Check>>,
+    messages: &mut Vec<String>,
+) -> Result<(), OutOfMemory>
+    requires { All (IsKnown schema.now) begun.old.items }
+    ensures leads { OnOk result (GoesOn schema.now S.may_answer S.text S.str_of variable.now
+        begun.new.items steps.new.items (texts_of messages.new)
+        begun.old.items steps.old.items (texts_of messages.old)) }
+    ensures known { OnOk result (All (IsKnown schema.now) begun.new.items) }
+{
+    match begun.pop() {
+        None => Ok(()),
+        Some(part) => go_on(alloc, schema, part, variable, steps, begun, messages),
+    }
+}
+
+// Reports the faults of a value as far as it is checked. What is left of it is added; where nothing is, its step is
+// taken back.
+fn begin<'p, 'v, S: CheckedScalar>(
+    alloc: Global,
+    schema: &'p SchemaType<S>,
+    value: &'v InputValue<S>,
     expected: BorrowedType<'p>,
-    place: &'p Place<'p>,
+    variable: &str,
+    steps: &mut Vec<PathStep<'p>>,
+    begun: &mut Vec<Begun<'p, 'v, S, S::Check>>,
     messages: &mut Vec<String>,
 ) -> Result<(), OutOfMemory>
     requires { is_input_in schema.now (borrowed_shape expected).name ≡ true }
-    ensures { OnOk result
-        (AddsAt (Others schema.now S.may_answer S.text S.str_of value.now (borrowed_shape expected.entry))
-        place.now messages.old messages.new) }
+    ensures leads { OnOk result (Leads schema.now S.may_answer S.text S.str_of variable.now
+        begun.new.items steps.new.items (texts_of messages.new)
+        (Adds (Faults schema.now S.may_answer S.text S.str_of value.now (borrowed_shape expected.entry))
+        (before_path variable.now steps.old.items))
+        begun.old.items steps.old.items (texts_of messages.old)) }
+    ensures known { OnOk result (All (IsKnown schema.now) begun.old.items
+        → All (IsKnown schema.now) begun.new.items) }
+{
+    let place = Place {
+        variable,
+        steps: steps.as_slice(),
+    };
+    match begun_by(alloc, schema, value, expected, &place, messages)? {
+        Some(part) => begun.push(part)?,
+        None => take_back(steps),
+    }
+    Ok(())
+}
+
+// Takes the last step back, if there is one.
+fn take_back(steps: &mut Vec<PathStep<'_>>)
+    ensures { reverse steps.new.items ≡ all_but_first (reverse steps.old.items) }
+{
+    let _ = steps.pop();
+}
+
+// Reports the faults of a value as far as it is checked, and answers what is left of it.
+fn begun_by<'p, 'v, S: CheckedScalar>(
+    alloc: Global,
+    schema: &'p SchemaType<S>,
+    value: &'v InputValue<S>,
+    expected: BorrowedType<'p>,
+    place: &Place<'_>,
+    messages: &mut Vec<String>,
+) -> Result<Option<Begun<'p, 'v, S, S::Check>>, OutOfMemory>
+    requires { is_input_in schema.now (borrowed_shape expected).name ≡ true }
+    ensures told { IfOk result (λ part.
+        BeginsAt schema.now S.may_answer S.text S.str_of
+        (Faults schema.now S.may_answer S.text S.str_of value.now (borrowed_shape expected.entry))
+        place.now part messages.old messages.new) }
+    ensures known { IfOk result (λ part. IfSome part (IsKnown schema.now)) }
+{
+    add_lengths_of_one(alloc, value, expected, place, messages)?;
+    begun_by_others(alloc, schema, value, expected, place, messages)
+}
+
+// The same, but for the faults of a value that stands for lists of one.
+fn begun_by_others<'p, 'v, S: CheckedScalar>(
+    alloc: Global,
+    schema: &'p SchemaType<S>,
+    value: &'v InputValue<S>,
+    expected: BorrowedType<'p>,
+    place: &Place<'_>,
+    messages: &mut Vec<String>,
+) -> Result<Option<Begun<'p, 'v, S, S::Check>>, OutOfMemory>
+    requires { is_input_in schema.now (borrowed_shape expected).name ≡ true }
+    ensures told { IfOk result (λ part.
+        BeginsAt schema.now S.may_answer S.text S.str_of
+        (Others schema.now S.may_answer S.text S.str_of value.now (borrowed_shape expected.entry))
+        place.now part messages.old messages.new) }
+    ensures known { IfOk result (λ part. IfSome part (IsKnown schema.now)) }
 {
     match known_row(schema, expected, value) {
-        Row::Nothing => Ok(()),
-        Row::Null(at) => add(null_message(alloc, place, at)?, messages),
+        Row::Nothing => Ok(None),
+        Row::Null(at) => {
+            add(null_message(alloc, place, at)?, messages)?;
+            Ok(None)
+        }
         Row::Items(inner, size) => match value {
             InputValue::List(items) => {
                 add_length_fault(alloc, size, items.len(), place, messages)?;
-                add_faults_of_items(alloc, schema, items.as_slice(), inner, place, messages)
+                Ok(Some(Begun::Items(inner, items.as_slice(), 0)))
             }
             _ => unreachable!(),
         },
         Row::Named(name) => {
             let meta = input_type(schema, name);
-            add_faults_of_named(alloc, schema, value, meta, place, messages)
+            begun_by_named(alloc, schema, value, meta, place, messages)
         }
     }
 }
 
-// Reports each fault of the items of a list.
-#[cycle(faults)]
-fn add_faults_of_items<'p, S: CheckedScalar>(
+// The same for a value against metadata.
+fn begun_by_named<'p, 'v, S: CheckedScalar>(
     alloc: Global,
     schema: &'p SchemaType<S>,
-    items: &[Spanning<InputValue<S>>],
-    inner: BorrowedType<'p>,
-    place: &'p Place<'p>,
-    messages: &mut Vec<String>,
-) -> Result<(), OutOfMemory>
-    requires { is_input_in schema.now (borrowed_shape inner).name ≡ true }
-    ensures { OnOk result
-        (AddsAt (OfItems schema.now S.may_answer S.text S.str_of (borrowed_shape inner.entry) items.now)
-        place.now messages.old messages.new) }
-{
-    for (index, item) in items.iter().enumerate() {
-        let at = Place::Element(index, place);
-        add_faults(alloc, schema, &item.item, inner, &at, messages)?;
-    }
-    Ok(())
-}
-
-// Reports each fault of a value against metadata.
-#[cycle(faults)]
-fn add_faults_of_named<'p, S: CheckedScalar>(
-    alloc: Global,
-    schema: &'p SchemaType<S>,
-    value: &InputValue<S>,
+    value: &'v InputValue<S>,
     meta: &'p MetaTypeOf<S, S::Check>,
-    place: &'p Place<'p>,
+    place: &Place<'_>,
     messages: &mut Vec<String>,
-) -> Result<(), OutOfMemory>
+) -> Result<Option<Begun<'p, 'v, S, S::Check>>, OutOfMemory>
     requires known { IsIn schema.now meta.now }
     requires input { is_input_meta meta.now ≡ true }
-    ensures { OnOk result
-        (AddsAt (ByName schema.now S.may_answer S.text S.str_of value.now (Some meta.now))
-        place.now messages.old messages.new) }
+    ensures told { IfOk result (λ part.
+        BeginsAt schema.now S.may_answer S.text S.str_of
+        (ByName schema.now S.may_answer S.text S.str_of value.now (Some meta.now))
+        place.now part messages.old messages.new) }
+    ensures known { IfOk result (λ part. IfSome part (IsKnown schema.now)) }
 {
     if value.is_null() {
-        Ok(())
+        Ok(None)
     } else {
-        add_faults_of_meta(alloc, schema, value, meta, place, messages)
+        begun_by_meta(alloc, schema, value, meta, place, messages)
     }
 }
 
-// Reports each fault of a value that isn't null against metadata.
-#[cycle(faults)]
-fn add_faults_of_meta<'p, S: CheckedScalar>(
+// The same for a value that isn't null.
+fn begun_by_meta<'p, 'v, S: CheckedScalar>(
     alloc: Global,
     schema: &'p SchemaType<S>,
-    value: &InputValue<S>,
+    value: &'v InputValue<S>,
     meta: &'p MetaTypeOf<S, S::Check>,
-    place: &'p Place<'p>,
+    place: &Place<'_>,
     messages: &mut Vec<String>,
-) -> Result<(), OutOfMemory>
+) -> Result<Option<Begun<'p, 'v, S, S::Check>>, OutOfMemory>
     requires known { IsIn schema.now meta.now }
     requires input { is_input_meta meta.now ≡ true }
-    ensures { OnOk result
-        (AddsAt (ByMeta schema.now S.may_answer S.text S.str_of value.now meta.now)
-        place.now messages.old messages.new) }
+    ensures told { IfOk result (λ part.
+        BeginsAt schema.now S.may_answer S.text S.str_of
+        (ByMeta schema.now S.may_answer S.text S.str_of value.now meta.now)
+        place.now part messages.old messages.new) }
+    ensures known { IfOk result (λ part. IfSome part (IsKnown schema.now)) }
 {
+    let _ = schema;
     match meta {
-        MetaTypeOf::Scalar(scalar) => add_faults_of_scalar(alloc, value, scalar, place, messages),
-        MetaTypeOf::Enum(known) => add_fault_of_enum(alloc, value, known, place, messages),
+        MetaTypeOf::Scalar(scalar) => {
+            add_faults_of_scalar(alloc, value, scalar, place, messages)?;
+            Ok(None)
+        }
+        MetaTypeOf::Enum(known) => {
+            add_fault_of_enum(alloc, value, known, place, messages)?;
+            Ok(None)
+        }
         MetaTypeOf::InputObject(object) => match value {
             InputValue::Object(entries) => {
-                add_faults_of_object(
-                    alloc,
-                    schema,
-                    entries.as_slice(),
-                    value,
-                    object,
-                    place,
-                    messages,
-                )
+                let told = messages.len();
+                let of = begun_object(alloc, entries.as_slice(), value, object, told)?;
+                Ok(Some(Begun::Fields(of, 0)))
             }
-            _ => add(
-                no_object_message(alloc, place, object.name.as_str())?,
-                messages,
-            ),
+            _ => {
+                add(
+                    no_object_message(alloc, place, object.name.as_str())?,
+                    messages,
+                )?;
+                Ok(None)
+            }
         },
         _ => unreachable!(),
     }
 }
 
-// Reports each fault of an object against an input object.
-#[cycle(faults)]
-fn add_faults_of_object<'p, S: CheckedScalar>(
+// An object that is begun.
+fn begun_object<'p, 'v, S, C>(
+    alloc: Global,
+    entries: &'v [(Spanning<String>, Spanning<InputValue<S>>)],
+    value: &'v InputValue<S>,
+    object: &'p InputObjectMetaOf<S, C>,
+    told: usize,
+) -> Result<BegunObject<'p, 'v, S, C>, OutOfMemory>
+    ensures of { IfOk result (λ of. IsBegunOf object.now value.now entries.now told of) }
+    ensures places { IfOk result (λ of. HasPlaces of.places entries.now) }
+{
+    let places = last_places(alloc, entries)?;
+    Ok(BegunObject {
+        object,
+        value,
+        entries,
+        places,
+        told,
+    })
+}
+
+// Reports the faults of what is left of a part, as far as it is checked. What is then left is added.
+fn go_on<'p, 'v, S: CheckedScalar>(
     alloc: Global,
     schema: &'p SchemaType<S>,
-    entries: &[(Spanning<String>, Spanning<InputValue<S>>)],
-    value: &InputValue<S>,
-    object: &'p InputObjectMetaOf<S, S::Check>,
-    place: &'p Place<'p>,
+    part: Begun<'p, 'v, S, S::Check>,
+    variable: &str,
+    steps: &mut Vec<PathStep<'p>>,
+    begun: &mut Vec<Begun<'p, 'v, S, S::Check>>,
     messages: &mut Vec<String>,
 ) -> Result<(), OutOfMemory>
-    requires { IsIn schema.now (MetaTypeOf.InputObject object.now) }
-    ensures { OnOk result
-        (AddsAt (OfWhole schema.now S.may_answer S.text S.str_of object.now entries.now value.now)
-        place.now messages.old messages.new) }
+    requires { IsKnown schema.now part }
+    ensures leads { OnOk result (Leads schema.now S.may_answer S.text S.str_of variable.now
+        begun.new.items steps.new.items (texts_of messages.new)
+        (Left schema.now S.may_answer S.text S.str_of part.entry (before_path variable.now steps.old.items))
+        begun.old.items steps.old.items (texts_of messages.old)) }
+    ensures known { OnOk result (All (IsKnown schema.now) begun.old.items
+        → All (IsKnown schema.now) begun.new.items) }
 {
-    let told = messages.len();
-    add_faults_of_fields(alloc, schema, entries, object, place, messages)?;
-    add_unknown_keys(
-        alloc,
-        object.input_fields.as_slice(),
-        entries,
-        place,
-        messages,
-    )?;
-    if messages.len() == told {
-        add_refusal_of_object(alloc, value, object, place, messages)
+    match part {
+        Begun::Items(inner, items, next) => begin_item(
+            alloc, schema, inner, items, next, variable, steps, begun, messages,
+        ),
+        Begun::Fields(of, next) => {
+            next_field(alloc, schema, of, next, variable, steps, begun, messages)
+        }
+    }
+}
+
+// The same for a list, from an item on.
+fn begin_item<'p, 'v, S: CheckedScalar>(
+    alloc: Global,
+    schema: &'p SchemaType<S>,
+    inner: BorrowedType<'p>,
+    items: &'v [Spanning<InputValue<S>>],
+    next: usize,
+    variable: &str,
+    steps: &mut Vec<PathStep<'p>>,
+    begun: &mut Vec<Begun<'p, 'v, S, S::Check>>,
+    messages: &mut Vec<String>,
+) -> Result<(), OutOfMemory>
+    requires { is_input_in schema.now (borrowed_shape inner).name ≡ true }
+    ensures leads { OnOk result (Leads schema.now S.may_answer S.text S.str_of variable.now
+        begun.new.items steps.new.items (texts_of messages.new)
+        (Left schema.now S.may_answer S.text S.str_of (Begun.Items inner.entry items.entry next)
+        (before_path variable.now steps.old.items))
+        begun.old.items steps.old.items (texts_of messages.old)) }
+    ensures known { OnOk result (All (IsKnown schema.now) begun.old.items
+        → All (IsKnown schema.now) begun.new.items) }
+{
+    if next >= items.len() {
+        take_back(steps);
+        return Ok(());
+    }
+    let value = &items[next].item;
+    begun.push(Begun::Items(inner, items, next + 1))?;
+    steps.push(PathStep::Element(next))?;
+    begin(
+        alloc, schema, value, inner, variable, steps, begun, messages,
+    )
+}
+
+// The same for an object, from a field on.
+fn next_field<'p, 'v, S: CheckedScalar>(
+    alloc: Global,
+    schema: &'p SchemaType<S>,
+    of: BegunObject<'p, 'v, S, S::Check>,
+    next: usize,
+    variable: &str,
+    steps: &mut Vec<PathStep<'p>>,
+    begun: &mut Vec<Begun<'p, 'v, S, S::Check>>,
+    messages: &mut Vec<String>,
+) -> Result<(), OutOfMemory>
+    requires { IsKnown schema.now (Begun.Fields of next) }
+    ensures leads { OnOk result (Leads schema.now S.may_answer S.text S.str_of variable.now
+        begun.new.items steps.new.items (texts_of messages.new)
+        (Left schema.now S.may_answer S.text S.str_of (Begun.Fields of.entry next)
+        (before_path variable.now steps.old.items))
+        begun.old.items steps.old.items (texts_of messages.old)) }
+    ensures known { OnOk result (All (IsKnown schema.now) begun.old.items
+        → All (IsKnown schema.now) begun.new.items) }
+{
+    if next < of.object.input_fields.len() {
+        begin_field(alloc, schema, of, next, variable, steps, begun, messages)
     } else {
+        end_object(alloc, of, variable, steps.as_slice(), messages)?;
+        take_back(steps);
         Ok(())
     }
 }
 
-// Reports each fault at the fields of an input object.
-#[cycle(faults)]
-fn add_faults_of_fields<'p, S: CheckedScalar>(
+// The same for an object of which a field is left.
+fn begin_field<'p, 'v, S: CheckedScalar>(
     alloc: Global,
     schema: &'p SchemaType<S>,
-    entries: &[(Spanning<String>, Spanning<InputValue<S>>)],
-    object: &'p InputObjectMetaOf<S, S::Check>,
-    place: &'p Place<'p>,
+    of: BegunObject<'p, 'v, S, S::Check>,
+    next: usize,
+    variable: &str,
+    steps: &mut Vec<PathStep<'p>>,
+    begun: &mut Vec<Begun<'p, 'v, S, S::Check>>,
     messages: &mut Vec<String>,
 ) -> Result<(), OutOfMemory>
-    requires { IsIn schema.now (MetaTypeOf.InputObject object.now) }
-    ensures { OnOk result
-        (AddsAt (OfFields schema.now S.may_answer S.text S.str_of object.now.input_fields.items entries.now)
-        place.now messages.old messages.new) }
+    requires known { IsKnown schema.now (Begun.Fields of next) }
+    requires left { next < length of.object.now.input_fields.items }
+    ensures leads { OnOk result (Leads schema.now S.may_answer S.text S.str_of variable.now
+        begun.new.items steps.new.items (texts_of messages.new)
+        (Left schema.now S.may_answer S.text S.str_of (Begun.Fields of.entry next)
+        (before_path variable.now steps.old.items))
+        begun.old.items steps.old.items (texts_of messages.old)) }
+    ensures known { OnOk result (All (IsKnown schema.now) begun.old.items
+        → All (IsKnown schema.now) begun.new.items) }
 {
-    let places = last_places(alloc, entries)?;
-    for field in object.input_fields.as_slice() {
-        let expected = type_of_field(schema, field);
-        add_faults_of_field(
-            alloc, schema, entries, &places, field, expected, place, messages,
-        )?;
-    }
-    Ok(())
+    let field = &of.object.input_fields[next];
+    let name = field.name.as_str();
+    let expected = type_of_field(schema, field);
+    let value = last_value_of(of.entries, &of.places, name);
+    begun.push(Begun::Fields(of, next + 1))?;
+    steps.push(PathStep::Field(name))?;
+    begin_given(
+        alloc, schema, value, expected, variable, steps, begun, messages,
+    )
 }
 
-// Reports each fault at a field, whose value is that of its last entry.
-#[cycle(faults)]
-fn add_faults_of_field<'p, S: CheckedScalar>(
+// Reports the faults at a field by its value, if it has one, as `begin` does.
+fn begin_given<'p, 'v, S: CheckedScalar>(
     alloc: Global,
     schema: &'p SchemaType<S>,
-    entries: &[(Spanning<String>, Spanning<InputValue<S>>)],
-    places: &BTreeMap<&str, usize>,
-    field: &'p Argument<S>,
+    given: Option<&'v InputValue<S>>,
     expected: BorrowedType<'p>,
-    place: &'p Place<'p>,
+    variable: &str,
+    steps: &mut Vec<PathStep<'p>>,
+    begun: &mut Vec<Begun<'p, 'v, S, S::Check>>,
     messages: &mut Vec<String>,
 ) -> Result<(), OutOfMemory>
-    requires places { HasPlaces places.now entries.now }
-    requires known { is_input_in schema.now (borrowed_shape expected).name ≡ true }
-    requires made { borrowed_shape expected ≡ shape field.now.arg_type }
-    ensures { OnOk result (AddsAt
-        (OfField schema.now S.may_answer S.text S.str_of field.now
-        (last_value (string_bytes field.now.name) entries.now))
-        place.now messages.old messages.new) }
+    requires { is_input_in schema.now (borrowed_shape expected).name ≡ true }
+    ensures leads { OnOk result (Leads schema.now S.may_answer S.text S.str_of variable.now
+        begun.new.items steps.new.items (texts_of messages.new)
+        (Adds (OfGiven schema.now S.may_answer S.text S.str_of (option_copied given.entry)
+        (borrowed_shape expected.entry)) (before_path variable.now steps.old.items))
+        begun.old.items steps.old.items (texts_of messages.old)) }
+    ensures known { OnOk result (All (IsKnown schema.now) begun.old.items
+        → All (IsKnown schema.now) begun.new.items) }
 {
-    let name = field.name.as_str();
-    let at = Place::Field(name, place);
-    match place_of(places, name) {
-        None => add_absence(alloc, expected, &at, messages),
-        Some(i) => add_faults(alloc, schema, &entries[i].1.item, expected, &at, messages),
+    match given {
+        Some(value) => begin(
+            alloc, schema, value, expected, variable, steps, begun, messages,
+        ),
+        None => {
+            let place = Place {
+                variable,
+                steps: steps.as_slice(),
+            };
+            add_absence(alloc, expected, &place, messages)?;
+            take_back(steps);
+            Ok(())
+        }
+    }
+}
+
+// The value of the last entry of a key.
+fn last_value_of<'v, S>(
+    entries: &'v [(Spanning<String>, Spanning<InputValue<S>>)],
+    places: &BTreeMap<&str, usize>,
+    key: &str,
+) -> Option<&'v InputValue<S>>
+    requires { HasPlaces places.now entries.now }
+    ensures { option_copied result ≡ last_value key.now entries.now }
+{
+    match place_of(places, key) {
+        None => None,
+        Some(i) => Some(&entries[i].1.item),
+    }
+}
+
+// Reports the keys of an object that no field has, and where it has no fault, what its check refuses.
+fn end_object<S: CheckedScalar>(
+    alloc: Global,
+    of: BegunObject<'_, '_, S, S::Check>,
+    variable: &str,
+    steps: &[PathStep<'_>],
+    messages: &mut Vec<String>,
+) -> Result<(), OutOfMemory>
+    ensures { OnOk result (EndsObject S.may_answer S.text S.str_of of.entry (before_path variable.now steps.now)
+        (texts_of messages.old) (texts_of messages.new)) }
+{
+    let place = Place { variable, steps };
+    add_unknown_keys(
+        alloc,
+        of.object.input_fields.as_slice(),
+        of.entries,
+        &place,
+        messages,
+    )?;
+    if messages.len() == of.told {
+        add_refusal_of_object(alloc, of.value, of.object, &place, messages)
+    } else {
+        Ok(())
     }
 }
 

@@ -1,6 +1,7 @@
 //! Values of variables against the types of a schema (GraphQL, October 2021, section 6.1.2).
 #![tactic(auto)]
 
+mod begun;
 mod entries;
 mod faults;
 mod inputs;

@@ -9,7 +9,6 @@ ghost use Rattle.variable_values.specs.Messages.{OfOperation, OfVariable, error_
 use crate::faults::add_faults;
 use crate::inputs::definitions_of;
 use crate::messages::add;
-use crate::place::Place;
 use crate::texts::required_message;
 use language::error::OutOfMemory;
 use language::position::{SourcePosition, Spanning};
@@ -73,8 +72,7 @@ fn messages_of<S: CheckedScalar>(
             }
         }
         Some(value) => {
-            let place = Place::Variable(name);
-            add_faults(alloc, schema, value, expected, &place, &mut messages)?;
+            add_faults(alloc, schema, value, expected, name, &mut messages)?;
         }
     }
     Ok(messages)

@@ -1,0 +1,32 @@
+use Rattle.std.proofs.Common.{◌≡◌, OnOk, None, ap, sym, subst, option_copied}
+use Rattle.language.specs.Types.{borrowed_shape}
+use Rattle.variable_values.specs.Begun.{Leads, OfGiven}
+use Rattle.variable_values.specs.Faults.{absent}
+use Rattle.variable_values.specs.Messages.{Adds, texts_of}
+use Rattle.variable_values.specs.Places.{before_path}
+use Rattle.variable_values.proofs.BegunLaws.{leads_done}
+use Rattle.variable_values.proofs.faults.begin_given.Goals as goal
+
+pub returns-in-Some-clause-leads : goal.returns-in-Some-clause-leads
+returns-in-Some-clause-leads g c =
+    let schema = c.args.schema.now in
+    let may = g.S.CheckedScalar.may_answer in
+    let text = g.S.ScalarValue.text in
+    let str_of = g.S.ScalarValue.str_of in
+    subst (λ o. OnOk c.begin.result (Leads schema may text str_of c.args.variable.now c.begin.new.begun.items c.begin.new.steps.items (texts_of c.begin.new.messages) (Adds (OfGiven schema may text str_of (option_copied o) (borrowed_shape c.args.expected)) (before_path c.args.variable.now c.args.steps.now.items)) c.args.begun.now.items c.args.steps.now.items (texts_of c.args.messages.now)))
+    (sym c.in-Some.is) c.begin.ensures.leads
+
+pub returns-in_ok-add_absence-in-None-clause-leads : goal.returns-in_ok-add_absence-in-None-clause-leads
+returns-in_ok-add_absence-in-None-clause-leads g c =
+    let schema = c.args.schema.now in
+    let may = g.S.CheckedScalar.may_answer in
+    let text = g.S.ScalarValue.text in
+    let str_of = g.S.ScalarValue.str_of in
+    let variable = c.args.variable.now in
+    let steps = c.args.steps.now.items in
+    let t = borrowed_shape c.args.expected in
+    let old = texts_of c.args.messages.now in
+    let new = texts_of c.add_absence.new.messages in
+    leads_done schema may text str_of variable c.args.begun.now.items steps c.take_back.new.steps.items new old (Adds (OfGiven schema may text str_of (option_copied c.args.given) t) (before_path variable steps)) c.take_back.ensures
+    (subst (λ o. Adds (OfGiven schema may text str_of (option_copied o) t) (before_path variable steps) old new) (sym c.in-None.is)
+    (subst (λ ss. Adds (λ fs. fs ≡ absent t) (before_path variable ss) old new) c.as_slice.ensures.value c.in_ok-add_absence-in-None.ensures))
