@@ -1,0 +1,2 @@
+pub mod TypenameLeafs
+pub mod TypenameLeafsLaws

@@ -1,0 +1,14 @@
+use Rattle.std.proofs.Common.{take}
+use Rattle.walk.specs.Entering.{EachGives}
+use Rattle.walk.specs.Rule.{Appended}
+use Rattle.operation_scopes.specs.Index.{operation_names}
+use Rattle.operation_scopes.specs.Searches.{IsReady}
+use Rattle.rules_specified_uses.specs.ValueUses.{use_values}
+use Rattle.rules_specified_positions.specs.JudgedUses.{OperationsGive}
+use Rattle.rules_specified_positions.proofs.judged_uses.report_names.Given as goal
+
+-- those of the names that were seen are judged
+abbrev pub invariant-loop-number : goal.invariant-loop-number
+invariant-loop-number g l =
+    IsReady l.index l.search
+    × Appended (EachGives (OperationsGive l.fn.ctx.schema.types l.document (use_values l.uses)) (take l.number (operation_names l.index))) l.fn.ctx l.ctx

@@ -1,0 +1,11 @@
+use Rattle.std.proofs.Common.{map, take}
+use Rattle.walk.specs.Rule.{Appended}
+use Rattle.rules_positions.specs.FirstVariables.{kept_first}
+use Rattle.rules_specified_uses.specs.ValueUses.{use_value}
+use Rattle.rules_specified_positions.specs.JudgedUses.{UsesGive}
+use Rattle.rules_specified_positions.proofs.judged_uses.report_uses.Given as goal
+
+-- those that were seen are judged
+abbrev pub invariant-loop-found : goal.invariant-loop-found
+invariant-loop-found g l =
+    Appended (UsesGive l.fn.ctx.schema.types (kept_first l.variables) (map use_value (take l.found-index l.uses))) l.fn.ctx l.ctx

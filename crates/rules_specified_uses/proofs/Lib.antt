@@ -1,0 +1,2 @@
+pub mod LastList
+pub mod WaitingUses

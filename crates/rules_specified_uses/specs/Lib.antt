@@ -1,0 +1,3 @@
+pub mod InputPlaces
+pub mod ValueUses
+pub mod Waiting
