@@ -1,0 +1,8 @@
+//! Errors of one text as JSON, for callers in other languages: [`report`].
+//!
+//! Proved: the bytes of a report are pinned by the errors and their text.
+#![tactic(auto)]
+
+mod json;
+
+pub use json::report;
