@@ -3,6 +3,6 @@
 //! Proved: the bytes of a report are pinned by the errors and their text.
 #![tactic(auto)]
 
-mod json;
+mod error_list;
 
-pub use json::report;
+pub use error_list::report;

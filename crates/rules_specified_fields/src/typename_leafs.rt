@@ -109,7 +109,8 @@ fn is_implicit_typename<S, C>(
     written: Option<BorrowedType<'_>>,
     name: &str,
 ) -> bool
-    ensures { result ≡ is_implicit_typename (option_copied parent.entry) (option_map borrowed_shape written.entry) name.now }
+    ensures { result
+        ≡ is_implicit_typename (option_copied parent.entry) (option_map borrowed_shape written.entry) name.now }
 {
     match (parent, written) {
         (Some(parent), None) => parent.is_composite() && name == "__typename",

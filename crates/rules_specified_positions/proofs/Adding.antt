@@ -1,5 +1,5 @@
 -- Uses that are added part by part.
-use Rattle.std.proofs.Common.{◌≡◌, ℕ, ◌+◌, ◌<◌, List, ◌++◌, length, take, get_or, ap, sym, ◌∙◌}
+use Rattle.std.proofs.Common.{◌≡◌, ℕ, ◌+◌, ◌<◌, List, length, take, get_or, ap, sym, ◌∙◌}
 use Rattle.std.specs.List.{flat_map}
 use Rattle.fragment_graph.proofs.Joining.{flat_map-next}
 use Rattle.rules_specified_uses.proofs.WaitingUses.{with_uses-append}

@@ -1,5 +1,5 @@
 -- The uses of variables in a document, judged by the first definitions of their variables (section 5.8.5).
-use Rattle.std.specs.Prelude.{◌≡◌, ℕ, List, [], Option, None, Some, map, slice_get}
+use Rattle.std.specs.Prelude.{◌≡◌, ℕ, List, [], Option, None, Some, slice_get}
 use Rattle.std.specs.Option.{unwrap_or}
 use Rattle.language.specs.declared.tree.Definition.{Definition}
 use Rattle.meta.specs.declared.kinds.MetaTypeOf.{MetaTypeOf}

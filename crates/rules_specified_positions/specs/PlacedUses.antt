@@ -1,5 +1,5 @@
 -- The variables in the arguments of a definition, where a type is expected (section 5.8.5).
-use Rattle.std.specs.Prelude.{ℕ, List, [], ◌∷◌, ◌++◌, Option}
+use Rattle.std.specs.Prelude.{List, [], ◌∷◌, ◌++◌, Option}
 use Rattle.std.specs.List.{flat_map}
 use Rattle.std.specs.Option.{option_map_or}
 use Rattle.language.specs.declared.tree.Arguments.{Arguments}

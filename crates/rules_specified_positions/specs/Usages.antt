@@ -1,5 +1,5 @@
 -- Whether a variable may stand where it is used, as IsVariableUsageAllowed and AreTypesCompatible have it (section 5.8.5).
-use Rattle.std.specs.Prelude.{◌≡◌, ◌⊎◌, List, [], ◌∷◌, Bool, true, false, not, ◌&&◌, ◌||◌, Option, if◌then◌else◌}
+use Rattle.std.specs.Prelude.{◌≡◌, ◌⊎◌, List, [], ◌∷◌, Bool, true, false, not, ◌&&◌, ◌||◌, if◌then◌else◌}
 use Rattle.std.specs.Option.{option_map_or}
 use Rattle.language.specs.Types.{TypeShape, inner_of, is_never_null, printed, shape}
 use Rattle.language.specs.declared.tree.VariableDefinition.{VariableDefinition}

@@ -1,5 +1,5 @@
 -- What the rule reports, and when that is nothing. In specs/, since ghost members of an impl cite nothing else.
-use Rattle.std.proofs.Common.{◌≡◌, ℕ, List, [], ◌∷◌, Option, None, Some, inl, inr, map, slice_get, Contains, refl, ap, sym, ◌∙◌, subst}
+use Rattle.std.proofs.Common.{◌≡◌, ℕ, List, [], Option, None, Some, inl, inr, map, slice_get, Contains, refl, ap, sym, ◌∙◌, subst}
 use Rattle.std.specs.Option.{unwrap_or}
 use Rattle.language.specs.declared.tree.Definition.{Definition}
 use Rattle.fragment_graph.proofs.Lists.{contains_at, contains_get, get_some}

@@ -1,4 +1,4 @@
-use Rattle.std.proofs.Common.{◌≡◌, OnOk, ap, subst, ◌∙◌}
+use Rattle.std.proofs.Common.{◌≡◌, OnOk, ap, subst}
 use Rattle.events.specs.SchemaView.{directive_arguments}
 use Rattle.rules_specified_uses.specs.ValueUses.{use_values, with_uses}
 use Rattle.rules_specified_positions.specs.PlacedUses.{arguments_uses}

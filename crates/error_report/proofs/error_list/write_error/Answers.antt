@@ -2,7 +2,7 @@ use Rattle.std.proofs.Common.{◌∙◌, ◌++◌, ap, codes}
 use Rattle.error_report.specs.Json.{locations_tokens}
 use Rattle.lint_report.proofs.InARow.{five_added}
 use Rattle.lint_report.specs.Json.{text_member}
-use Rattle.error_report.proofs.json.write_error.Goals as goal
+use Rattle.error_report.proofs.error_list.write_error.Goals as goal
 
 -- the members were written one after the other
 pub returns : goal.returns

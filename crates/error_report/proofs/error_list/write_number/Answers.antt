@@ -1,7 +1,7 @@
 use Rattle.std.proofs.Common.{◌∙◌, rules, subst, sym}
 use Rattle.json.specs.Print.{IsNumber}
 use Rattle.json.proofs.Printed.Decimals.{IsNumber-decimal}
-use Rattle.error_report.proofs.json.write_number.Goals as goal
+use Rattle.error_report.proofs.error_list.write_number.Goals as goal
 
 -- its decimal digits are a number of JSON
 pub token-requires-2 : goal.token-requires-2

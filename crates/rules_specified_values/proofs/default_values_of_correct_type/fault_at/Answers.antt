@@ -1,0 +1,10 @@
+use Rattle.std.proofs.Common.{ap, subst, IfOk, option_map, string_bytes}
+use Rattle.language.specs.Types.{borrowed_shape}
+use Rattle.language.specs.ValuesPrinted.{printed_value}
+use Rattle.literals.specs.Judged.{WrittenFault}
+use Rattle.rules_specified_values.proofs.default_values_of_correct_type.fault_at.Goals as goal
+
+pub returns : goal.returns
+returns g c =
+    subst (λ schema. IfOk c.validate_written_value.result (λ fault. WrittenFault schema g.S.CheckedScalar.may_answer (printed_value g.S.ScalarValue.text g.S.ScalarValue.str_of) c.args.value.now (borrowed_shape c.args.written) (option_map string_bytes fault)))
+    (ap (λ k. k.schema) c.ctx.view_is) c.validate_written_value.ensures.fault

@@ -1,0 +1,2 @@
+pub mod DefaultValuesOfCorrectType
+pub mod DefaultValuesOfCorrectTypeLaws
