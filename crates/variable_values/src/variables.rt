@@ -24,7 +24,8 @@ use walk::RuleError;
 ///
 /// The errors are in ascending order, each at the name of its variable. The type of each variable has to be a known
 /// input type, as in a document without errors. An input object is read by its `to_object_value`: of several entries
-/// of a key the last counts. A value without a fault takes no memory for messages or places.
+/// of a key the last counts. A value without a fault takes no memory for messages, and no stack for its depth: lists
+/// hold the parts of a value that are begun.
 ///
 /// # Errors
 ///

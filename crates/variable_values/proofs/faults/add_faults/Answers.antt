@@ -1,4 +1,4 @@
-use Rattle.std.proofs.Common.{arith, ◌≡◌, [], reverse}
+use Rattle.std.proofs.Common.{arith, ◌≡◌, []}
 use Rattle.std.proofs.lemmas.Grind.{common_steps}
 use Rattle.language.specs.Types.{borrowed_shape}
 use Rattle.variable_values.specs.Begun.{IsKnown}

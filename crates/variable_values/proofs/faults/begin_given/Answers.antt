@@ -1,4 +1,4 @@
-use Rattle.std.proofs.Common.{◌≡◌, OnOk, None, ap, sym, subst, option_copied}
+use Rattle.std.proofs.Common.{◌≡◌, OnOk, sym, subst, option_copied}
 use Rattle.language.specs.Types.{borrowed_shape}
 use Rattle.variable_values.specs.Begun.{Leads, OfGiven}
 use Rattle.variable_values.specs.Faults.{absent}

@@ -1,4 +1,4 @@
-use Rattle.std.proofs.Common.{◌≡◌, ◌≤◌, ◌+◌, ◌<◌, get_or, length, arith, ap, sym, ◌∙◌}
+use Rattle.std.proofs.Common.{◌≡◌, ◌≤◌, ◌+◌, ◌<◌, get_or, length, arith, ap}
 use Rattle.std.proofs.lemmas.Result.{on_ok_weaker}
 use Rattle.language.specs.Types.{borrowed_shape}
 use Rattle.variable_values.specs.declared.begun.Begun.TheVariants as b

@@ -1,4 +1,4 @@
-use Rattle.std.proofs.Common.{◌≡◌, refl, option_map}
+use Rattle.std.proofs.Common.{◌≡◌}
 use Rattle.std.proofs.lemmas.Result.{IfOk-weaker}
 use Rattle.language.specs.Types.{borrowed_shape}
 use Rattle.variable_values.specs.Faults.{Faults}

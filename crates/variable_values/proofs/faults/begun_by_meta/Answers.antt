@@ -1,13 +1,9 @@
-use Rattle.std.proofs.Common.{◌≡◌, ◌∷◌, [], ◌++◌, sym, ap, subst, ◌∙◌, refl, string_bytes, map}
-use Rattle.std.proofs.lemmas.Result.{IfOk-weaker}
-use Rattle.language.specs.declared.value.InputValue.{out-InputValue}
-use Rattle.language.specs.ValuesPrinted.{printed_value}
-use Rattle.meta.specs.Kept.{scalar_check}
-use Rattle.variable_values.specs.Faults.{Checked, accepted_faults, enum_faults, here, name_in}
+use Rattle.std.proofs.Common.{◌∷◌, [], ◌++◌, sym, ap, subst, ◌∙◌, refl, string_bytes}
+use Rattle.variable_values.specs.Faults.{here}
 use Rattle.variable_values.specs.Messages.{Adds, texts_of, told_after}
 use Rattle.variable_values.specs.Places.{before}
 use Rattle.variable_values.specs.Rows.{ByMeta, OfWhole}
-use Rattle.variable_values.specs.Texts.{no_object_text, scalar_text}
+use Rattle.variable_values.specs.Texts.{no_object_text}
 use Rattle.variable_values.proofs.BegunLaws.{adds-end, whole}
 use Rattle.variable_values.proofs.ObjectLaws.{by_no_object, by_object}
 use Rattle.variable_values.proofs.Told.{adds-as, adds-one, as_long}

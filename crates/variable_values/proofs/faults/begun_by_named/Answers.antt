@@ -1,4 +1,4 @@
-use Rattle.std.proofs.Common.{◌≡◌, [], Some, sym, ◌∙◌, refl, true≢false}
+use Rattle.std.proofs.Common.{[], Some, sym, ◌∙◌, refl, true≢false}
 use Rattle.std.proofs.lemmas.Result.{IfOk-weaker}
 use Rattle.variable_values.specs.Places.{before}
 use Rattle.variable_values.specs.Rows.{ByMeta, ByName}

@@ -1,4 +1,3 @@
-use Rattle.std.proofs.Common.{sym}
 use Rattle.std.proofs.lemmas.Result.{on_ok_weaker}
 use Rattle.variable_values.specs.Begun.{IsKnown}
 use Rattle.variable_values.specs.Messages.{texts_of}

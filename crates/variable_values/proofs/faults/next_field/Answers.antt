@@ -1,4 +1,4 @@
-use Rattle.std.proofs.Common.{◌≡◌, ◌≤◌, ◌<◌, length, arith, ap, sym, subst, ◌∙◌}
+use Rattle.std.proofs.Common.{◌≤◌, length, arith, subst}
 use Rattle.variable_values.specs.declared.begun.Begun.TheVariants as b
 use Rattle.variable_values.specs.Begun.{EndsObject, Left}
 use Rattle.variable_values.specs.Messages.{texts_of}
