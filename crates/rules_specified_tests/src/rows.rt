@@ -3,10 +3,14 @@ use graphql_reader::{SourceScalar, read_document};
 use language::error::OutOfMemory;
 use language::tree::Definition;
 use rules_specified::single_root_field;
+use rules_specified_fields::typename_leafs;
+use rules_specified_positions::variables_in_allowed_position;
+use rules_specified_values::default_values_of_correct_type;
 use schema::model::SchemaType;
 use sdl_reader::read_schema;
+use sdl_scalars::SourceCheck;
 use std::alloc::Global;
-use walk::{ValidatorContext, visit_rules};
+use walk::{Rule, ValidatorContext, Visitor, visit_rules};
 
 const SCHEMA: &str = "
 type Query { a: Int }
@@ -71,14 +75,123 @@ const ROOTS: &[(&str, &str)] = &[
     ),
 ];
 
-/// What the rule says of a document.
-fn told(
+const INPUTS: &str = "
+scalar JSON
+input O { a: Int! = 3 b: Int! c: [O!] d: [[O]!]! = [] }
+union U = Query | Other
+type Other { q: Query }
+type Query {
+  any(v: JSON): Int
+  obj(o: O): Int
+  req(x: Int! = 3): Int
+  i(x: Int): Int
+  lo(x: [O!]): Int
+  lists(x: [[O]]): Int
+  deep(x: [[Int!]]): Int
+  u: U
+  q: Query
+}
+directive @on(x: Int! = 3, y: Int!) on FIELD | QUERY
+";
+
+/// A document, and each error of the rule on positions of variables.
+const POSITIONS: &[(&str, &str)] = &[
+    ("query ($a: Int) { req(x: $a) }", ""),
+    ("query ($a: Int = null) { req(x: $a) }", ""),
+    (
+        "query ($a: String) { req(x: $a) }",
+        "Variable \"a\" of type \"String\" used in position expecting type \"Int!\". At 0:7, 0:28\n",
+    ),
+    (
+        "query ($a: Int = null) { obj(o: {b: $a}) }",
+        "Variable \"a\" of type \"Int\" used in position expecting type \"Int!\". At 0:7, 0:36\n",
+    ),
+    ("query ($a: Int = 3) { obj(o: {b: $a}) }", ""),
+    (
+        "query ($a: Int) { obj(o: {b: $a}) }",
+        "Variable \"a\" of type \"Int\" used in position expecting type \"Int!\". At 0:7, 0:29\n",
+    ),
+    ("query ($a: Int) { obj(o: {a: $a, b: 1}) }", ""),
+    ("query ($a: Int! = 3) { i(x: $a) }", ""),
+    (
+        "query ($a: Float) { lo(x: {b: $a}) }",
+        "Variable \"a\" of type \"Float\" used in position expecting type \"Int!\". At 0:7, 0:30\n",
+    ),
+    (
+        "query ($a: Float) { lo(x: [{b: $a}]) }",
+        "Variable \"a\" of type \"Float\" used in position expecting type \"Int!\". At 0:7, 0:31\n",
+    ),
+    (
+        "query ($a: Float) { lists(x: {c: {c: [{b: $a}]}}) }",
+        "Variable \"a\" of type \"Float\" used in position expecting type \"Int!\". At 0:7, 0:42\n",
+    ),
+    (
+        "query ($a: O) { lo(x: $a) }",
+        "Variable \"a\" of type \"O\" used in position expecting type \"[O!]\". At 0:7, 0:22\n",
+    ),
+    (
+        "query ($a: [O]) { lo(x: $a) }",
+        "Variable \"a\" of type \"[O]\" used in position expecting type \"[O!]\". At 0:7, 0:24\n",
+    ),
+    ("query ($a: [O!]!) { lo(x: $a) }", ""),
+    (
+        "query ($a: Int) { deep(x: [[$a]]) }",
+        "Variable \"a\" of type \"Int\" used in position expecting type \"Int!\". At 0:7, 0:28\n",
+    ),
+    ("query ($a: Int = 1) { deep(x: [[$a]]) }", ""),
+    ("query ($a: [Int!]) { deep(x: [$a]) }", ""),
+    (
+        "query ($a: Int!) { deep(x: $a) }",
+        "Variable \"a\" of type \"Int!\" used in position expecting type \"[[Int!]]\". At 0:7, 0:27\n",
+    ),
+    ("query ($a: [[O]!]) { obj(o: {b: 1, d: $a}) }", ""),
+    ("query ($a: Int) { any(v: {a: $a}) }", ""),
+    (
+        "query ($a: Int $b: Int) @on(x: $a, y: $b) { i @on(x: $b, y: 1) }",
+        "Variable \"b\" of type \"Int\" used in position expecting type \"Int!\". At 0:15, 0:38\n",
+    ),
+    (
+        "query ($a: Float) { ...F } fragment F on Query { i(x: $a) u { ... on Other { q { i(x: $a) } } } } query Q { ...F }",
+        "Variable \"a\" of type \"Float\" used in position expecting type \"Int\". At 0:7, 0:54\nVariable \"a\" of type \"Float\" used in position expecting type \"Int\". At 0:7, 0:86\n",
+    ),
+];
+
+/// A document, and each error of the rule on default values.
+const DEFAULTS: &[(&str, &str)] = &[
+    ("query ($a: Int! = 3) { i(x: $a) }", ""),
+    (
+        "query ($a: Int! = null) { i(x: $a) }",
+        "Invalid default value for argument \"a\", expected type \"Int!\", reason: \"null\" specified for not nullable type \"Int!\". At 0:18\n",
+    ),
+    ("query ($a: Int = null) { i(x: $a) }", ""),
+    (
+        "query ($a: Int! = \"x\") { i(x: $a) }",
+        "Invalid default value for argument \"a\", expected type \"Int!\", reason: Invalid value \"\"x\"\" for type \"Int\". At 0:18\n",
+    ),
+    ("query ($a: Nope! = 3) { i(x: $a) }", ""),
+];
+
+/// A document, and each error of the rule on `__typename` as a leaf.
+const TYPENAMES: &[(&str, &str)] = &[
+    ("{ u { __typename } }", ""),
+    (
+        "{ u { __typename { x } } }",
+        "Field \"__typename\" must not have a selection since type String! has no subfields. At 0:6\n",
+    ),
+    ("{ __typename { x } }", ""),
+    ("{ nope { __typename { x } } }", ""),
+];
+
+/// What a rule says of a document.
+fn told<'a, R: Visitor<'a, SourceScalar> + Rule<SourceScalar, SourceCheck> + Drop>(
     alloc: Global,
-    schema: &SchemaType<SourceScalar>,
-    document: &[Definition<'_, SourceScalar>],
-) -> Result<String, OutOfMemory> {
+    schema: &'a SchemaType<SourceScalar>,
+    document: &'a [Definition<'_, SourceScalar>],
+    mut rule: R,
+) -> Result<String, OutOfMemory>
+    requires { R.fresh rule }
+{
     let mut ctx = ValidatorContext::new(alloc, schema, document)?;
-    let mut rule = single_root_field::factory(alloc);
     visit_rules(&mut rule, &mut ctx, document)?;
     let mut text = String::new(alloc);
     for error in &ctx.into_errors()? {
@@ -94,7 +207,44 @@ fn roots_of_subscriptions(rt: HostRuntime) {
     let schema = read_schema(alloc, SCHEMA).expect(&rt, "it is a schema");
     for (text, want) in ROOTS {
         let document = read_document(alloc, *text).expect(&rt, "it is a document");
-        let said = told(alloc, &schema, document.as_slice()).expect(&rt, "memory");
+        let rule = single_root_field::factory(alloc);
+        let said = told(alloc, &schema, document.as_slice(), rule).expect(&rt, "memory");
+        assert_eq!(rt; said.as_str(), *want, "{text}");
+    }
+}
+
+#[test]
+fn positions_of_variables(rt: HostRuntime) {
+    let alloc = rt.alloc();
+    let schema = read_schema(alloc, INPUTS).expect(&rt, "it is a schema");
+    for (text, want) in POSITIONS {
+        let document = read_document(alloc, *text).expect(&rt, "it is a document");
+        let rule = variables_in_allowed_position::factory(alloc);
+        let said = told(alloc, &schema, document.as_slice(), rule).expect(&rt, "memory");
+        assert_eq!(rt; said.as_str(), *want, "{text}");
+    }
+}
+
+#[test]
+fn default_values(rt: HostRuntime) {
+    let alloc = rt.alloc();
+    let schema = read_schema(alloc, INPUTS).expect(&rt, "it is a schema");
+    for (text, want) in DEFAULTS {
+        let document = read_document(alloc, *text).expect(&rt, "it is a document");
+        let rule = default_values_of_correct_type::factory(alloc);
+        let said = told(alloc, &schema, document.as_slice(), rule).expect(&rt, "memory");
+        assert_eq!(rt; said.as_str(), *want, "{text}");
+    }
+}
+
+#[test]
+fn typenames(rt: HostRuntime) {
+    let alloc = rt.alloc();
+    let schema = read_schema(alloc, INPUTS).expect(&rt, "it is a schema");
+    for (text, want) in TYPENAMES {
+        let document = read_document(alloc, *text).expect(&rt, "it is a document");
+        let rule = typename_leafs::factory();
+        let said = told(alloc, &schema, document.as_slice(), rule).expect(&rt, "memory");
         assert_eq!(rt; said.as_str(), *want, "{text}");
     }
 }
