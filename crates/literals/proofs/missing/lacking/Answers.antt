@@ -1,5 +1,6 @@
-use Rattle.std.proofs.Common.{arith, ◌≡◌, [], ap, sym, ◌∙◌, map, Bor, List, ℕ, string_bytes}
+use Rattle.std.proofs.Common.{arith, ◌≡◌, [], ap, sym, ◌∙◌, map, length, Bor, List, ℕ, string_bytes}
 use Rattle.std.proofs.lemmas.Grind.{common_steps}
+use Rattle.std.proofs.lemmas.List.{nil_from_length}
 use Rattle.std.proofs.lemmas.List.Sums.{fold_more}
 use Rattle.meta.specs.Kinds.{input_fields_of}
 use Rattle.literals.specs.Judged.{keys_of, printed_name}
@@ -18,7 +19,8 @@ loop-field-preserved g c =
 pub returns-then-is_empty : goal.returns-then-is_empty
 returns-then-is_empty g c =
     let full : map (λ (n : Bor (List ℕ)). n.now) c.loop-field.names.items ≡ missing (keys_of c.args.entries.now) c.fields_of-field-items.result.now = grind (arith, common_steps) in
-    let nil : c.loop-field.names.items ≡ [] = grind (arith, common_steps) in
+    let none : length c.loop-field.names.items ≡ 0 = grind (arith, c.is_empty.ensures, c.if-is_empty.true) in
+    let nil : c.loop-field.names.items ≡ [] = nil_from_length c.loop-field.names.items none in
     ap (missing_fault (printed_name c.args.meta.now)) (sym (ap (map (λ (n : Bor (List ℕ)). n.now)) nil) ∙ full ∙ ap (missing (keys_of c.args.entries.now)) c.fields_of-field-items.ensures)
 
 pub returns : goal.returns
