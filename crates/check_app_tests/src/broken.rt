@@ -1,5 +1,5 @@
 //! Runs in which an allocation, a read or a write fails.
-use crate::runs::{Run, Source, ended};
+use crate::runs::{Run, Source, outcome};
 use check_app::program::{tell, words_failure};
 use std::io;
 use std::test::Fail;
@@ -53,7 +53,7 @@ fn a_failed_read_is_told(rt: HostRuntime) -> Result<(), Fail> {
     for (kind, wanted, line) in kinds {
         for left in 0..=TEXT.len() {
             let text = TEXT.get(..left).unwrap_or(TEXT);
-            let ended = ended(rt.alloc(), &on(text, Some(kind)))?;
+            let ended = outcome(rt.alloc(), &on(text, Some(kind)))?;
             assert!(rt; ended.is(wanted, "", line));
         }
     }
@@ -66,7 +66,7 @@ fn a_failed_write_is_told(rt: HostRuntime) -> Result<(), Fail> {
     for left in 0..=TOLD.len() {
         let mut run = on(TEXT, None);
         run.output = left;
-        let ended = ended(rt.alloc(), &run)?;
+        let ended = outcome(rt.alloc(), &run)?;
         assert!(rt; ended.is(5, TOLD.get(..left).unwrap_or("none"), FAILED));
     }
     Ok(())
@@ -83,7 +83,7 @@ fn a_failed_line_of_faults_ends_with_5(rt: HostRuntime) -> Result<(), Fail> {
             let mut run = on(text, None);
             run.word = word;
             run.faults = left;
-            let ended = ended(rt.alloc(), &run)?;
+            let ended = outcome(rt.alloc(), &run)?;
             assert!(rt; ended.is(5, "", line.get(..left).unwrap_or("none")));
         }
     }
@@ -111,7 +111,7 @@ const REFUSED: [(&[u8], &str); 4] = [
 #[test]
 fn a_refused_request_is_told(rt: HostRuntime) {
     for (text, wanted) in REFUSED {
-        if let Ok(ended) = ended(rt.alloc(), &on(text, None)) {
+        if let Ok(ended) = outcome(rt.alloc(), &on(text, None)) {
             assert!(rt; ended.is(1, wanted, "") || ended.is(3, "", NO_MEMORY));
         }
     }

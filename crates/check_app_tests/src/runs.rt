@@ -94,7 +94,7 @@ impl Ended {
 }
 
 /// How the run ends.
-pub fn ended(alloc: Global, run: &Run) -> Result<Ended, AllocError> {
+pub fn outcome(alloc: Global, run: &Run) -> Result<Ended, AllocError> {
     let checks = Checks {
         int: DefaultCheck::with_token(check_int, refuse_token),
         string: DefaultCheck::with_token(check_string, refuse_token),
