@@ -11,6 +11,7 @@ use Rattle.meta.specs.declared.kinds.TypeKind.{TypeKind}
 use Rattle.meta.specs.declared.kinds.TypeKind.TheVariants as k
 use Rattle.meta.specs.declared.kinds.MetaTypeOf.{MetaTypeOf}
 use Rattle.meta.specs.declared.kinds.MetaTypeOf.TheVariants as m
+use Rattle.meta.specs.Kept.{takes_any_literal}
 
 abbrev pub is_builtin_name : List ℕ → Bool
 is_builtin_name n =
@@ -54,6 +55,11 @@ module _ {S C : Type 0} where
   abbrev pub url_of_meta : MetaTypeOf S C → Option (List ℕ)
   url_of_meta (m.Scalar x) = option_map string_bytes x.specified_by_url
   url_of_meta _ = None
+
+  -- a scalar whose check is asked of any literal
+  abbrev pub is_any_literal_meta : MetaTypeOf S C → Bool
+  is_any_literal_meta (m.Scalar x) = takes_any_literal x
+  is_any_literal_meta _ = false
 
   -- neither a nullable type nor a placeholder has one
   abbrev pub kind_of_meta : MetaTypeOf S C → Option TypeKind

@@ -1,8 +1,8 @@
 //! Scalars.
-ghost use Rattle.std.specs.Prelude.{◌≡◌, IfOk, None, Some, option_map, string_bytes};
+ghost use Rattle.std.specs.Prelude.{◌≡◌, IfOk, None, Some, false, option_map, string_bytes};
 ghost use Rattle.meta.specs.Answers.{AnswersAlike, TakesAll};
 ghost use Rattle.meta.specs.Functions.{function_of, token_function_of};
-ghost use Rattle.meta.specs.Kept.{scalar_check};
+ghost use Rattle.meta.specs.Kept.{scalar_check, taking_any_literal, takes_any_literal};
 
 use crate::check::CheckedScalar;
 use crate::default_check::{DefaultCheck, InputValueParseFn, ScalarTokenParseFn};
@@ -17,6 +17,7 @@ pub struct ScalarMetaOf<C> {
     pub description: Option<String>,
     pub specified_by_url: Option<String>,
     check: C,
+    any_literal: bool,
 }
 
 /// Metadata of a scalar, with the check of the scalar type `S`.
@@ -45,6 +46,7 @@ impl ScalarMetaOf<DefaultCheck> {
         ensures url { IfOk result (λ m. m.specified_by_url ≡ None) }
         ensures check { IfOk result (λ m. function_of (scalar_check m) ≡ check) }
         ensures token { IfOk result (λ m. token_function_of (scalar_check m) ≡ Some token) }
+        ensures any_literal { IfOk result (λ m. takes_any_literal m ≡ false) }
     {
         ScalarMetaOf::with_check(alloc, name, DefaultCheck::with_token(check, token))
     }
@@ -61,12 +63,14 @@ impl<C: Drop> ScalarMetaOf<C> {
         ensures description { IfOk result (λ m. m.description ≡ None) }
         ensures url { IfOk result (λ m. m.specified_by_url ≡ None) }
         ensures check { IfOk result (λ m. scalar_check m ≡ check) }
+        ensures any_literal { IfOk result (λ m. takes_any_literal m ≡ false) }
     {
         Ok(ScalarMetaOf {
             name: String::from_str(alloc, name)?,
             description: None,
             specified_by_url: None,
             check,
+            any_literal: false,
         })
     }
 
@@ -98,11 +102,27 @@ impl<C: Drop> ScalarMetaOf<C> {
 }
 
 impl<C> ScalarMetaOf<C> {
+    /// The same scalar, whose check is asked of lists and objects, too, where a schema is judged by October 2021
+    /// (section 3.5.6).
+    pub fn with_any_literal(mut self) -> Self
+        ensures { result ≡ taking_any_literal self }
+    {
+        self.any_literal = true;
+        self
+    }
+
     /// The scalar as metadata of any kind.
     pub fn into_meta<S>(self) -> MetaTypeOf<S, C>
         ensures { result ≡ MetaTypeOf.Scalar self }
     {
         MetaTypeOf::Scalar(self)
+    }
+
+    /// Whether the check of the scalar is asked of lists and objects, too.
+    pub fn takes_any_literal(&self) -> bool
+        ensures { result ≡ takes_any_literal self.now }
+    {
+        self.any_literal
     }
 
     /// The check of the scalar.

@@ -47,12 +47,13 @@ module _ {S C : Type 0} where
   IsAccepted-prop roots ts = hlevel codes
 
   -- a schema is what callers see of it
-  pub catalog-same : (c d : Catalog S C) → c.description ≡ d.description → c.types ≡ d.types → c.roots ≡ d.roots → c.directives ≡ d.directives → c ≡ d
-  catalog-same c d e f g h = λ i. record {
+  pub catalog-same : (c d : Catalog S C) → c.description ≡ d.description → c.types ≡ d.types → c.roots ≡ d.roots → c.directives ≡ d.directives → c.dialect ≡ d.dialect → c ≡ d
+  catalog-same c d e f g h k = λ i. record {
     description = e i;
     types = f i;
     roots = g i;
     directives = h i;
+    dialect = k i;
     accepted = is_prop→PathP (λ j. IsAccepted (g j) (f j)) (λ j. IsAccepted-prop (g j) (f j)) c.accepted d.accepted i;
     directive_inputs_input = is_prop→PathP (λ j. list_all (is_input_listed (f j)) (directive_inputs (h j)) ≡ true) (λ j. true-prop (list_all (is_input_listed (f j)) (directive_inputs (h j)))) c.directive_inputs_input d.directive_inputs_input i;
     directives_distinct = is_prop→PathP (λ j. are_distinct directive_name (h j) ≡ true) (λ j. true-prop (are_distinct directive_name (h j))) c.directives_distinct d.directives_distinct i;

@@ -9,14 +9,16 @@ use Rattle.schema_validation.specs.declared.directives.DirectiveType.{DirectiveT
 use Rattle.schema_validation.specs.Accepted.{Roots, IsAccepted, is_named, is_input_listed}
 use Rattle.schema_validation.specs.Directives.{directive_name, directive_inputs}
 use Rattle.schema_validation.specs.Named.{is_called, are_distinct}
+use Rattle.schema.specs.declared.model.dialect.Dialect.{Dialect}
 
--- The types in their order, the names of the roots, the directives in their order and the description. The types are
--- accepted, each argument of a directive has an input type, and no two directives have the same name.
+-- The types in their order, the names of the roots, the directives in their order, the dialect and the description. The
+-- types are accepted, each argument of a directive has an input type, and no two directives have the same name.
 pub record Catalog (S C : Type 0) : Type 0 where
   pub description : Option (List ℕ)
   pub types : List (MetaTypeOf S C)
   pub roots : Roots
   pub directives : List (DirectiveType S)
+  pub dialect : Dialect
   pub accepted : IsAccepted roots types
   pub directive_inputs_input : list_all (is_input_listed types) (directive_inputs directives) ≡ true
   pub directives_distinct : are_distinct directive_name directives ≡ true

@@ -16,6 +16,7 @@ mod ordered;
 mod possible;
 mod subtypes;
 
+use crate::model::dialect::Dialect;
 use crate::model::types::TypeTypeOf;
 use indexmap::IndexMap;
 use language::value::DefaultScalarValue;
@@ -46,6 +47,7 @@ pub struct SchemaTypeOf<S, C> {
     mutation: Option<String>,
     subscription: Option<String>,
     directives: IndexMap<String, DirectiveType<S>>,
+    dialect: Dialect,
     ghost accepted: { IsAccepted (kept_roots query mutation subscription) (values types) },
     ghost directive_inputs_input: { list_all (is_input_listed (values types)) (directive_inputs (values directives))
         ≡ true },
@@ -75,6 +77,7 @@ impl<S, C> Model for SchemaTypeOf<S, C> {
       types = values s.types;
       roots = kept_roots s.query s.mutation s.subscription;
       directives = values s.directives;
+      dialect = s.dialect;
       accepted = s.accepted;
       directive_inputs_input = s.directive_inputs_input;
       directives_distinct = s.directives_distinct;
@@ -92,7 +95,7 @@ impl<S: Drop, C: Drop> SchemaTypeOf<S, C> {
     ///
     /// It adds the fields `__schema` and `__type` to the query root, and the directives `skip`,
     /// `include`, `deprecated` and `specifiedBy`. The names `_EmptyMutation` and `_EmptySubscription`
-    /// mean that there is no such root.
+    /// mean that there is no such root. The dialect is juniper's.
     ///
     /// # Errors
     ///
@@ -143,6 +146,7 @@ impl<S: Drop, C: Drop> SchemaTypeOf<S, C> {
         ensures roots { IfOk result (λ s. s.roots ≡ roots_asked roots.entry) }
         ensures directives { IfOk result (λ s. map directive_shape s.directives ≡ standard_directives) }
         ensures description { IfOk result (λ s. s.description ≡ None) }
+        ensures dialect { IfOk result (λ s. s.dialect ≡ Dialect.Juniper) }
         ensures err { IfErr result (λ e. e ≡ SchemaError.OutOfMemory) }
     {
         let query = String::from_str(alloc, roots.query)?;
@@ -161,6 +165,7 @@ impl<S: Drop, C: Drop> SchemaTypeOf<S, C> {
             mutation,
             subscription,
             directives,
+            dialect: Dialect::Juniper,
         })
     }
 }

@@ -7,6 +7,7 @@ ghost use Rattle.schema.specs.Changes.{argument_types, directive_types, with_dir
 ghost use Rattle.schema_validation.specs.Directives.{directive_name};
 ghost use Rattle.schema_validation.specs.Named.{are_keyed};
 
+use crate::model::dialect::Dialect;
 use crate::model::schemas::SchemaTypeOf;
 use indexmap::IndexMap;
 use language::error::OutOfMemory;
@@ -119,6 +120,20 @@ impl<S, C> SchemaTypeOf<S, C> {
         self.description = Some(kept);
         Ok(())
     }
+
+    /// By whose rules values and documents are judged.
+    pub fn dialect(&self) -> Dialect
+        ensures { result ≡ self.now.dialect }
+    {
+        self.dialect
+    }
+
+    /// Chooses by whose rules values and documents are judged.
+    pub fn set_dialect(&mut self, dialect: Dialect)
+        ensures { self.new ≡ record self.old { dialect = dialect } }
+    {
+        self.dialect = dialect;
+    }
 }
 
 impl<S: Drop, C: Drop> SchemaTypeOf<S, C> {
@@ -135,6 +150,7 @@ impl<S: Drop, C: Drop> SchemaTypeOf<S, C> {
         ensures types { self.new.types ≡ self.old.types }
         ensures roots { self.new.roots ≡ self.old.roots }
         ensures description { self.new.description ≡ self.old.description }
+        ensures dialect { self.new.dialect ≡ self.old.dialect }
         ensures refused { IfErr result (IsTrueOfArguments self.old.types (directive_types directive)) }
         ensures unchanged { OnErr result (self.new ≡ self.old) }
         ensures memory_alone { AreInputTypes self.old.types (directive_types directive)
@@ -150,6 +166,7 @@ impl<S: Drop, C: Drop> SchemaTypeOf<S, C> {
         ensures types { self.new.types ≡ self.old.types }
         ensures roots { self.new.roots ≡ self.old.roots }
         ensures description { self.new.description ≡ self.old.description }
+        ensures dialect { self.new.dialect ≡ self.old.dialect }
         ensures unchanged { OnErr result (self.new ≡ self.old) }
         ensures err { IfErr result (λ e. e ≡ SchemaError.OutOfMemory) }
     {

@@ -25,5 +25,5 @@ pub returns-clause-unchanged : goal.returns-clause-unchanged
 returns-clause-unchanged g c =
     let s = c.self.inside in
     on_err_weaker {P = values c.put_entry.new.directives ≡ values s.directives} c.put_entry.result
-    (λ e. catalog-same _ c.args.self.now (ap (λ k. k.description) c.self.view_is) (ap (λ k. k.types) c.self.view_is) (ap (λ k. k.roots) c.self.view_is) (e ∙ ap (λ k. k.directives) c.self.view_is))
+    (λ e. catalog-same _ c.args.self.now (ap (λ k. k.description) c.self.view_is) (ap (λ k. k.types) c.self.view_is) (ap (λ k. k.roots) c.self.view_is) (e ∙ ap (λ k. k.directives) c.self.view_is) (ap (λ k. k.dialect) c.self.view_is))
     (on-err-from (values c.put_entry.new.directives) (with_directive c.args.directive (values s.directives)) (values s.directives) c.put_entry.result c.put_entry.ensures.listed)
