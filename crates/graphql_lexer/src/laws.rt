@@ -5,7 +5,8 @@ ghost use Rattle.graphql_lexer.specs.Lexical.{Token, IsToken};
 
 /// A text has at most one token at its front, whatever its kind and length.
 pub fn one_token()
-    ensures { (t u : Token) (s r v w : List ℕ) → IsToken t s r → IsToken u v w → s ++ r ≡ v ++ w → (t ≡ u) × (s ≡ v) }
+    ensures { (t u : Token) (s r v w : List ℕ) → IsToken t s r → IsToken u v w → s ++ r ≡ v ++ w
+        → (t ≡ u) × (s ≡ v) }
 {}
 
 /// A text has at most one list of lexemes.

@@ -51,7 +51,8 @@ pub enum Token<'a> {
 /// The token at the start of a text, and its length in bytes. Ignored tokens (section 2.1.7) must be skipped before.
 pub fn token_at(text: &[u8]) -> (Token<'_>, usize)
     ensures found { IsFront text.now (seen_at result) }
-    ensures only { (t : GrammarToken) (s r : List ℕ) → IsToken t s r → text.now ≡ s ++ r → seen_at result ≡ (t, length s) }
+    ensures only { (t : GrammarToken) (s r : List ℕ) → IsToken t s r → text.now ≡ s ++ r
+        → seen_at result ≡ (t, length s) }
 {
     scanned_at(text)
 }
@@ -189,7 +190,8 @@ fn after_point(text: &[u8]) -> Option<usize>
 // The length of an exponent, 0 if there is none; if a digit is missing, the number of bytes before it.
 #[tactic(auto, unfolding(crate::specs::Scanning::exponent))]
 fn after_exponent(text: &[u8]) -> Result<usize, usize>
-    ensures exact { MatchResult result (λ n. spec.exponent text.now ≡ Some n) (λ _. spec.exponent text.now ≡ None) }
+    ensures exact { MatchResult result (λ n. spec.exponent text.now ≡ Some n)
+        (λ _. spec.exponent text.now ≡ None) }
     ensures within { IfOk result (λ n. n ≤ length text.now) }
 {
     let lead: usize = match text {

@@ -1,4 +1,5 @@
-//! The fields that are collected from a selection set at a root (GraphQL, October 2021, section 6.3.2), with no values of variables.
+//! The fields that are collected from a selection set at a root, with no values of variables (GraphQL, October 2021,
+//! section 6.3.2).
 
 ghost use Rattle.std.specs.Prelude.{◌≡◌, ◌++◌, ◌∷◌, [], ℕ, List, Some, IfOk, OnOk, option_copied, option_and_then, reverse, slice_get};
 ghost use Rattle.std.specs.List.{list_any};
@@ -147,7 +148,8 @@ fn some_leaves_out<S: ScalarValue>(
     alloc: Global,
     directives: &[Spanning<Directive<'_, S>>],
 ) -> Result<bool, AllocError>
-    ensures { IfOk result (λ b. b ≡ list_any (λ d. leaves_out (printed_value S.text S.str_of) d.item) directives.now) }
+    ensures { IfOk result (λ b. b
+        ≡ list_any (λ d. leaves_out (printed_value S.text S.str_of) d.item) directives.now) }
 {
     for directive in directives {
         if leaves_out(alloc, &directive.item)? {
@@ -292,9 +294,11 @@ fn collect_first<'a, S: ScalarValue, C>(
 ) -> Result<(), AllocError>
     requires { IsRoot root.now }
     ensures { OnOk result ((names : List (List ℕ)) → Marks root.now.numbers state.old.opened names
-        → (added : List (Placed (Field S))) × (placed state.new.fields.items ≡ placed state.old.fields.items ++ added)
+        → (added : List (Placed (Field S)))
+        × (placed state.new.fields.items ≡ placed state.old.fields.items ++ added)
         × Leads (printed_value S.text S.str_of) root.now state.new.opened
-        (set.now ∷ reverse (list_copied state.old.waiting.items)) (reverse (list_copied state.new.waiting.items)) added names) }
+        (set.now ∷ reverse (list_copied state.old.waiting.items))
+        (reverse (list_copied state.new.waiting.items)) added names) }
 {
     let Some((first, rest)) = set.split_first() else {
         return Ok(());

@@ -27,16 +27,16 @@ use schema::model::SchemaTypeOf;
 use std::alloc::{AllocError, Global};
 use walk::{Criterion, Event, Fresh, Machine, Rule, SettledRule, ValidatorContext, Visitor};
 
-/// Reports each subscription that selects no field at its root, fields of several response names, or fields of introspection. Fragments
-/// are opened where their type condition applies to the root; what `@skip` or `@include` leaves out without values of variables does not
-/// count.
+/// Reports each subscription that selects no field at its root, fields of several response names, or fields of
+/// introspection. Fragments are opened where their type condition applies to the root. What `@skip` or `@include`
+/// leaves out without values of variables does not count.
 #[derive(Drop)]
 pub struct SingleRootField {
     alloc: Global,
 }
 
-// What is to be said of the fields at a root: whether there are none, the places of those with another response name than the first,
-// and the places of those of introspection.
+// What is to be said of the fields at a root: whether there are none, the places of those with another response name
+// than the first, and the places of those of introspection.
 #[derive(Drop)]
 pub(crate) struct FoundAtRoot {
     is_empty: bool,
@@ -122,7 +122,8 @@ fn report_all<'a, S: CheckedScalar>(
     document: &'a [Definition<'a, S>],
 ) -> Result<(), OutOfMemory>
     ensures ok { OnOk result ((es : List ErrorValue)
-        × TellsEach (printed_value S.text S.str_of) ctx.old.schema document.now document.now es × (ctx.new ≡ with_errors ctx.old es)) }
+        × TellsEach (printed_value S.text S.str_of) ctx.old.schema document.now document.now es
+        × (ctx.new ≡ with_errors ctx.old es)) }
     ensures err { OnErr result (KeepsPlace ctx.old ctx.new) }
 {
     let Some(name) = root_name(ctx.schema) else {
