@@ -106,7 +106,10 @@ fields_send =
                   search (crosses, knot.crosses, sendable) depth 60 fits 20000,
                   (
                     search (directive_send, crosses, knot.crosses, sendable) depth 60 fits 20000,
-                    tt,
+                    (
+                      search (crosses, knot.crosses, sendable) depth 60 fits 20000,
+                      tt,
+                    ),
                   ),
                 ),
               ),
@@ -142,7 +145,10 @@ fields_sync =
                   search (crosses, knot.crosses_both, sendable) depth 60 fits 20000,
                   (
                     search (directive_sync, crosses, knot.crosses_both, sendable) depth 60 fits 20000,
-                    tt,
+                    (
+                      search (crosses, knot.crosses_both, sendable) depth 60 fits 20000,
+                      tt,
+                    ),
                   ),
                 ),
               ),
