@@ -13,12 +13,13 @@ use Rattle.language.specs.Values.{Entry, list_items, items_layer}
 use Rattle.language.specs.ValuesPrinted.{comma_separated}
 use Rattle.meta.specs.Answers.{Answers}
 use Rattle.meta.specs.declared.arguments.Argument.{Argument}
-use Rattle.meta.specs.Kinds.{input_field_named}
+use Rattle.meta.specs.Kinds.{check_of_meta, input_field_named}
 use Rattle.meta.specs.declared.kinds.MetaTypeOf.{MetaTypeOf}
 use Rattle.schema.specs.Catalog.{Catalog}
 use Rattle.schema.specs.Wrapped.{WrappedMeta, plain_meta}
+use Rattle.literals.specs.AnyLiteral.{takes_any}
 use Rattle.literals.specs.FirstFault.{FirstFault}
-use Rattle.literals.specs.Judged.{judge_of, Is, IsNone, IsTypeOf, Judged, EntryFault, KeyedFault, LacksFields, ObjectFault, against_name, is_input_object_meta, keyed, keys_of, object, printed_name}
+use Rattle.literals.specs.Judged.{judge_of, Is, IsNone, IsTypeOf, Judged, EntryFault, KeyedFault, LacksFields, ObjectFault, against_name, is_input_object_meta, checked, keyed, keys_of, object, printed_name, unless_any}
 use Rattle.literals.specs.Missing.{missing_fault}
 use Rattle.literals.specs.Rows.{SaysItems}
 use Rattle.literals.specs.Texts.{field_text, no_object_text, quoted, unknown_text}
@@ -38,6 +39,16 @@ module _ {S C : Type 0} (schema : Catalog S C) (may : Answers (InputValue S) C) 
       → FirstFault (λ y. Judged schema may shown y.item w) IsNone ys f → SaysItems schema may shown (list_items value) w f
   says_items value xs ys w f e same h =
       subst (λ o. SaysItems schema may shown o w f) (sym (listed value xs e)) (subst (λ zs. FirstFault (λ y. Judged schema may shown y.item w) IsNone zs f) same h)
+
+  -- a list or an object against a type that takes any literal
+  pub by_check : (meta : MetaTypeOf S C) (value : InputValue S) (f : Option (List ℕ)) (Otherwise : Type 0) → takes_any schema meta ≡ true
+      → checked may shown (check_of_meta meta) value meta f → unless_any may shown (takes_any schema meta) value meta f Otherwise
+  by_check meta value f Otherwise e h = subst (λ b. unless_any may shown b value meta f Otherwise) (sym e) h
+
+  -- and against one that does not
+  pub otherwise : (meta : MetaTypeOf S C) (value : InputValue S) (f : Option (List ℕ)) (Otherwise : Type 0) → takes_any schema meta ≡ false
+      → Otherwise → unless_any may shown (takes_any schema meta) value meta f Otherwise
+  otherwise meta value f Otherwise e h = subst (λ b. unless_any may shown b value meta f Otherwise) (sym e) h
 
   -- an object against a type that is not an input object
   pub no_object : (meta : MetaTypeOf S C) (es : List (Entry (InputValue S))) (f : Option (List ℕ)) → is_input_object_meta meta ≡ false → Is (no_object_text (printed_name meta)) f → ObjectFault schema may shown meta es f

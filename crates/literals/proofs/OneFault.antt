@@ -17,9 +17,10 @@ use Rattle.meta.specs.Answers.{Answers}
 use Rattle.meta.specs.Kinds.{check_of_meta, input_field_named}
 use Rattle.schema.specs.Catalog.{Catalog}
 use Rattle.schema.specs.Wrapped.{WrappedMeta}
+use Rattle.literals.specs.AnyLiteral.{takes_any}
 use Rattle.literals.specs.FirstFault.{Telling, FirstFault}
-use Rattle.literals.specs.Judged.{IsNone, Judged, LacksFields, against_name, checked, entry, is_enum_meta, is_input_object_meta, judge_of, key_of, keyed, keys_of, object, other_length, printed_name, sized, unless_enum, within}
-use Rattle.literals.specs.Texts.{field_text}
+use Rattle.literals.specs.Judged.{Is, IsNone, Judged, LacksFields, against_name, checked, entry, is_enum_meta, is_input_object_meta, judge_of, key_of, keyed, keys_of, object, other_length, printed_name, sized, unless_any, unless_enum, within}
+use Rattle.literals.specs.Texts.{field_text, list_text}
 use Rattle.literals.specs.Laws.{OneAnswer, OneFault}
 use Rattle.literals.proofs.RowLaws.{Against, at_roll}
 
@@ -55,6 +56,10 @@ module _ {S C : Type 0} (schema : Catalog S C) (may : Answers (InputValue S) C) 
   one_scalar true value meta f g p q = p ∙ sym q
   one_scalar false value meta f g p q = one_checked (check_of_meta meta) value meta f g p q
 
+  one_unless_any : (b : Bool) (value : InputValue S) (meta : MetaTypeOf S C) (told : Option (List ℕ) → Type 0) → OneTold told → OneTold (λ f. unless_any may shown b value meta f (told f))
+  one_unless_any true value meta told h f g p q = one_checked (check_of_meta meta) value meta f g p q
+  one_unless_any false value meta told h f g p q = h f g p q
+
   one_sized : (o : Option ℕ) (found : ℕ) (value : InputValue S) (told : Option (List ℕ) → Type 0) → OneTold told → OneTold (λ f. sized may shown o found value f (told f))
   one_sized None found value told h f g p q = h f g p q
   one_sized (Some wanted) found value told h f g p q = p ∙ sym q
@@ -88,8 +93,9 @@ module _ {S C : Type 0} (schema : Catalog S C) (may : Answers (InputValue S) C) 
   one_named (v.Variable n) value meta h f g p q = p ∙ sym q
   one_named (v.Scalar s) value meta h f g p q = one_scalar (is_enum_meta meta) value meta f g p q
   one_named (v.Enum n) value meta h f g p q = one_checked (check_of_meta meta) value meta f g p q
-  one_named (v.List xs) value meta h f g p q = p ∙ sym q
-  one_named (v.Object es) value meta h f g p q = one_object (is_input_object_meta meta) meta es.items h f g p q
+  one_named (v.List xs) value meta h f g p q = one_unless_any (takes_any schema meta) value meta (Is list_text) (λ a b k l. k ∙ sym l) f g p q
+  one_named (v.Object es) value meta h f g p q =
+      one_unless_any (takes_any schema meta) value meta (object schema may shown (λ y. y) (judge_of schema may shown) (is_input_object_meta meta) meta es.items) (one_object (is_input_object_meta meta) meta es.items h) f g p q
 
   one_against : (x : v.InputValue-F S (InputValue S)) (value : InputValue S) (ms : List TypeModifier) (meta : MetaTypeOf S C) → Inside x → OneTold (Against schema may shown x value ms meta)
   one_against x value [] meta h f g p q = one_named x value meta h f g p q

@@ -20,11 +20,12 @@ use Rattle.schema.specs.Catalog.{Catalog, type_in}
 use Rattle.schema_validation.specs.Names.{argument_type}
 use Rattle.schema.specs.Wrapped.{WrappedMeta}
 use Rattle.schema.proofs.AcceptedLemmas.{find-called}
+use Rattle.literals.specs.AnyLiteral.{takes_any}
 use Rattle.literals.specs.FirstFault.{Telling, FirstFault}
 use Rattle.literals.specs.InSchema.{IsInSchema}
-use Rattle.literals.specs.Judged.{IsNone, Judged, LacksFields, against_name, checked, entry, is_enum_meta, is_input_object_meta, judge_of, key_of, keyed, keys_of, object, other_length, printed_name, sized, unless_enum, within}
+use Rattle.literals.specs.Judged.{Is, IsNone, Judged, LacksFields, against_name, checked, entry, is_enum_meta, is_input_object_meta, judge_of, key_of, keyed, keys_of, object, other_length, printed_name, sized, unless_any, unless_enum, within}
 use Rattle.literals.specs.Laws.{AnswersAll, SomeFault}
-use Rattle.literals.specs.Texts.{field_text}
+use Rattle.literals.specs.Texts.{field_text, list_text}
 use Rattle.literals.proofs.FieldTypes.{field_listed}
 use Rattle.literals.proofs.OneFault.{each_of}
 use Rattle.literals.proofs.RowLaws.{Against, at_roll}
@@ -58,6 +59,10 @@ module _ {S C : Type 0} (schema : Catalog S C) (may : Answers (InputValue S) C) 
   some_scalar true value meta = (Some _, refl)
   some_scalar false value meta = some_checked (check_of_meta meta) value meta
 
+  some_unless_any : (b : Bool) (value : InputValue S) (meta : MetaTypeOf S C) (told : Option (List ℕ) → Type 0) → SomeTold told → SomeTold (λ f. unless_any may shown b value meta f (told f))
+  some_unless_any true value meta told h = some_checked (check_of_meta meta) value meta
+  some_unless_any false value meta told h = h
+
   some_sized : (o : Option ℕ) (found : ℕ) (value : InputValue S) (told : Option (List ℕ) → Type 0) → SomeTold told → SomeTold (λ f. sized may shown o found value f (told f))
   some_sized None found value told h = h
   some_sized (Some wanted) found value told h = (Some _, refl)
@@ -90,8 +95,9 @@ module _ {S C : Type 0} (schema : Catalog S C) (may : Answers (InputValue S) C) 
   some_named (v.Variable s) value n meta known h = (None, refl)
   some_named (v.Scalar s) value n meta known h = some_scalar (is_enum_meta meta) value meta
   some_named (v.Enum s) value n meta known h = some_checked (check_of_meta meta) value meta
-  some_named (v.List xs) value n meta known h = (Some _, refl)
-  some_named (v.Object es) value n meta known h = some_object (is_input_object_meta meta) n meta known es.items h
+  some_named (v.List xs) value n meta known h = some_unless_any (takes_any schema meta) value meta (Is list_text) (Some list_text, refl)
+  some_named (v.Object es) value n meta known h =
+      some_unless_any (takes_any schema meta) value meta (object schema may shown (λ y. y) (judge_of schema may shown) (is_input_object_meta meta) meta es.items) (some_object (is_input_object_meta meta) n meta known es.items h)
 
   some_against : (x : v.InputValue-F S (InputValue S)) (value : InputValue S) (ms : List TypeModifier) (n : List ℕ) (meta : MetaTypeOf S C) → type_in n schema ≡ Some meta → Inside x → SomeTold (Against schema may shown x value ms meta)
   some_against x value [] n meta known h = some_named x value n meta known h

@@ -16,8 +16,9 @@ use Rattle.meta.specs.declared.kinds.MetaTypeOf.{MetaTypeOf}
 use Rattle.meta.specs.Kinds.{input_field_named}
 use Rattle.schema.specs.Catalog.{Catalog}
 use Rattle.schema.specs.Wrapped.{WrappedMeta}
+use Rattle.literals.specs.AnyLiteral.{takes_any}
 use Rattle.literals.specs.FirstFault.{Telling, FirstFault}
-use Rattle.literals.specs.Judged.{Judge, IsNone, is_input_object_meta, key_of, keys_of, LacksFields, other_length, within, sized, keyed, entry, object, against_name, against, judge_step, Judged}
+use Rattle.literals.specs.Judged.{Judge, IsNone, is_input_object_meta, key_of, keys_of, LacksFields, other_length, within, sized, keyed, entry, object, against_name, against, judge_step, Judged, unless_any}
 
 first_fault-map : {X Y : Type 0} (h : X → Y) (by : Telling X) (tells : Telling Y) (at_end : Option (List ℕ) → Type 0)
     → ((x : X) (f : Option (List ℕ)) → by x f ≡ tells (h x) f)
@@ -71,7 +72,7 @@ module _ {S C : Type 0} (schema : Catalog S C) (may : Answers (InputValue S) C) 
     name-natural (v.Scalar s) value meta fault = refl
     name-natural (v.Enum n) value meta fault = refl
     name-natural (v.List xs) value meta fault = refl
-    name-natural (v.Object es) value meta fault = object-natural (is_input_object_meta meta) meta es.items fault
+    name-natural (v.Object es) value meta fault = ap (unless_any may shown (takes_any schema meta) value meta fault) (object-natural (is_input_object_meta meta) meta es.items fault)
 
     natural : (x : v.InputValue-F S X) (value : InputValue S) (ms : List TypeModifier) (meta : MetaTypeOf S C) (fault : Option (List ℕ))
         → against schema may shown value_of below x value ms meta fault ≡ against schema may shown same judge (opened x) value ms meta fault

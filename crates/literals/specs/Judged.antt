@@ -14,6 +14,7 @@ use Rattle.meta.specs.Answers.{Answers, Accepts, RefusesWith}
 use Rattle.meta.specs.Kinds.{name_of_meta, check_of_meta, input_fields_of, input_field_named}
 use Rattle.schema.specs.Catalog.{Catalog, type_in}
 use Rattle.schema.specs.Wrapped.{WrappedMeta, wrapped_shape}
+use Rattle.literals.specs.AnyLiteral.{takes_any}
 use Rattle.literals.specs.FirstFault.{FirstFault}
 use Rattle.literals.specs.Missing.{missing, missing_fault}
 use Rattle.literals.specs.Texts.{null_text, enum_text, value_text, no_check_text, list_text, no_object_text, field_text, unknown_text, length_text}
@@ -90,6 +91,11 @@ module _ {S C : Type 0} where
     unless_enum true value meta fault = Is (enum_text (shown value) (printed_name meta)) fault
     unless_enum false value meta fault = checked (check_of_meta meta) value meta fault
 
+    -- a scalar that takes any literal judges a list or an object by its check
+    abbrev pub unless_any : Bool → InputValue S → MetaTypeOf S C → Option (List ℕ) → Type 0 → Type 0
+    unless_any true value meta fault Otherwise = checked (check_of_meta meta) value meta fault
+    unless_any false value meta fault Otherwise = Otherwise
+
     -- a list of another length than expected, or else the fault of its items
     abbrev pub sized : Option ℕ → ℕ → InputValue S → Option (List ℕ) → Type 0 → Type 0
     sized None found value fault Otherwise = Otherwise
@@ -124,8 +130,8 @@ module _ {S C : Type 0} where
       against_name (v.Variable n) value meta fault = IsNone fault
       against_name (v.Scalar s) value meta fault = unless_enum may shown (is_enum_meta meta) value meta fault
       against_name (v.Enum n) value meta fault = checked may shown (check_of_meta meta) value meta fault
-      against_name (v.List xs) value meta fault = Is list_text fault
-      against_name (v.Object es) value meta fault = object (is_input_object_meta meta) meta es.items fault
+      against_name (v.List xs) value meta fault = unless_any may shown (takes_any schema meta) value meta fault (Is list_text fault)
+      against_name (v.Object es) value meta fault = unless_any may shown (takes_any schema meta) value meta fault (object (is_input_object_meta meta) meta es.items fault)
 
       -- a value against a name with modifiers, outermost first
       abbrev pub against : v.InputValue-F S X → InputValue S → List TypeModifier → MetaTypeOf S C → Option (List ℕ) → Type 0

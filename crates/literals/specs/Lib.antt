@@ -1,3 +1,4 @@
+pub mod AnyLiteral
 pub mod Begun
 pub mod Expected
 pub mod FirstFault

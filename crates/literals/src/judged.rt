@@ -3,13 +3,14 @@ ghost use Rattle.std.specs.Prelude.{◌≡◌, ◌∷◌, IfOk, List, None, OnOk
 ghost use Rattle.std.specs.List.{All};
 ghost use Rattle.language.specs.ValuesPrinted.{printed_value};
 ghost use Rattle.meta.specs.Kinds.{check_of_meta};
-ghost use Rattle.schema.specs.Catalog.{Catalog};
 ghost use Rattle.schema.specs.Wrapped.{plain_meta, wrapped_of};
+ghost use Rattle.literals.specs.AnyLiteral.{takes_any};
 ghost use Rattle.literals.specs.Begun.{AfterAll, GoesOn, IsKnown, Leads, Left, told};
 ghost use Rattle.literals.specs.Expected.{expected_type};
 ghost use Rattle.literals.specs.FirstFault.{FirstFault};
 ghost use Rattle.literals.specs.InSchema.{IsInSchema};
-ghost use Rattle.literals.specs.Judged.{EntryFault, IsNone, Judged, LacksFields, checked, is_enum_meta, is_input_object_meta, keys_of, unless_enum};
+ghost use Rattle.literals.specs.Judged.{EntryFault, Is, IsNone, Judged, LacksFields, checked, is_enum_meta, is_input_object_meta, keys_of, unless_any, unless_enum};
+ghost use Rattle.literals.specs.Texts.{list_text};
 
 use crate::begun::{Begun, text_within};
 use crate::expected::{Expected, type_of_field};
@@ -24,7 +25,7 @@ use language::position::Spanning;
 use language::value::InputValue;
 use meta::check::CheckedScalar;
 use meta::kinds::MetaTypeOf;
-use schema::model::{SchemaType, TypeType};
+use schema::model::{Dialect, SchemaType, SchemaTypeOf, TypeType};
 use std::alloc::Global;
 
 /// The text of the first fault in a value, or `None` if the value conforms to the type (section 5.6.1).
@@ -155,33 +156,37 @@ fn begin<'t, 'a, 'v, S: CheckedScalar>(
             }
             _ => unreachable!(),
         },
-        Row::Plain(meta) => begin_plain(alloc, meta, value, begun),
+        Row::Plain(meta) => begin_plain(alloc, schema, meta, value, begun),
     }
 }
 
 // The same for a type without modifiers.
 fn begin_plain<'t, 'a, 'v, S: CheckedScalar>(
     alloc: Global,
+    schema: &'a SchemaType<S>,
     meta: &'a MetaTypeOf<S, S::Check>,
     value: &'v InputValue<S>,
     begun: &mut Vec<Begun<'t, 'a, 'v, S, S::Check>>,
 ) -> Result<Option<String>, OutOfMemory>
-    ensures leads { (schema : Catalog S S.Check) → IfOk result
-        (λ fault. Leads schema S.may_answer (printed_value S.text S.str_of) begun.new.items
+    requires known { IsInSchema schema.now (plain_meta meta.now) }
+    ensures leads { IfOk result
+        (λ fault. Leads schema.now S.may_answer (printed_value S.text S.str_of) begun.new.items
         (option_map string_bytes fault)
-        (Judged schema S.may_answer (printed_value S.text S.str_of) value.now (plain_meta meta.now))
+        (Judged schema.now S.may_answer (printed_value S.text S.str_of) value.now (plain_meta meta.now))
         begun.old.items) }
-    ensures known { (schema : Catalog S S.Check) → IsInSchema schema (plain_meta meta.now)
-        → OnOk result (All (IsKnown schema) begun.old.items → All (IsKnown schema) begun.new.items) }
+    ensures known { OnOk result (All (IsKnown schema.now) begun.old.items
+        → All (IsKnown schema.now) begun.new.items) }
 {
     match value {
         InputValue::Null => Ok(None),
         InputValue::Variable(_) => Ok(None),
         InputValue::Scalar(_) => fault_of_scalar(alloc, meta, value),
         InputValue::Enum(_) => ask(alloc, meta, value),
-        InputValue::List(_) => Ok(Some(list_fault(alloc)?)),
+        InputValue::List(_) => fault_of_list(alloc, schema, meta, value),
         InputValue::Object(entries) => {
-            if is_input_object(meta) {
+            if takes_any(schema, meta) {
+                ask(alloc, meta, value)
+            } else if is_input_object(meta) {
                 let all = entries.as_slice();
                 begun.push(Begun::Entries(meta, None, all, all))?;
                 Ok(None)
@@ -312,7 +317,25 @@ fn fault_of_scalar<S: CheckedScalar>(
     }
 }
 
-// The fault of a scalar or an enum value, by the check of the type.
+// The fault of a list for a type without modifiers.
+fn fault_of_list<S: CheckedScalar>(
+    alloc: Global,
+    schema: &SchemaType<S>,
+    meta: &MetaTypeOf<S, S::Check>,
+    value: &InputValue<S>,
+) -> Result<Option<String>, OutOfMemory>
+    ensures { IfOk result (λ fault. unless_any S.may_answer (printed_value S.text S.str_of)
+        (takes_any schema.now meta.now) value.now meta.now (option_map string_bytes fault)
+        (Is list_text (option_map string_bytes fault))) }
+{
+    if takes_any(schema, meta) {
+        ask(alloc, meta, value)
+    } else {
+        Ok(Some(list_fault(alloc)?))
+    }
+}
+
+// The fault of a value without looking into it, by the check of the type.
 fn ask<S: CheckedScalar>(
     alloc: Global,
     meta: &MetaTypeOf<S, S::Check>,
@@ -328,6 +351,15 @@ fn ask<S: CheckedScalar>(
             Err(CheckError::Refused(_)) => Ok(Some(value_fault(alloc, meta, value)?)),
             Err(CheckError::OutOfMemory) => Err(OutOfMemory),
         },
+    }
+}
+
+fn takes_any<S, C>(schema: &SchemaTypeOf<S, C>, meta: &MetaTypeOf<S, C>) -> bool
+    ensures { result ≡ takes_any schema.now meta.now }
+{
+    match schema.dialect() {
+        Dialect::Juniper => false,
+        Dialect::October2021 => meta.takes_any_literal(),
     }
 }
 

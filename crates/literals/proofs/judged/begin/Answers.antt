@@ -8,6 +8,11 @@ use Rattle.literals.proofs.BegunLaws.{leads_as, leads_begun, leads_here}
 use Rattle.literals.proofs.ObjectLaws.{says_items}
 use Rattle.literals.proofs.judged.begin.Goals as goal
 
+pub begin_plain-requires : goal.begin_plain-requires
+begin_plain-requires g c =
+    let known = c.requires.known in
+    record { known = (known.0, known.1 ∙ ap (λ m. Some m) (sym c.in-Plain.ensures.metadata)) }
+
 pub returns-in-Conforms-clause-leads : goal.returns-in-Conforms-clause-leads
 returns-in-Conforms-clause-leads g c =
     let may = g.S.CheckedScalar.may_answer in
@@ -49,9 +54,4 @@ returns-in-Plain-clause-leads g c =
     IfOk-weaker c.begin_plain.result _ _
     (λ a. leads_as schema may shown c.begin_plain.new.begun.items c.args.begun.now.items (option_map string_bytes a) (Judged schema may shown value (plain_meta c.in-Plain.meta.now)) (Judged schema may shown value (expected_type c.args.expected))
     (λ fault h. c.in-Plain.ensures.row schema fault h))
-    (c.begin_plain.ensures.leads schema)
-
-pub returns-in-Plain-clause-known : goal.returns-in-Plain-clause-known
-returns-in-Plain-clause-known g c =
-    let known = c.requires.known in
-    c.begin_plain.ensures.known c.args.schema.now (known.0, known.1 ∙ ap (λ m. Some m) (sym c.in-Plain.ensures.metadata))
+    c.begin_plain.ensures.leads
