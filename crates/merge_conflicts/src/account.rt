@@ -100,7 +100,7 @@ pub fn add_reason<S: ScalarValue, C>(
         (place_of (plain first.now) ∷ []) (place_of (plain second.now) ∷ []) account.old account.new) }
 {
     add_places(account, first, second)?;
-    match direct_reason(schema, flag, first, second) {
+    match direct_reason(schema, flag, first, second)? {
         Some(reason) => {
             let text = reason_text(alloc, reason, first, second)?;
             add_text(account, text.as_str())

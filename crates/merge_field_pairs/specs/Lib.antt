@@ -1,5 +1,6 @@
 pub mod Entries
 pub mod SameArguments
+pub mod SimpleArguments
 pub mod TypeConflict
 pub mod DirectReason
 pub mod Texts

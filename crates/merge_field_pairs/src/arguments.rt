@@ -1,49 +1,63 @@
 //! Whether two fields are given the same arguments.
-ghost use Rattle.std.specs.Prelude.{◌≡◌};
+ghost use Rattle.std.specs.Prelude.{◌≡◌, IfOk, IsOk};
+ghost use Rattle.std.specs.List.{All};
 ghost use Rattle.merge_field_pairs.specs.SameArguments.{is_given, are_given, same_arguments};
+ghost use Rattle.merge_field_pairs.specs.SimpleArguments.{IsSimple, AreSimple};
 
 use language::position::Spanning;
 use language::scalar::ScalarValue;
 use language::tree::Arguments;
 use language::value::InputValue;
+use std::alloc::AllocError;
 
 /// Whether neither has a list, or both have one that gives the same.
+///
+/// # Errors
+///
+/// Out of memory, and only where a value on the left is a list or an object.
 pub fn have_same_arguments<S: ScalarValue>(
     left: &Option<Spanning<Arguments<'_, S>>>,
     right: &Option<Spanning<Arguments<'_, S>>>,
-) -> bool
-    ensures { result ≡ same_arguments S.eq left.now right.now }
+) -> Result<bool, AllocError>
+    ensures value { IfOk result (λ b. b ≡ same_arguments S.eq left.now right.now) }
+    ensures succeeds { AreSimple left.now → IsOk result }
 {
     match (left, right) {
-        (None, None) => true,
+        (None, None) => Ok(true),
         (Some(l), Some(r)) => give_the_same(&l.item, &r.item),
-        _ => false,
+        _ => Ok(false),
     }
 }
 
-fn give_the_same<S: ScalarValue>(left: &Arguments<'_, S>, right: &Arguments<'_, S>) -> bool
-    ensures { result ≡ are_given S.eq left.now.items.items right.now.items.items }
+fn give_the_same<S: ScalarValue>(
+    left: &Arguments<'_, S>,
+    right: &Arguments<'_, S>,
+) -> Result<bool, AllocError>
+    ensures value { IfOk result (λ b. b ≡ are_given S.eq left.now.items.items right.now.items.items) }
+    ensures succeeds { All (λ p. IsSimple p.1.item) left.now.items.items → IsOk result }
 {
     if left.len() != right.len() {
-        return false;
+        return Ok(false);
     }
     for (name, value) in &left.items {
-        if !is_given_by(right, name.item, &value.item) {
-            return false;
+        let is_given = is_given_by(right, name.item, &value.item)?;
+        if !is_given {
+            return Ok(false);
         }
     }
-    true
+    Ok(true)
 }
 
 fn is_given_by<S: ScalarValue>(
     arguments: &Arguments<'_, S>,
     name: &str,
     value: &InputValue<S>,
-) -> bool
-    ensures { result ≡ is_given S.eq arguments.now.items.items name.now value.now }
+) -> Result<bool, AllocError>
+    ensures value { IfOk result (λ b. b ≡ is_given S.eq arguments.now.items.items name.now value.now) }
+    ensures succeeds { IsSimple value.now → IsOk result }
 {
     match arguments.get(name) {
-        Some(other) => value.unlocated_eq(&other.item),
-        None => false,
+        Some(other) => value.try_unlocated_eq(&other.item),
+        None => Ok(false),
     }
 }

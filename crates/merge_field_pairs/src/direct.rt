@@ -1,7 +1,8 @@
 //! Why two fields can't be merged, whatever stands below them.
-ghost use Rattle.std.specs.Prelude.{◌≡◌, IsSome, None, true, false, option_copied};
+ghost use Rattle.std.specs.Prelude.{◌≡◌, IfOk, IsOk, IsSome, None, true, false, option_copied};
 ghost use Rattle.merge_field_pairs.specs.Entries.{plain, IsTidy};
 ghost use Rattle.merge_field_pairs.specs.DirectReason.{direct_of, reason_under, do_known_types_conflict};
+ghost use Rattle.merge_field_pairs.specs.SimpleArguments.{HasSimpleArguments};
 
 use crate::arguments::have_same_arguments;
 use crate::entry::{Entry, are_exclusive};
@@ -9,6 +10,7 @@ use crate::type_conflict::are_in_conflict;
 use language::scalar::ScalarValue;
 use meta::Field as FieldMeta;
 use schema::model::SchemaTypeOf;
+use std::alloc::AllocError;
 
 /// Why two fields of one response name can't be merged, whatever stands below them.
 #[derive(Clone, Copy, Debug, PartialEq, Eq)]
@@ -22,20 +24,25 @@ pub enum DirectReason {
 ///
 /// Where neither field repeats an argument, nor a key in one, the order of the two does not matter, and a field has no
 /// conflict with itself. Two fields without a conflict have none where their surroundings exclude each other.
+///
+/// # Errors
+///
+/// Out of memory, and only where an argument of `left` is a list or an object.
 pub fn direct_reason<S: ScalarValue, C>(
     schema: &SchemaTypeOf<S, C>,
     exclusive: bool,
     left: &Entry<'_, S, C>,
     right: &Entry<'_, S, C>,
-) -> Option<DirectReason>
-    ensures value { result ≡ direct_of S.eq schema.now exclusive (plain left.now) (plain right.now) }
+) -> Result<Option<DirectReason>, AllocError>
+    ensures value { IfOk result (λ r. r ≡ direct_of S.eq schema.now exclusive (plain left.now) (plain right.now)) }
     ensures either_order { IsTidy (plain left.now) → IsTidy (plain right.now)
-        → result ≡ direct_of S.eq schema.now exclusive (plain right.now) (plain left.now) }
-    ensures itself { IsTidy (plain left.now) → plain left.now ≡ plain right.now → result ≡ None }
-    ensures less_where_exclusive { result ≡ None → direct_of S.eq schema.now true (plain left.now) (plain right.now)
-        ≡ None }
-    ensures more_elsewhere { IsSome result
-        → IsSome (direct_of S.eq schema.now false (plain left.now) (plain right.now)) }
+        → IfOk result (λ r. r ≡ direct_of S.eq schema.now exclusive (plain right.now) (plain left.now)) }
+    ensures itself { IsTidy (plain left.now) → plain left.now ≡ plain right.now → IfOk result (λ r. r ≡ None) }
+    ensures less_where_exclusive { IfOk result (λ r. r ≡ None
+        → direct_of S.eq schema.now true (plain left.now) (plain right.now) ≡ None) }
+    ensures more_elsewhere { IfOk result (λ r. IsSome r
+        → IsSome (direct_of S.eq schema.now false (plain left.now) (plain right.now))) }
+    ensures succeeds { HasSimpleArguments (plain left.now) → IsOk result }
 {
     first_reason(schema, are_exclusive(exclusive, left, right), left, right)
 }
@@ -46,22 +53,24 @@ fn first_reason<S: ScalarValue, C>(
     exclusive: bool,
     left: &Entry<'_, S, C>,
     right: &Entry<'_, S, C>,
-) -> Option<DirectReason>
-    ensures { result ≡ reason_under S.eq schema.now exclusive (plain left.now) (plain right.now) }
+) -> Result<Option<DirectReason>, AllocError>
+    ensures value { IfOk result (λ r. r ≡ reason_under S.eq schema.now exclusive (plain left.now) (plain right.now)) }
+    ensures succeeds { HasSimpleArguments (plain left.now) → IsOk result }
 {
     if !exclusive {
         let (l, r) = (left.field, right.field);
         if l.item.name.item != r.item.name.item {
-            return Some(DirectReason::DifferentNames);
+            return Ok(Some(DirectReason::DifferentNames));
         }
-        if !have_same_arguments(&l.item.arguments, &r.item.arguments) {
-            return Some(DirectReason::DifferentArguments);
+        let are_same = have_same_arguments(&l.item.arguments, &r.item.arguments)?;
+        if !are_same {
+            return Ok(Some(DirectReason::DifferentArguments));
         }
     }
     if are_known_in_conflict(schema, left.metadata, right.metadata) {
-        return Some(DirectReason::DifferentTypes);
+        return Ok(Some(DirectReason::DifferentTypes));
     }
-    None
+    Ok(None)
 }
 
 // Whether both types are known, and in conflict.

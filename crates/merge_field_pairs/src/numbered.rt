@@ -1,15 +1,17 @@
 //! Fields by number: what stands between two of them.
-ghost use Rattle.std.specs.Prelude.{◌≡◌, map, option_copied, option_map, slice_get};
+ghost use Rattle.std.specs.Prelude.{◌≡◌, IfOk, IfSome, IsOk, map, option_copied, option_map, slice_get};
 ghost use Rattle.std.specs.Bool.{Decides};
 ghost use Rattle.merge_field_pairs.specs.Alike.{AreAlikeBetween, AreAlikeAt};
 ghost use Rattle.merge_field_pairs.specs.Entries.{plain};
 ghost use Rattle.merge_field_pairs.specs.Numbered.{exclusive_between, exclusive_at, direct_between, direct_at};
+ghost use Rattle.merge_field_pairs.specs.SimpleArguments.{HasSimpleArguments};
 
 use crate::alike::are_alike;
 use crate::direct::{DirectReason, direct_reason};
 use crate::entry::{Entry, are_exclusive};
 use language::scalar::ScalarValue;
 use schema::model::SchemaTypeOf;
+use std::alloc::AllocError;
 
 /// Whether no response contains both fields. For a number that is no field's the result is `exclusive`.
 pub fn are_exclusive_at<S, C>(
@@ -24,14 +26,19 @@ pub fn are_exclusive_at<S, C>(
 }
 
 /// Why two fields can't be merged. For a number that is no field's there is no reason.
+///
+/// # Errors
+///
+/// Out of memory, and only where an argument of the field on the left is a list or an object.
 pub fn direct_reason_at<S: ScalarValue, C>(
     schema: &SchemaTypeOf<S, C>,
     fields: &[Entry<'_, S, C>],
     exclusive: bool,
     left: usize,
     right: usize,
-) -> Option<DirectReason>
-    ensures { result ≡ direct_at S.eq schema.now (map plain fields.now) exclusive left right }
+) -> Result<Option<DirectReason>, AllocError>
+    ensures value { IfOk result (λ r. r ≡ direct_at S.eq schema.now (map plain fields.now) exclusive left right) }
+    ensures succeeds { IfSome (slice_get (map plain fields.now) left) HasSimpleArguments → IsOk result }
 {
     direct_reason_if_there(
         schema,
@@ -77,14 +84,15 @@ fn direct_reason_if_there<S: ScalarValue, C>(
     exclusive: bool,
     left: Option<&Entry<'_, S, C>>,
     right: Option<&Entry<'_, S, C>>,
-) -> Option<DirectReason>
-    ensures { result
-        ≡ direct_between S.eq schema.now exclusive (option_map plain (option_copied left.entry))
-        (option_map plain (option_copied right.entry)) }
+) -> Result<Option<DirectReason>, AllocError>
+    ensures value { IfOk result
+        (λ r. r ≡ direct_between S.eq schema.now exclusive (option_map plain (option_copied left.entry))
+        (option_map plain (option_copied right.entry))) }
+    ensures succeeds { IfSome (option_map plain (option_copied left.entry)) HasSimpleArguments → IsOk result }
 {
     match (left, right) {
         (Some(l), Some(r)) => direct_reason(schema, exclusive, l, r),
-        _ => None,
+        _ => Ok(None),
     }
 }
 

@@ -11,6 +11,7 @@ use merge_field_pairs::entry::Entry;
 use merge_field_pairs::numbered::{are_alike_at, are_exclusive_at, direct_reason_at};
 use merge_search::judge::Judge;
 use schema::model::SchemaTypeOf;
+use std::alloc::AllocError;
 
 /// Fields by number, and the schema that they are judged under. Of a number past the last there is no conflict.
 #[derive(Drop)]
@@ -34,8 +35,15 @@ impl<'a, S: ScalarValue, C> Judge for FieldJudge<'a, S, C> {
         are_alike_at(self.fields.as_slice(), one, other)
     }
 
-    fn are_in_conflict(&self, exclusive: bool, left: usize, right: usize) -> bool {
-        direct_reason_at(self.schema, self.fields.as_slice(), exclusive, left, right).is_some()
+    fn are_in_conflict(
+        &self,
+        exclusive: bool,
+        left: usize,
+        right: usize,
+    ) -> Result<bool, AllocError> {
+        let fields = self.fields.as_slice();
+        let reason = direct_reason_at(self.schema, fields, exclusive, left, right)?;
+        Ok(reason.is_some())
     }
 }
 

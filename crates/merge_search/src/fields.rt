@@ -31,7 +31,8 @@ pub(crate) fn begin_fields<J: Judge>(
     ensures { let w = world J.judgement graph.now in
         OnOk result (Turns w (MeetsFields w e a b) tasks.old.items tasks.new.items search.old search.new) }
 {
-    if are_in_conflict(graph, e, a, b) {
+    let in_conflict = are_in_conflict(graph, e, a, b)?;
+    if in_conflict {
         return report(search, Finding::Direct(a, b, e));
     }
     match (a.below, b.below) {

@@ -1,7 +1,9 @@
 //! The judgement of one pair of fields, which comes from outside.
-ghost use Rattle.std.specs.Prelude.{◌≡◌, ℕ};
+ghost use Rattle.std.specs.Prelude.{◌≡◌, IfOk, ℕ};
 ghost use Rattle.std.specs.Bool.{OnTrue};
 ghost use Rattle.merge_search.specs.Judgement.{AlikeAgree, Judgement};
+
+use std::alloc::AllocError;
 
 /// Judges two fields by their numbers, regardless of what stands below them.
 pub trait Judge {
@@ -23,6 +25,15 @@ pub trait Judge {
         ensures { OnTrue result (are_alike self.now one other) };
 
     /// Whether the two conflict by themselves: by their names, arguments or types.
-    fn are_in_conflict(&self, exclusive: bool, left: usize, right: usize) -> bool
-        ensures { result ≡ (judgement self.now).conflict exclusive left right };
+    ///
+    /// # Errors
+    ///
+    /// Out of memory.
+    fn are_in_conflict(
+        &self,
+        exclusive: bool,
+        left: usize,
+        right: usize,
+    ) -> Result<bool, AllocError>
+        ensures { IfOk result (λ b. b ≡ (judgement self.now).conflict exclusive left right) };
 }

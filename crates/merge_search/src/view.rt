@@ -1,5 +1,5 @@
 //! What a search reads of a graph.
-ghost use Rattle.std.specs.Prelude.{◌≡◌};
+ghost use Rattle.std.specs.Prelude.{◌≡◌, IfOk};
 ghost use Rattle.merge_search.specs.Names.{named, AreListed};
 ghost use Rattle.std.specs.Bool.{OnTrue};
 ghost use Rattle.std.specs.List.{All};
@@ -11,6 +11,7 @@ use crate::graph::Graph;
 use crate::groups::{fields_named, first_fields, sorted_fields};
 use crate::judge::Judge;
 use crate::node::Entry;
+use std::alloc::AllocError;
 
 /// The first own field of each response name of a set, in the order in which they stand.
 pub fn firsts<J: Judge>(graph: &Graph<J>, s: usize) -> &[Entry]
@@ -87,8 +88,17 @@ pub fn are_exclusive<J: Judge>(graph: &Graph<J>, e: bool, a: Entry, b: Entry) ->
 }
 
 /// Whether two fields conflict by themselves.
-pub fn are_in_conflict<J: Judge>(graph: &Graph<J>, e: bool, a: Entry, b: Entry) -> bool
-    ensures { result ≡ conflict_of (world J.judgement graph.now) e a b }
+///
+/// # Errors
+///
+/// Out of memory.
+pub fn are_in_conflict<J: Judge>(
+    graph: &Graph<J>,
+    e: bool,
+    a: Entry,
+    b: Entry,
+) -> Result<bool, AllocError>
+    ensures { IfOk result (λ c. c ≡ conflict_of (world J.judgement graph.now) e a b) }
 {
     graph.judge.are_in_conflict(e, a.field, b.field)
 }

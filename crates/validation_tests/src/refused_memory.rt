@@ -59,7 +59,7 @@ fn document<'t>(
 }
 
 /// A sample schema, a text, and what all rules report of it.
-const ROWS: [(Sample, &str, &str); 5] = [
+const ROWS: [(Sample, &str, &str); 6] = [
     // Repeated arguments.
     (
         Sample::Pets,
@@ -89,6 +89,12 @@ const ROWS: [(Sample, &str, &str); 5] = [
         Sample::Pets,
         "{ dog { x: name } dog { x: barks } }",
         "Fields \"dog\" conflict because subfields \"x\" conflict because name and barks are different fields. Use different aliases on the fields to fetch both if this was intentional. At 0:2, 0:8, 0:18, 0:24\n0",
+    ),
+    // Lists that are compared.
+    (
+        Sample::Pets,
+        "{ complicatedArgs { x: stringListArgField(stringListArg: [\"a\", \"b\"]) x: stringListArgField(stringListArg: [\"a\", \"c\"]) } }",
+        "Fields \"x\" conflict because they have differing arguments. Use different aliases on the fields to fetch both if this was intentional. At 0:20, 0:69\n0",
     ),
 ];
 

@@ -9,10 +9,10 @@ use Rattle.merge_search.proofs.Adding.{adds_none, all_leaf, all_quiet}
 use Rattle.merge_search.proofs.Leading.{leads_done, leads_turn}
 use Rattle.merge_search.proofs.fields.begin_fields.Goals as goal
 
-pub returns-then-are_in_conflict : goal.returns-then-are_in_conflict
-returns-then-are_in_conflict g c =
+pub returns-then-in_conflict : goal.returns-then-in_conflict
+returns-then-in_conflict g c =
     let v = world g.J.Judge.judgement c.args.graph.now in
-    let fails = sym c.are_in_conflict.ensures ∙ c.if-are_in_conflict.true in
+    let fails = sym c.in_ok-in_conflict.ensures ∙ c.if-in_conflict.true in
     on_ok_weaker c.report.result
     (λ n. leads_done v (MeetsFields v c.args.e c.args.a c.args.b) _ (record {
       done = did_map v _ _ (λ M z. stood fails z.1) (did_report v (λ M. Unit {0}) (Direct c.args.a c.args.b c.args.e) n (did_none v (λ M. Unit {0}) c.args.search.now (λ M z. tt)));
@@ -23,7 +23,7 @@ returns-then-are_in_conflict g c =
 pub returns-in-Some-Some : goal.returns-in-Some-Some
 returns-in-Some-Some g c =
     let v = world g.J.Judge.judgement c.args.graph.now in
-    let passes = sym c.are_in_conflict.ensures ∙ c.if-are_in_conflict.false in
+    let passes = sym c.in_ok-in_conflict.ensures ∙ c.if-in_conflict.false in
     let s = c.args.search.now in
     on_ok_weaker c.begin_nested.result
     (λ go. leads_turn v (MeetsNested v c.args.e c.args.a c.args.b _ _) (MeetsFields v c.args.e c.args.a c.args.b) _ _ s s s
@@ -36,7 +36,7 @@ returns-in-Some-Some g c =
 pub returns-in_default : goal.returns-in_default
 returns-in_default g c =
     let v = world g.J.Judge.judgement c.args.graph.now in
-    let passes = sym c.are_in_conflict.ensures ∙ c.if-are_in_conflict.false in
+    let passes = sym c.in_ok-in_conflict.ensures ∙ c.if-in_conflict.false in
     leads_done v (MeetsFields v c.args.e c.args.a c.args.b) _ (record {
       done = did_none v _ c.args.search.now (λ M grown. shallow passes (inr c.in_default.is-1));
       real = all_quiet v c.args.e c.args.a c.args.b passes (adds_none v c.args.e _ _);
@@ -45,7 +45,7 @@ returns-in_default g c =
 pub returns-in_default-2 : goal.returns-in_default-2
 returns-in_default-2 g c =
     let v = world g.J.Judge.judgement c.args.graph.now in
-    let passes = sym c.are_in_conflict.ensures ∙ c.if-are_in_conflict.false in
+    let passes = sym c.in_ok-in_conflict.ensures ∙ c.if-in_conflict.false in
     leads_done v (MeetsFields v c.args.e c.args.a c.args.b) _ (record {
       done = did_none v _ c.args.search.now (λ M grown. shallow passes (inl c.in_default.is-0));
       real = all_quiet v c.args.e c.args.a c.args.b passes (adds_none v c.args.e _ _);
