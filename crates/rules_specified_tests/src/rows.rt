@@ -6,7 +6,8 @@ use rules_specified::single_root_field;
 use rules_specified_fields::typename_leafs;
 use rules_specified_positions::variables_in_allowed_position;
 use rules_specified_values::default_values_of_correct_type;
-use schema::model::SchemaType;
+use rules_values::arguments_of_correct_type;
+use schema::model::{Dialect, SchemaType};
 use sdl_reader::read_schema;
 use sdl_scalars::SourceCheck;
 use std::alloc::Global;
@@ -77,11 +78,12 @@ const ROOTS: &[(&str, &str)] = &[
 
 const INPUTS: &str = "
 scalar JSON
-input O { a: Int! = 3 b: Int! c: [O!] d: [[O]!]! = [] }
+input O { a: Int! = 3 b: Int! c: [O!] d: [[O]!]! = [] e: JSON }
 union U = Query | Other
 type Other { q: Query }
 type Query {
   any(v: JSON): Int
+  many(v: [JSON!]): Int
   obj(o: O): Int
   req(x: Int! = 3): Int
   i(x: Int): Int
@@ -171,6 +173,66 @@ const DEFAULTS: &[(&str, &str)] = &[
     ("query ($a: Nope! = 3) { i(x: $a) }", ""),
 ];
 
+/// A document, and each error of the rules on values: by October 2021, and by juniper.
+const LITERALS: &[(&str, &str, &str)] = &[
+    (
+        "{ any(v: {a: [1, \"x\", {b: null}]}) }",
+        "",
+        "Invalid value for argument \"v\", reason: \"JSON\" is not an input object. At 0:9\n",
+    ),
+    (
+        "query ($a: Int) { any(v: {a: $a}) }",
+        "",
+        "Invalid value for argument \"v\", reason: \"JSON\" is not an input object. At 0:25\n",
+    ),
+    (
+        "{ any(v: [[1], {}]) }",
+        "",
+        "Invalid value for argument \"v\", reason: Input lists are not literals. At 0:9\n",
+    ),
+    (
+        "query ($a: JSON = {a: [1]}) { any(v: $a) }",
+        "",
+        "Invalid default value for argument \"a\", expected type \"JSON\", reason: \"JSON\" is not an input object. At 0:18\n",
+    ),
+    (
+        "{ many(v: {a: 1}) }",
+        "",
+        "Invalid value for argument \"v\", reason: \"JSON\" is not an input object. At 0:10\n",
+    ),
+    (
+        "{ many(v: [[1], {}]) }",
+        "",
+        "Invalid value for argument \"v\", reason: Input lists are not literals. At 0:10\n",
+    ),
+    (
+        "{ obj(o: {b: 1, e: {b: [1]}}) }",
+        "",
+        "Invalid value for argument \"o\", reason: Error on \"O\" field \"e\": \"JSON\" is not an input object. At 0:9\n",
+    ),
+    ("{ any(v: 1) any(v: E) any(v: null) }", "", ""),
+    (
+        "{ many(v: [null]) }",
+        "Invalid value for argument \"v\", reason: \"null\" specified for not nullable type \"JSON!\". At 0:10\n",
+        "Invalid value for argument \"v\", reason: \"null\" specified for not nullable type \"JSON!\". At 0:10\n",
+    ),
+    (
+        "{ i(x: {b: 1}) }",
+        "Invalid value for argument \"x\", reason: \"Int\" is not an input object. At 0:7\n",
+        "Invalid value for argument \"x\", reason: \"Int\" is not an input object. At 0:7\n",
+    ),
+    (
+        "{ i(x: [1]) }",
+        "Invalid value for argument \"x\", reason: Input lists are not literals. At 0:7\n",
+        "Invalid value for argument \"x\", reason: Input lists are not literals. At 0:7\n",
+    ),
+    (
+        "{ obj(o: {b: {}}) }",
+        "Invalid value for argument \"o\", reason: Error on \"O\" field \"b\": \"Int\" is not an input object. At 0:9\n",
+        "Invalid value for argument \"o\", reason: Error on \"O\" field \"b\": \"Int\" is not an input object. At 0:9\n",
+    ),
+];
+
 /// A document, and each error of the rule on `__typename` as a leaf.
 const TYPENAMES: &[(&str, &str)] = &[
     ("{ u { __typename } }", ""),
@@ -233,6 +295,51 @@ fn default_values(rt: HostRuntime) {
         let document = read_document(alloc, *text).expect(&rt, "it is a document");
         let rule = default_values_of_correct_type::factory(alloc);
         let said = told(alloc, &schema, document.as_slice(), rule).expect(&rt, "memory");
+        assert_eq!(rt; said.as_str(), *want, "{text}");
+    }
+}
+
+/// What the rules on values say of a document.
+fn told_of_values(
+    alloc: Global,
+    schema: &SchemaType<SourceScalar>,
+    document: &[Definition<'_, SourceScalar>],
+) -> Result<String, OutOfMemory> {
+    let mut text = told(
+        alloc,
+        schema,
+        document,
+        arguments_of_correct_type::factory(alloc),
+    )?;
+    let defaults = told(
+        alloc,
+        schema,
+        document,
+        default_values_of_correct_type::factory(alloc),
+    )?;
+    text.push_str(defaults.as_str())?;
+    Ok(text)
+}
+
+#[test]
+fn literals_by_october_2021(rt: HostRuntime) {
+    let alloc = rt.alloc();
+    let mut schema = read_schema(alloc, INPUTS).expect(&rt, "it is a schema");
+    schema.set_dialect(Dialect::October2021);
+    for (text, want, _) in LITERALS {
+        let document = read_document(alloc, *text).expect(&rt, "it is a document");
+        let said = told_of_values(alloc, &schema, document.as_slice()).expect(&rt, "memory");
+        assert_eq!(rt; said.as_str(), *want, "{text}");
+    }
+}
+
+#[test]
+fn literals_by_juniper(rt: HostRuntime) {
+    let alloc = rt.alloc();
+    let schema = read_schema(alloc, INPUTS).expect(&rt, "it is a schema");
+    for (text, _, want) in LITERALS {
+        let document = read_document(alloc, *text).expect(&rt, "it is a document");
+        let said = told_of_values(alloc, &schema, document.as_slice()).expect(&rt, "memory");
         assert_eq!(rt; said.as_str(), *want, "{text}");
     }
 }

@@ -16,6 +16,7 @@ use Rattle.meta.specs.declared.arguments.Argument.{Argument}
 use Rattle.meta.specs.declared.kinds.MetaTypeOf.{MetaTypeOf}
 use Rattle.schema.specs.Catalog.{Catalog, type_in}
 use Rattle.schema.specs.Possible.{is_among}
+use Rattle.literals.specs.AnyLiteral.{takes_any}
 use Rattle.literals.specs.Judged.{is_enum_meta, is_input_object_meta, key_of, keys_of}
 use Rattle.literals.specs.Missing.{is_required}
 
@@ -52,6 +53,9 @@ module _ {S C : Type 0} (schema : Catalog S C) (may : Answers (InputValue S) C) 
     -- an enum value that the check of the type accepts
     enum_value : (name : String Global) {c : C} {meta : MetaTypeOf S C}
         → check_of_meta meta ≡ Some c → Accepts may c (v.Enum name) → Conforms (v.Enum name) [] meta
+    -- any literal that the check of the type accepts, where the type takes any
+    any_literal : (value : InputValue S) {c : C} {meta : MetaTypeOf S C}
+        → takes_any schema meta ≡ true → check_of_meta meta ≡ Some c → Accepts may c value → Conforms value [] meta
     -- an object: each key is that of an input field, each value conforms to the field's type, and no required field is left out
     object : (es : Vec (Entry (InputValue S)) Global) {meta : MetaTypeOf S C} → is_input_object_meta meta ≡ true
         → ((e : Entry (InputValue S)) → Contains es.items e → is_some (option_and_then (field_type schema) (input_field_named (key_of e) meta)) ≡ true)

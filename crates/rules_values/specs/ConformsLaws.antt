@@ -21,14 +21,19 @@ use Rattle.meta.specs.Answers.{Answers, Accepts}
 use Rattle.meta.specs.Kinds.{check_of_meta, input_field_named, input_fields_of}
 use Rattle.meta.specs.declared.arguments.Argument.{Argument}
 use Rattle.meta.specs.declared.kinds.MetaTypeOf.{MetaTypeOf}
+use Rattle.meta.specs.declared.kinds.MetaTypeOf.TheVariants as k
 use Rattle.schema.specs.Catalog.{Catalog, type_in}
+use Rattle.schema.specs.declared.model.dialect.Dialect.{Dialect}
+use Rattle.schema.specs.declared.model.dialect.Dialect.TheVariants as d
 use Rattle.schema.specs.Possible.{is_among}
 use Rattle.schema.specs.Wrapped.{WrappedMeta}
+use Rattle.literals.specs.AnyLiteral.{takes_any, takes_any_in}
 use Rattle.literals.specs.FirstFault.{Telling, FirstFault}
-use Rattle.literals.specs.Judged.{FaultAt, IsNone, Judged, LacksFields, WrittenFault, checked, entry, is_enum_meta, is_input_object_meta, judge_of, key_of, keyed, keys_of, object as object_fault, other_length, printed_name, sized, unless_enum, within}
+use Rattle.literals.specs.Judged.{FaultAt, Is as IsSaid, IsNone, Judged, LacksFields, WrittenFault, checked, entry, is_enum_meta, is_input_object_meta, judge_of, key_of, keyed, keys_of, object as object_fault, other_length, printed_name, sized, unless_any, unless_enum, within}
 use Rattle.literals.specs.Missing.{is_lacking, is_required, missing, missing_fault, noted}
+use Rattle.literals.specs.Texts.{list_text}
 use Rattle.literals.proofs.RowLaws.{Against, at_roll, within_of}
-use Rattle.rules_values.specs.Conforms.{Conforms, ConformsTo, alone, enum_value, field_type, is_of_size, list, non_null, null_list, null_name, object, scalar, variable}
+use Rattle.rules_values.specs.Conforms.{Conforms, ConformsTo, alone, any_literal, enum_value, field_type, is_of_size, list, non_null, null_list, null_name, object, scalar, variable}
 
 some_none : {X : Type 0} {x : X} → None ≡ Some x → ⊥
 some_none e = cc
@@ -110,6 +115,17 @@ map_none : {X Y : Type 0} (f : X → Y) (o : Option X) → None ≡ option_map f
 map_none f None e = refl
 map_none f (Some x) e = absurd (some_none e)
 
+-- neither an enum nor an input object takes any literal
+no_enum_any : {S C : Type 0} (dialect : Dialect) (meta : MetaTypeOf S C) → takes_any_in dialect meta ≡ true → is_enum_meta meta ≡ false
+no_enum_any d.Juniper meta e = absurd cc
+no_enum_any d.October2021 (k.Enum x) e = absurd cc
+no_enum_any d.October2021 _ e = refl
+
+object_not_any : {S C : Type 0} (dialect : Dialect) (meta : MetaTypeOf S C) → is_input_object_meta meta ≡ true → takes_any_in dialect meta ≡ false
+object_not_any d.Juniper meta e = refl
+object_not_any d.October2021 (k.Scalar x) e = absurd cc
+object_not_any d.October2021 _ e = refl
+
 module _ {S C : Type 0} (schema : Catalog S C) (may : Answers (InputValue S) C) (shown : InputValue S → List ℕ) where
   abbrev NoFault : InputValue S → WrappedMeta S C → Type 0
   NoFault value w = Judged schema may shown value w None
@@ -175,6 +191,23 @@ module _ {S C : Type 0} (schema : Catalog S C) (may : Answers (InputValue S) C) 
   scalar_if true value meta e l = absurd cc
   scalar_if false value meta e l = l
 
+  any_if : (b : Bool) (value : InputValue S) (meta : MetaTypeOf S C) (Otherwise : Type 0) → b ≡ true → checked may shown (check_of_meta meta) value meta None → unless_any may shown b value meta None Otherwise
+  any_if true value meta Otherwise e l = l
+  any_if false value meta Otherwise e l = absurd cc
+
+  no_any_if : (b : Bool) (value : InputValue S) (meta : MetaTypeOf S C) (Otherwise : Type 0) → b ≡ false → Otherwise → unless_any may shown b value meta None Otherwise
+  no_any_if true value meta Otherwise e o = absurd cc
+  no_any_if false value meta Otherwise e o = o
+
+  -- a value that the check of a type accepts, which takes any literal
+  any_level : (x : v.InputValue-F S (InputValue S)) (value : InputValue S) (meta : MetaTypeOf S C) → takes_any schema meta ≡ true → checked may shown (check_of_meta meta) value meta None → Level x value [] meta
+  any_level v.Null value meta e l = refl
+  any_level (v.Variable n) value meta e l = refl
+  any_level (v.Scalar s) value meta e l = scalar_if (is_enum_meta meta) value meta (no_enum_any schema.dialect meta e) l
+  any_level (v.Enum n) value meta e l = l
+  any_level (v.List xs) value meta e l = any_if (takes_any schema meta) value meta (IsSaid list_text None) e l
+  any_level (v.Object es) value meta e l = any_if (takes_any schema meta) value meta (object_fault schema may shown (λ y. y) (judge_of schema may shown) (is_input_object_meta meta) meta es.items None) e l
+
   known_type : (o : Option (MetaTypeOf S C)) → is_some o ≡ true → (t : MetaTypeOf S C) × (o ≡ Some t)
   known_type None e = absurd cc
   known_type (Some t) e = (t, refl)
@@ -219,14 +252,18 @@ module _ {S C : Type 0} (schema : Catalog S C) (may : Answers (InputValue S) C) 
       (scalar_if (is_enum_meta meta) (variant.Scalar s) meta plain (checked_if (check_of_meta meta) c (variant.Scalar s) meta is accepts))
   conforms_none (enum_value name {c = c} {meta = meta} is accepts) =
       of_level (variant.Enum name) (v.Enum name) [] meta (sym (variant.rolls-Enum name)) (checked_if (check_of_meta meta) c (variant.Enum name) meta is accepts)
+  conforms_none (any_literal value {c = c} {meta = meta} takes is accepts) =
+      let x = out-InputValue S value in
+      of_level value x [] meta (sym (roll-out-InputValue S value)) (any_level x value meta takes (checked_if (check_of_meta meta) c value meta is accepts))
   conforms_none (object es {meta = meta} is known each given) =
       of_level (variant.Object es) (v.Object es) [] meta (sym (variant.rolls-Object es))
+      (no_any_if (takes_any schema meta) (variant.Object es) meta _ (object_not_any schema.dialect meta is)
       (object_if (is_input_object_meta meta) meta es.items is
       (all_none (entry schema may shown (λ y. y) (judge_of schema may shown) meta) (LacksFields meta (keys_of es.items)) es.items
       (λ e there.
       let (a, is_field, t, is_type) = type_of (input_field_named (key_of e) meta) (known e there) in
       keyed_if meta (key_of e) (input_field_named (key_of e) meta) a t e.1.item is_field is_type (conforms_none (each e a t there is_field is_type)))
-      (ap (missing_fault (printed_name meta)) (sym (kept_none (keys_of es.items) (input_fields_of meta) [] refl given)))))
+      (ap (missing_fault (printed_name meta)) (sym (kept_none (keys_of es.items) (input_fields_of meta) [] refl given))))))
 
   -- from here on: what has no fault conforms
   abbrev Such : InputValue S → Type 0
@@ -290,8 +327,14 @@ module _ {S C : Type 0} (schema : Catalog S C) (may : Answers (InputValue S) C) 
       let (is, l') = if_sized size 1 (variant.Enum n) (Level (v.Enum n) (variant.Enum n) ms meta) l in
       alone (not_list (variant.Enum n) (v.Enum n) (variant.rolls-Enum n) refl) is (to_enum n ms meta l')
 
+  -- what a check judges, or else what has no other fault
+  to_any_by : (b : Bool) (value : InputValue S) (meta : MetaTypeOf S C) (Otherwise : Type 0) → takes_any schema meta ≡ b → (Otherwise → Conforms schema may value [] meta)
+      → unless_any may shown b value meta None Otherwise → Conforms schema may value [] meta
+  to_any_by true value meta Otherwise e h l = let (c, has, accepts) = accepted (check_of_meta meta) value meta l in any_literal value e has accepts
+  to_any_by false value meta Otherwise e h l = h l
+
   to_list : (xs : Vec (Placed (InputValue S)) Global) → Each (λ x. Such x.item) xs.items → (ms : List TypeModifier) (meta : MetaTypeOf S C) → Level (v.List xs) (variant.List xs) ms meta → Conforms schema may (variant.List xs) ms meta
-  to_list xs h [] meta l = absurd (some_none l)
+  to_list xs h [] meta l = to_any_by (takes_any schema meta) (variant.List xs) meta (IsSaid list_text None) refl (λ o. absurd (some_none o)) l
   to_list xs h (m.NonNull ∷ ms) meta l = non_null (not_null (variant.List xs) (v.List xs) (variant.rolls-List xs) refl) (to_list xs h ms meta l)
   to_list xs h (m.List size ∷ ms) meta l =
       let tells : Telling (Placed (InputValue S)) = λ x. Judged schema may shown x.item (within ms meta) in
@@ -328,7 +371,8 @@ module _ {S C : Type 0} (schema : Catalog S C) (may : Answers (InputValue S) C) 
       ((none_kept (keys_of es.items) (input_fields_of meta) [] (missing_none (printed_name meta) (missing (keys_of es.items) (input_fields_of meta)) lacks)).1)
 
   to_object : (es : Vec (Entry (InputValue S)) Global) → Each (λ e. Such e.1.item) es.items → (ms : List TypeModifier) (meta : MetaTypeOf S C) → Level (v.Object es) (variant.Object es) ms meta → Conforms schema may (variant.Object es) ms meta
-  to_object es h [] meta l = to_object_by (is_input_object_meta meta) es meta h refl l
+  to_object es h [] meta l =
+      to_any_by (takes_any schema meta) (variant.Object es) meta _ refl (to_object_by (is_input_object_meta meta) es meta h refl) l
   to_object es h (m.NonNull ∷ ms) meta l = non_null (not_null (variant.Object es) (v.Object es) (variant.rolls-Object es) refl) (to_object es h ms meta l)
   to_object es h (m.List size ∷ ms) meta l =
       let (is, l') = if_sized size 1 (variant.Object es) (Level (v.Object es) (variant.Object es) ms meta) l in

@@ -83,12 +83,24 @@ fn scalar_of(
     extensions: Extensions<'_, '_>,
 ) -> Result<SourceMeta, OutOfMemory> {
     let name = defined.name.item;
-    let mut meta = ScalarMetaOf::with_check(alloc, name, check_of(name))?;
+    let mut meta = scalar_named(alloc, name)?;
     meta.description = copied(alloc, &defined.description)?;
     if let Some(url) = url_of(defined, extensions) {
         meta.specified_by_url = Some(String::from_str(alloc, url)?);
     }
     Ok(meta.into_meta())
+}
+
+// A scalar of this name, without a description. A custom one takes any literal (section 3.5).
+fn scalar_named(alloc: Global, name: &str) -> Result<ScalarMetaOf<SourceCheck>, OutOfMemory> {
+    let check = check_of(name);
+    let custom = matches!(check, SourceCheck::Any);
+    let meta = ScalarMetaOf::with_check(alloc, name, check)?;
+    if custom {
+        Ok(meta.with_any_literal())
+    } else {
+        Ok(meta)
+    }
 }
 
 fn url_of<'d>(
