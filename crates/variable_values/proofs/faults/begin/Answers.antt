@@ -4,7 +4,7 @@ use Rattle.language.specs.Types.{borrowed_shape}
 use Rattle.variable_values.specs.Begun.{IsKnown}
 use Rattle.variable_values.specs.Faults.{Faults}
 use Rattle.variable_values.specs.Messages.{texts_of}
-use Rattle.variable_values.specs.Places.{before, before_path}
+use Rattle.variable_values.specs.Places.{before_path}
 use Rattle.variable_values.specs.Rows.{Others, lengths_of}
 use Rattle.variable_values.proofs.BegunLaws.{all_more, begin_done, begin_part}
 use Rattle.variable_values.proofs.RowLaws.{with_others}
