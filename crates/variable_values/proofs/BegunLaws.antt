@@ -10,7 +10,7 @@ use Rattle.language.specs.declared.position.Span.{Span}
 use Rattle.language.specs.declared.position.Spanning.{Spanning}
 use Rattle.language.specs.declared.value.InputValue.{InputValue}
 use Rattle.language.specs.declared.types.BorrowedType.{BorrowedType}
-use Rattle.language.specs.Types.{TypeShape, borrowed_shape, shape}
+use Rattle.language.specs.Types.{borrowed_shape, shape}
 use Rattle.language.specs.Values.{Entry, last_value}
 use Rattle.language.specs.ValuesPrinted.{printed_value}
 use Rattle.meta.specs.Answers.{Answers}
@@ -24,14 +24,14 @@ use Rattle.variable_values.specs.declared.begun.Begun.TheVariants as b
 use Rattle.variable_values.specs.declared.begun.BegunObject.{BegunObject}
 use Rattle.variable_values.specs.declared.place.PathStep.{PathStep}
 use Rattle.variable_values.specs.Begun.{ByCheck, EndsObject, GoesOn, IsBegunOf, Leads, Left, LeftItems, LeftOf, LeftOfAll, OfGiven, Telling, all_but_first}
-use Rattle.variable_values.specs.Faults.{Checked, Fault, Faults, absent, element, field, unknown_field}
+use Rattle.variable_values.specs.Faults.{Checked, Fault, Faults, element, field, left_out, unknown_field}
 use Rattle.variable_values.specs.InTurn.{InTurn}
 use Rattle.variable_values.specs.Keys.{field_names, keys_of, unknown_keys}
 use Rattle.variable_values.specs.Messages.{Adds, invalid_text, printed_step, texts_of, told_after}
 use Rattle.variable_values.specs.Places.{before_path, printed_path_step, step_of}
 use Rattle.variable_values.specs.Rows.{Below, OfField, OfFields, OfWhole}
 use Rattle.variable_values.specs.Texts.{input_text}
-use Rattle.variable_values.proofs.ObjectLaws.{field_none, field_some, whole_none, whole_some}
+use Rattle.variable_values.proofs.ObjectLaws.{field_none, whole_none, whole_some}
 use Rattle.variable_values.proofs.Told.{adds-both, adds-none, adds-under, as_long, none-told, told-more}
 
 -- one element more, and one less
@@ -186,23 +186,21 @@ module _ {S C : Type 0} (schema : Catalog S C) (may : Answers (InputValue S) C) 
       (old, adds-none (LeftItems schema may text str_of (b.Fields of i)) before old (turn_none (λ j y. FieldFaults of y) of.object.now.input_fields.items i l), ends)
 
   -- a field by its value
-  field_told : (a : Argument S) (o : Option (InputValue S)) (t : TypeShape) (before after : List ℕ) (old new : List (List ℕ)) → t ≡ shape a.arg_type → after ≡ before ++ printed_step (field (string_bytes a.name))
-      → Adds (OfGiven schema may text str_of o t) after old new → Adds (OfField schema may text str_of a o) before old new
-  field_told a None t before after old new made e h =
-      let under = adds-under (λ fs. fs ≡ absent t) before after (field (string_bytes a.name)) old new e h in
-      (under.0, field_none schema may text str_of a None t under.0 refl made under.1, under.2)
-  field_told a (Some x) t before after old new made e h =
-      let under = adds-under (Faults schema may text str_of x t) before after (field (string_bytes a.name)) old new e h in
-      (under.0, field_some schema may text str_of a (Some x) t x under.0 refl made under.1, under.2)
+  field_told : (a : Argument S) (o : Option (InputValue S)) (before after : List ℕ) (old new : List (List ℕ)) → after ≡ before ++ printed_step (field (string_bytes a.name))
+      → Adds (OfGiven schema may text str_of o a) after old new → Adds (OfField schema may text str_of a o) before old new
+  field_told a None before after old new e h =
+      let under = adds-under (λ fs. fs ≡ left_out schema a) before after (field (string_bytes a.name)) old new e h in
+      (under.0, field_none schema may text str_of a under.0 under.1, under.2)
+  field_told a (Some x) before after old new e h = adds-under (Faults schema may text str_of x (shape a.arg_type)) before after (field (string_bytes a.name)) old new e h
 
   -- a field by its value, and those behind it
-  pub field_next : (of : BegunObject S C) (i : ℕ) (a : Argument S) (o : Option (InputValue S)) (t : TypeShape) (before after : List ℕ) (old mid new : List (List ℕ))
+  pub field_next : (of : BegunObject S C) (i : ℕ) (a : Argument S) (o : Option (InputValue S)) (before after : List ℕ) (old mid new : List (List ℕ))
       → i < length of.object.now.input_fields.items → a ≡ get_or of.object.now.input_fields.items i a
-      → o ≡ last_value (string_bytes a.name) of.entries.now → t ≡ shape a.arg_type → after ≡ before ++ printed_step (field (string_bytes a.name))
-      → Adds (OfGiven schema may text str_of o t) after old mid
+      → o ≡ last_value (string_bytes a.name) of.entries.now → after ≡ before ++ printed_step (field (string_bytes a.name))
+      → Adds (OfGiven schema may text str_of o a) after old mid
       → Left schema may text str_of (b.Fields of (i + 1)) before mid new → Left schema may text str_of (b.Fields of i) before old new
-  field_next of i a o t before after old mid new here is last made e h left =
-      fields_next of i a before old mid new here is (subst (λ q. Adds (OfField schema may text str_of a q) before old mid) last (field_told a o t before after old mid made e h)) left
+  field_next of i a o before after old mid new here is last e h left =
+      fields_next of i a before old mid new here is (subst (λ q. Adds (OfField schema may text str_of a q) before old mid) last (field_told a o before after old mid e h)) left
 
   abbrev KeyFaults : BegunObject S C → List Fault
   KeyFaults of = map unknown_field (unknown_keys (field_names of.object.now.input_fields.items) (keys_of of.entries.now))

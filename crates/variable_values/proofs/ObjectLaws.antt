@@ -1,11 +1,10 @@
 -- Objects, field by field and whole.
-use Rattle.std.proofs.Common.{◌≡◌, ℕ, List, [], ◌∷◌, ◌++◌, Option, Some, None, map, string_bytes, refl, ap, sym, ◌∙◌, subst}
+use Rattle.std.proofs.Common.{◌≡◌, ℕ, List, [], ◌∷◌, ◌++◌, Option, None, map, string_bytes, refl, ap, sym, ◌∙◌, subst}
 use Rattle.std.specs.Prelude.{Vec}
 use Rattle.std.specs.declared.alloc.Global.{Global}
 use Rattle.language.specs.declared.value.InputValue.{InputValue, out-InputValue, out-roll-InputValue, roll-InputValue, roll-out-InputValue}
 use Rattle.language.specs.declared.value.InputValue.TheOpen as v
 use Rattle.language.specs.declared.value.InputValue.TheVariants as variant
-use Rattle.language.specs.Types.{TypeShape, shape}
 use Rattle.language.specs.Values.{Entry}
 use Rattle.language.specs.ValuesPrinted.{printed_value}
 use Rattle.meta.specs.Answers.{Answers}
@@ -15,19 +14,15 @@ use Rattle.meta.specs.declared.inputs.InputObjectMetaOf.{InputObjectMetaOf}
 use Rattle.meta.specs.declared.kinds.MetaTypeOf.{MetaTypeOf}
 use Rattle.meta.specs.declared.kinds.MetaTypeOf.TheVariants as k
 use Rattle.schema.specs.Catalog.{Catalog}
-use Rattle.variable_values.specs.Faults.{Checked, Fault, OfInput, OrChecked, absent, field, here, judge_of, under, unknown_field}
+use Rattle.variable_values.specs.Faults.{Checked, Fault, OfInput, OrChecked, field, here, judge_of, left_out, under, unknown_field}
 use Rattle.variable_values.specs.Keys.{field_names, keys_of, unknown_keys}
-use Rattle.variable_values.specs.Rows.{Below, ByMeta, OfField, OfFields, OfWhole}
+use Rattle.variable_values.specs.Rows.{ByMeta, OfField, OfFields, OfWhole}
 use Rattle.variable_values.specs.Texts.{input_text, no_object_text}
 
 module _ {S C : Type 0} (schema : Catalog S C) (may : Answers (InputValue S) C) (text : S → List ℕ) (str_of : S → Option (List ℕ)) where
   -- a field without a value
-  pub field_none : (a : Argument S) (o : Option (InputValue S)) (t : TypeShape) (fs : List Fault) → o ≡ None → t ≡ shape a.arg_type → (gs : List Fault) × (gs ≡ absent t) × (fs ≡ map (under (field (string_bytes a.name))) gs) → OfField schema may text str_of a o fs
-  field_none a o t fs n e (gs, g, f) = subst (λ q. OfField schema may text str_of a q fs) (sym n) (f ∙ ap (map (under (field (string_bytes a.name)))) (g ∙ ap absent e))
-
-  -- a field with one
-  pub field_some : (a : Argument S) (o : Option (InputValue S)) (t : TypeShape) (x : InputValue S) (fs : List Fault) → o ≡ Some x → t ≡ shape a.arg_type → Below schema may text str_of (field (string_bytes a.name)) t x fs → OfField schema may text str_of a o fs
-  field_some a o t x fs n e h = subst (λ q. OfField schema may text str_of a q fs) (sym n) (subst (λ u. Below schema may text str_of (field (string_bytes a.name)) u x fs) e h)
+  pub field_none : (a : Argument S) (fs : List Fault) → (gs : List Fault) × (gs ≡ left_out schema a) × (fs ≡ map (under (field (string_bytes a.name))) gs) → OfField schema may text str_of a None fs
+  field_none a fs (gs, g, f) = f ∙ ap (map (under (field (string_bytes a.name)))) g
 
   or_some : (hs : List Fault) (c : C) (value : InputValue S) (said : List ℕ → List ℕ) → (hs ≡ [] → ⊥) → OrChecked may hs c value said hs
   or_some [] c value said n = absurd (n refl)

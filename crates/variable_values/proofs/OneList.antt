@@ -94,7 +94,7 @@ module _ {S C : Type 0} (schema : Catalog S C) (may : Answers (InputValue S) C) 
   one_input (v.List xs) o value h fs gs p q = p ∙ sym q
 
   one_meta : (x : v.InputValue-F S (InputValue S)) (value : InputValue S) (meta : MetaTypeOf S C) → OneInside x → One (OfMeta schema may text str_of (λ y. y) (judge_of schema may text str_of) x value meta)
-  one_meta x value (k.Scalar s) h fs gs p q = one_checked (scalar_check s) value (scalar_text (string_bytes s.name) (printed_value text str_of value)) (accepted_faults (string_bytes s.name) x) fs gs p q
+  one_meta x value (k.Scalar s) h fs gs p q = one_checked (scalar_check s) value (scalar_text (string_bytes s.name) (printed_value text str_of value)) (accepted_faults schema s x) fs gs p q
   one_meta x value (k.Enum e) h fs gs p q = p ∙ sym q
   one_meta x value (k.InputObject o) h fs gs p q = one_input x o value h fs gs p q
   one_meta x value _ h fs gs p q = absurd p

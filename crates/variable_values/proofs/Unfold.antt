@@ -1,6 +1,6 @@
 -- What a value's faults are by the values in it.
 use Rattle.std.proofs.Common.{◌≡◌, ℕ, ◌+◌, List, [], ◌∷◌, ◌++◌, Option, Some, None, Bool, true, false, cond, map, length, reverse, refl, ap, sym, ◌∙◌}
-use Rattle.std.specs.Prelude.{find, option_map, string_bytes}
+use Rattle.std.specs.Prelude.{find, option_map, string_bytes, if◌then◌else◌}
 use Rattle.std.specs.Str.{bytes_eq}
 use Rattle.std.proofs.Math.Path.{fun_ext}
 use Rattle.std.proofs.lemmas.List.{length-map}
@@ -21,8 +21,10 @@ use Rattle.meta.specs.declared.arguments.Argument.{Argument}
 use Rattle.meta.specs.declared.inputs.InputObjectMetaOf.{InputObjectMetaOf}
 use Rattle.meta.specs.declared.kinds.MetaTypeOf.{MetaTypeOf}
 use Rattle.meta.specs.declared.kinds.MetaTypeOf.TheVariants as k
+use Rattle.meta.specs.declared.scalars.ScalarMetaOf.{ScalarMetaOf}
 use Rattle.schema.specs.Catalog.{Catalog, type_in}
-use Rattle.variable_values.specs.Faults.{Judge, Fault, element, AtField, AtFields, Checked, Inside, Of, OfInput, OfMeta, OfNamed, OfObject, OrChecked, accepted_faults, enum_faults, Faults, judge_of, judge_step, name_in, unknown_field, within, wrong_length}
+use Rattle.variable_values.specs.Faults.{Judge, Fault, element, AtField, AtFields, Checked, Inside, Of, OfInput, OfMeta, OfNamed, OfObject, OrChecked, accepted_faults, enum_faults, Faults, judge_of, judge_step, name_in, unknown_field, whole_faults, within, wrong_length}
+use Rattle.variable_values.specs.Dialects.{takes_any_value}
 use Rattle.variable_values.specs.InTurn.{InTurn}
 use Rattle.variable_values.specs.Keys.{keys_of, field_names, unknown_keys}
 use Rattle.variable_values.specs.Texts.{scalar_text, input_text}
@@ -122,13 +124,16 @@ module _ {S C : Type 0} (schema : Catalog S C) (may : Answers (InputValue S) C) 
     input-natural (v.Variable n) o value fs = refl
     input-natural (v.List xs) o value fs = refl
 
-    accepted-natural : (name : List ℕ) (x : v.InputValue-F S X) → accepted_faults name x ≡ accepted_faults name (opened x)
-    accepted-natural name v.Null = refl
-    accepted-natural name (v.Scalar s) = refl
-    accepted-natural name (v.Enum n) = refl
-    accepted-natural name (v.Variable n) = refl
-    accepted-natural name (v.List xs) = refl
-    accepted-natural name (v.Object es) = refl
+    whole-natural : (name : List ℕ) (x : v.InputValue-F S X) → whole_faults name x ≡ whole_faults name (opened x)
+    whole-natural name v.Null = refl
+    whole-natural name (v.Scalar s) = refl
+    whole-natural name (v.Enum n) = refl
+    whole-natural name (v.Variable n) = refl
+    whole-natural name (v.List xs) = refl
+    whole-natural name (v.Object es) = refl
+
+    accepted-natural : (s : ScalarMetaOf C) (x : v.InputValue-F S X) → accepted_faults schema s x ≡ accepted_faults schema s (opened x)
+    accepted-natural s x = ap (λ fs. if takes_any_value schema s then [] else fs) (whole-natural (string_bytes s.name) x)
 
     name-natural : (x : v.InputValue-F S X) → name_in str_of x ≡ name_in str_of (opened x)
     name-natural v.Null = refl
@@ -141,7 +146,7 @@ module _ {S C : Type 0} (schema : Catalog S C) (may : Answers (InputValue S) C) 
     meta-natural : (x : v.InputValue-F S X) (value : InputValue S) (meta : MetaTypeOf S C) (fs : List Fault)
         → OfMeta schema may text str_of value_of below x value meta fs ≡ OfMeta schema may text str_of same judge (opened x) value meta fs
     meta-natural x value (k.Scalar s) fs =
-        ap (λ a. Checked may (scalar_check s) value (scalar_text (string_bytes s.name) (printed_value text str_of value)) a fs) (accepted-natural (string_bytes s.name) x)
+        ap (λ a. Checked may (scalar_check s) value (scalar_text (string_bytes s.name) (printed_value text str_of value)) a fs) (accepted-natural s x)
     meta-natural x value (k.Enum e) fs = ap (λ o. fs ≡ enum_faults (string_bytes e.name) (map (λ n. string_bytes n.name) e.values.items) o) (name-natural x)
     meta-natural x value (k.InputObject o) fs = input-natural x o value fs
     meta-natural x value _ fs = refl

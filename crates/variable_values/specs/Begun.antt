@@ -2,11 +2,12 @@
 use Rattle.std.specs.Prelude.{◌≡◌, ◌⊎◌, ℕ, List, [], ◌∷◌, ◌++◌, length, reverse, drop, map, Option, Some, None, String, Vec, string_bytes, true}
 use Rattle.std.specs.declared.alloc.Global.{Global}
 use Rattle.language.specs.declared.value.InputValue.{InputValue}
-use Rattle.language.specs.Types.{TypeShape, borrowed_shape}
+use Rattle.language.specs.Types.{borrowed_shape, shape}
 use Rattle.language.specs.Values.{Entry, last_value}
 use Rattle.language.specs.ValuesPrinted.{printed_value}
 use Rattle.meta.specs.Answers.{Answers}
 use Rattle.meta.specs.Kept.{input_object_check}
+use Rattle.meta.specs.declared.arguments.Argument.{Argument}
 use Rattle.meta.specs.declared.inputs.InputObjectMetaOf.{InputObjectMetaOf}
 use Rattle.meta.specs.declared.kinds.MetaTypeOf.TheVariants as k
 use Rattle.schema.specs.Catalog.{Catalog}
@@ -16,7 +17,7 @@ use Rattle.variable_values.specs.declared.begun.BegunObject.{BegunObject}
 use Rattle.variable_values.specs.declared.place.PathStep.{PathStep}
 use Rattle.variable_values.specs.declared.place.Place.{Place}
 use Rattle.variable_values.specs.Entries.{HasPlaces}
-use Rattle.variable_values.specs.Faults.{Checked, Fault, Faults, absent, element, unknown_field}
+use Rattle.variable_values.specs.Faults.{Checked, Fault, Faults, element, left_out, unknown_field}
 use Rattle.variable_values.specs.Inputs.{is_input_in}
 use Rattle.variable_values.specs.InTurn.{InTurn}
 use Rattle.variable_values.specs.Keys.{field_names, keys_of, unknown_keys}
@@ -63,9 +64,9 @@ module _ {S C : Type 0} where
     LeftItems (b.Fields of next) fs = InTurn (λ i a. OfField schema may text str_of a (last_value (string_bytes a.name) of.entries.now)) next (drop next of.object.now.input_fields.items) fs
 
     -- the faults at a field by its value, if it has one
-    abbrev pub OfGiven : Option (InputValue S) → TypeShape → List Fault → Type 0
-    OfGiven None t fs = fs ≡ absent t
-    OfGiven (Some value) t fs = Faults schema may text str_of value t fs
+    abbrev pub OfGiven : Option (InputValue S) → Argument S → List Fault → Type 0
+    OfGiven None a fs = fs ≡ left_out schema a
+    OfGiven (Some value) a fs = Faults schema may text str_of value (shape a.arg_type) fs
 
     -- what is told of what is left of a part at a place
     abbrev pub Left : Begun S C → List ℕ → Telling

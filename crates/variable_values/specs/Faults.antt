@@ -5,7 +5,7 @@ use Rattle.language.specs.declared.types.TypeModifier.TheVariants as m
 use Rattle.language.specs.declared.value.InputValue.{InputValue}
 use Rattle.language.specs.declared.value.InputValue.TheOpen as v
 use Rattle.language.specs.declared.value.InputValue.TheFolds.{rec-InputValue}
-use Rattle.language.specs.Types.{TypeShape, shape, printed, outermost, by_outermost}
+use Rattle.language.specs.Types.{TypeShape, shape, printed}
 use Rattle.language.specs.Values.{Entry, last_value}
 use Rattle.language.specs.ValuesPrinted.{printed_value}
 use Rattle.meta.specs.Answers.{Answers, Accepts, RefusesWith}
@@ -14,8 +14,10 @@ use Rattle.meta.specs.declared.arguments.Argument.{Argument}
 use Rattle.meta.specs.declared.inputs.InputObjectMetaOf.{InputObjectMetaOf}
 use Rattle.meta.specs.declared.kinds.MetaTypeOf.{MetaTypeOf}
 use Rattle.meta.specs.declared.kinds.MetaTypeOf.TheVariants as k
+use Rattle.meta.specs.declared.scalars.ScalarMetaOf.{ScalarMetaOf}
 use Rattle.schema.specs.Catalog.{Catalog, type_in}
 use Rattle.schema.specs.Possible.{is_among}
+use Rattle.variable_values.specs.Dialects.{is_needed, takes_any_value}
 use Rattle.variable_values.specs.InTurn.{InTurn}
 use Rattle.variable_values.specs.Keys.{keys_of, field_names, unknown_keys}
 use Rattle.variable_values.specs.Texts.{null_text, length_text, scalar_text, list_text, object_text, enum_text, no_name_text, no_object_text, unknown_text, input_text}
@@ -44,9 +46,9 @@ Judge S = InputValue S → TypeShape → List Fault → Type 0
 abbrev pub within : List TypeModifier → List ℕ → TypeShape
 within ms name = record { name = name; modifiers = reverse ms }
 
--- where nothing stands: a fault where the type is never null
-abbrev pub absent : TypeShape → List Fault
-absent t = by_outermost (here (null_text (printed t)) ∷ []) [] [] (outermost t.modifiers)
+-- where an input field is left out: a fault where it has to be given
+abbrev pub left_out : {S C : Type 0} → Catalog S C → Argument S → List Fault
+left_out schema a = if is_needed schema a then here (null_text (printed (shape a.arg_type))) ∷ [] else []
 
 -- of a list of this length
 abbrev pub wrong_length : Option ℕ → ℕ → List Fault
@@ -64,11 +66,15 @@ name_in str_of (v.Scalar s) = str_of s
 name_in str_of (v.Enum n) = Some (string_bytes n)
 name_in str_of _ = None
 
+-- of a list or an object that stands for a scalar
+abbrev pub whole_faults : {S X : Type 0} → List ℕ → v.InputValue-F S X → List Fault
+whole_faults name (v.List xs) = here (list_text name) ∷ []
+whole_faults name (v.Object es) = here (object_text name) ∷ []
+whole_faults name _ = []
+
 -- of a value that the check of a scalar accepts
-abbrev pub accepted_faults : {S X : Type 0} → List ℕ → v.InputValue-F S X → List Fault
-accepted_faults name (v.List xs) = here (list_text name) ∷ []
-accepted_faults name (v.Object es) = here (object_text name) ∷ []
-accepted_faults name _ = []
+abbrev pub accepted_faults : {S C X : Type 0} → Catalog S C → ScalarMetaOf C → v.InputValue-F S X → List Fault
+accepted_faults schema s x = if takes_any_value schema s then [] else whole_faults (string_bytes s.name) x
 
 -- under a key that no input field has
 abbrev pub unknown_field : List ℕ → Fault
@@ -95,7 +101,7 @@ module _ {S C : Type 0} (schema : Catalog S C) (may : Answers (InputValue S) C) 
 
     -- those at an input field, by its value
     abbrev pub AtField : Argument S → Option X → List Fault → Type 0
-    AtField a None fs = fs ≡ map (under (field (string_bytes a.name))) (absent (shape a.arg_type))
+    AtField a None fs = fs ≡ map (under (field (string_bytes a.name))) (left_out schema a)
     AtField a (Some x) fs = Inside (field (string_bytes a.name)) (shape a.arg_type) x fs
 
     -- those at all input fields; of several entries of a key the last counts
@@ -115,7 +121,7 @@ module _ {S C : Type 0} (schema : Catalog S C) (may : Answers (InputValue S) C) 
 
     -- of a value that isn't null against a scalar, an enum or an input object; no other type has any
     abbrev pub OfMeta : v.InputValue-F S X → InputValue S → MetaTypeOf S C → List Fault → Type 0
-    OfMeta x value (k.Scalar s) fs = Checked may (scalar_check s) value (scalar_text (string_bytes s.name) (printed_value text str_of value)) (accepted_faults (string_bytes s.name) x) fs
+    OfMeta x value (k.Scalar s) fs = Checked may (scalar_check s) value (scalar_text (string_bytes s.name) (printed_value text str_of value)) (accepted_faults schema s x) fs
     OfMeta x value (k.Enum e) fs = fs ≡ enum_faults (string_bytes e.name) (map (λ n. string_bytes n.name) e.values.items) (name_in str_of x)
     OfMeta x value (k.InputObject o) fs = OfInput x o value fs
     OfMeta x value _ fs = ⊥

@@ -1,5 +1,6 @@
 pub mod Asks
 pub mod Begun
+pub mod Dialects
 pub mod Entries
 pub mod Faults
 pub mod InTurn

@@ -2,15 +2,16 @@
 ghost use Rattle.std.specs.Prelude.{◌≡◌, ◌<◌, [], IfOk, IfSome, List, OnOk, Some, length, map, option_copied, option_map, reverse, string_bytes, true};
 ghost use Rattle.std.specs.List.{All};
 ghost use Rattle.schema.specs.Possible.{is_among};
+ghost use Rattle.schema_validation.specs.Names.{argument_type};
 ghost use Rattle.language.specs.declared.value.InputValue.{out-InputValue};
-ghost use Rattle.language.specs.Types.{borrowed_shape, shape};
+ghost use Rattle.language.specs.Types.{borrowed_shape};
 ghost use Rattle.language.specs.ValuesPrinted.{printed_value};
 ghost use Rattle.language.specs.Values.{last_value};
 ghost use Rattle.meta.specs.Kept.{input_object_check, scalar_check};
 ghost use Rattle.meta.specs.Kinds.{is_input_meta};
 ghost use Rattle.variable_values.specs.Begun.{BeginsAt, EndsObject, GoesOn, IsBegunOf, IsKnown, Leads, Left, OfGiven, all_but_first};
 ghost use Rattle.variable_values.specs.Entries.{HasPlaces};
-ghost use Rattle.variable_values.specs.Faults.{Checked, Faults, absent, accepted_faults, enum_faults, name_in, wrong_length};
+ghost use Rattle.variable_values.specs.Faults.{Checked, Faults, accepted_faults, enum_faults, left_out, name_in, whole_faults, wrong_length};
 ghost use Rattle.variable_values.specs.Inputs.{is_input_in};
 ghost use Rattle.variable_values.specs.Messages.{Adds, invalid_text, texts_of};
 ghost use Rattle.variable_values.specs.Places.{AddsAt, before_path};
@@ -18,6 +19,7 @@ ghost use Rattle.variable_values.specs.Rows.{Answered, ByMeta, ByName, IsIn, Oth
 ghost use Rattle.variable_values.specs.Texts.{input_text, scalar_text};
 
 use crate::begun::{Begun, BegunObject};
+use crate::dialects::{is_needed, takes_any_value};
 use crate::entries::{last_places, place_of};
 use crate::keys::add_unknown_keys;
 use crate::messages::add;
@@ -32,13 +34,14 @@ use language::position::Spanning;
 use language::scalar::ScalarValue;
 use language::types::{BorrowedType, TypeModifier};
 use language::value::InputValue;
+use meta::arguments::Argument;
 use meta::check::CheckedScalar;
 use meta::enum_values::EnumValue;
 use meta::enums::EnumMetaOf;
 use meta::inputs::InputObjectMetaOf;
 use meta::kinds::MetaTypeOf;
 use meta::scalars::ScalarMetaOf;
-use schema::model::SchemaType;
+use schema::model::{SchemaType, SchemaTypeOf};
 use std::alloc::Global;
 use std::collections::BTreeMap;
 
@@ -124,6 +127,7 @@ fn begin<'p, 'v, S: CheckedScalar>(
         variable,
         steps: steps.as_slice(),
     };
+    add_lengths_of_one(alloc, value, expected, &place, messages)?;
     match begun_by(alloc, schema, value, expected, &place, messages)? {
         Some(part) => begun.push(part)?,
         None => take_back(steps),
@@ -138,28 +142,9 @@ fn take_back(steps: &mut Vec<PathStep<'_>>)
     let _ = steps.pop();
 }
 
-// Reports the faults of a value as far as it is checked, and answers what is left of it.
+// Reports the faults of a value as far as it is checked, but for those of a value that stands for lists of one. Answers
+// what is left of it.
 fn begun_by<'p, 'v, S: CheckedScalar>(
-    alloc: Global,
-    schema: &'p SchemaType<S>,
-    value: &'v InputValue<S>,
-    expected: BorrowedType<'p>,
-    place: &Place<'_>,
-    messages: &mut Vec<String>,
-) -> Result<Option<Begun<'p, 'v, S, S::Check>>, OutOfMemory>
-    requires { is_input_in schema.now (borrowed_shape expected).name ≡ true }
-    ensures told { IfOk result (λ part.
-        BeginsAt schema.now S.may_answer S.text S.str_of
-        (Faults schema.now S.may_answer S.text S.str_of value.now (borrowed_shape expected.entry))
-        place.now part messages.old messages.new) }
-    ensures known { IfOk result (λ part. IfSome part (IsKnown schema.now)) }
-{
-    add_lengths_of_one(alloc, value, expected, place, messages)?;
-    begun_by_others(alloc, schema, value, expected, place, messages)
-}
-
-// The same, but for the faults of a value that stands for lists of one.
-fn begun_by_others<'p, 'v, S: CheckedScalar>(
     alloc: Global,
     schema: &'p SchemaType<S>,
     value: &'v InputValue<S>,
@@ -235,10 +220,9 @@ fn begun_by_meta<'p, 'v, S: CheckedScalar>(
         place.now part messages.old messages.new) }
     ensures known { IfOk result (λ part. IfSome part (IsKnown schema.now)) }
 {
-    let _ = schema;
     match meta {
         MetaTypeOf::Scalar(scalar) => {
-            add_faults_of_scalar(alloc, value, scalar, place, messages)?;
+            add_faults_of_scalar(alloc, schema, value, scalar, place, messages)?;
             Ok(None)
         }
         MetaTypeOf::Enum(known) => {
@@ -397,12 +381,11 @@ fn begin_field<'p, 'v, S: CheckedScalar>(
 {
     let field = &of.object.input_fields[next];
     let name = field.name.as_str();
-    let expected = type_of_field(schema, field);
     let value = last_value_of(of.entries, &of.places, name);
     begun.push(Begun::Fields(of, next + 1))?;
     steps.push(PathStep::Field(name))?;
     begin_given(
-        alloc, schema, value, expected, variable, steps, begun, messages,
+        alloc, schema, value, field, variable, steps, begun, messages,
     )
 }
 
@@ -411,31 +394,34 @@ fn begin_given<'p, 'v, S: CheckedScalar>(
     alloc: Global,
     schema: &'p SchemaType<S>,
     given: Option<&'v InputValue<S>>,
-    expected: BorrowedType<'p>,
+    field: &'p Argument<S>,
     variable: &str,
     steps: &mut Vec<PathStep<'p>>,
     begun: &mut Vec<Begun<'p, 'v, S, S::Check>>,
     messages: &mut Vec<String>,
 ) -> Result<(), OutOfMemory>
-    requires { is_input_in schema.now (borrowed_shape expected).name ≡ true }
+    requires { is_input_in schema.now (argument_type field.now) ≡ true }
     ensures leads { OnOk result (Leads schema.now S.may_answer S.text S.str_of variable.now
         begun.new.items steps.new.items (texts_of messages.new)
-        (Adds (OfGiven schema.now S.may_answer S.text S.str_of (option_copied given.entry)
-        (borrowed_shape expected.entry)) (before_path variable.now steps.old.items))
+        (Adds (OfGiven schema.now S.may_answer S.text S.str_of (option_copied given.entry) field.now)
+        (before_path variable.now steps.old.items))
         begun.old.items steps.old.items (texts_of messages.old)) }
     ensures known { OnOk result (All (IsKnown schema.now) begun.old.items
         → All (IsKnown schema.now) begun.new.items) }
 {
     match given {
-        Some(value) => begin(
-            alloc, schema, value, expected, variable, steps, begun, messages,
-        ),
+        Some(value) => {
+            let expected = type_of_field(schema, field);
+            begin(
+                alloc, schema, value, expected, variable, steps, begun, messages,
+            )
+        }
         None => {
             let place = Place {
                 variable,
                 steps: steps.as_slice(),
             };
-            add_absence(alloc, expected, &place, messages)?;
+            add_absence(alloc, schema, field, &place, messages)?;
             take_back(steps);
             Ok(())
         }
@@ -483,17 +469,19 @@ fn end_object<S: CheckedScalar>(
     }
 }
 
-// Reports a field without a value, where its type is never null.
-fn add_absence(
+// Reports an input field that is left out, where it has to be given.
+fn add_absence<S, C>(
     alloc: Global,
-    expected: BorrowedType<'_>,
+    schema: &SchemaTypeOf<S, C>,
+    field: &Argument<S>,
     place: &Place<'_>,
     messages: &mut Vec<String>,
 ) -> Result<(), OutOfMemory>
     ensures { OnOk result
-        (AddsAt (λ fs. fs ≡ absent (borrowed_shape expected.entry)) place.now messages.old messages.new) }
+        (AddsAt (λ fs. fs ≡ left_out schema.now field.now) place.now messages.old messages.new) }
 {
-    if expected.is_non_null() {
+    if is_needed(schema, field) {
+        let expected = field.arg_type.as_borrowed();
         add(null_message(alloc, place, expected)?, messages)
     } else {
         Ok(())
@@ -590,6 +578,7 @@ fn refusal<S: CheckedScalar>(
 // Reports the fault of a value against a scalar.
 fn add_faults_of_scalar<S: CheckedScalar>(
     alloc: Global,
+    schema: &SchemaType<S>,
     value: &InputValue<S>,
     scalar: &ScalarMetaOf<S::Check>,
     place: &Place<'_>,
@@ -598,12 +587,12 @@ fn add_faults_of_scalar<S: CheckedScalar>(
     ensures { OnOk result (AddsAt
         (Checked S.may_answer (scalar_check scalar.now) value.now
         (scalar_text (string_bytes scalar.now.name) (printed_value S.text S.str_of value.now))
-        (accepted_faults (string_bytes scalar.now.name) (out-InputValue S value.now)))
+        (accepted_faults schema.now scalar.now (out-InputValue S value.now)))
         place.now messages.old messages.new) }
 {
     let name = scalar.name.as_str();
     match refusal(alloc, scalar.input_value_parse_fn(), value)? {
-        None => add_fault_of_accepted(alloc, value, name, place, messages),
+        None => add_fault_of_accepted(alloc, schema, value, scalar, place, messages),
         Some(why) => add(
             scalar_message(alloc, place, name, value, why.as_str())?,
             messages,
@@ -611,8 +600,28 @@ fn add_faults_of_scalar<S: CheckedScalar>(
     }
 }
 
+// Reports a value that the check of a scalar accepts, where the scalar does not take it.
+fn add_fault_of_accepted<S, C>(
+    alloc: Global,
+    schema: &SchemaTypeOf<S, C>,
+    value: &InputValue<S>,
+    scalar: &ScalarMetaOf<C>,
+    place: &Place<'_>,
+    messages: &mut Vec<String>,
+) -> Result<(), OutOfMemory>
+    ensures { OnOk result
+        (AddsAt (λ fs. fs ≡ accepted_faults schema.now scalar.now (out-InputValue S value.now))
+        place.now messages.old messages.new) }
+{
+    if takes_any_value(schema, scalar) {
+        Ok(())
+    } else {
+        add_fault_of_whole(alloc, value, scalar.name.as_str(), place, messages)
+    }
+}
+
 // Reports a list or an object that stands for a scalar.
-fn add_fault_of_accepted<S>(
+fn add_fault_of_whole<S>(
     alloc: Global,
     value: &InputValue<S>,
     name: &str,
@@ -620,7 +629,7 @@ fn add_fault_of_accepted<S>(
     messages: &mut Vec<String>,
 ) -> Result<(), OutOfMemory>
     ensures { OnOk result
-        (AddsAt (λ fs. fs ≡ accepted_faults name.now (out-InputValue S value.now))
+        (AddsAt (λ fs. fs ≡ whole_faults name.now (out-InputValue S value.now))
         place.now messages.old messages.new) }
 {
     match value {

@@ -2,6 +2,7 @@
 #![tactic(auto)]
 
 mod begun;
+mod dialects;
 mod entries;
 mod faults;
 mod inputs;

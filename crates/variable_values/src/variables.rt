@@ -24,8 +24,9 @@ use walk::RuleError;
 ///
 /// The errors are in ascending order, each at the name of its variable. The type of each variable has to be a known
 /// input type, as in a document without errors. An input object is read by its `to_object_value`: of several entries
-/// of a key the last counts. A value without a fault takes no memory for messages, and no stack for its depth: lists
-/// hold the parts of a value that are begun.
+/// of a key the last counts. The dialect is the schema's: in October 2021 an input field that has a default may be left
+/// out, and lists and objects may stand for a scalar that takes any literal. A value without a fault takes no memory
+/// for messages, and no stack for its depth: lists hold the parts of a value that are begun.
 ///
 /// # Errors
 ///

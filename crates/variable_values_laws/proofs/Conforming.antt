@@ -1,5 +1,5 @@
 -- Values without fault conform.
-use Rattle.std.proofs.Common.{◌≡◌, ℕ, List, [], ◌∷◌, ◌++◌, Bool, true, false, Option, Some, None, map, length, reverse, string_bytes, refl, ap, sym, ◌∙◌, inl, inr, subst, if◌then◌else◌, true≢false}
+use Rattle.std.proofs.Common.{◌≡◌, ℕ, List, [], ◌∷◌, ◌++◌, Bool, true, false, Contains, Option, Some, None, map, length, reverse, string_bytes, refl, ap, sym, ◌∙◌, inl, inr, subst, if◌then◌else◌, true≢false}
 use Rattle.std.proofs.lemmas.Bool.{eqb-true}
 use Rattle.std.proofs.lemmas.List.{reverse-reverse}
 use Rattle.std.proofs.Math.Path.{transport}
@@ -24,14 +24,15 @@ use Rattle.meta.specs.declared.kinds.MetaTypeOf.{MetaTypeOf}
 use Rattle.meta.specs.declared.kinds.MetaTypeOf.TheVariants as k
 use Rattle.schema.specs.Catalog.{Catalog, type_in}
 use Rattle.schema.proofs.WrappedLemmas.{outermost-push}
-use Rattle.variable_values.specs.Faults.{Checked, Fault, Faults, OfMeta, OfNamed, OrChecked, Step, absent, accepted_faults, element, enum_faults, field, judge_of, under, unknown_field, within, wrong_length}
+use Rattle.variable_values.specs.Faults.{Checked, Fault, Faults, OfMeta, OfNamed, OrChecked, Step, accepted_faults, element, enum_faults, field, judge_of, left_out, under, unknown_field, whole_faults, within, wrong_length}
+use Rattle.variable_values.specs.Dialects.{is_needed}
 use Rattle.variable_values.specs.InTurn.{InTurn}
 use Rattle.variable_values.specs.Keys.{field_names, keys_of, unknown_keys}
 use Rattle.variable_values.specs.Rows.{Below, OfField, OfFields, OfWhole}
 use Rattle.variable_values.specs.Texts.{input_text}
 use Rattle.variable_values.proofs.LastValues.{each-at, last_entry}
 use Rattle.variable_values.proofs.RowLaws.{OfLevel, at_roll, within_of, within_wrap}
-use Rattle.variable_values_laws.specs.Conforms.{Conforms, enum_string, enum_value, input_object, list, non_null, nothing, null, scalar, single, value_names}
+use Rattle.variable_values_laws.specs.Conforms.{Conforms, enum_string, enum_value, input_object, list, non_null, null, scalar, single, value_names}
 use Rattle.variable_values_laws.proofs.Keys.{contains_among, known_keys}
 use Rattle.variable_values_laws.proofs.Parts.{back_none, front_none, mapped_none, none_in_turn}
 
@@ -53,6 +54,10 @@ nothing_if : (b : Bool) (f : Fault) → [] ≡ (if b then [] else f ∷ []) → 
 nothing_if true f e = refl
 nothing_if false f e = cc
 
+none_unless : (b : Bool) (f : Fault) → [] ≡ (if b then f ∷ [] else []) → b ≡ false
+none_unless true f e = cc
+none_unless false f e = refl
+
 has_length : (size : Option ℕ) (found n : ℕ) → [] ≡ wrong_length size found → size ≡ Some n → found ≡ n
 has_length None found n e is = cc
 has_length (Some k) found n e is = let same : k ≡ n = cc in sym (eqb-true k found (nothing_if _ _ e)) ∙ same
@@ -69,7 +74,7 @@ module _ {S : Type 0} where
   not_null : (value : InputValue S) (x : v.InputValue-F S (InputValue S)) → value ≡ roll-InputValue S x → is_null_level x ≡ false → ¬ (value ≡ variant.Null)
   not_null value x e h n = true≢false (sym (ap is_null_level (sym (opened value x e) ∙ opened value v.Null (n ∙ sym variant.rolls-Null))) ∙ h)
 
-  accepted_plain : (name : List ℕ) (x : v.InputValue-F S (InputValue S)) → [] ≡ accepted_faults name x → (items_layer x ≡ None) × (entries_layer x ≡ None)
+  accepted_plain : (name : List ℕ) (x : v.InputValue-F S (InputValue S)) → [] ≡ whole_faults name x → (items_layer x ≡ None) × (entries_layer x ≡ None)
   accepted_plain name v.Null e = (refl, refl)
   accepted_plain name (v.Scalar s) e = (refl, refl)
   accepted_plain name (v.Enum s) e = (refl, refl)
@@ -102,10 +107,12 @@ module _ {S C : Type 0} (schema : Catalog S C) (may : Answers (InputValue S) C) 
   null_as value t e n = subst (λ u. Conforms schema may str_of (Some u) t) (sym e) (null t n)
 
   -- ---- fields
-  conform_field : (a : Argument S) (es : List (Entry (InputValue S))) → Each (λ e. ConformsAt e.1.item) es → (o : Option (InputValue S)) → last_value (string_bytes a.name) es ≡ o
-      → OfField schema may text str_of a o [] → Conforms schema may str_of o (shape a.arg_type)
-  conform_field a es h None is e = nothing (shape a.arg_type) (nullable_by _ [] (outermost (shape a.arg_type).modifiers) (mapped_none (under (field (string_bytes a.name))) (absent (shape a.arg_type)) e))
-  conform_field a es h (Some x) is e =
+  not_needed : (a : Argument S) → OfField schema may text str_of a None [] → is_needed schema a ≡ false
+  not_needed a e = none_unless (is_needed schema a) _ (mapped_none (under (field (string_bytes a.name))) (left_out schema a) e)
+
+  conform_field : (a : Argument S) (es : List (Entry (InputValue S))) → Each (λ e. ConformsAt e.1.item) es → (x : InputValue S) → last_value (string_bytes a.name) es ≡ Some x
+      → OfField schema may text str_of a (Some x) [] → Conforms schema may str_of (Some x) (shape a.arg_type)
+  conform_field a es h x is e =
       let at = last_entry (string_bytes a.name) es x is in
       let inner : ConformsAt x = subst ConformsAt at.2 (each-at (λ (n : Entry (InputValue S)). ConformsAt n.1.item) es at.1.0 at.0 at.1.1 at.1.2 h) in
       inner (shape a.arg_type) (below_none (field (string_bytes a.name)) (shape a.arg_type) x e)
@@ -117,10 +124,11 @@ module _ {S C : Type 0} (schema : Catalog S C) (may : Answers (InputValue S) C) 
       let told_of = or_none (gs ++ unknown) (input_object_check o) value (input_text (string_bytes o.name) (printed_value text str_of value)) told in
       let fields = subst (OfFields schema may text str_of o.input_fields.items es) (sym (front_none gs unknown told_of.0)) at in
       let keys = sym (mapped_none unknown_field (unknown_keys (field_names o.input_fields.items) (keys_of es)) (back_none gs unknown told_of.0)) in
+      let none : (a : Argument S) → Contains o.input_fields.items a → OfField schema may text str_of a (last_value (string_bytes a.name) es) [] =
+      λ a c. (none_in_turn (λ (i : ℕ) (b : Argument S). OfField schema may text str_of b (last_value (string_bytes b.name) es)) 0 o.input_fields.items a c fields).1 in
       input_object value name o es known is (known_keys (field_names o.input_fields.items) (keys_of es) keys)
-      (λ a c.
-      let one = none_in_turn (λ (i : ℕ) (b : Argument S). OfField schema may text str_of b (last_value (string_bytes b.name) es)) 0 o.input_fields.items a c fields in
-      conform_field a es h (last_value (string_bytes a.name) es) refl one.1)
+      (λ a c last. not_needed a (subst (λ q. OfField schema may text str_of a q []) last (none a c)))
+      (λ a x c last. conform_field a es h x last (subst (λ q. OfField schema may text str_of a q []) last (none a c)))
       told_of.1
 
   -- ---- names
@@ -142,9 +150,12 @@ module _ {S C : Type 0} (schema : Catalog S C) (may : Answers (InputValue S) C) 
   conform_meta : (value : InputValue S) (x : v.InputValue-F S (InputValue S)) (name : List ℕ) (meta : MetaTypeOf S C) → value ≡ roll-InputValue S x → Inside x → type_in name schema ≡ Some meta
       → OfMeta schema may text str_of (λ y. y) (judge_of schema may text str_of) x value meta [] → Conforms schema may str_of (Some value) (nullable_named name)
   conform_meta value x name (k.Scalar s) is h known j =
-      let checked = accepts (scalar_check s) value _ (accepted_faults (string_bytes s.name) x) j in
-      let plain = accepted_plain (string_bytes s.name) x checked.1 in
-      scalar value name s known (ap items_layer (opened value x is) ∙ plain.0) (ap entries_layer (opened value x is) ∙ plain.1) checked.0
+      let checked = accepts (scalar_check s) value _ (accepted_faults schema s x) j in
+      scalar value name s known
+      (λ e.
+      let plain = accepted_plain (string_bytes s.name) x (checked.1 ∙ ap (λ b. if b then [] else whole_faults (string_bytes s.name) x) e) in
+      (ap items_layer (opened value x is) ∙ plain.0, ap entries_layer (opened value x is) ∙ plain.1))
+      checked.0
   conform_meta value x name (k.Enum e) is h known j = conform_enum value x name e is known j
   conform_meta value (v.Object es) name (k.InputObject o) is h known j = conform_object value name o es.items known (ap entries_layer (opened value (v.Object es) is)) h j
   conform_meta value v.Null name (k.InputObject o) is h known j = cc

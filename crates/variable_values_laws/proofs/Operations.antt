@@ -75,7 +75,7 @@ module _ {S C : Type 0} (schema : Catalog S C) (may : Answers (InputValue S) C) 
     value_none name t value (v.Object s) is h = ([], h, refl)
 
     variable_none : (name : List ℕ) (t : TypeShape) (o : Option (InputValue S)) → Conforms schema may str_of o t → Told name t (given o) []
-    variable_none name t None h = told_nothing name t (nullable_by _ [] (outermost t.modifiers) (sym (no_fault schema may text str_of h)))
+    variable_none name t None h = told_nothing name t (no_fault schema may text str_of h)
     variable_none name t (Some value) h = value_none name t value (out-InputValue S value) refl (no_fault schema may text str_of h)
 
     -- ---- one list

@@ -1,7 +1,11 @@
-//! Values of variables: the rows of a text and its values, lists with an expected size, and requests for memory
-//! refused in turn.
+//! Values of variables: the rows of a text and its values, lists with an expected size, the two dialects, and requests
+//! for memory refused in turn.
 #![tactic(auto)]
 
+#[cfg(test)]
+mod customs;
+#[cfg(test)]
+mod dialects;
 #[cfg(test)]
 mod given;
 #[cfg(test)]

@@ -26,5 +26,5 @@ returns-in_ok-scalar_message-in-Some g c =
     c.in_ok-scalar_message-in-Some.ensures ∙ ap (λ n. told_after (before c.args.place.now) (here (scalar_text n shown c.as_str.result.now))) c.as_str-name.ensures.value
     ∙ ap (λ w. told_after (before c.args.place.now) (here (said w))) c.as_str.ensures.value in
     on_ok_weaker c.add.result
-    (λ e. adds-one (Checked may (scalar_check scalar) value said (accepted_faults (string_bytes scalar.name) (out-InputValue g.row.S.Denot value))) (before c.args.place.now) _ _ (here (said why)) (inr (why, refused, refl)) (e ∙ ap (λ m. texts_of c.args.messages.now ++ m ∷ []) told))
+    (λ e. adds-one (Checked may (scalar_check scalar) value said (accepted_faults c.args.schema.now scalar (out-InputValue g.row.S.Denot value))) (before c.args.place.now) _ _ (here (said why)) (inr (why, refused, refl)) (e ∙ ap (λ m. texts_of c.args.messages.now ++ m ∷ []) told))
     c.add.ensures

@@ -1,6 +1,5 @@
 use Rattle.std.proofs.Common.{◌≡◌, ◌+◌, ◌++◌, ap, ◌∙◌, option_copied, string_bytes}
 use Rattle.std.proofs.lemmas.Result.{on_ok_weaker}
-use Rattle.language.specs.Types.{borrowed_shape}
 use Rattle.language.specs.Values.{last_value}
 use Rattle.variable_values.specs.declared.begun.Begun.TheVariants as b
 use Rattle.variable_values.specs.declared.place.PathStep.TheVariants as p
@@ -12,8 +11,8 @@ use Rattle.variable_values.proofs.BegunLaws.{all_more, before_step, field_next, 
 use Rattle.variable_values.proofs.FieldInputs.{field_input}
 use Rattle.variable_values.proofs.faults.begin_field.Goals as goal
 
-pub type_of_field-expected-requires : goal.type_of_field-expected-requires
-type_of_field-expected-requires g c =
+pub begin_given-requires : goal.begin_given-requires
+begin_given-requires g c =
     let known = c.requires.known in
     field_input c.args.schema.now known.0.0 c.args.of.object.now c.args.next c.index-field.result.now known.0.1 c.requires.left c.index-field.ensures
 
@@ -34,13 +33,12 @@ returns-clause-leads g c =
     let old = texts_of c.args.messages.now in
     let name = c.as_str-name.ensures.value in
     let o = option_copied c.last_value_of-value.result in
-    let t = borrowed_shape c.type_of_field-expected.result in
     let last : o ≡ last_value (string_bytes a.name) of.entries.now = c.last_value_of-value.ensures ∙ ap (λ k. last_value k of.entries.now) name in
     let step : after ≡ here ++ printed_step (field (string_bytes a.name)) = before_step variable steps mid_steps (p.Field c.as_str-name.result) c.in_ok-push-2.ensures.items ∙ ap (λ k. here ++ printed_step (field k)) name in
     on_ok_weaker c.begin_given.result
     (leads_into schema may text str_of variable c.args.begun.now.items c.push.new.self.items c.begin_given.new.begun.items (b.Fields of (i + 1)) steps mid_steps c.begin_given.new.steps.items (p.Field c.as_str-name.result) (texts_of c.begin_given.new.messages) old
-    (Adds (OfGiven schema may text str_of o t) after) (Left schema may text str_of (b.Fields of i) here) c.in_ok-push.ensures.items c.in_ok-push-2.ensures.items
-    (λ mid end. field_next schema may text str_of of i a o t here after old mid end c.requires.left c.index-field.ensures last c.type_of_field-expected.ensures.made step))
+    (Adds (OfGiven schema may text str_of o a) after) (Left schema may text str_of (b.Fields of i) here) c.in_ok-push.ensures.items c.in_ok-push-2.ensures.items
+    (λ mid end. field_next schema may text str_of of i a o here after old mid end c.requires.left c.index-field.ensures last step))
     c.begin_given.ensures.leads
 
 pub returns-clause-known : goal.returns-clause-known
