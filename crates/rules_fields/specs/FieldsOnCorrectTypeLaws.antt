@@ -51,7 +51,8 @@ module _ {S : Type 0} where
   none_at_root _ set = (λ e. tt, λ u. refl)
 
 module _ {S C : Type 0} where
-  none_if_known : (parent : Option (MetaTypeOf S C)) (name : Name) → (unknown_field parent name ≡ []) ↔ (option_map_or (λ t. has_field t name.item.now) parent true ≡ true)
+  -- nothing is found of a field if and only if the type around it has it, or is not known
+  pub none_if_known : (parent : Option (MetaTypeOf S C)) (name : Name) → (unknown_field parent name ≡ []) ↔ (option_map_or (λ t. has_field t name.item.now) parent true ≡ true)
   none_if_known None name = (λ e. refl, λ e. refl)
   none_if_known (Some t) name = none_unless (has_field t name.item.now) _
 

@@ -124,8 +124,12 @@ fn report_typename<'a, S: CheckedScalar>(
     Ok(())
 }
 
-// Reports the name of a field, where the type around it is known and does not have the field.
-fn report_unknown<'a, S: CheckedScalar>(
+/// Reports the name of a field, where the type around it is known and does not have the field.
+///
+/// # Errors
+///
+/// Out of memory. The types at hand stay.
+pub fn report_unknown<'a, S: CheckedScalar>(
     alloc: Global,
     ctx: &mut ValidatorContext<'a, S>,
     name: &Spanning<&str>,

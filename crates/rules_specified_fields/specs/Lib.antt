@@ -1,2 +1,4 @@
+pub mod FieldsOnCorrectType
+pub mod FieldsOnCorrectTypeLaws
 pub mod TypenameLeafs
 pub mod TypenameLeafsLaws
