@@ -1,29 +1,10 @@
 -- What loops report, item by item.
-use Rattle.std.proofs.Common.{◌≡◌, ℕ, ◌+◌, ◌<◌, get_or, List, [], ◌∷◌, ◌++◌, take, length, map, string_bytes, Bor, ap, refl, sym, ◌∙◌, append_assoc}
+use Rattle.std.proofs.Common.{◌≡◌, ℕ, List, ◌∷◌, ◌++◌, map, string_bytes, ap, sym, ◌∙◌, append_assoc}
 use Rattle.std.specs.Prelude.{String}
-use Rattle.std.specs.List.{flat_map}
 use Rattle.std.specs.declared.alloc.Global.{Global}
-use Rattle.std.proofs.lemmas.List.{append-nil, take_more}
-use Rattle.std.proofs.lemmas.Grind.{flat_map-append}
-use Rattle.language.specs.References.{list_copied}
 use Rattle.type_system.specs.Entries.{each_entry}
 use Rattle.type_system_report.specs.Fault.{FaultValue}
-
--- what two calls found, one after the other
-pub reports_both : (r a b r₁ r₂ : List FaultValue) → r₁ ≡ r ++ a → r₂ ≡ r₁ ++ b → r₂ ≡ r ++ (a ++ b)
-reports_both r a b r₁ r₂ first second = second ∙ ap (λ z. z ++ b) first ∙ append_assoc r a b
-
--- what was found at the items that were seen, and then at the next
-pub reports_next : {T : Type 0} (finds : T → List FaultValue) (xs : List T) (i : ℕ) (x d : T) (r r₁ r₂ : List FaultValue) → i < length xs → x ≡ get_or xs i d
-    → r₁ ≡ r ++ flat_map finds (take i xs) → r₂ ≡ r₁ ++ finds x → r₂ ≡ r ++ flat_map finds (take (i + 1) xs)
-reports_next finds xs i x d r r₁ r₂ h e seen more =
-    let before = flat_map finds (take i xs) in
-    more
-    ∙ ap (λ z. z ++ finds x) seen
-    ∙ append_assoc r before (finds x)
-    ∙ ap (λ z. r ++ (before ++ finds z)) e
-    ∙ ap (λ zs. r ++ (before ++ zs)) (sym (append-nil (finds (get_or xs i d))))
-    ∙ ap (λ zs. r ++ zs) (sym (ap (λ z. flat_map finds z) (take_more xs i d h) ∙ flat_map-append finds (take i xs) (get_or xs i d ∷ [])))
+pub use Rattle.type_system_report.proofs.Reported.{reports_both, reports_next, reports_next_copied}
 
 -- what is still to be found at the rest of a list of names, after the next
 pub entries_next : (finds : List ℕ → List (List ℕ) → List FaultValue) (xs others : List (String Global)) (x : String Global) (n : List ℕ) (r₁ r₂ w : List FaultValue) → xs ≡ x ∷ others → n ≡ string_bytes x
@@ -36,14 +17,3 @@ entries_next finds xs others x n r₁ r₂ w split of rest more =
     ∙ ap (λ z. r₁ ++ (finds z names ++ after)) of
     ∙ ap (λ zs. r₁ ++ each_entry finds (map string_bytes zs)) (sym split)
     ∙ rest
-
--- the same at references
-pub flat_map-copied : {T A : Type 0} (f : T → List A) (rs : List (Bor T)) → flat_map (λ r. f r.now) rs ≡ flat_map f (list_copied rs)
-flat_map-copied f [] = refl
-flat_map-copied f (r ∷ rs) = ap (λ z. f r.now ++ z) (flat_map-copied f rs)
-
-pub reports_next_copied : {T : Type 0} (finds : T → List FaultValue) (xs : List (Bor T)) (i : ℕ) (x d : Bor T) (r r₁ r₂ : List FaultValue) → i < length xs → x ≡ get_or xs i d
-    → r₁ ≡ r ++ flat_map finds (list_copied (take i xs)) → r₂ ≡ r₁ ++ finds x.now → r₂ ≡ r ++ flat_map finds (list_copied (take (i + 1) xs))
-reports_next_copied finds xs i x d r r₁ r₂ h e seen more =
-    reports_next (λ z. finds z.now) xs i x d r r₁ r₂ h e (seen ∙ ap (λ z. r ++ z) (sym (flat_map-copied finds (take i xs)))) more
-    ∙ ap (λ z. r ++ z) (flat_map-copied finds (take (i + 1) xs))

@@ -9,6 +9,7 @@ use Rattle.type_system.specs.Ancestors.{wrong_ancestors}
 use Rattle.type_system.specs.ImplementedTypes.{wrong_interfaces}
 use Rattle.type_system.specs.InterfaceFields.{unmet_interfaces}
 use Rattle.type_system.specs.OutputTypes.{wrong_output_types}
+use Rattle.type_system.specs.RequiredMembers.{deprecated_directive_arguments, deprecated_members}
 use Rattle.type_system.specs.ReservedNames.{reserved_directive, reserved_names}
 use Rattle.type_system.specs.ReservedValues.{reserved_values}
 use Rattle.type_system.specs.RootTypes.{shared_roots}
@@ -18,9 +19,9 @@ use Rattle.type_system.specs.SomeMembers.{missing_members}
 use Rattle.type_system.specs.SomeValues.{missing_values}
 use Rattle.type_system.specs.UniqueMembers.{repeated_members}
 
--- members of a union that stand twice, and values of an enum that are no names of values
+-- members of a union that stand twice, values of an enum that are no names of values, and required members that are deprecated
 abbrev pub member_faults : {S C : Type 0} → MetaTypeOf S C → List FaultValue
-member_faults t = repeated_members t ++ reserved_values t
+member_faults t = repeated_members t ++ reserved_values t ++ deprecated_members t
 
 module _ {S C : Type 0} (schema : Catalog S C) where
   -- names that are reserved, and members that are missing
@@ -41,4 +42,4 @@ module _ {S C : Type 0} (schema : Catalog S C) where
 
 -- those of a directive
 abbrev pub directive_faults : {S : Type 0} → DirectiveType S → List FaultValue
-directive_faults d = reserved_directive d ++ missing_locations d
+directive_faults d = reserved_directive d ++ missing_locations d ++ deprecated_directive_arguments d

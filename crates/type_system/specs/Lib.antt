@@ -11,6 +11,7 @@ pub mod Introspected
 pub mod Members
 pub mod OutputTypes
 pub mod Pair
+pub mod RequiredMembers
 pub mod ReservedNames
 pub mod ReservedValues
 pub mod RootTypes

@@ -47,7 +47,7 @@ fn is_added<S>(wanted: &Field<S>, given: &Argument<S>) -> bool
     is_required(given) && first_named(arguments(wanted), given.name.as_str()).is_none()
 }
 
-fn is_required<S>(argument: &Argument<S>) -> bool
+pub(crate) fn is_required<S>(argument: &Argument<S>) -> bool
     ensures { result ≡ is_required argument.now }
 {
     argument.arg_type.is_non_null() && argument.default_value.is_none()

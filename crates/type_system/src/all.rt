@@ -1,7 +1,10 @@
 //! The lists of faults of a type system.
-ghost use Rattle.std.specs.Prelude.{◌≡◌, ◌++◌, IfOk, OnOk};
+ghost use Rattle.std.specs.Prelude.{◌≡◌, ◌++◌, List, IfOk, OnOk};
 ghost use Rattle.std.specs.List.{flat_map};
+ghost use Rattle.std.specs.List.Sorted.{IsPermutation, IsSorted};
 ghost use Rattle.language.specs.References.{list_copied};
+ghost use Rattle.schema.specs.Ordered.{directive_cmp};
+ghost use Rattle.schema_validation.specs.declared.directives.DirectiveType.{DirectiveType};
 ghost use Rattle.type_system.specs.All.{all_faults, directive_faults, interface_faults, member_faults, own_faults, type_faults};
 ghost use Rattle.type_system_report.specs.Fault.{reported};
 
@@ -9,6 +12,7 @@ use crate::ancestors::report_wrong_ancestors;
 use crate::implemented_types::report_wrong_interfaces;
 use crate::interface_fields::report_unmet_interfaces;
 use crate::output_types::report_wrong_output_types;
+use crate::required_members::{report_deprecated_directive, report_deprecated_members};
 use crate::reserved_names::{report_reserved_directive, report_reserved_names};
 use crate::reserved_values::report_reserved_values;
 use crate::root_types::report_shared_roots;
@@ -22,6 +26,25 @@ use schema::meta::MetaTypeOf;
 use schema::model::{DirectiveType, SchemaTypeOf};
 use std::alloc::Global;
 use type_system_report::Fault;
+
+/// The faults of a schema: first those of its roots and types, as [`type_system_faults`] has them, and then those of
+/// its directives, in the order of their names.
+///
+/// # Errors
+///
+/// Out of memory.
+pub fn schema_faults<'a, S: Drop, C: Drop>(
+    alloc: Global,
+    schema: &'a SchemaTypeOf<S, C>,
+) -> Result<Vec<Fault<'a>>, OutOfMemory>
+    ensures { IfOk result (λ v. (ds : List (DirectiveType S)) × IsPermutation schema.now.directives ds
+        × IsSorted directive_cmp ds × (reported v ≡ all_faults schema.now ++ flat_map directive_faults ds)) }
+{
+    let mut faults = type_system_faults(alloc, schema)?;
+    let directives = schema.directive_list(alloc)?;
+    report_directives(&mut faults, directives.as_slice())?;
+    Ok(faults)
+}
 
 /// The faults of the roots and the types of a schema: first two roots that are one type, then those of each
 /// type, in the order of the list that made the schema. Those of directives are [`directive_faults`].
@@ -42,8 +65,8 @@ pub fn type_system_faults<'a, S, C>(
     Ok(faults)
 }
 
-/// The faults of a directive of a schema: the reserved names, of the directive and then of its arguments, and
-/// whether it has no location.
+/// The faults of a directive of a schema: the reserved names, of the directive and then of its arguments,
+/// whether it has no location, and the required arguments that are deprecated.
 ///
 /// # Errors
 ///
@@ -55,9 +78,32 @@ pub fn directive_faults<'a, S>(
     ensures { IfOk result (λ v. reported v ≡ directive_faults directive.now) }
 {
     let mut faults = Vec::new(alloc);
-    report_reserved_directive(&mut faults, directive)?;
-    report_missing_locations(&mut faults, directive)?;
+    report_directive(&mut faults, directive)?;
     Ok(faults)
+}
+
+fn report_directives<'a, S>(
+    faults: &mut Vec<Fault<'a>>,
+    directives: &[&'a DirectiveType<S>],
+) -> Result<(), OutOfMemory>
+    ensures { OnOk result (reported faults.new ≡ reported faults.old
+        ++ flat_map directive_faults (list_copied directives.now)) }
+{
+    for directive in directives {
+        report_directive(faults, *directive)?;
+    }
+    Ok(())
+}
+
+fn report_directive<'a, S>(
+    faults: &mut Vec<Fault<'a>>,
+    directive: &'a DirectiveType<S>,
+) -> Result<(), OutOfMemory>
+    ensures { OnOk result (reported faults.new ≡ reported faults.old ++ directive_faults directive.now) }
+{
+    report_reserved_directive(faults, directive)?;
+    report_missing_locations(faults, directive)?;
+    report_deprecated_directive(faults, directive)
 }
 
 fn report_types<'a, S, C>(
@@ -108,7 +154,8 @@ fn report_member_faults<'a, S, C>(
     ensures { OnOk result (reported faults.new ≡ reported faults.old ++ member_faults meta.now) }
 {
     report_repeated_members(faults, meta)?;
-    report_reserved_values(faults, meta)
+    report_reserved_values(faults, meta)?;
+    report_deprecated_members(faults, meta)
 }
 
 // Reports the faults of names and of members that are missing.

@@ -14,6 +14,7 @@ mod listed;
 mod members;
 mod output_types;
 mod pair;
+mod required_members;
 mod reserved_names;
 mod reserved_values;
 mod root_types;
@@ -23,5 +24,5 @@ mod some_members;
 mod some_values;
 mod unique_members;
 
-pub use all::{directive_faults, type_system_faults};
+pub use all::{directive_faults, schema_faults, type_system_faults};
 pub use type_system_report::{Coordinate, CoordinateOf, Fault, FaultKind, FaultKindOf, FaultOf};

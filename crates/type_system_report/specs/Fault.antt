@@ -51,6 +51,8 @@ module _ {N M : Type 0} (name : N → M) where
   kind_map of_type (k.RepeatedMember n) = k.RepeatedMember (name n)
   kind_map of_type k.ReservedValue = k.ReservedValue
   kind_map of_type k.NoLocations = k.NoLocations
+  kind_map of_type k.DeprecatedArgument = k.DeprecatedArgument
+  kind_map of_type k.DeprecatedInputField = k.DeprecatedInputField
 
 -- what borrowed coordinates, kinds and faults stand for
 abbrev pub coordinate_value : CoordinateOf (Bor (List ℕ)) → CoordinateValue

@@ -66,6 +66,8 @@ text_at at (k.AddedArgument w) = required_text at ++ (codes " that is missing fr
 text_at at (k.RepeatedMember n) = (codes "Union type " ++ coordinate_text at) ++ (codes " can only include type " ++ (n ++ codes " once"))
 text_at at k.ReservedValue = codes "Enum type " ++ (coordinate_text (holder_of at) ++ (codes " cannot include value: " ++ last_name at))
 text_at at k.NoLocations = codes "Directive " ++ (coordinate_text at ++ codes " must include one or more locations")
+text_at at k.DeprecatedArgument = codes "Required argument " ++ (coordinate_text at ++ codes " cannot be deprecated")
+text_at at k.DeprecatedInputField = codes "Required input field " ++ (coordinate_text at ++ codes " cannot be deprecated")
 
 -- the bytes of a fault
 abbrev pub fault_text : FaultValue → List ℕ

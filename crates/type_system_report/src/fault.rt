@@ -74,6 +74,10 @@ pub enum FaultKindOf<N, T> {
     ReservedValue,
     /// A directive has no location (section 3.13).
     NoLocations,
+    /// A required argument is deprecated (sections 3.6 and 3.13).
+    DeprecatedArgument,
+    /// A required input field is deprecated (section 3.10).
+    DeprecatedInputField,
 }
 
 /// The kind of a fault that borrows from a schema.
@@ -193,6 +197,12 @@ impl fmt::Display for FaultOf<&str, BorrowedType<'_>> {
             FaultKindOf::ReservedValue => write_reserved_value(f, at),
             FaultKindOf::NoLocations => {
                 write!(f, "Directive {at} must include one or more locations")
+            }
+            FaultKindOf::DeprecatedArgument => {
+                write!(f, "Required argument {at} cannot be deprecated")
+            }
+            FaultKindOf::DeprecatedInputField => {
+                write!(f, "Required input field {at} cannot be deprecated")
             }
         }
     }

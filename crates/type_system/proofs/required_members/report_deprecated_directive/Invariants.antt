@@ -1,0 +1,9 @@
+use Rattle.std.proofs.Common.{◌≡◌, ◌++◌, take}
+use Rattle.std.specs.List.{flat_map}
+use Rattle.type_system_report.specs.Fault.{reported}
+use Rattle.type_system.specs.RequiredMembers.{deprecated_directive_argument}
+use Rattle.type_system.proofs.required_members.report_deprecated_directive.Given as goal
+
+-- what is found at those that were seen was reported
+abbrev pub invariant-loop-argument : goal.invariant-loop-argument
+invariant-loop-argument g l = reported l.faults ≡ reported l.fn.faults ++ flat_map (deprecated_directive_argument l.of) (take l.argument-index l.argument-items)

@@ -1,0 +1,9 @@
+use Rattle.std.proofs.Common.{◌≡◌, ◌++◌, take}
+use Rattle.std.specs.List.{flat_map}
+use Rattle.type_system_report.specs.Fault.{reported}
+use Rattle.type_system.specs.RequiredMembers.{deprecated_arguments}
+use Rattle.type_system.proofs.required_members.report_of_fields.Given as goal
+
+-- what is found at those that were seen was reported
+abbrev pub invariant-loop-field : goal.invariant-loop-field
+invariant-loop-field g l = reported l.faults ≡ reported l.fn.faults ++ flat_map (deprecated_arguments l.of) (take l.field-index l.fields)
