@@ -1,18 +1,19 @@
 -- The end of the links before and after a step.
-use Rattle.std.proofs.Common.{◌≡◌, ℕ, ◌+◌, ◌<◌, ◌≤◌, List, [], ◌∷◌, ◌++◌, length, refl, sym, subst, ap, arith, inl, inr, ◌⊎◌, Some, slice_get, slice_set, length-append, ◌∙◌, drop, map}
+use Rattle.std.proofs.Common.{◌≡◌, ℕ, ◌+◌, ◌<◌, ◌≤◌, List, [], ◌∷◌, ◌++◌, length, refl, sym, subst, ap, arith, inl, inr, Some, slice_get, slice_set, length-append, ◌∙◌, drop, map}
 use Rattle.std.specs.List.{Contains}
 use Rattle.std.proofs.lemmas.Option.{slice_get_within}
 use Rattle.std.proofs.lemmas.List.Elements.{Contains-append_left, Contains-push_cases}
-use Rattle.fragment_graph.proofs.Lists.{contains_none, get_end}
+use Rattle.fragment_graph.proofs.Lists.{contains_none, get_end, same_item}
 use Rattle.type_system_circles.specs.declared.graph.Link.{Link}
 use Rattle.type_system_circles.specs.declared.graph.Node.{Node}
 use Rattle.type_system_circles.specs.declared.search.Circle.{Circle}
 use Rattle.type_system_circles.specs.declared.search.Colour.{Colour}
 use Rattle.type_system_circles.specs.declared.search.Colour.TheVariants.{New, InWork, Finished}
-use Rattle.type_system_circles.specs.Graph.{IsCircle, IsWalk, Stands, edges_of}
+use Rattle.type_system_circles.specs.Graph.{IsCircle, IsSimple, IsWalk, Stands, edges_of}
 use Rattle.type_system_circles.specs.Sound.{Sound, path_to}
-use Rattle.type_system_circles.proofs.Walks.{circle_turned, length-path, path-more, walk_from, walk_front, walk_more}
-use Rattle.type_system_circles.proofs.Steps.{sound_enter, sound_finish}
+use Rattle.type_system_circles.proofs.Walks.{length-path, path-more, walk_from, walk_front, walk_more}
+use Rattle.type_system_circles.proofs.Steps.{same_work, sound_enter, sound_finish}
+use Rattle.type_system_circles.proofs.Simple.{simple_end}
 
 pub empty : (xs : List Link) (n : ℕ) → n ≡ length xs → n ≡ 0 → xs ≡ []
 empty [] n e h = refl
@@ -57,6 +58,13 @@ module _ (graph : List Node) (root u : ℕ) (trail : List Link) (cs : List Colou
         walk = subst (λ (ls : List Link). IsWalk graph t ls t) (sym is) (walk_more graph t (drop depth trail) l (subst (λ (n : ℕ). IsWalk graph t (drop depth trail) n) (sym from) back) stands);
         some = omega (arith, ap length is, length-append (drop depth trail) (l ∷ []));
       }
+
+  -- and no two of them are from one node
+  pub end_simple : (l : Link) (depth : ℕ) (links : List Link) → l.from ≡ u → links ≡ drop depth trail ++ l ∷ [] → IsSimple links
+  end_simple l depth links from is =
+      simple_end trail u l depth links from
+      (λ i j v at_i at_j. same_work i j (same_item (InWork i) (InWork j) (slice_get cs v) (h.placed i v at_i) (h.placed j v at_j)))
+      is
 
   pub depth_within : (t depth : ℕ) → slice_get cs t ≡ Some (InWork depth) → depth ≤ length trail
   depth_within t depth works =

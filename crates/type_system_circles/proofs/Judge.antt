@@ -4,7 +4,7 @@ use Rattle.std.specs.List.{All, Contains}
 use Rattle.std.proofs.lemmas.Option.{slice_get_within, slice_get_past}
 use Rattle.std.specs.Option.{option_map_or}
 use Rattle.std.proofs.lemmas.List.Elements.{All-head, Contains-append_right}
-use Rattle.fragment_graph.proofs.Lists.{same_item, none_some, get_some, contains_none, one_contains}
+use Rattle.fragment_graph.proofs.Lists.{same_item, none_some, get_some, contains_none}
 use Rattle.fragment_graph.proofs.Judge.{below_length}
 use Rattle.type_system_circles.specs.declared.graph.Edge.{Edge}
 use Rattle.type_system_circles.specs.declared.graph.Link.{Link}
@@ -13,7 +13,7 @@ use Rattle.type_system_circles.specs.declared.search.Circle.{Circle}
 use Rattle.type_system_circles.specs.declared.search.Colour.{Colour}
 use Rattle.type_system_circles.specs.declared.search.Colour.TheVariants.{New, InWork, Finished}
 use Rattle.type_system_circles.specs.Graph.{FindsCircles, IsCircle, IsWalk, Stands, Told, edges_of}
-use Rattle.type_system_circles.specs.Sound.{Settled, Sound}
+use Rattle.type_system_circles.specs.Sound.{Sound}
 use Rattle.type_system_circles.proofs.Steps.{same_rank}
 
 -- a link stands at a node of the graph
@@ -95,6 +95,7 @@ module _ (graph : List Node) (cs : List Colour) (looked : List ℕ) (circles : L
   pub found : FindsCircles graph circles
   found = record {
     real = sound.real;
+    simple = sound.simple;
     first = sound.first;
     enough = λ ls c. met ls c.node c.walk c.some;
     none = (

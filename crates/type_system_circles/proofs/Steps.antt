@@ -1,10 +1,10 @@
 -- What the search does, a step at a time, keeps it sound.
-use Rattle.std.proofs.Common.{◌≡◌, ℕ, ◌+◌, ◌<◌, ◌≤◌, List, [], ◌∷◌, ◌++◌, length, refl, sym, subst, ap, arith, inl, inr, ◌⊎◌, Some, None, slice_get, slice_set, length-append, length-set, ◌∙◌, replicate}
-use Rattle.std.specs.List.{All, Contains}
-use Rattle.std.proofs.lemmas.Bool.{cases_eq, cases_order}
+use Rattle.std.proofs.Common.{◌≡◌, ℕ, ◌+◌, ◌<◌, ◌≤◌, List, [], ◌∷◌, ◌++◌, length, refl, sym, subst, ap, arith, inl, inr, ◌⊎◌, Some, slice_get, slice_set, length-set, ◌∙◌, replicate}
+use Rattle.std.specs.List.{Contains}
+use Rattle.std.proofs.lemmas.Bool.{cases_eq}
 use Rattle.std.proofs.lemmas.Option.{slice_get_within}
-use Rattle.std.proofs.lemmas.List.Elements.{All-push, All-nil, Contains-append_left, Contains-push}
-use Rattle.fragment_graph.proofs.Lists.{same_item, same_some, none_some, get_more, get_snoc, get_end, set_same, set_other, set_keep, set_was, contains_none}
+use Rattle.std.proofs.lemmas.List.Elements.{All-push, All-nil, Contains-append_left}
+use Rattle.fragment_graph.proofs.Lists.{same_item, none_some, get_more, get_snoc, get_end, set_same, set_other, set_keep, set_was}
 use Rattle.name_tables.proofs.Lists.{get_same}
 use Rattle.type_system_circles.specs.declared.graph.Edge.{Edge}
 use Rattle.type_system_circles.specs.declared.graph.Link.{Link}
@@ -12,8 +12,8 @@ use Rattle.type_system_circles.specs.declared.graph.Node.{Node}
 use Rattle.type_system_circles.specs.declared.search.Circle.{Circle}
 use Rattle.type_system_circles.specs.declared.search.Colour.{Colour}
 use Rattle.type_system_circles.specs.declared.search.Colour.TheVariants.{New, InWork, Finished}
-use Rattle.type_system_circles.specs.Graph.{BeginsFirst, IsCircle, Told, edges_of}
-use Rattle.type_system_circles.specs.Sound.{IsBelow, Settled, Sound}
+use Rattle.type_system_circles.specs.Graph.{BeginsFirst, IsCircle, IsSimple, Told, edges_of}
+use Rattle.type_system_circles.specs.Sound.{Settled, Sound}
 
 place_of : Colour → ℕ
 place_of New = 0
@@ -55,13 +55,14 @@ module _ (graph : List Node) where
         complete = λ v r m g at. absurd (new_finished r (all v (Finished r) g));
         settled = λ v m k e at lt ed. let z : 0 ≡ m = zeros v m at in absurd (omega (arith, z, lt));
         real = All-nil (λ c. IsCircle graph c.links.items);
+        simple = All-nil (λ c. IsSimple c.links.items);
         first = All-nil (λ c. BeginsFirst c.links.items);
       }
 
   pub sound_tell : (path : List ℕ) (trail : List Link) (cs : List Colour) (looked : List ℕ) (circles : List Circle) (count : ℕ) (c : Circle)
-      → IsCircle graph c.links.items → BeginsFirst c.links.items
+      → IsCircle graph c.links.items → IsSimple c.links.items → BeginsFirst c.links.items
       → Sound graph path trail cs looked circles count → Sound graph path trail cs looked (circles ++ c ∷ []) count
-  sound_tell path trail cs looked circles count c is begins h = record {
+  sound_tell path trail cs looked circles count c is once begins h = record {
     sized = h.sized;
     counted = h.counted;
     placed = h.placed;
@@ -71,6 +72,7 @@ module _ (graph : List Node) where
     complete = h.complete;
     settled = λ v n k e at lt ed. elim (h.settled v n k e at lt ed) [ inl t ↦ inl (told_more circles c (record { from = v; edge = e }) t) | inr o ↦ inr o ];
     real = All-push (λ (z : Circle). IsCircle graph z.links.items) circles c h.real is;
+    simple = All-push (λ (z : Circle). IsSimple z.links.items) circles c h.simple once;
     first = All-push (λ (z : Circle). BeginsFirst z.links.items) circles c h.first begins;
   }
 
@@ -108,6 +110,7 @@ module _ (graph : List Node) where
           ]
         ];
         real = h.real;
+        simple = h.simple;
         first = h.first;
       }
 
@@ -176,6 +179,7 @@ module _ (graph : List Node) where
           ]
         ];
         real = h.real;
+        simple = h.simple;
         first = h.first;
       }
 
@@ -220,5 +224,6 @@ module _ (graph : List Node) where
           | inr ne ↦ h.settled v k j x (sym (set_other looked u v m ne) ∙ is) lt ed
         ];
         real = h.real;
+        simple = h.simple;
         first = h.first;
       }

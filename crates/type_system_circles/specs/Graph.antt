@@ -39,14 +39,19 @@ abbrev pub BeginsFirst : List Link → Type 0
 BeginsFirst [] = Unit {0}
 BeginsFirst (l ∷ ls) = IsFirst l (l ∷ ls)
 
+-- no two links are from one node
+abbrev pub IsSimple : List Link → Type 0
+IsSimple ls = (i j : ℕ) (a b : Link) → slice_get ls i ≡ Some a → slice_get ls j ≡ Some b → a.from ≡ b.from → i ≡ j
+
 -- a circle that was told has the link
 abbrev pub Told : List Circle → Link → Type 0
 Told circles l = (c : Circle) × Contains circles c × Contains c.links.items l
 
--- Each is a circle and begins at its first node, and each circle of the graph has a link of one of them. There is none
--- if and only if the graph has no circle.
+-- Each is a circle that passes no node twice and begins at its first node, and each circle of the graph has a link of
+-- one of them. There is none if and only if the graph has no circle.
 pub record FindsCircles (graph : List Node) (circles : List Circle) : Type 0 where
   pub real : All (λ c. IsCircle graph c.links.items) circles
+  pub simple : All (λ c. IsSimple c.links.items) circles
   pub first : All (λ c. BeginsFirst c.links.items) circles
   pub enough : (ls : List Link) → IsCircle graph ls → (l : Link) × Contains ls l × Told circles l
   pub none : (circles ≡ []) ↔ ((ls : List Link) → IsCircle graph ls → ⊥)

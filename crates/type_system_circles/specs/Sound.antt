@@ -8,7 +8,7 @@ use Rattle.type_system_circles.specs.declared.search.Circle.{Circle}
 use Rattle.type_system_circles.specs.declared.search.Colour.{Colour}
 use Rattle.type_system_circles.specs.declared.search.Colour.TheVariants.{New, InWork, Finished}
 use Rattle.type_system_circles.specs.declared.search.Search.{Search}
-use Rattle.type_system_circles.specs.Graph.{BeginsFirst, IsCircle, IsWalk, Told, edges_of}
+use Rattle.type_system_circles.specs.Graph.{BeginsFirst, IsCircle, IsSimple, IsWalk, Told, edges_of}
 
 -- The second node was finished, and before the first if that was, too.
 abbrev pub IsBelow : List Colour → ℕ → ℕ → Type 0
@@ -30,6 +30,7 @@ pub record Sound (graph : List Node) (path : List ℕ) (trail : List Link) (cs :
   pub complete : (v r n : ℕ) → slice_get cs v ≡ Some (Finished r) → slice_get looked v ≡ Some n → length (edges_of graph v) ≤ n
   pub settled : (v n k : ℕ) (e : Edge) → slice_get looked v ≡ Some n → k < n → slice_get (edges_of graph v) k ≡ Some e → Settled trail cs circles (record { from = v; edge = e })
   pub real : All (λ c. IsCircle graph c.links.items) circles
+  pub simple : All (λ c. IsSimple c.links.items) circles
   pub first : All (λ c. BeginsFirst c.links.items) circles
 
 -- the nodes on the way along links to a node

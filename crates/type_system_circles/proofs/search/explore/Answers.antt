@@ -1,4 +1,4 @@
-use Rattle.std.proofs.Common.{◌≡◌, Option, ℕ, slice_get, slice_set, subst, sym}
+use Rattle.std.proofs.Common.{Option, ℕ, slice_get, slice_set, subst, sym}
 use Rattle.fragment_graph.proofs.Lists.{same_item, set_same, set_was}
 use Rattle.type_system_circles.specs.declared.search.Colour.TheVariants.{New, InWork}
 use Rattle.type_system_circles.specs.Sound.{Ends}

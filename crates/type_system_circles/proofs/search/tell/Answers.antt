@@ -1,11 +1,12 @@
-use Rattle.std.proofs.Common.{◌≡◌, ◌++◌, ◌∷◌, [], ◌≤◌, List, length, drop, ap, arith, inl, refl, sym, subst, ◌∙◌}
+use Rattle.std.proofs.Common.{◌++◌, ◌∷◌, [], ◌≤◌, List, length, drop, ap, arith, inl, refl, sym, subst, ◌∙◌}
 use Rattle.std.specs.List.{Contains}
 use Rattle.std.proofs.lemmas.List.Elements.{Contains-push}
 use Rattle.type_system_circles.specs.declared.graph.Link.{Link}
 use Rattle.type_system_circles.specs.declared.search.Circle.{Circle}
 use Rattle.type_system_circles.specs.Sound.{Sound, path_to}
 use Rattle.type_system_circles.specs.Graph.{Told}
-use Rattle.type_system_circles.proofs.Ends.{depth_within, end_closed}
+use Rattle.type_system_circles.proofs.Ends.{depth_within, end_closed, end_simple}
+use Rattle.type_system_circles.proofs.Simple.{simple_turned}
 use Rattle.type_system_circles.proofs.Steps.{sound_tell}
 use Rattle.type_system_circles.proofs.Walks.{circle_turned, turned_has}
 use Rattle.type_system_circles.proofs.search.tell.Goals as goal
@@ -28,11 +29,13 @@ returns-clause-at c =
     let links = c.as_slice-2.result.now in
     let is = c.as_slice-2.ensures.value ∙ c.in_ok-back.ensures ∙ ap (λ (ls : List Link). drop c.args.depth ls ++ l ∷ []) c.as_slice.ensures.value in
     let closes = end_closed g a.root l.from s.trail.items s.colours.items s.looked.items s.circles.items _ a.walk a.sound l c.args.depth links refl c.requires.stands c.requires.in_work is in
+    let once = end_simple g a.root l.from s.trail.items s.colours.items s.looked.items s.circles.items _ a.walk a.sound l c.args.depth links refl is in
     let circle : Circle = record { links = c.in_ok-turned.turned } in
     record {
       sound = subst (λ (cs : List Circle). Sound g (path_to s.trail.items l.from) s.trail.items s.colours.items s.looked.items cs (length s.order.items)) (sym c.in_ok-push.ensures.items)
           (sound_tell g (path_to s.trail.items l.from) s.trail.items s.colours.items s.looked.items s.circles.items (length s.order.items) circle
-          (circle_turned g t.0 links c.in_ok-turned.turned.items t.1 closes) c.in_ok-turned.ensures.first a.sound);
+          (circle_turned g t.0 links c.in_ok-turned.turned.items t.1 closes)
+          (simple_turned t.0 links c.in_ok-turned.turned.items t.1 once) c.in_ok-turned.ensures.first a.sound);
       root = a.root;
       walk = a.walk;
     }
