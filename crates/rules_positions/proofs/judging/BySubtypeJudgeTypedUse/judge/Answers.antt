@@ -6,7 +6,7 @@ use Rattle.walk.specs.ContextState.{with_errors}
 use Rattle.rules_positions.specs.TypedUses.{use_value}
 use Rattle.rules_positions.specs.VariablesInAllowedPosition.{position_error, position_message, type_in_use}
 use Rattle.rules_positions.proofs.Giving.{false_true}
-use Rattle.rules_positions.proofs.judging.judge.Goals as goal
+use Rattle.rules_positions.proofs.judging.BySubtypeJudgeTypedUse.judge.Goals as goal
 
 pub returns-then-below-clause-ok : goal.returns-then-below-clause-ok
 returns-then-below-clause-ok g c =
@@ -22,7 +22,7 @@ returns-clause-ok g c =
     let u = use_value c.args.found.now in
     let t = type_in_use c.args.entry.now.1 in
     let said : c.as_str.result.now ≡ position_message u.variable (printed t) (printed u.expected) =
-    c.as_str.ensures.value ∙ c.in_ok-message.ensures ∙ ap (λ z. position_message u.variable (printed z) (printed u.expected)) c.in_ok-t.ensures
+    c.as_str.ensures.value ∙ c.in_ok-message.ensures ∙ ap (λ z. position_message u.variable (printed z) (printed u.expected)) (c.as_borrowed.ensures ∙ c.in_ok-t.ensures)
     in
     let not_below : IsSubtype types t u.expected → ⊥ = λ stands.
     false_true (sym c.if-below.false ∙ c.in_ok-below.ensures.1 (subst (λ z. IsSubtype z.types t u.expected) (sym (ap (λ k. k.schema) c.ctx.view_is)) stands))

@@ -3,12 +3,11 @@ use Rattle.walk.specs.Entering.{EachGives}
 use Rattle.walk.specs.Rule.{Appended}
 use Rattle.operation_scopes.specs.Index.{operation_names}
 use Rattle.operation_scopes.specs.Searches.{IsReady}
-use Rattle.rules_positions.specs.TypedUses.{use_values}
-use Rattle.rules_positions.specs.VariablesInAllowedPosition.{OperationsGive}
-use Rattle.rules_positions.proofs.variables_in_allowed_position.report_names.Given as goal
+use Rattle.rules_positions.specs.JudgedUses.{OperationsGive, values_in}
+use Rattle.rules_positions.proofs.judged_uses.report_names.Given as goal
 
 -- those of the names that were seen are judged
 abbrev pub invariant-loop-number : goal.invariant-loop-number
 invariant-loop-number g l =
     IsReady l.index l.search
-    × Appended (EachGives (OperationsGive l.fn.ctx.schema.types l.document (use_values l.uses)) (take l.number (operation_names l.index))) l.fn.ctx l.ctx
+    × Appended (EachGives (OperationsGive g.J.Judge.variable_of g.J.Judge.judged l.fn.ctx.schema.types l.document (values_in g.J.Judge.value l.uses)) (take l.number (operation_names l.index))) l.fn.ctx l.ctx

@@ -1,6 +1,6 @@
 use Rattle.std.proofs.lemmas.Result.{IfOk-weaker}
 use Rattle.operation_scopes.specs.Index.{operation_names}
-use Rattle.rules_positions.proofs.variables_in_allowed_position.report_document.Goals as goal
+use Rattle.rules_positions.proofs.judged_uses.report_document.Goals as goal
 
 pub returns-clause-ok : goal.returns-clause-ok
 returns-clause-ok g c =
