@@ -6,7 +6,7 @@ use Rattle.rules_positions.proofs.Giving.{false_true}
 use Rattle.rules_positions.specs.VariablesInAllowedPosition.{position_message}
 use Rattle.rules_specified_uses.specs.ValueUses.{use_value}
 use Rattle.rules_specified_positions.specs.Usages.{IsAllowed, usage_error}
-use Rattle.rules_specified_positions.proofs.judging.judge.Goals as goal
+use Rattle.rules_specified_positions.proofs.judging.ByDefaultsJudgePlacedUse.judge.Goals as goal
 
 pub returns-then-is_allowed-clause-ok : goal.returns-then-is_allowed-clause-ok
 returns-then-is_allowed-clause-ok g c =
