@@ -1,5 +1,5 @@
-//! The uses of variables in a document, each judged by the first definition of its variable in all operations of a name. How, the
-//! rule says.
+//! The uses of variables in a document, each judged by the first definition of its variable in all operations of a
+//! name. How a use is judged, the rule says.
 
 ghost use Rattle.std.specs.Prelude.{◌≡◌, ℕ, List, Option, IfOk, OnErr, OnOk, map};
 ghost use Rattle.walk.specs.Entering.{EachGives};
