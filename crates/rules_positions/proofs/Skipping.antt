@@ -1,7 +1,7 @@
 -- Operations that define no variable, of which nothing is reported.
 use Rattle.std.proofs.Common.{◌≡◌, ℕ, List, [], ◌∷◌, Option, Some, None, option_copied, length, true, cond, refl, ap, sym, ◌∙◌, subst}
 use denote.Ref.{Bor}
-use Rattle.std.specs.BTreeMap.{BTreeMap, btree_map_len, is_at}
+use Rattle.std.specs.BTreeMap.{btree_map_len, is_at}
 use Rattle.std.specs.Cmp.Lexicographic.{slice_cmp, nat_list_eq_equiv}
 use Rattle.std.specs.List.{flat_map}
 use Rattle.std.specs.Map.{lookup}
@@ -21,8 +21,7 @@ use Rattle.events.specs.Node.{VariableEntry}
 use Rattle.walk.specs.Entering.{EachGives}
 use Rattle.rules_positions.specs.DefinedVariables.{first_of, variables_at, variables_in, variables_of}
 use Rattle.rules_positions.specs.FirstVariables.{KeepsFirst}
-use Rattle.rules_positions.specs.TypedUses.{UseValue}
-use Rattle.rules_positions.specs.VariablesInAllowedPosition.{JudgedIfDefined, OperationsGive, UsesGive, uses_in}
+use Rattle.rules_positions.specs.JudgedUses.{JudgedIfDefined, Judgement, OperationsGive, UsesGive, uses_in}
 use Rattle.rules_positions.specs.declared.first_variables.FirstVariables.{FirstVariables}
 
 -- a map without entries keeps no definition
@@ -50,16 +49,16 @@ each_nothing gives (o ∷ os) h = ([], [], h o, each_nothing gives os h, refl)
 pub own_variables : {S : Type 0} (document : List (Definition S)) (name : Option (List ℕ)) (own : List ℕ) → own ≡ places_of document (operation name) → flat_map (variables_at document) own ≡ variables_of document name
 own_variables document name own e = ap (flat_map (variables_at document)) e ∙ flat_places (λ d. same_scope (scope_of d) (operation name)) variables_in document
 
-module _ {S : Type 0} (document : List (Definition S)) (index : ScopeIndex) (h : IsIndexOf document index) (name : Option (List ℕ)) where
-  -- no use is of a variable that is defined
-  pub none_misplaced : {C : Type 0} (types : List (MetaTypeOf S C)) (uses : List (List UseValue)) → ((v : List ℕ) → first_of (variables_of document name) v ≡ None) → OperationsGive types document uses name []
-  none_misplaced types uses none =
-      let (places, reach) = some_reach document index h name in
-      let judged : (u : UseValue) → JudgedIfDefined types (first_of (variables_of document name) u.variable) u [] =
-      λ u. subst (λ o. JudgedIfDefined types o u []) (sym (none u.variable)) refl
-      in (
-        places,
-        reach,
-        each_nothing (λ place fs. UsesGive types (first_of (variables_of document name)) (uses_in uses place) fs) places
-            (λ place. each_nothing (λ u fs. JudgedIfDefined types (first_of (variables_of document name) u.variable) u fs) (uses_in uses place) judged),
-      )
+-- no use is of a variable that is defined
+pub none_misplaced : {S C U : Type 0} (variable_of : U → List ℕ) (judged : Judgement S C U) (document : List (Definition S)) (index : ScopeIndex) → IsIndexOf document index → (name : Option (List ℕ)) (types : List (MetaTypeOf S C)) (uses : List (List U))
+    → ((v : List ℕ) → first_of (variables_of document name) v ≡ None) → OperationsGive variable_of judged types document uses name []
+none_misplaced {S} {C} {U} variable_of judged document index h name types uses none =
+    let (places, reach) = some_reach document index h name in
+    let alone : (u : U) → JudgedIfDefined judged types (first_of (variables_of document name) (variable_of u)) u [] =
+    λ u. subst (λ o. JudgedIfDefined judged types o u []) (sym (none (variable_of u))) refl
+    in (
+      places,
+      reach,
+      each_nothing (λ place fs. UsesGive variable_of judged types (first_of (variables_of document name)) (uses_in uses place) fs) places
+          (λ place. each_nothing (λ u fs. JudgedIfDefined judged types (first_of (variables_of document name) (variable_of u)) u fs) (uses_in uses place) alone),
+    )

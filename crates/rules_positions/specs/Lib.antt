@@ -1,6 +1,8 @@
 pub mod AllowedPositions
 pub mod DefinedVariables
 pub mod FirstVariables
+pub mod JudgedUses
+pub mod JudgedUsesLaws
 pub mod Recording
 pub mod RecordingLaws
 pub mod TypedUses

@@ -1,6 +1,5 @@
 -- Variables that are used where their type is not allowed.
-use Rattle.std.specs.Prelude.{◌≡◌, ◌⊎◌, ℕ, List, [], ◌∷◌, ◌++◌, Option, None, Some, is_some, map, slice_get, codes, if◌then◌else◌}
-use Rattle.std.specs.Option.{unwrap_or}
+use Rattle.std.specs.Prelude.{◌≡◌, ◌⊎◌, ℕ, List, [], ◌∷◌, ◌++◌, is_some, map, codes, if◌then◌else◌}
 use Rattle.language.specs.Types.{TypeShape, shape, non_null_of, printed}
 use Rattle.language.specs.declared.tree.Definition.{Definition}
 use Rattle.language.specs.declared.tree.VariableDefinition.{VariableDefinition}
@@ -8,11 +7,9 @@ use Rattle.meta.specs.declared.kinds.MetaTypeOf.{MetaTypeOf}
 use Rattle.schema.specs.Subtype.{IsSubtype}
 use Rattle.events.specs.Node.{VariableEntry}
 use Rattle.walk.specs.ContextState.{DocumentScope}
-use Rattle.walk.specs.Entering.{EachGives}
 use Rattle.walk.specs.ErrorValue.{ErrorValue}
 use Rattle.walk.specs.Rule.{Allowance}
-use Rattle.operation_scopes.specs.Scopes.{InReach, OperationNames}
-use Rattle.rules_positions.specs.DefinedVariables.{first_of, variables_of}
+use Rattle.rules_positions.specs.JudgedUses as judged_uses
 use Rattle.rules_positions.specs.TypedUses.{UseValue, typed_uses, use_values}
 use Rattle.rules_positions.specs.declared.variables_in_allowed_position.VariableInAllowedPosition.{VariableInAllowedPosition}
 
@@ -29,37 +26,17 @@ abbrev pub position_error : {S : Type 0} → VariableEntry S → UseValue → Er
 position_error d u =
     record { locations = d.0.span.start ∷ u.place ∷ []; message = position_message u.variable (printed (type_in_use d.1)) (printed u.expected) }
 
--- the uses in the definition at a place
-abbrev pub uses_in : List (List UseValue) → ℕ → List UseValue
-uses_in uses place = unwrap_or (slice_get uses place) []
-
 module _ {S C : Type 0} (types : List (MetaTypeOf S C)) where
   -- an error if the variable's type is not a subtype of the expected one, and no error otherwise
   abbrev pub Judged : VariableEntry S → UseValue → List ErrorValue → Type 0
   Judged d u es =
       (IsSubtype types (type_in_use d.1) u.expected × (es ≡ [])) ⊎ (¬ (IsSubtype types (type_in_use d.1) u.expected) × (es ≡ position_error d u ∷ []))
 
-  -- a variable that is not defined is not judged
-  abbrev pub JudgedIfDefined : Option (VariableEntry S) → UseValue → List ErrorValue → Type 0
-  JudgedIfDefined None u es = es ≡ []
-  JudgedIfDefined (Some d) u es = Judged d u es
-
-  -- each use in a definition, by what is known of the variables
-  abbrev pub UsesGive : (List ℕ → Option (VariableEntry S)) → List UseValue → List ErrorValue → Type 0
-  UsesGive known us es = EachGives (λ u fs. JudgedIfDefined (known u.variable) u fs) us es
-
-  module _ (document : List (Definition S)) (uses : List (List UseValue)) where
-    -- the operations of a name: each use in each definition that they reach, by the first definition of its variable in all of them
-    abbrev pub OperationsGive : Option (List ℕ) → List ErrorValue → Type 0
-    OperationsGive name es =
-        (places : List ℕ) × InReach document name places
-        × EachGives (λ place fs. UsesGive (first_of (variables_of document name)) (uses_in uses place) fs) places es
-
-    -- the operations of each name, in some order
-    abbrev pub DocumentGives : List ErrorValue → Type 0
-    DocumentGives es = (names : List (Option (List ℕ))) × OperationNames document names × EachGives OperationsGive names es
-
 module _ {S C : Type 0} where
+  -- each use in what the operations of each name reach, judged so
+  abbrev pub DocumentGives : List (MetaTypeOf S C) → List (Definition S) → List (List UseValue) → List ErrorValue → Type 0
+  DocumentGives types document uses es = judged_uses.DocumentGives (λ (u : UseValue). u.variable) Judged types document uses es
+
   -- what is given by the uses that were recorded
   abbrev pub given_by_uses : DocumentScope S C → List (Definition S) → List (List UseValue) → VariableInAllowedPosition → List ErrorValue → Type 0
   given_by_uses scope document uses end es = DocumentGives scope.schema.types document uses es

@@ -1,14 +1,13 @@
 //! Whether a variable is allowed where it is used.
 
-ghost use Rattle.std.specs.Prelude.{◌≡◌, ◌↔◌, IfOk, IsTrue, OnErr, string_bytes};
+ghost use Rattle.std.specs.Prelude.{◌≡◌, ◌↔◌, IfOk, IsTrue, string_bytes};
 ghost use Rattle.language.specs.Types.{borrowed_shape, printed, shape};
 ghost use Rattle.schema.specs.Subtype.{IsSubtype};
-ghost use Rattle.walk.specs.Rule.{Appended};
-ghost use Rattle.walk.specs.Step.{KeepsPlace};
-ghost use Rattle.rules_positions.specs.TypedUses.{use_value};
+ghost use Rattle.rules_positions.specs.TypedUses.{use_value, UseValue};
 ghost use Rattle.rules_positions.specs.VariablesInAllowedPosition.{position_message, type_in_use, Judged};
 
 use crate::first_variables::VariableEntry;
+use crate::judged_uses::Judge;
 use crate::typed_uses::TypedUse;
 use language::error::OutOfMemory;
 use language::tree::VariableDefinition;
@@ -48,38 +47,51 @@ fn is_below<S, C>(
     Ok(schema.is_subtype(t.as_borrowed(), expected))
 }
 
-/// Reports a use of a variable, if the variable's type is not a subtype of the expected one.
+/// Judges whether the variable's type is a subtype of the expected one. A variable with a default value is never null.
+pub struct BySubtype;
+
+impl<'u, S: CheckedScalar> Judge<S, TypedUse<'u>> for BySubtype {
+    ghost value_type = { UseValue };
+
+    ghost value = { use_value };
+
+    ghost variable_of = { λ u. u.variable };
+
+    ghost judged = { Judged };
+
+    fn variable<'t>(found: &'t TypedUse<'u>) -> &'t str {
+        found.variable
+    }
+
+    fn judge<'a>(
+        alloc: Global,
+        ctx: &mut ValidatorContext<'a, S>,
+        entry: &VariableEntry<'_, S>,
+        found: &TypedUse<'u>,
+    ) -> Result<(), OutOfMemory> {
+        let below = is_below(ctx.schema, &entry.1, found.expected)?;
+        if below {
+            return Ok(());
+        }
+        let t = type_in_use(&entry.1)?;
+        let message = position_message(alloc, found.variable, t.as_borrowed(), found.expected)?;
+        ctx.report_error(message.as_str(), &[entry.0.span.start, found.place])
+    }
+}
+
+/// The message on a variable of one type where another is expected.
 ///
 /// # Errors
 ///
-/// Out of memory. The types at hand stay; some of the errors may be reported then.
-pub fn judge<'a, S: CheckedScalar>(
-    alloc: Global,
-    ctx: &mut ValidatorContext<'a, S>,
-    entry: &VariableEntry<'_, S>,
-    found: &TypedUse<'_>,
-) -> Result<(), OutOfMemory>
-    ensures ok { IfOk result
-        (λ _. Appended (Judged ctx.old.schema.types entry.now (use_value found.now)) ctx.old ctx.new) }
-    ensures err { OnErr result (KeepsPlace ctx.old ctx.new) }
-{
-    let below = is_below(ctx.schema, &entry.1, found.expected)?;
-    if below {
-        return Ok(());
-    }
-    let t = type_in_use(&entry.1)?;
-    let message = error_message(alloc, found.variable, &t, found.expected)?;
-    ctx.report_error(message.as_str(), &[entry.0.span.start, found.place])
-}
-
-fn error_message(
+/// Out of memory.
+pub fn position_message(
     alloc: Global,
     variable: &str,
-    t: &Type,
+    t: BorrowedType<'_>,
     expected: BorrowedType<'_>,
 ) -> Result<String, AllocError>
     ensures { IfOk result (λ message. string_bytes message ≡
-        position_message variable.now (printed (shape t.now)) (printed (borrowed_shape expected.entry))) }
+        position_message variable.now (printed (borrowed_shape t.entry)) (printed (borrowed_shape expected.entry))) }
 {
     format!(in alloc;
         "Variable \"{variable}\" of type \"{t}\" used in position expecting type \"{expected}\""

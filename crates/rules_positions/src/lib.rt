@@ -2,6 +2,7 @@
 #![tactic(auto)]
 
 pub mod first_variables;
+pub mod judged_uses;
 pub mod judging;
 pub mod typed_uses;
 pub mod variables_in_allowed_position;

@@ -1,5 +1,3 @@
-pub mod Giving
-pub mod JudgedUses
 pub mod PlacedUses
 pub mod Usages
 pub mod UsesRecorded

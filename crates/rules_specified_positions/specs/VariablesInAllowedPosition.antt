@@ -2,6 +2,7 @@
 use Rattle.std.specs.Prelude.{◌≡◌, ℕ, List, Option, Some, map}
 use Rattle.std.specs.List.{Contains}
 use Rattle.language.specs.declared.tree.Definition.{Definition}
+use Rattle.meta.specs.declared.kinds.MetaTypeOf.{MetaTypeOf}
 use Rattle.events.specs.Node.{VariableEntry}
 use Rattle.walk.specs.ContextState.{DocumentScope}
 use Rattle.walk.specs.ErrorValue.{ErrorValue}
@@ -9,13 +10,17 @@ use Rattle.walk.specs.Rule.{Allowance, Condition}
 use Rattle.fragment_reach.specs.Reach.{Reach}
 use Rattle.operation_scopes.specs.Scopes.{IsOperationName, scope_of}
 use Rattle.rules_positions.specs.DefinedVariables.{first_of, variables_of}
-use Rattle.rules_specified_positions.specs.JudgedUses.{DocumentGives}
+use Rattle.rules_positions.specs.JudgedUses as judged_uses
 use Rattle.rules_specified_positions.specs.PlacedUses.{placed_uses}
 use Rattle.rules_specified_uses.specs.ValueUses.{UseValue, use_values}
-use Rattle.rules_specified_positions.specs.Usages.{IsAllowed}
+use Rattle.rules_specified_positions.specs.Usages.{IsAllowed, Judged}
 use Rattle.rules_specified_positions.specs.declared.variables_in_allowed_position.VariableInAllowedPosition.{VariableInAllowedPosition}
 
 module _ {S C : Type 0} where
+  -- each use in what the operations of each name reach, judged by the default values of the variable and of the place
+  abbrev pub DocumentGives : List (MetaTypeOf S C) → List (Definition S) → List (List UseValue) → List ErrorValue → Type 0
+  DocumentGives types document uses es = judged_uses.DocumentGives (λ (u : UseValue). u.variable) Judged types document uses es
+
   -- what is given by the uses that were recorded
   abbrev pub given_by_uses : DocumentScope S C → List (Definition S) → List (List UseValue) → VariableInAllowedPosition → List ErrorValue → Type 0
   given_by_uses scope document uses end es = DocumentGives scope.schema.types document uses es

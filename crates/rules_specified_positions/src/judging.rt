@@ -1,11 +1,8 @@
 //! Whether a variable may stand where it is used, by its own default value and that of the place.
 
-ghost use Rattle.std.specs.Prelude.{◌≡◌, ◌||◌, ◌↔◌, IfOk, IsTrue, OnErr, string_bytes};
-ghost use Rattle.language.specs.Types.{borrowed_shape, is_never_null, printed};
-ghost use Rattle.walk.specs.Rule.{Appended};
-ghost use Rattle.walk.specs.Step.{KeepsPlace};
-ghost use Rattle.rules_positions.specs.VariablesInAllowedPosition.{position_message};
-ghost use Rattle.rules_specified_uses.specs.ValueUses.{use_value};
+ghost use Rattle.std.specs.Prelude.{◌≡◌, ◌||◌, ◌↔◌, IsTrue};
+ghost use Rattle.language.specs.Types.{borrowed_shape, is_never_null};
+ghost use Rattle.rules_specified_uses.specs.ValueUses.{use_value, UseValue};
 ghost use Rattle.rules_specified_positions.specs.Usages.{has_usable_default, is_null, type_to_fit, Fits, IsAllowed, Judged};
 
 use language::error::OutOfMemory;
@@ -14,9 +11,11 @@ use language::types::BorrowedType;
 use language::value::InputValue;
 use meta::check::CheckedScalar;
 use rules_positions::first_variables::VariableEntry;
+use rules_positions::judged_uses::Judge;
+use rules_positions::judging::position_message;
 use rules_specified_uses::value_uses::PlacedUse;
 use schema::model::SchemaTypeOf;
-use std::alloc::{AllocError, Global};
+use std::alloc::Global;
 use walk::ValidatorContext;
 
 fn is_null<S>(value: &InputValue<S>) -> bool
@@ -101,39 +100,33 @@ fn is_allowed<S, C>(
     fits(schema, variable, place)
 }
 
-/// Reports a use of a variable, if the variable may not stand there.
-///
-/// # Errors
-///
-/// Out of memory. The types at hand stay; some of the errors may be reported then.
-pub fn judge<'a, S: CheckedScalar>(
-    alloc: Global,
-    ctx: &mut ValidatorContext<'a, S>,
-    entry: &VariableEntry<'_, S>,
-    found: &PlacedUse<'_>,
-) -> Result<(), OutOfMemory>
-    ensures ok { IfOk result
-        (λ _. Appended (Judged ctx.old.schema.types entry.now (use_value found.now)) ctx.old ctx.new) }
-    ensures err { OnErr result (KeepsPlace ctx.old ctx.new) }
-{
-    if is_allowed(ctx.schema, &entry.1, found) {
-        return Ok(());
-    }
-    let written = entry.1.var_type.item.as_borrowed();
-    let message = error_message(alloc, found.variable, written, found.expected)?;
-    ctx.report_error(message.as_str(), &[entry.0.span.start, found.place])
-}
+/// Judges whether a variable's type fits the place where it is used, by the default values of both.
+pub struct ByDefaults;
 
-fn error_message(
-    alloc: Global,
-    variable: &str,
-    t: BorrowedType<'_>,
-    expected: BorrowedType<'_>,
-) -> Result<String, AllocError>
-    ensures { IfOk result (λ message. string_bytes message ≡
-        position_message variable.now (printed (borrowed_shape t.entry)) (printed (borrowed_shape expected.entry))) }
-{
-    format!(in alloc;
-        "Variable \"{variable}\" of type \"{t}\" used in position expecting type \"{expected}\""
-    )
+impl<'u, S: CheckedScalar> Judge<S, PlacedUse<'u>> for ByDefaults {
+    ghost value_type = { UseValue };
+
+    ghost value = { use_value };
+
+    ghost variable_of = { λ u. u.variable };
+
+    ghost judged = { Judged };
+
+    fn variable<'t>(found: &'t PlacedUse<'u>) -> &'t str {
+        found.variable
+    }
+
+    fn judge<'a>(
+        alloc: Global,
+        ctx: &mut ValidatorContext<'a, S>,
+        entry: &VariableEntry<'_, S>,
+        found: &PlacedUse<'u>,
+    ) -> Result<(), OutOfMemory> {
+        if is_allowed(ctx.schema, &entry.1, found) {
+            return Ok(());
+        }
+        let written = entry.1.var_type.item.as_borrowed();
+        let message = position_message(alloc, found.variable, written, found.expected)?;
+        ctx.report_error(message.as_str(), &[entry.0.span.start, found.place])
+    }
 }

@@ -2,7 +2,6 @@
 //! input fields count.
 #![tactic(auto)]
 
-mod judged_uses;
 mod judging;
 mod placed_uses;
 pub mod variables_in_allowed_position;

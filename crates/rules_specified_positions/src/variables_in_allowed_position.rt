@@ -7,13 +7,12 @@ ghost use Rattle.walk.specs.Rule.{always, Appended};
 ghost use Rattle.walk.specs.Step.{KeepsPlace};
 ghost use Rattle.operation_scopes.specs.Index.{IsIndexOf};
 ghost use Rattle.rules_positions.specs.Recording.{recording_step};
-ghost use Rattle.rules_specified_positions.specs.JudgedUses.{DocumentGives};
 ghost use Rattle.rules_specified_positions.specs.PlacedUses.{arguments_uses, next_uses};
 ghost use Rattle.rules_specified_uses.specs.ValueUses.{use_values, with_uses};
-ghost use Rattle.rules_specified_positions.specs.VariablesInAllowedPosition.{given_by_uses, misplaced_variables, recorded_uses, AllAllowed};
+ghost use Rattle.rules_specified_positions.specs.VariablesInAllowedPosition.{given_by_uses, misplaced_variables, recorded_uses, AllAllowed, DocumentGives};
 ghost use Rattle.rules_specified_positions.specs.VariablesInAllowedPositionLaws.{positions_keep, positions_silent};
 
-use crate::judged_uses::report_document;
+use crate::judging::ByDefaults;
 use crate::placed_uses::add_arguments;
 use events::{arguments_of_directive, arguments_of_field};
 use language::error::OutOfMemory;
@@ -21,7 +20,8 @@ use language::position::Spanning;
 use language::tree::{Definition, Directive, Field};
 use meta::check::CheckedScalar;
 use operation_scopes::index::{ScopeIndex, index_scopes};
-use rules_specified_uses::value_uses::{Uses, begin_definition};
+use rules_positions::judged_uses::report_document;
+use rules_specified_uses::value_uses::{PlacedUse, Uses, begin_definition};
 use std::alloc::Global;
 use walk::{Criterion, Event, Fresh, Machine, Rule, SettledRule, ValidatorContext, Visitor};
 
@@ -63,7 +63,8 @@ impl<'a> VariableInAllowedPosition<'a> {
             (DocumentGives ctx.old.schema.types document.now (recorded_uses self.now)) ctx.old ctx.new) }
         ensures err { OnErr result (KeepsPlace ctx.old ctx.new) }
     {
-        report_document(self.alloc, ctx, document, index, self.uses.as_slice())
+        let uses = self.uses.as_slice();
+        report_document::<S, PlacedUse<'a>, ByDefaults>(self.alloc, ctx, document, index, uses)
     }
 }
 

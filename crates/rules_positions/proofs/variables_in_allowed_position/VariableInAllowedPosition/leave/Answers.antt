@@ -7,5 +7,5 @@ use Rattle.rules_positions.proofs.variables_in_allowed_position.VariableInAllowe
 pub returns-clause-ok : goal.returns-clause-ok
 returns-clause-ok g c =
     IfOk-weaker c.report_document.result _ _
-    (λ _ (es, p, e). (es, subst (λ us. DocumentGives c.args.ctx.now.schema.types c.args.document.now (use_values us) es) c.as_slice.ensures.value p, e))
+    (λ _ (es, p, e). (es, subst (λ us. DocumentGives c.args.ctx.now.schema.types c.args.document.now (use_values us) es) c.as_slice-uses.ensures.value p, e))
     c.report_document.ensures.ok
