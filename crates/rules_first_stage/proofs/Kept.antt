@@ -6,15 +6,16 @@ use Rattle.language.specs.declared.tree.Definition.{Definition}
 use Rattle.schema.specs.Catalog.{Catalog}
 use Rattle.events.specs.TypedEvent.{TypedEvent, typed_events}
 use Rattle.events.specs.Typing.{Typing}
-use Rattle.walk.specs.ContextState.{ContextState, DocumentScope, scope_of_context, typing}
+use Rattle.walk.specs.ContextState.{DocumentScope}
 use Rattle.walk.specs.declared.multi_visitor.MultiVisitorCons.{MultiVisitorCons}
 use Rattle.walk.specs.ErrorValue.{ErrorValue}
-use Rattle.walk.specs.Step.{Run, StepOf}
+use Rattle.walk.specs.Step.{Run}
 use Rattle.fragment_graph.specs.declared.cycles.DocumentCycles.{DocumentCycles}
 use Rattle.fragment_graph.specs.DocumentCycles.{SearchedDocument}
 use Rattle.rules_document.specs.AtDocument.{document_step}
 use Rattle.rules_document.specs.AtDocumentLaws.{document_given}
 use Rattle.rules_document.specs.NoFragmentCycles.{cycle_errors, KeepsFound}
+use Rattle.rules_document.specs.declared.no_fragment_cycles.NoFragmentCycles.{NoFragmentCycles}
 use Rattle.rules_first_stage.specs.declared.across.AcrossDocument.{AcrossDocument}
 use Rattle.rules_first_stage.specs.Across.{across_step}
 
@@ -28,30 +29,30 @@ run_of_part step part get one (e ∷ events) a b es (mid, first, rest, s, r, q) 
     let (gs, r') = run_of_part step part get one events mid b rest r in
     (fs ++ gs, (get mid, fs, gs, s', r', refl))
 
+-- the rule on cycles among those that look across the document
+abbrev pub cycles_of : AcrossDocument → NoFragmentCycles
+cycles_of a = a.cycles
+
 module _ {S C : Type 0} where
   -- the last but one of the steps across the document is that of the rule on cycles
   cycles_step : (scope : DocumentScope S C) (e : TypedEvent S C) (a b : AcrossDocument) (es : List ErrorValue)
       → across_step scope e a b es → (fs : List ErrorValue) × document_step cycle_errors scope e a.cycles b.cycles fs
   cycles_step scope e a b es (_, _, _, (_, _, _, (_, _, _, (_, _, _, (fs, _, s, _, _), _), _), _), _) = (fs, s)
 
-  kept_after : (scope : DocumentScope S C) (schema : Catalog S C) (t : Typing S C) (doc : List (Definition S)) (a b : AcrossDocument) (es : List ErrorValue)
-      → Run (across_step scope) (typed_events schema t doc) a b es → KeepsFound doc b.cycles
+  pub kept_after : (scope : DocumentScope S C) (schema : Catalog S C) (t : Typing S C) (doc : List (Definition S)) (a b : AcrossDocument) (es : List ErrorValue)
+      → Run (across_step scope) (typed_events schema t doc) a b es → KeepsFound doc (cycles_of b)
   kept_after scope schema t doc a b es r =
-      let (fs, r') = run_of_part (across_step scope) (document_step cycle_errors scope) (λ v. v.cycles) (cycles_step scope) (typed_events schema t doc) a b es r in
+      let (fs, r') = run_of_part (across_step scope) (document_step cycle_errors scope) cycles_of (cycles_step scope) (typed_events schema t doc) a b es r in
       (document_given cycle_errors scope schema t doc a.cycles b.cycles fs r').kept
 
-  -- after a walk, what came out of the list is there, and it is the document's
-  module _ {V W : Type 0} (old : ContextState S C) (doc : List (Definition S)) (a : AcrossDocument) (l : MultiVisitorCons V (MultiVisitorCons AcrossDocument W))
-      (es : List ErrorValue) (ran : Run (across_step (scope_of_context old)) (typed_events old.schema (typing old) doc) a l.1.0 es)
-      (p : V × MultiVisitorCons AcrossDocument W) (parts : p ≡ (l.0, l.1)) (q : AcrossDocument × W) (parts' : q ≡ (p.1.0, p.1.1)) (found : Option DocumentCycles) (is : found ≡ q.0.cycles.found) where
-    kept : KeepsFound doc l.1.0.cycles
-    kept = kept_after (scope_of_context old) old.schema (typing old) doc a l.1.0 es ran
+-- what came out of a list is there, and it is the document's, if the rule on cycles that a member has keeps it
+module _ {S V X W : Type 0} (cycles : X → NoFragmentCycles) (doc : List (Definition S)) (l : MultiVisitorCons V (MultiVisitorCons X W)) (kept : KeepsFound doc (cycles l.1.0))
+    (p : V × MultiVisitorCons X W) (parts : p ≡ (l.0, l.1)) (q : X × W) (parts' : q ≡ (p.1.0, p.1.1)) (found : Option DocumentCycles) (is : found ≡ (cycles q.0).found) where
+  there : found ≡ Some kept.0
+  there = is ∙ ap (λ z. (cycles z.0).found) parts' ∙ ap (λ z. (cycles z.1.0).found) parts ∙ kept.1
 
-    there : found ≡ Some kept.0
-    there = is ∙ ap (λ z. z.0.cycles.found) parts' ∙ ap (λ z. z.1.0.cycles.found) parts ∙ kept.1
+  pub is_there : found ≡ None → ⊥
+  is_there none = true≢false (ap is_some (sym there ∙ none))
 
-    pub is_there : found ≡ None → ⊥
-    is_there none = true≢false (ap is_some (sym there ∙ none))
-
-    pub is_searched : (c : DocumentCycles) → found ≡ Some c → SearchedDocument doc c
-    is_searched c some = subst (SearchedDocument doc) (ap (λ o. unwrap_or o kept.0) (sym there ∙ some)) kept.2
+  pub is_searched : (c : DocumentCycles) → found ≡ Some c → SearchedDocument doc c
+  is_searched c some = subst (SearchedDocument doc) (ap (λ o. unwrap_or o kept.0) (sym there ∙ some)) kept.2

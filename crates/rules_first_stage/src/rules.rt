@@ -51,9 +51,11 @@ use walk::{
     Criterion, Fresh, MultiVisitorCons, MultiVisitorNil, Rule, ValidatorContext, visit_settled,
 };
 
-// The rules come in groups, the newest first: one long list of all rules takes long to prove.
-// On operations and their variables (GraphQL, October 2021, sections 5.2 and 5.8).
-type OfOperations<'a> = MultiVisitorCons<
+// The rules come in groups, the newest first: one long list of all rules takes long to prove. Groups in which no rule differs from
+// that of another dialect are public, since each dialect has them.
+
+/// The rules on operations and their variables, the newest first (GraphQL, October 2021, sections 5.2 and 5.8).
+pub type OfOperations<'a> = MultiVisitorCons<
     variables_are_input_types::UniqueVariableNames,
     MultiVisitorCons<
         UniqueVariableNames<'a>,
@@ -64,14 +66,14 @@ type OfOperations<'a> = MultiVisitorCons<
     >,
 >;
 
-// On fields (5.3).
+// The rules on fields (5.3).
 type OfFields = MultiVisitorCons<
     ScalarLeafs,
     MultiVisitorCons<FieldsOnCorrectType, MultiVisitorNil>,
 >;
 
-// On arguments, keys of objects and directives (5.4, 5.6.3 and 5.7).
-type OfArguments<'a> = MultiVisitorCons<
+/// The rules on arguments, keys of objects and directives, the newest first (GraphQL, October 2021, sections 5.4, 5.6.3 and 5.7).
+pub type OfArguments<'a> = MultiVisitorCons<
     UniqueDirectiveNames<'a>,
     MultiVisitorCons<
         UniqueInputFieldNames,
@@ -88,8 +90,8 @@ type OfArguments<'a> = MultiVisitorCons<
     >,
 >;
 
-// On fragments, and on the names of types (5.5).
-type OfFragments<'a> = MultiVisitorCons<
+/// The rules on fragments and on the names of types, the newest first (GraphQL, October 2021, section 5.5).
+pub type OfFragments<'a> = MultiVisitorCons<
     UniqueFragmentNames<'a>,
     MultiVisitorCons<
         KnownTypeNames,
@@ -100,7 +102,7 @@ type OfFragments<'a> = MultiVisitorCons<
     >,
 >;
 
-// On values (5.6.1).
+// The rules on values (5.6.1).
 type OfValues = MultiVisitorCons<
     DefaultValuesOfCorrectType,
     MultiVisitorCons<ArgumentsOfCorrectType, MultiVisitorNil>,
@@ -138,8 +140,8 @@ impl<'a, S: CheckedScalar + 'a> FirstStage<'a> for S {
     } };
 }
 
-// The rules on operations and their variables.
-fn of_operations<'a>(alloc: Global) -> OfOperations<'a>
+/// Makes the rules on operations and their variables, for one document.
+pub fn of_operations<'a>(alloc: Global) -> OfOperations<'a>
     ensures { ⟦<OfOperations<'a> as Fresh>⟧.fresh result }
 {
     MultiVisitorNil
@@ -149,7 +151,7 @@ fn of_operations<'a>(alloc: Global) -> OfOperations<'a>
         .with_rule(variables_are_input_types::factory(alloc))
 }
 
-// The rules on fields.
+// Makes the rules on fields.
 fn of_fields(alloc: Global) -> OfFields
     ensures { ⟦<OfFields as Fresh>⟧.fresh result }
 {
@@ -158,8 +160,8 @@ fn of_fields(alloc: Global) -> OfFields
         .with_rule(scalar_leafs::factory(alloc))
 }
 
-// The rules on arguments, keys of objects and directives.
-fn of_arguments<'a>(alloc: Global) -> OfArguments<'a>
+/// Makes the rules on arguments, keys of objects and directives, for one document.
+pub fn of_arguments<'a>(alloc: Global) -> OfArguments<'a>
     ensures { ⟦<OfArguments<'a> as Fresh>⟧.fresh result }
 {
     MultiVisitorNil
@@ -171,8 +173,8 @@ fn of_arguments<'a>(alloc: Global) -> OfArguments<'a>
         .with_rule(unique_directive_names::factory(alloc))
 }
 
-// The rules on fragments and on the names of types.
-fn of_fragments<'a>(alloc: Global) -> OfFragments<'a>
+/// Makes the rules on fragments and on the names of types, for one document.
+pub fn of_fragments<'a>(alloc: Global) -> OfFragments<'a>
     ensures { ⟦<OfFragments<'a> as Fresh>⟧.fresh result }
 {
     MultiVisitorNil
@@ -182,7 +184,7 @@ fn of_fragments<'a>(alloc: Global) -> OfFragments<'a>
         .with_rule(unique_fragment_names::factory(alloc))
 }
 
-// The rules on values.
+// Makes the rules on values.
 fn of_values(alloc: Global) -> OfValues
     ensures { ⟦<OfValues as Fresh>⟧.fresh result }
 {

@@ -87,7 +87,7 @@ pub fn visit_all_rules<'a, 't, S: CheckedScalar>(
 
 // Tries the rule on fields that can be merged, which acts only where the document is left. It takes what the first stage found of the
 // document's fragments.
-fn visit_stage_two<'a, 't, S: CheckedScalar>(
+pub(crate) fn visit_stage_two<'a, 't, S: CheckedScalar>(
     ctx: &mut ValidatorContext<'a, S>,
     document: &'a [Definition<'t, S>],
     cycles: DocumentCycles<'a>,
