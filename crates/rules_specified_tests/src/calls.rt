@@ -2,15 +2,17 @@
 use graphql_reader::{SourceScalar, read_document};
 use language::error::OutOfMemory;
 use language::tree::Definition;
-use schema::model::SchemaType;
+use schema::model::{Dialect, SchemaType};
 use sdl_reader::read_schema;
 use std::alloc::Global;
 use validation::{visit_all_rules, visit_specified_rules};
 use walk::{RuleError, ValidatorContext};
 
 const SCHEMA: &str = "
+scalar JSON
 input O { a: Int! = 3 b: Int! c: [O!] }
 type Query {
+  any(v: JSON): Int
   obj(o: O): Int
   req(x: Int! = 3): Int
   i(x: Int): Int
@@ -24,6 +26,16 @@ type Subscription { a: Int b: Int }
 /// A document, what the rules of October 2021 say of it, and what juniper's say: each error with its places, line and
 /// column, from 0.
 const ROWS: &[(&str, &str, &str)] = &[
+    (
+        "{ any(v: {a: [1, \"x\", {b: null}]}) }",
+        "",
+        "Invalid value for argument \"v\", reason: \"JSON\" is not an input object. At 0:9\n",
+    ),
+    (
+        "query ($a: Int) { any(v: {a: $a}) }",
+        "",
+        "Invalid value for argument \"v\", reason: \"JSON\" is not an input object. At 0:25\n",
+    ),
     (
         "query ($a: Int) { req(x: $a) }",
         "",
@@ -122,9 +134,11 @@ fn told_by_all(
 fn documents_in_each_dialect(rt: HostRuntime) {
     let alloc = rt.alloc();
     let schema = read_schema(alloc, SCHEMA).expect(&rt, "it is a schema");
+    let mut october = read_schema(alloc, SCHEMA).expect(&rt, "it is a schema");
+    october.set_dialect(Dialect::October2021);
     for (text, specified, all) in ROWS {
         let document = read_document(alloc, *text).expect(&rt, "it is a document");
-        let said = told_by_specified(alloc, &schema, document.as_slice()).expect(&rt, "memory");
+        let said = told_by_specified(alloc, &october, document.as_slice()).expect(&rt, "memory");
         assert_eq!(rt; said.as_str(), *specified, "October 2021: {text}");
         let said = told_by_all(alloc, &schema, document.as_slice()).expect(&rt, "memory");
         assert_eq!(rt; said.as_str(), *all, "juniper: {text}");
