@@ -104,10 +104,10 @@ module _ {F N : Type 0} (of : F → N) (Leads : F → N → Type 0) where
           let all : All (Stands graph) (l ∷ ls) = walk_stands graph c.node c.node (l ∷ ls) c.walk in
           let near : Stands graph l = All-head (Stands graph) l ls all in
           let after : (x : Link) → Contains (l ∷ ls) x → NotAfter (of (field l)) (of (field x)) = λ (x : Link) (i : Contains (l ∷ ls) x).
-            let there : Stands graph x = All-contains (Stands graph) (l ∷ ls) x all i in
-            let at : NotAfter (name l.from) (name x.from) =
-                order l.from x.from (stands_inside graph l near) (stands_inside graph x there) (All-contains (λ (y : Link). l.from ≤ y.from) (l ∷ ls) x h i) in
-            subst (λ (n : N). NotAfter (of (field l)) n) (sym (named.real x there).0) (subst (λ (n : N). NotAfter n (name x.from)) (sym (named.real l near).0) at) in
+          let there : Stands graph x = All-contains (Stands graph) (l ∷ ls) x all i in
+          let at : NotAfter (name l.from) (name x.from) =
+          order l.from x.from (stands_inside graph l near) (stands_inside graph x there) (All-contains (λ (y : Link). l.from ≤ y.from) (l ∷ ls) x h i) in
+          subst (λ (n : N). NotAfter (of (field l)) n) (sym (named.real x there).0) (subst (λ (n : N). NotAfter n (name x.from)) (sym (named.real l near).0) at) in
           All-map (λ (g : F). NotAfter (of (field l)) (of g)) field (l ∷ ls)
           (All-weaker (Contains (l ∷ ls)) (λ (x : Link). NotAfter (of (field l)) (of (field x))) after (l ∷ ls) (All-contains_itself (l ∷ ls)))
 
@@ -131,8 +131,7 @@ module _ {F N : Type 0} (of : F → N) (Leads : F → N → Type 0) where
         enough = λ fs is.
             let c = circle fs is in
             let e = h.enough c.0 c.1 in
-            let told : Told circles e.0 = e.2 in
-            (
+            let told : Told circles e.0 = e.2 in (
               field e.0,
               subst (λ (xs : List F). Contains xs (field e.0)) c.2 (has c.0 e.0 e.1),
               (map field told.0.links.items, has_circle circles told.0 told.1, has told.0.links.items e.0 told.2),

@@ -63,9 +63,9 @@ pub simple_end : (trail : List Link) (u : ℕ) (l : Link) (depth : ℕ) (links :
 simple_end trail u l depth links from once is =
     let way : List Link = trail ++ l ∷ [] in
     let nodes : map (λ (x : Link). x.from) way ≡ path_to trail u =
-        map_push (λ (x : Link). x.from) trail l ∙ ap (λ (n : ℕ). map (λ (x : Link). x.from) trail ++ n ∷ []) from in
+    map_push (λ (x : Link). x.from) trail l ∙ ap (λ (n : ℕ). map (λ (x : Link). x.from) trail ++ n ∷ []) from in
     let at : (i : ℕ) (a : Link) → slice_get way i ≡ Some a → slice_get (path_to trail u) i ≡ Some a.from = λ (i : ℕ) (a : Link) (g : slice_get way i ≡ Some a).
-        ap (λ (ns : List ℕ). slice_get ns i) (sym nodes) ∙ slice_get-map (λ (x : Link). x.from) way i ∙ ap (λ o. option_map (λ (x : Link). x.from) o) g in
+    ap (λ (ns : List ℕ). slice_get ns i) (sym nodes) ∙ slice_get-map (λ (x : Link). x.from) way i ∙ ap (λ o. option_map (λ (x : Link). x.from) o) g in
     let whole : IsSimple way = λ i j a b at_i at_j same. once i j b.from (at i a at_i ∙ ap Some same) (at j b at_j) in
     let split : take depth trail ++ (drop depth trail ++ l ∷ []) ≡ way = sym (append_assoc (take depth trail) (drop depth trail) (l ∷ [])) ∙ ap (λ (xs : List Link). xs ++ l ∷ []) (take-append-drop depth trail) in
     subst IsSimple (sym is) (rest_simple (take depth trail) (drop depth trail ++ l ∷ []) (subst IsSimple (sym split) whole))
