@@ -2,6 +2,8 @@
 #![tactic(auto)]
 
 #[cfg(test)]
+mod inputs;
+#[cfg(test)]
 mod interfaces;
 #[cfg(test)]
 mod schemas;

@@ -53,7 +53,7 @@ pub fn interface_of(
 
 /// The schema of a list with these roots. All tests call this function, since a call of the builder is
 /// expensive to prove.
-fn schema_of(
+pub fn schema_of(
     alloc: Global,
     types: Vec<MetaType>,
     mutation: &str,
