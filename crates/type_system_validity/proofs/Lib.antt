@@ -1,0 +1,6 @@
+mod DirectiveLaws
+mod InterfaceLaws
+mod Iff
+mod MemberLaws
+mod NameLaws
+mod Valid

@@ -1,0 +1,6 @@
+pub mod Deprecation
+pub mod Implementation
+pub mod Interfaces
+pub mod Members
+pub mod Names
+pub mod Valid
