@@ -2,6 +2,10 @@
 #![tactic(auto)]
 
 #[cfg(test)]
+mod defaults;
+#[cfg(test)]
+mod deprecated;
+#[cfg(test)]
 mod inputs;
 #[cfg(test)]
 mod interfaces;

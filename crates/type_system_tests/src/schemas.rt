@@ -9,7 +9,9 @@ use schema::error::SchemaError;
 use schema::model::{DirectiveType, SchemaType};
 use std::alloc::{AllocError, Global};
 use std::process::Abort;
-use type_system::{Fault, directive_faults, type_system_faults};
+use type_system::{Fault, directive_faults, schema_faults, type_system_faults};
+use type_system_defaults::{DefaultFault, default_value_faults};
+use type_system_validity::{has_valid_definitions, is_valid_type_system};
 
 fn scalar_check() -> DefaultCheck {
     DefaultCheck::with_token(check_string, refuse_token)
@@ -84,6 +86,8 @@ pub fn tells_roots(
     let faults = type_system_faults(alloc, &schema).expect(rt, "memory");
     let said = words(alloc, faults.as_slice()).expect(rt, "memory");
     assert_eq!(rt; said.as_str(), want);
+    let valid = has_valid_definitions(alloc, &schema).expect(rt, "memory");
+    assert_eq!(rt; valid, want.is_empty());
 }
 
 /// Asserts that the directive has these faults, a line for each.
@@ -103,4 +107,49 @@ pub fn tells(rt: &impl Abort, alloc: Global, types: Vec<MetaType>, want: &str) {
         "_EmptySubscription",
         want,
     );
+}
+
+fn default_words(alloc: Global, faults: &[DefaultFault<'_>]) -> Result<String, AllocError> {
+    let mut text = String::new(alloc);
+    for fault in faults {
+        let at = fault.coordinate;
+        write!(text, "{at}: {fault}\n")?;
+    }
+    Ok(text)
+}
+
+/// Asserts that the schema with this directive has these faults of default values, a line for each.
+pub fn tells_defaults(
+    rt: &impl Abort,
+    alloc: Global,
+    types: Vec<MetaType>,
+    directive: DirectiveType,
+    want: &str,
+) {
+    let mut schema = schema_of(alloc, types, "_EmptyMutation", "_EmptySubscription").expect(
+        rt, "a schema",
+    );
+    schema.add_directive(directive).expect(rt, "a directive");
+    let faults = default_value_faults(alloc, &schema).expect(rt, "memory");
+    let said = default_words(alloc, faults.as_slice()).expect(rt, "memory");
+    assert_eq!(rt; said.as_str(), want);
+    let valid = is_valid_type_system(alloc, &schema).expect(rt, "memory");
+    assert_eq!(rt; valid, want.is_empty());
+}
+
+/// Asserts that the schema with this directive has these faults beside those of default values, a line for each.
+pub fn tells_schema(
+    rt: &impl Abort,
+    alloc: Global,
+    types: Vec<MetaType>,
+    directive: DirectiveType,
+    want: &str,
+) {
+    let mut schema = schema_of(alloc, types, "_EmptyMutation", "_EmptySubscription").expect(
+        rt, "a schema",
+    );
+    schema.add_directive(directive).expect(rt, "a directive");
+    let faults = schema_faults(alloc, &schema).expect(rt, "memory");
+    let said = words(alloc, faults.as_slice()).expect(rt, "memory");
+    assert_eq!(rt; said.as_str(), want);
 }
