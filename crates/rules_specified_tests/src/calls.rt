@@ -5,7 +5,8 @@ use language::tree::Definition;
 use schema::model::{Dialect, SchemaType};
 use sdl_reader::read_schema;
 use std::alloc::Global;
-use validation::{visit_all_rules, visit_specified_rules};
+use validation::visit_all_rules;
+use validation_specified::visit_specified_rules;
 use walk::{RuleError, ValidatorContext};
 
 const SCHEMA: &str = "

@@ -85,9 +85,13 @@ pub fn visit_all_rules<'a, 't, S: CheckedScalar>(
     visit_stage_two(ctx, document, cycles)
 }
 
-// Tries the rule on fields that can be merged, which acts only where the document is left. It takes what the first stage found of the
-// document's fragments.
-pub(crate) fn visit_stage_two<'a, 't, S: CheckedScalar>(
+/// Tries the rule on fields that can be merged, which acts only where the document is left. It takes what the first
+/// stage found of the document's fragments, and returns the number of pairs of fragments that it compared.
+///
+/// # Errors
+///
+/// Out of memory. The context fails from then on.
+pub fn visit_stage_two<'a, 't, S: CheckedScalar>(
     ctx: &mut ValidatorContext<'a, S>,
     document: &'a [Definition<'t, S>],
     cycles: DocumentCycles<'a>,

@@ -3,7 +3,7 @@ use Rattle.std.proofs.lemmas.Result.{IfOk-weaker, on_ok_weaker}
 use Rattle.walk.specs.ContextState.{scope_of, typing}
 use Rattle.validation.proofs.Reports.{only_more}
 use Rattle.validation.proofs.Stages.{after_one, after_two, few_pairs, valid_iff}
-use Rattle.validation.proofs.specified_rules.visit_specified_rules.Goals as goal
+use Rattle.validation_specified.proofs.rules.visit_specified_rules.Goals as goal
 
 pub returns-then-has_errors-clause-appended : goal.returns-then-has_errors-clause-appended
 returns-then-has_errors-clause-appended g c =

@@ -8,7 +8,6 @@ ghost use Rattle.walk.specs.Step.{KeepsPlace};
 ghost use Rattle.merge_graph.specs.Definitions.{fragment_count};
 ghost use Rattle.validation.specs.Stages.{AppendsReported, IsValidIn, Rules};
 
-use crate::rules::visit_stage_two;
 use language::error::OutOfMemory;
 use language::tree::Definition;
 use meta::check::CheckedScalar;
@@ -18,6 +17,7 @@ pub use rules_specified_positions::variables_in_allowed_position;
 use rules_specified_stage::laws::clean_documents;
 use rules_specified_stage::{SpecifiedStage, visit_specified_stage};
 pub use rules_specified_values::default_values_of_correct_type;
+use validation::rules::visit_stage_two;
 use walk::ValidatorContext;
 
 /// All rules of October 2021, for a kind of scalars. Every kind of scalars has them.
