@@ -1,7 +1,5 @@
-//! Tests of the rules of October 2021: what each says of documents, and what all together say.
+//! Tests of the crate `rules_specified`: what its rules say of documents.
 #![tactic(auto)]
 
-#[cfg(test)]
-mod calls;
 #[cfg(test)]
 mod rows;
