@@ -5,7 +5,7 @@ ghost use Rattle.type_system_defaults.specs.Faults.{default_fault, default_fault
 use std::fmt;
 use type_system_report::Coordinate;
 
-/// A default value that does not conform to its type.
+/// A fault of a default value: where it stands, and what is wrong with it.
 #[derive(Debug, Drop)]
 pub struct DefaultFault<'a> {
     /// The argument or the input field that has the default value.
