@@ -10,8 +10,8 @@ use std::alloc::{AllocError, Global};
 use validation::rules::overlapping_fields_can_be_merged;
 use validation::walk::visit_rules;
 use validation::{
-    AllRules, DefaultScalarValue, Definition, MultiVisitorNil, RootNode, RuleError, ScalarValue,
-    SchemaType, ValidatorContext,
+    DefaultScalarValue, Definition, DialectRules, MultiVisitorNil, RootNode, RuleError,
+    ScalarValue, SchemaType, ValidatorContext,
 };
 
 /// Appends the errors of a document, one per line, or where it can't be parsed. Whether there is such a kind of rows.
@@ -90,7 +90,7 @@ fn errors_of(
     document: &[Definition<'_, DefaultScalarValue>],
 ) -> Result<String, ReadError>
     ensures { IfOk result
-        (λ text. TellsErrors ⟦<DefaultScalarValue as AllRules<'static>>⟧.rules
+        (λ text. TellsErrors (⟦<DefaultScalarValue as DialectRules<'static>>⟧.rules_of root.now.schema.dialect)
         root.now.introspection_disabled root.now.schema document.now (string_bytes text)) }
 {
     let errors = root.validate(alloc, document)?;

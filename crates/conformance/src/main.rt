@@ -1,7 +1,8 @@
 //! The program `conformance`: validates documents, and reports where what comes is not what is expected. Of most the
-//! errors of juniper's own code are known.
+//! errors of juniper's own code are known; of those for October 2021, the section of the specification that asks for them.
 #![tactic(auto)]
 
+mod dialects;
 mod judge;
 mod runs;
 mod variables;
@@ -26,6 +27,8 @@ const FILES: &[&str] = &[
     "check_documents.txt",
     "check_merging.txt",
     "check_texts.txt",
+    "section5.txt",
+    "dialects.txt",
 ];
 
 /// What this repository's code makes of documents.
@@ -39,6 +42,9 @@ impl Judge for Validation {
         text: &str,
         came: &mut String,
     ) -> Result<bool, AllocError> {
+        if dialects::tell_by_dialect(alloc, kind, text, came)? {
+            return Ok(true);
+        }
         let checks = Checks {
             int: DefaultCheck::with_token(check_int, refuse_token),
             string: DefaultCheck::with_token(check_string, refuse_token),

@@ -1,5 +1,5 @@
 -- What is held while words that name files are read.
-use Rattle.std.proofs.Common.{◌≡◌, ◌∙◌, ◌∷◌, ◌++◌, ◌&&◌, [], Bool, Bor, List, None, Option, Some, ap, append-nil, append_assoc, codes, false, not, refl, sym, true, ℕ}
+use Rattle.std.proofs.Common.{◌≡◌, ◌∙◌, ◌∷◌, ◌++◌, ◌&&◌, [], Bool, List, None, Option, Some, ap, append-nil, append_assoc, codes, false, not, refl, sym, true, ℕ}
 use Rattle.std.specs.List.{fold, list_all}
 use Rattle.std.specs.Option.{is_some}
 use Rattle.std.specs.Prelude.{if◌then◌else◌}
@@ -8,7 +8,7 @@ use Rattle.clap.proofs.OnLiterals.{clap_on_literals}
 use Rattle.clap.specs.Lexer.{long_of, short_of}
 use Rattle.clap.specs.Simple.{built}
 use Rattle.clap.specs.Walk.{Held, Row, Rule, Text, Waiting, Walk, after_step, idle, long_or_other, nothing_held, option, plain_word, positional, short_or_plain, trailing, walk_from, walked, word_met, arg_by_id, used_by_id}
-use Rattle.lint_args.specs.CommandLine.{lint}
+use Rattle.lint_args.specs.CommandLine.{Choices, lint}
 use Rattle.lint_args.specs.Laws.{is_name}
 
 -- what a word that names a file is not
@@ -61,9 +61,9 @@ module _ (rules : List Rule) where
   name_walked held waiting word name =
       ap (λ met. after_step rules word (record { held = held; waiting = waiting; position = 1; is_trailing = false; stopped = None }) met.0 met.1) (plain_met waiting 1 word held name)
 
-module _ (forms : Bor (List (Bor Text))) where
+module _ (choices : Choices) where
   abbrev pub lint_rules : List Rule
-  lint_rules = (built (lint forms)).top.rules
+  lint_rules = (built (lint choices)).top.rules
 
   -- the option waits for its file
   abbrev option_met : Walk

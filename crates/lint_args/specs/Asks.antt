@@ -14,7 +14,7 @@ use Rattle.clap.specs.Walk.{Row, Text, all_of, first_of, texts}
 use Rattle.clap.specs.declared.error.Error.{Error}
 use Rattle.clap.specs.declared.error.kind.ErrorKind.{ErrorKind}
 use Rattle.clap.specs.declared.error.kind.ErrorKind.TheVariants.{DisplayHelp, DisplayVersion, OutOfMemory}
-use Rattle.lint_args.specs.CommandLine.{HasForms, lint}
+use Rattle.lint_args.specs.CommandLine.{AreKnown, Choices, lint}
 use Rattle.lint_args.specs.declared.task.Form.{Form}
 use Rattle.lint_args.specs.declared.task.Form.TheVariants as form
 use Rattle.lint_args.specs.declared.task.Task.{Task}
@@ -69,6 +69,7 @@ pub record IsOfRows (rows : List Row) (task : Task) : Type 0 where
   pub closed : task.is_closed ≡ is_value (codes "closed") (codes "true") rows
   pub together : task.is_together ≡ is_value (codes "together") (codes "true") rows
   pub depth : IsDepth (first_of (codes "depth") rows) task.max_depth
+  pub juniper : task.is_juniper ≡ is_value (codes "dialect") (codes "juniper") rows
 
 -- a path that stands for the standard input
 abbrev pub is_input : Text → Bool
@@ -86,14 +87,14 @@ input_count task =
 
 -- the words are valid, and the task has what they match
 pub record AsksFor (words : List Text) (task : Task) : Type 0 where
-  pub forms : Bor (List (Bor Text))
-  pub known : HasForms forms
-  pub accepted : fault_of (lint forms) words ≡ []
-  pub matched : IsOfRows (matches_of (lint forms) words) task
+  pub choices : Choices
+  pub known : AreKnown choices
+  pub accepted : fault_of (lint choices) words ≡ []
+  pub matched : IsOfRows (matches_of (lint choices) words) task
 
 -- the words have an error of this kind; asking for help or the version counts as one
 abbrev pub HasFault : List Text → ErrorKind → Type 0
-HasFault words kind = (forms : Bor (List (Bor Text))) × HasForms forms × IsAmong kind (fault_of (lint forms) words)
+HasFault words kind = (choices : Choices) × AreKnown choices × IsAmong kind (fault_of (lint choices) words)
 
 -- a text is asked for: help or the version
 abbrev pub IsRequest : ErrorKind → Type 0

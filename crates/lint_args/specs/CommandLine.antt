@@ -50,6 +50,29 @@ depth_rule = record (new_rule (codes "depth")) {
   parser = Some (Unsigned 0 usize_max);
 }
 
+-- `--dialect DIALECT`, which is `october2021` where it is left out
+abbrev pub dialect_rule : Bor (List (Bor Text)) → Rule
+dialect_rule dialects = record (new_rule (codes "dialect")) {
+  long = Some (codes "dialect");
+  value_names = 1;
+  parser = Some (Names dialects);
+  defaults = codes "october2021" ∷ [];
+}
+
+-- the known dialects
+abbrev pub HasDialects : Bor (List (Bor Text)) → Type 0
+HasDialects dialects = texts dialects.now ≡ codes "october2021" ∷ codes "juniper" ∷ []
+
+-- what the options with a choice take
+pub record Choices : Type 0 where
+  pub forms : Bor (List (Bor Text))
+  pub dialects : Bor (List (Bor Text))
+
+-- which is known
+pub record AreKnown (choices : Choices) : Type 0 where
+  pub forms : HasForms choices.forms
+  pub dialects : HasDialects choices.dialects
+
 -- each other word, at least one
 abbrev pub query_rule : Rule
 query_rule = record (new_rule (codes "query")) {
@@ -64,11 +87,11 @@ abbrev pub versioned : App
 versioned = on_top (λ shape. record shape { has_version = true }) (new_app (codes "lint"))
 
 -- all of them
-abbrev pub lint : Bor (List (Bor Text)) → App
-lint forms =
-    with_rule (with_rule (with_rule (with_rule (with_rule (with_rule (with_rule versioned
-    schema_rule) (format_rule forms)) closed_rule) variables_rule) together_rule) depth_rule) query_rule
+abbrev pub lint : Choices → App
+lint choices =
+    with_rule (with_rule (with_rule (with_rule (with_rule (with_rule (with_rule (with_rule versioned
+    schema_rule) (format_rule choices.forms)) closed_rule) variables_rule) together_rule) depth_rule) (dialect_rule choices.dialects)) query_rule
 
 -- a command has them
 abbrev pub IsLint : Command → Type 0
-IsLint command = (forms : Bor (List (Bor Text))) × HasForms forms × (app_of command ≡ lint forms)
+IsLint command = (choices : Choices) × AreKnown choices × (app_of command ≡ lint choices)

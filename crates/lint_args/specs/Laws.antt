@@ -12,10 +12,10 @@ abbrev pub sample_words : List Text
 sample_words =
     codes "lint" ∷ codes "--schema" ∷ codes "types.graphql" ∷ codes "first.graphql" ∷ codes "--no-introspection"
     ∷ codes "--schema=more.graphql" ∷ codes "--format" ∷ codes "json"
-    ∷ codes "second.graphql" ∷ codes "--variables=values.json" ∷ codes "--max-depth" ∷ codes "20"
+    ∷ codes "second.graphql" ∷ codes "--variables=values.json" ∷ codes "--max-depth" ∷ codes "20" ∷ codes "--dialect=juniper"
     ∷ codes "--" ∷ codes "--third" ∷ []
 
--- both files of types, all three of queries, the values, JSON and the depth, with introspection closed
+-- both files of types, all three of queries, the values, JSON, the depth and the dialect, with introspection closed
 pub record IsSampleTask (task : Task) : Type 0 where
   pub schemas : texts task.schemas.items ≡ codes "types.graphql" ∷ codes "more.graphql" ∷ []
   pub queries : texts task.queries.items ≡ codes "first.graphql" ∷ codes "second.graphql" ∷ codes "--third" ∷ []
@@ -24,6 +24,7 @@ pub record IsSampleTask (task : Task) : Type 0 where
   pub closed : task.is_closed ≡ true
   pub together : task.is_together ≡ false
   pub depth : task.max_depth ≡ Some 20
+  pub juniper : task.is_juniper ≡ true
 
 abbrev pub KnowsSample : Type 0
 KnowsSample = (task : Task) → AsksFor sample_words task → IsSampleTask task
@@ -41,6 +42,7 @@ pub record IsPlainTask (schema : Text) (files : List Text) (task : Task) : Type 
   pub closed : task.is_closed ≡ false
   pub together : task.is_together ≡ false
   pub depth : task.max_depth ≡ None
+  pub juniper : task.is_juniper ≡ false
 
 abbrev pub KnowsNames : Type 0
 KnowsNames =

@@ -1,12 +1,14 @@
 //! The command line of the program.
 ghost use Rattle.std.specs.Prelude.{◌≡◌, IfOk, false};
 ghost use Rattle.clap.specs.Words.{rule_of};
-ghost use Rattle.lint_args.specs.CommandLine.{HasForms, IsLint, closed_rule, depth_rule, format_rule, query_rule, schema_rule, together_rule, variables_rule};
+ghost use Rattle.lint_args.specs.CommandLine.{HasDialects, HasForms, IsLint, closed_rule, depth_rule, dialect_rule, format_rule, query_rule, schema_rule, together_rule, variables_rule};
 
 use clap::{Arg, ArgAction, Command, value_parser};
 use std::alloc::{AllocError, Global};
 
 static FORMATS: [&str; 3] = ["text", "json", "github"];
+
+static DIALECTS: [&str; 2] = ["october2021", "juniper"];
 
 const VERSION: &str = "0.1.0";
 
@@ -42,6 +44,7 @@ pub fn command_line<'w>(alloc: Global) -> Result<Command<'w>, AllocError>
         .arg(variables_argument(alloc))?
         .arg(together_argument(alloc))?
         .arg(depth_argument(alloc))?
+        .arg(dialect_argument(alloc))?
         .arg(query_argument(alloc))
 }
 
@@ -112,6 +115,18 @@ fn depth_argument<'w>(alloc: Global) -> Arg<'w>
         .value_name("N")
         .help("Refuse query files nested more than N levels deep")
         .value_parser(value_parser!(usize))
+}
+
+fn dialect_argument<'w>(alloc: Global) -> Arg<'w>
+    ensures rule { (dialects : _) × HasDialects dialects × (rule_of result ≡ dialect_rule dialects) }
+    ensures local { result.global ≡ false }
+{
+    Arg::new(alloc, "dialect")
+        .long("dialect")
+        .value_name("DIALECT")
+        .help("By whose rules queries are judged")
+        .value_parser(DIALECTS.as_slice())
+        .default_value("october2021")
 }
 
 fn query_argument<'w>(alloc: Global) -> Arg<'w>

@@ -41,6 +41,8 @@ pub struct Task<'w> {
     pub is_together: bool,
     /// How deep a document may nest, if there is a limit.
     pub max_depth: Option<usize>,
+    /// Whether queries are judged by juniper's dialect, and not by that of October 2021.
+    pub is_juniper: bool,
 }
 
 impl<'w> Task<'w> {
@@ -62,6 +64,7 @@ impl<'w> Task<'w> {
             is_closed: is_value(&matches, "closed", "true"),
             is_together: is_value(&matches, "together", "true"),
             max_depth: depth_of(&matches),
+            is_juniper: is_value(&matches, "dialect", "juniper"),
         })
     }
 

@@ -23,6 +23,7 @@ use Rattle.rules_positions.specs.Recording.{recording_step}
 use Rattle.rules_positions.specs.TypedUses.{next_uses}
 use Rattle.rules_positions.specs.VariablesInAllowedPosition.{given_by_uses, misplaced_variables, recorded_uses}
 use Rattle.rules_first_stage.specs.declared.across.AcrossDocument.{AcrossDocument}
+use Rattle.rules_first_stage.specs.Along.{along, step_along}
 
 abbrev pub LastRule : Type 0
 LastRule = MultiVisitorCons NoFragmentCycles MultiVisitorNil
@@ -64,7 +65,7 @@ abbrev pub list_fresh : RuleList → Type 0
 list_fresh = pair_fresh none_recorded any_four
 
 abbrev pub across_fresh : AcrossDocument → Type 0
-across_fresh a = list_fresh (rule_list a)
+across_fresh = along rule_list list_fresh
 
 module _ {S C : Type 0} where
   abbrev pub leaving_document : List (Definition S) → Typing S C → TypedEvent S C
@@ -91,7 +92,7 @@ module _ {S C : Type 0} where
 
   -- what the list of them does
   abbrev pub across_step : StepOf S C AcrossDocument
-  across_step scope event a b es = list_step scope event (rule_list a) (rule_list b) es
+  across_step = step_along rule_list list_step
 
   -- and what they allow
   abbrev pub last_allows : LastRule → Allowance S C
@@ -111,4 +112,4 @@ module _ {S C : Type 0} where
 
   -- and what it allows
   abbrev pub across_allows : AcrossDocument → Allowance S C
-  across_allows a = list_allows (rule_list a)
+  across_allows = along rule_list list_allows

@@ -1,11 +1,7 @@
 -- The rules that look across the document report what the list of them reports.
-use Rattle.std.proofs.Common.{List, [], ◌∷◌, ap}
-use Rattle.events.specs.TypedEvent.{typed_events}
-use Rattle.walk.specs.ContextState.{scope_of}
 use Rattle.walk.specs.Pair.{no_step}
 use Rattle.walk.specs.Rule.{AllowsFrom, SilentIff, always, anywhere, any_value, both_so, nothing}
 use Rattle.walk.specs.RuleLaws.{nil_keeps, nil_silent, pair_keeps, pair_silent}
-use Rattle.walk.specs.Step.{Run}
 use Rattle.fragment_graph.specs.DocumentCycles.{HasNoCycle}
 use Rattle.rules_document.specs.NoFragmentCyclesLaws.{cycles_silent}
 use Rattle.rules_document.specs.NoUnusedFragmentsLaws.{unused_silent}
@@ -21,13 +17,8 @@ use Rattle.rules_document.specs.UsedVariables.{AllDefined, AllUsed}
 use Rattle.rules_positions.specs.AllowedPositions.{AllAllowed}
 use Rattle.rules_positions.specs.VariablesInAllowedPositionLaws.{positions_keep, positions_silent}
 use Rattle.rules_positions.specs.VariablesInAllowedPosition.{misplaced_variables}
+use Rattle.rules_first_stage.specs.AlongLaws.{keeps_along}
 use Rattle.rules_first_stage.specs.Across.{across_allows, across_fresh, across_step, any_four, any_one, any_three, any_two, last_allows, last_four_allow, last_four_step, last_step, last_three_allow, last_three_step, last_two_allow, last_two_step, list_allows, list_fresh, list_step, none_recorded, positions_step, rule_list}
-
--- a run of what a value stands for
-run_along : {E V W R : Type 0} (f : V → W) (step : E → W → W → List R → Type 0) (events : List E) (a b : V) (es : List R)
-    → Run (λ e x y rs. step e (f x) (f y) rs) events a b es → Run step events (f a) (f b) es
-run_along f step [] a b es r = (ap f r.0, r.1)
-run_along f step (x ∷ events) a b es (mid, first, rest, s, r, e) = (f mid, first, rest, s, run_along f step events mid b rest r, e)
 
 last_keeps : {S C : Type 0} → AllowsFrom (last_step {S = S} {C = C}) any_one last_allows
 last_keeps = pair_keeps (document_step cycle_errors) no_step any_value any_value (given_at_end cycle_errors) (always nothing) (document_keeps cycle_errors) nil_keeps
@@ -46,9 +37,7 @@ list_keeps : {S C : Type 0} → AllowsFrom (list_step {S = S} {C = C}) list_fres
 list_keeps = pair_keeps positions_step last_four_step none_recorded any_four (always misplaced_variables) last_four_allow positions_keep last_four_keep
 
 pub across_keeps : {S C : Type 0} → AllowsFrom (across_step {S = S} {C = C}) across_fresh across_allows
-across_keeps start fresh schema t doc end es r =
-    list_keeps (rule_list start) fresh schema t doc (rule_list end) es
-    (run_along rule_list (list_step (scope_of schema doc)) (typed_events schema t doc) start end es r)
+across_keeps = keeps_along rule_list list_step list_fresh list_allows list_keeps
 
 -- and it is nothing where each of them finds nothing
 pub across_silent : {S C : Type 0}

@@ -1,5 +1,5 @@
-//! Validation of documents against schemas (GraphQL, October 2021, section 5): the call that tries every rule, and the names of the
-//! crates below under juniper's paths.
+//! Validation of documents against schemas (GraphQL, October 2021, section 5): the calls that try every rule, by juniper's
+//! dialect and by the specification's, and the names of the crates below under juniper's paths.
 //!
 //! It re-exports the crates below that its users name, too, with their laws. What stands above it, and the readers of
 //! texts, are re-exported by `graphql`.
@@ -9,10 +9,14 @@ pub mod ast;
 pub mod parser;
 mod root_node;
 pub mod rules;
+pub mod specified_rules;
 pub mod value;
 
-pub use crate::root_node::{RootNode, RootNodeOf, visit_root_rules};
+pub use crate::root_node::{
+    DialectRules, RootNode, RootNodeOf, visit_dialect_rules, visit_root_rules,
+};
 pub use crate::rules::{AllRules, visit_all_rules};
+pub use crate::specified_rules::{SpecifiedRules, visit_specified_rules};
 pub use events;
 pub use language;
 pub use language::error::{CheckError, OutOfMemory};
@@ -28,7 +32,7 @@ pub use rules_document;
 pub use rules_first_stage::laws;
 pub use schema;
 pub use schema::error::SchemaError;
-pub use schema::model::SchemaType;
+pub use schema::model::{Dialect, SchemaType};
 pub use variable_values;
 pub use variable_values::{has_input_types, validate_input_values};
 pub use walk;

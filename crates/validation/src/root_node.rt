@@ -5,15 +5,18 @@ ghost use Rattle.walk.specs.ContextState.{IsMadeFor};
 ghost use Rattle.walk.specs.ErrorValue.{error_cmp};
 ghost use Rattle.walk.specs.Rule.{Appended, AppendsAllowed, any_value};
 ghost use Rattle.walk.specs.Step.{KeepsPlace};
-ghost use Rattle.validation.specs.RootRules.{AppendsRootReported, IsRootReport, IsRootValid, introspection};
+ghost use Rattle.validation.specs.RootRules.{AppendsRootReported, IsRootReport, IsRootValid, by_dialect, introspection};
+ghost use Rattle.validation.specs.Stages.{AppendsReported, Rules};
 
 use crate::rules::{AllRules, disable_introspection, visit_all_rules};
+use crate::specified_rules::{SpecifiedRules, visit_specified_rules};
 use language::error::OutOfMemory;
 use language::tree::Definition;
 use language::value::DefaultScalarValue;
 use meta::check::CheckedScalar;
 use rules_first_stage::laws::clean_documents;
-use schema::model::SchemaTypeOf;
+use rules_specified_stage::laws::clean_documents as clean_specified_documents;
+use schema::model::{Dialect, SchemaTypeOf};
 use std::alloc::Global;
 use walk::{MultiVisitorNil, RuleError, ValidatorContext, visit_rules};
 
@@ -48,6 +51,18 @@ impl<S, C> RootNodeOf<S, C> {
         }
     }
 
+    /// Has documents judged by this dialect, as their literals and the values of their variables are. It is juniper's at first.
+    pub fn with_dialect(self, dialect: Dialect) -> RootNodeOf<S, C>
+        ensures { result ≡ record self { schema = record self.schema { dialect = dialect } } }
+    {
+        let mut schema = self.schema;
+        schema.set_dialect(dialect);
+        RootNodeOf {
+            schema,
+            introspection_disabled: self.introspection_disabled,
+        }
+    }
+
     /// Allows introspection again.
     pub fn enable_introspection(self) -> RootNodeOf<S, C>
         ensures { result ≡ record self { introspection_disabled = false } }
@@ -60,8 +75,8 @@ impl<S, C> RootNodeOf<S, C> {
 }
 
 impl<S: CheckedScalar> RootNodeOf<S, S::Check> {
-    /// Validates a document: by every rule, and by the rule on introspection where it is disabled. Returns the errors in ascending
-    /// order. There are none if and only if the document is valid.
+    /// Validates a document: by every rule of the schema's dialect, and by the rule on introspection where it is disabled. Returns the
+    /// errors in ascending order. There are none if and only if the document is valid.
     ///
     /// # Errors
     ///
@@ -72,20 +87,56 @@ impl<S: CheckedScalar> RootNodeOf<S, S::Check> {
         document: &'a [Definition<'_, S>],
     ) -> Result<Vec<RuleError>, OutOfMemory>
         ensures all { IfOk result (λ errors. (pairs : ℕ)
-            × IsRootReport ⟦<S as AllRules<'a>>⟧.rules self.now.introspection_disabled self.now.schema document.now
-            errors.items pairs) }
+            × IsRootReport (⟦<S as DialectRules<'a>>⟧.rules_of self.now.schema.dialect) self.now.introspection_disabled
+            self.now.schema document.now errors.items pairs) }
         ensures valid { IfOk result (λ errors. (errors.items ≡ [])
-            ↔ IsRootValid ⟦<S as AllRules<'a>>⟧.rules self.now.introspection_disabled self.now.schema document.now) }
+            ↔ IsRootValid (⟦<S as DialectRules<'a>>⟧.rules_of self.now.schema.dialect)
+            self.now.introspection_disabled self.now.schema document.now) }
         ensures sorted { IfOk result (λ errors. IsSorted error_cmp errors.items) }
     {
         clean_documents::<S>();
+        clean_specified_documents::<S>();
         let mut ctx = ValidatorContext::new(alloc, &self.schema, document)?;
-        visit_root_rules(&mut ctx, document, self.introspection_disabled)?;
+        visit_dialect_rules(&mut ctx, document)?;
+        report_introspection(&mut ctx, document, self.introspection_disabled)?;
         ctx.into_errors()
     }
 }
 
-/// Tries every rule on a document, and the rule on introspection where it is disabled, and appends the errors.
+/// The rules of each dialect, for a kind of scalars. Every kind of scalars has them.
+pub trait DialectRules<'a>: CheckedScalar {
+    // What the rules of a dialect report, and where they find nothing.
+    ghost rules_of: { Dialect → Rules Self Self.Check };
+}
+
+impl<'a, S: CheckedScalar + 'a> DialectRules<'a> for S {
+    ghost rules_of = { by_dialect ⟦<S as AllRules<'a>>⟧.rules ⟦<S as SpecifiedRules<'a>>⟧.specified_rules };
+}
+
+/// Tries every rule of the schema's dialect on a document, and appends the errors: as `visit_all_rules` for juniper's, and as
+/// `visit_specified_rules` for October 2021. Returns what they return: how many pairs of fragments were compared.
+///
+/// # Errors
+///
+/// Out of memory. The context fails from then on.
+pub fn visit_dialect_rules<'a, S: CheckedScalar>(
+    ctx: &mut ValidatorContext<'a, S>,
+    document: &'a [Definition<'_, S>],
+) -> Result<u128, OutOfMemory>
+    ensures appended { IfOk result (λ pairs. IsMadeFor ctx.old document.now
+        → AppendsReported (⟦<S as DialectRules<'a>>⟧.rules_of ctx.old.schema.dialect) ctx.old ctx.new document.now pairs) }
+    ensures only { OnOk result (Appended any_value ctx.old ctx.new) }
+    ensures err { OnErr result (KeepsPlace ctx.old ctx.new) }
+    ensures failed { OnErr result (ctx.new.failed ≡ true) }
+    ensures stays { ctx.old.failed ≡ true → IsErr result }
+{
+    match ctx.schema.dialect() {
+        Dialect::Juniper => visit_all_rules(ctx, document),
+        Dialect::October2021 => visit_specified_rules(ctx, document),
+    }
+}
+
+/// Tries every rule of juniper on a document, and the rule on introspection where it is disabled, and appends the errors.
 ///
 /// Returns what `visit_all_rules` returns: how many pairs of fragments were compared.
 ///

@@ -1,5 +1,6 @@
 -- Where October 2021 takes values that juniper refuses.
-use Rattle.std.specs.Prelude.{◌&&◌, Bool, false, is_some, not}
+use Rattle.std.specs.Prelude.{◌&&◌, Bool, Option, false, is_some, not}
+use Rattle.language.specs.declared.tree.VariableDefinition.{VariableDefinition}
 use Rattle.language.specs.Types.{is_never_null, shape}
 use Rattle.meta.specs.Kept.{takes_any_literal}
 use Rattle.meta.specs.declared.arguments.Argument.{Argument}
@@ -25,3 +26,7 @@ module _ {S C : Type 0} (schema : Catalog S C) where
   -- the input field has to be given: its type is non-null, and no default stands in for it
   abbrev pub is_needed : Argument S → Bool
   is_needed a = is_never_null (shape a.arg_type) && not (has_default a)
+
+  -- a default stands in for the variable, of which no value is there (section 6.1.2)
+  abbrev pub stands_in : {A : Type 0} → VariableDefinition S → Option A → Bool
+  stands_in d value = in_october_2021 schema.dialect (not (is_some value) && is_some d.default_value)

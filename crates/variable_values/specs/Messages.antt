@@ -1,11 +1,12 @@
 -- The errors for the faults of variables.
-use Rattle.std.specs.Prelude.{◌≡◌, ℕ, List, [], ◌∷◌, ◌++◌, map, Option, Some, None, String, Vec, codes, option_and_then, string_bytes}
+use Rattle.std.specs.Prelude.{◌≡◌, ℕ, Bool, true, false, List, [], ◌∷◌, ◌++◌, map, Option, Some, None, String, Vec, codes, option_and_then, string_bytes}
 use Rattle.std.specs.BTreeMap.{BTreeMap, get_by_text}
 use Rattle.std.specs.declared.alloc.Global.{Global}
 use Rattle.std.specs.Fmt.{decimal}
 use Rattle.std.specs.List.{flat_map}
 use Rattle.language.specs.declared.position.SourcePosition.{SourcePosition}
 use Rattle.language.specs.declared.tree.Operation.{Operation}
+use Rattle.language.specs.declared.tree.VariableDefinition.{VariableDefinition}
 use Rattle.language.specs.declared.value.InputValue.{InputValue, out-InputValue}
 use Rattle.language.specs.declared.value.InputValue.TheOpen as v
 use Rattle.language.specs.Types.{TypeShape, shape, printed, outermost, by_outermost}
@@ -13,6 +14,7 @@ use Rattle.meta.specs.Answers.{Answers}
 use Rattle.schema.specs.Catalog.{Catalog}
 use Rattle.events.specs.Node.{VariableEntry}
 use Rattle.walk.specs.ErrorValue.{ErrorValue}
+use Rattle.variable_values.specs.Dialects.{stands_in}
 use Rattle.variable_values.specs.Faults.{Fault, Faults, Step, element, field}
 use Rattle.variable_values.specs.InTurn.{InTurn}
 use Rattle.variable_values.specs.Inputs.{definitions_of}
@@ -60,6 +62,11 @@ unless_null value x = Some value
 abbrev pub given : {S : Type 0} → Option (InputValue S) → Option (InputValue S)
 given {S} o = option_and_then (λ value. unless_null value (out-InputValue S value)) o
 
+-- no message where it is so, and else those of which P holds
+abbrev pub Unless : Bool → (List (List ℕ) → Type 0) → List (List ℕ) → Type 0
+Unless true P messages = messages ≡ []
+Unless false P messages = P messages
+
 -- the values of variables, by their names
 abbrev pub Values : Type 0 → Type 0
 Values S = BTreeMap (String Global) (InputValue S)
@@ -70,10 +77,14 @@ module _ {S C : Type 0} (schema : Catalog S C) (may : Answers (InputValue S) C) 
   OfVariable name t None messages = messages ≡ messages_without name t
   OfVariable name t (Some value) messages = (fs : List Fault) × Faults schema may text str_of value t fs × (messages ≡ map (told_after (invalid_text name)) fs)
 
+  -- what is said of a variable by its definition and its value, if it has one: nothing where a default stands in
+  abbrev pub OfDefined : List ℕ → VariableDefinition S → Option (InputValue S) → List (List ℕ) → Type 0
+  OfDefined name d value messages = Unless (stands_in schema d value) (OfVariable name (shape d.var_type.item) (given value)) messages
+
   -- the errors of a definition, each at its name
   abbrev pub OfDefinition : Values S → VariableEntry S → List ErrorValue → Type 0
   OfDefinition values d es =
-      (messages : List (List ℕ)) × OfVariable d.0.item.now (shape d.1.var_type.item) (given (get_by_text values d.0.item.now)) messages × (es ≡ map (error_at d.0.span.start) messages)
+      (messages : List (List ℕ)) × OfDefined d.0.item.now d.1 (get_by_text values d.0.item.now) messages × (es ≡ map (error_at d.0.span.start) messages)
 
   -- the errors of an operation: those of each of its definitions
   abbrev pub OfOperation : Values S → Operation S → List ErrorValue → Type 0

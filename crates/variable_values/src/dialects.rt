@@ -1,7 +1,9 @@
 //! Where October 2021 takes values that juniper refuses.
-ghost use Rattle.std.specs.Prelude.{◌≡◌};
+ghost use Rattle.std.specs.Prelude.{◌≡◌, option_copied};
 ghost use Rattle.variable_values.specs.Dialects as dialect;
 
+use language::tree::VariableDefinition;
+use language::value::InputValue;
 use meta::arguments::Argument;
 use meta::scalars::ScalarMetaOf;
 use schema::model::{Dialect, SchemaTypeOf};
@@ -30,5 +32,19 @@ fn has_default<S, C>(schema: &SchemaTypeOf<S, C>, field: &Argument<S>) -> bool
     match schema.dialect() {
         Dialect::Juniper => false,
         Dialect::October2021 => field.default_value.is_some(),
+    }
+}
+
+/// Whether a default stands in for a variable that has this value, or none (section 6.1.2).
+pub fn stands_in<S, C>(
+    schema: &SchemaTypeOf<S, C>,
+    definition: &VariableDefinition<'_, S>,
+    value: Option<&InputValue<S>>,
+) -> bool
+    ensures { result ≡ dialect.stands_in schema.now definition.now (option_copied value.entry) }
+{
+    match schema.dialect() {
+        Dialect::Juniper => false,
+        Dialect::October2021 => value.is_none() && definition.default_value.is_some(),
     }
 }

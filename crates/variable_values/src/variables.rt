@@ -4,15 +4,16 @@ ghost use Rattle.std.specs.BTreeMap.{get_by_text};
 ghost use Rattle.language.specs.Types.{borrowed_shape, shape};
 ghost use Rattle.walk.specs.ErrorValue.{ErrorValue, error_cmp};
 ghost use Rattle.variable_values.specs.Inputs.{HasInputTypes, is_input_in};
-ghost use Rattle.variable_values.specs.Messages.{OfOperation, OfVariable, error_at, given, texts_of};
+ghost use Rattle.variable_values.specs.Messages.{OfDefined, OfOperation, OfVariable, error_at, given, texts_of};
 
+use crate::dialects::stands_in;
 use crate::faults::add_faults;
 use crate::inputs::definitions_of;
 use crate::messages::add;
 use crate::texts::required_message;
 use language::error::OutOfMemory;
 use language::position::{SourcePosition, Spanning};
-use language::tree::Operation;
+use language::tree::{Operation, VariableDefinition};
 use language::types::BorrowedType;
 use language::value::{InputValue, Variables};
 use meta::check::CheckedScalar;
@@ -24,8 +25,8 @@ use walk::RuleError;
 ///
 /// The errors are in ascending order, each at the name of its variable. The type of each variable has to be a known
 /// input type, as in a document without errors. An input object is read by its `to_object_value`: of several entries
-/// of a key the last counts. The dialect is the schema's: in October 2021 an input field that has a default may be left
-/// out, and lists and objects may stand for a scalar that takes any literal. A value without a fault takes no memory
+/// of a key the last counts. The dialect is the schema's: in October 2021 a variable or an input field that has a default
+/// may be left out, and lists and objects may stand for a scalar that takes any literal. A value without a fault takes no memory
 /// for messages, and no stack for its depth: lists hold the parts of a value that are begun.
 ///
 /// # Errors
@@ -45,16 +46,39 @@ pub fn validate_input_values<S: CheckedScalar>(
 {
     let mut errors = Vec::new(alloc);
     for (name, definition) in definitions_of(&operation.item) {
-        let expected = definition.var_type.item.as_borrowed();
-        let messages = messages_of(alloc, schema, values, name.item, expected)?;
+        let messages = messages_of(alloc, schema, values, name.item, definition)?;
         add_errors(alloc, messages.as_slice(), name.span.start, &mut errors)?;
     }
     errors.sort()?;
     Ok(errors)
 }
 
-// The messages for a variable of this name and type.
+// The messages for a variable of this name and definition.
 fn messages_of<S: CheckedScalar>(
+    alloc: Global,
+    schema: &SchemaType<S>,
+    values: &Variables<S>,
+    name: &str,
+    definition: &VariableDefinition<'_, S>,
+) -> Result<Vec<String>, OutOfMemory>
+    requires { is_input_in schema.now (shape definition.now.var_type.item).name ≡ true }
+    ensures { IfOk result (λ messages. OfDefined schema.now S.may_answer S.text S.str_of
+        name.now definition.now (get_by_text values.now name.now) (texts_of messages)) }
+{
+    if stands_in(schema, definition, values.get(name)) {
+        return Ok(Vec::new(alloc));
+    }
+    messages_of_value(
+        alloc,
+        schema,
+        values,
+        name,
+        definition.var_type.item.as_borrowed(),
+    )
+}
+
+// The messages for a variable of this name and type, for which no default stands in.
+fn messages_of_value<S: CheckedScalar>(
     alloc: Global,
     schema: &SchemaType<S>,
     values: &Variables<S>,

@@ -1,5 +1,5 @@
 -- The errors of an operation, and its variables.
-use Rattle.std.proofs.Common.{◌≡◌, ℕ, List, [], ◌∷◌, Option, Some, None, IsPermutation, map, length, refl, ap, sym, ◌∙◌, subst, arith}
+use Rattle.std.proofs.Common.{◌≡◌, ℕ, Bool, true, false, List, [], ◌∷◌, Option, Some, None, IsPermutation, map, length, refl, ap, sym, ◌∙◌, subst, arith}
 use Rattle.std.specs.BTreeMap.{get_by_text}
 use Rattle.std.proofs.lemmas.List.Sorted.{length_permutation}
 use Rattle.language.specs.declared.tree.Operation.{Operation}
@@ -11,10 +11,13 @@ use Rattle.language.specs.Types.{IsNonNull, TypeShape, inner_of, outermost, prin
 use Rattle.meta.specs.Answers.{Answers}
 use Rattle.schema.specs.Catalog.{Catalog}
 use Rattle.events.specs.Node.{VariableEntry}
+use Rattle.schema.specs.declared.model.dialect.Dialect.{Dialect}
+use Rattle.schema.specs.declared.model.dialect.Dialect.TheVariants as dialect
+use Rattle.variable_values.specs.Dialects.{in_october_2021, stands_in}
 use Rattle.variable_values.specs.Faults.{Fault, Faults, here}
 use Rattle.variable_values.specs.Inputs.{definitions_of}
 use Rattle.variable_values.specs.Laws.{OneAnswer}
-use Rattle.variable_values.specs.Messages.{OfDefinition, OfOperation, OfVariable, Values, error_at, given, invalid_text, messages_without, required_text, told_after, unless_null}
+use Rattle.variable_values.specs.Messages.{OfDefinition, OfOperation, OfVariable, Unless, Values, error_at, given, invalid_text, messages_without, required_text, told_after, unless_null}
 use Rattle.variable_values.specs.Texts.{null_text}
 use Rattle.variable_values.proofs.Accepted.{accepted_where_asked}
 use Rattle.variable_values.proofs.OneList.{One, each_all, one_in_turn, one_list}
@@ -26,6 +29,24 @@ use Rattle.variable_values_laws.proofs.Conforming.{conforms, null_as, nullable_b
 use Rattle.variable_values_laws.proofs.NoFaults.{by_nullable, no_fault}
 use Rattle.variable_values_laws.proofs.Parts.{in_turn_none, mapped_none, none_in_turn}
 use Rattle.variable_values_laws.proofs.SortedOnce.{errors_once}
+
+-- where no default stands in, something may be told, and else nothing is
+unless_false : (b : Bool) (P : List (List ℕ) → Type 0) (ms : List (List ℕ)) → b ≡ false → Unless b P ms → P ms
+unless_false true P ms e h = cc
+unless_false false P ms e h = h
+
+unless_none : (b : Bool) (P : List (List ℕ) → Type 0) → (b ≡ false → P []) → Unless b P []
+unless_none true P h = refl
+unless_none false P h = h refl
+
+one_unless : (b : Bool) (P : List (List ℕ) → Type 0) → One P → One (Unless b P)
+one_unless true P one ms ns p q = p ∙ sym q
+one_unless false P one = one
+
+-- no default stands in for a value that is there
+never : (d : Dialect) → in_october_2021 d false ≡ false
+never dialect.Juniper = refl
+never dialect.October2021 = refl
 
 no_length : {X : Type 0} (xs : List X) → length xs ≡ 0 → xs ≡ []
 no_length [] e = refl
@@ -85,7 +106,9 @@ module _ {S C : Type 0} (schema : Catalog S C) (may : Answers (InputValue S) C) 
 
     one_definition : (values : Values S) (d : VariableEntry S) → One (OfDefinition schema may text str_of values d)
     one_definition values d es fs (ms, h, e) (ns, i, f) =
-        e ∙ ap (map (error_at d.0.span.start)) (one_told d.0.item.now (shape d.1.var_type.item) (given (get_by_text values d.0.item.now)) ms ns h i) ∙ sym f
+        let value = get_by_text values d.0.item.now in
+        let told = Told d.0.item.now (shape d.1.var_type.item) (given value) in
+        e ∙ ap (map (error_at d.0.span.start)) (one_unless (stands_in schema d.1 value) told (one_told d.0.item.now (shape d.1.var_type.item) (given value)) ms ns h i) ∙ sym f
 
     pub one_list_of_errors : law.OneListOfErrors schema may text str_of
     one_list_of_errors values o =
@@ -94,15 +117,21 @@ module _ {S C : Type 0} (schema : Catalog S C) (may : Answers (InputValue S) C) 
 
     -- ---- operations
     all_conform : (values : Values S) (o : Operation S) → OfOperation schema may text str_of values o [] → VariablesConform schema may str_of values o
-    all_conform values o h = λ d c.
+    all_conform values o h = λ d c without.
+        let value = get_by_text values d.0.item.now in
         let told = none_in_turn (λ (i : ℕ) (d : VariableEntry S). OfDefinition schema may text str_of values d) 0 (definitions_of o) d c h in
         let none_told = mapped_none (error_at d.0.span.start) told.1.0 told.1.2 in
-        variable_conforms d.0.item.now (shape d.1.var_type.item) (get_by_text values d.0.item.now) (subst (Told d.0.item.now (shape d.1.var_type.item) (given (get_by_text values d.0.item.now))) (sym none_told) told.1.1)
+        let of_value = Told d.0.item.now (shape d.1.var_type.item) (given value) in
+        let those = unless_false (stands_in schema d.1 value) of_value told.1.0 without told.1.1 in
+        variable_conforms d.0.item.now (shape d.1.var_type.item) value (subst of_value (sym none_told) those)
 
     none_told_of : (values : Values S) (o : Operation S) → VariablesConform schema may str_of values o → OfOperation schema may text str_of values o []
     none_told_of values o h =
         in_turn_none (λ (i : ℕ) (d : VariableEntry S). OfDefinition schema may text str_of values d) 0 (definitions_of o)
-        (λ i d c. ([], variable_none d.0.item.now (shape d.1.var_type.item) (get_by_text values d.0.item.now) (h d c), refl))
+        (λ i d c.
+        let value = get_by_text values d.0.item.now in
+        let of_value = Told d.0.item.now (shape d.1.var_type.item) (given value) in
+        ([], unless_none (stands_in schema d.1 value) of_value (λ without. variable_none d.0.item.now (shape d.1.var_type.item) value (h d c without)), refl))
 
     pub no_error : law.NoErrorIffConform schema may text str_of
     no_error values o es h = (
@@ -132,5 +161,6 @@ module _ {S C : Type 0} (schema : Catalog S C) (may : Answers (InputValue S) C) 
 
   pub accepted_where : law.AcceptedWhereConform schema may text str_of
   accepted_where values o d value c inner all among is asks =
+      let without : stands_in schema d.1 (get_by_text values d.0.item.now) ≡ false = ap (stands_in schema d.1) is ∙ never schema.dialect in
       accepted_where_asked schema may text str_of value (shape d.1.var_type.item) c inner
-      (no_fault schema may text str_of (subst (λ q. Conforms schema may str_of q (shape d.1.var_type.item)) is (all d among))) asks
+      (no_fault schema may text str_of (subst (λ q. Conforms schema may str_of q (shape d.1.var_type.item)) is (all d among without))) asks

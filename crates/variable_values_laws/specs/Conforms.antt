@@ -19,7 +19,7 @@ use Rattle.meta.specs.declared.kinds.MetaTypeOf.TheVariants as k
 use Rattle.meta.specs.declared.scalars.ScalarMetaOf.{ScalarMetaOf}
 use Rattle.schema.specs.Catalog.{Catalog, type_in}
 use Rattle.events.specs.Node.{VariableEntry}
-use Rattle.variable_values.specs.Dialects.{is_needed, takes_any_value}
+use Rattle.variable_values.specs.Dialects.{is_needed, stands_in, takes_any_value}
 use Rattle.variable_values.specs.Inputs.{definitions_of}
 use Rattle.variable_values.specs.Keys.{field_names, keys_of}
 use Rattle.variable_values.specs.Messages.{Values}
@@ -72,6 +72,7 @@ module _ {S C : Type 0} (schema : Catalog S C) (may : Answers (InputValue S) C) 
         → ((a : Argument S) (x : InputValue S) → Contains o.input_fields.items a → last_value (string_bytes a.name) es ≡ Some x → Conforms (Some x) (shape a.arg_type))
         → Accepts may (input_object_check o) value → Conforms (Some value) (nullable_named name)
 
-  -- the value of each variable of the operation conforms to the variable's type
+  -- the value of each variable of the operation conforms to the variable's type, unless a default stands in for it
   abbrev pub VariablesConform : Values S → Operation S → Type 0
-  VariablesConform values o = (d : VariableEntry S) → Contains (definitions_of o) d → Conforms (get_by_text values d.0.item.now) (shape d.1.var_type.item)
+  VariablesConform values o = (d : VariableEntry S) → Contains (definitions_of o) d → stands_in schema d.1 (get_by_text values d.0.item.now) ≡ false
+      → Conforms (get_by_text values d.0.item.now) (shape d.1.var_type.item)

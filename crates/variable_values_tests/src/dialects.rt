@@ -14,8 +14,10 @@ const MAP: &str = "query ($c: Map) { map(v: $c) }";
 
 const OBJECT: &str = "query ($c: O) { obj(o: $c) }";
 
-/// A text and a value of its variable.
-const GIVEN: [(&str, &str); 9] = [
+const DEFAULT: &str = "query ($c: Int! = 3) { __typename }";
+
+/// A text and a value of its variable, if any.
+const GIVEN: [(&str, &str); 13] = [
     (JSON, "{a: [1, \"x\", {b: null}]}"),
     (JSON, "[{}, 1]"),
     (JSON, "1"),
@@ -25,10 +27,14 @@ const GIVEN: [(&str, &str); 9] = [
     (OBJECT, "{a: null, b: 1}"),
     (OBJECT, "{}"),
     (OBJECT, "{b: 1, c: [{b: 2}, {a: 1}]}"),
+    (DEFAULT, ""),
+    (DEFAULT, "null"),
+    (DEFAULT, "4"),
+    ("query ($c: Int!) { __typename }", ""),
 ];
 
 /// What is said of each in October 2021.
-const SPECIFIED: [&str; 9] = [
+const SPECIFIED: [&str; 13] = [
     "",
     "",
     "",
@@ -38,10 +44,14 @@ const SPECIFIED: [&str; 9] = [
     "Variable \"$c\" got invalid value. In field \"a\": Expected \"Int!\", found null.. At 0:7\n",
     "Variable \"$c\" got invalid value. In field \"b\": Expected \"Int!\", found null.. At 0:7\n",
     "Variable \"$c\" got invalid value. In field \"c\": In element #1: In field \"b\": Expected \"Int!\", found null.. At 0:7\n",
+    "",
+    "Variable \"$c\" of required type \"Int!\" was not provided.. At 0:7\n",
+    "",
+    "Variable \"$c\" of required type \"Int!\" was not provided.. At 0:7\n",
 ];
 
 /// And in juniper.
-const OF_JUNIPER: [&str; 9] = [
+const OF_JUNIPER: [&str; 13] = [
     "Variable \"$c\" got invalid value. Expected \"JSON\", found object.. At 0:7\n",
     "Variable \"$c\" got invalid value. Expected \"JSON\", found list.. At 0:7\n",
     "",
@@ -51,6 +61,10 @@ const OF_JUNIPER: [&str; 9] = [
     "Variable \"$c\" got invalid value. In field \"a\": Expected \"Int!\", found null.. At 0:7\n",
     "Variable \"$c\" got invalid value. In field \"a\": Expected \"Int!\", found null.. At 0:7\nVariable \"$c\" got invalid value. In field \"b\": Expected \"Int!\", found null.. At 0:7\n",
     "Variable \"$c\" got invalid value. In field \"a\": Expected \"Int!\", found null.. At 0:7\nVariable \"$c\" got invalid value. In field \"c\": In element #0: In field \"a\": Expected \"Int!\", found null.. At 0:7\nVariable \"$c\" got invalid value. In field \"c\": In element #1: In field \"b\": Expected \"Int!\", found null.. At 0:7\n",
+    "Variable \"$c\" of required type \"Int!\" was not provided.. At 0:7\n",
+    "Variable \"$c\" of required type \"Int!\" was not provided.. At 0:7\n",
+    "",
+    "Variable \"$c\" of required type \"Int!\" was not provided.. At 0:7\n",
 ];
 
 /// In this dialect each is told the line of its number.

@@ -1,12 +1,10 @@
 use Rattle.std.proofs.Common.{◌≡◌, ℕ, ◌+◌, ◌++◌, ap, sym, ◌∙◌, subst, refl, map, string_bytes, drop_of_length-le}
 use Rattle.std.specs.List.{list_all}
-use Rattle.std.specs.BTreeMap.{get_by_text}
-use Rattle.language.specs.Types.{shape}
 use Rattle.events.specs.Node.{VariableEntry}
 use Rattle.schema_validation.proofs.Finds.{all-at}
 use Rattle.variable_values.specs.InTurn.{InTurn}
 use Rattle.variable_values.specs.Inputs.{has_input_type, is_input_in}
-use Rattle.variable_values.specs.Messages.{OfDefinition, OfVariable, error_at, given, texts_of}
+use Rattle.variable_values.specs.Messages.{OfDefinition, error_at, texts_of}
 use Rattle.variable_values.proofs.InTurns.{Done, done_all, done_more}
 use Rattle.variable_values.proofs.variables.validate_input_values.Goals as goal
 
@@ -14,8 +12,7 @@ pub messages_of-requires : goal.messages_of-requires
 messages_of-requires g c =
     let schema = c.args.schema.now in
     let items = c.definitions_of-name-items.result.now in
-    ap (λ s. is_input_in schema s.name) c.as_borrowed-expected.ensures
-    ∙ all-at (has_input_type schema) items c.loop-name-item.result (ap (list_all (has_input_type schema)) c.definitions_of-name-items.ensures ∙ c.requires.known) (c.loop-name.name-index, c.loop-name-test.true, sym c.loop-name-item.is)
+    all-at (has_input_type schema) items c.loop-name-item.result (ap (list_all (has_input_type schema)) c.definitions_of-name-items.ensures ∙ c.requires.known) (c.loop-name.name-index, c.loop-name-test.true, sym c.loop-name-item.is)
 
 pub loop-name-preserved : goal.loop-name-preserved
 loop-name-preserved g c =
@@ -28,12 +25,10 @@ loop-name-preserved g c =
     let d = c.loop-name-item.result in
     let gives = λ (i : ℕ) (e : VariableEntry g.row.S.Denot). OfDefinition schema may text str_of values e in
     let messages = c.in_ok-messages.messages in
-    let told : OfVariable schema may text str_of d.0.item.now (shape d.1.var_type.item) (given (get_by_text values d.0.item.now)) (texts_of messages) =
-    subst (λ s. OfVariable schema may text str_of d.0.item.now s (given (get_by_text values d.0.item.now)) (texts_of messages)) c.as_borrowed-expected.ensures c.in_ok-messages.ensures in
     let errors = map (error_at d.0.span.start) (texts_of messages) in
     let all : c.add_errors.new.errors.items ≡ c.loop-name.errors.items ++ errors = c.in_ok-add_errors.ensures ∙ ap (λ ms. c.loop-name.errors.items ++ map (error_at d.0.span.start) (map string_bytes ms)) c.as_slice.ensures.value in
     subst (Done gives items (c.loop-name.name-index + 1)) (sym all)
-    (done_more gives items c.loop-name.name-index d c.loop-name.errors.items errors c.loop-name-test.true c.loop-name-item.is c.loop-name.invariant (texts_of messages, told, refl))
+    (done_more gives items c.loop-name.name-index d c.loop-name.errors.items errors c.loop-name-test.true c.loop-name-item.is c.loop-name.invariant (texts_of messages, c.in_ok-messages.ensures, refl))
 
 pub returns-clause-faults : goal.returns-clause-faults
 returns-clause-faults g c =

@@ -1,0 +1,35 @@
+use Rattle.std.proofs.Common.{rules, IsErr}
+use Rattle.std.proofs.lemmas.Result.{IfOk-from_err}
+use Rattle.events.specs.TypedEvent.{typed_events}
+use Rattle.walk.specs.ContextState.{typing, scope_of_context}
+use Rattle.rules_document.specs.AtDocumentLaws.{document_given}
+use Rattle.rules_document.specs.NoFragmentCycles.{cycle_errors}
+use Rattle.rules_first_stage.proofs.Kept.{is_searched, is_there}
+use Rattle.rules_specified_stage.proofs.rules.visit_specified_stage.Goals as goal
+
+pub unreachable-requires : goal.unreachable-requires
+unreachable-requires g c =
+    let (es, r, e) = c.in_ok-visit_settled.ensures.ran in
+    let old = c.args.ctx.now in
+    let events = typed_events old.schema (typing old) c.args.document.now in
+    let others = c.pair_runs.ensures (scope_of_context old) events c.with_rule-rules.result c.visit_settled.new.rules es r in
+    let cycles = c.pair_runs-2.ensures (scope_of_context old) events c.with_rule-rules.result.1 c.visit_settled.new.rules.1 others.by_other others.other_runs in
+    let kept = (document_given cycle_errors (scope_of_context old) old.schema (typing old) c.args.document.now c.with_rule-rules.result.1.0 c.visit_settled.new.rules.1.0 cycles.by_newer cycles.newer_runs).kept in
+    is_there (λ v. v) c.args.document.now c.visit_settled.new.rules kept _ c.into_parts-others.ensures _ c.into_parts-rule.ensures _ c.into_found.ensures c.in-None.is
+
+pub returns-clause-searched : goal.returns-clause-searched
+returns-clause-searched g c =
+    let (es, r, e) = c.in_ok-visit_settled.ensures.ran in
+    let old = c.args.ctx.now in
+    let events = typed_events old.schema (typing old) c.args.document.now in
+    let others = c.pair_runs.ensures (scope_of_context old) events c.with_rule-rules.result c.visit_settled.new.rules es r in
+    let cycles = c.pair_runs-2.ensures (scope_of_context old) events c.with_rule-rules.result.1 c.visit_settled.new.rules.1 others.by_other others.other_runs in
+    let kept = (document_given cycle_errors (scope_of_context old) old.schema (typing old) c.args.document.now c.with_rule-rules.result.1.0 c.visit_settled.new.rules.1.0 cycles.by_newer cycles.newer_runs).kept in
+    is_searched (λ v. v) c.args.document.now c.visit_settled.new.rules kept _ c.into_parts-others.ensures _ c.into_parts-rule.ensures _ c.into_found.ensures c.in-Some.cycles c.in-Some.is
+
+pub returns-in_err-visit_settled-clause-appended : goal.returns-in_err-visit_settled-clause-appended
+returns-in_err-visit_settled-clause-appended g c =
+    let e : IsErr c.from_residual.result = search rules in IfOk-from_err c.from_residual.result _ e
+
+pub returns-clause-appended : goal.returns-clause-appended
+returns-clause-appended g c = λ known. let (es, allowed, e) = c.in_ok-visit_settled.ensures.appended known in (es, (c.visit_settled.new.rules, allowed), e)
