@@ -26,11 +26,10 @@ use Rattle.lint_report.specs.declared.sources.Joined.{Joined}
 use Rattle.lint_report.specs.declared.sources.Source.{Source}
 use Rattle.lint_report.specs.Issues.{IsIssueIn}
 use Rattle.sdl_scalars.specs.Checks.{MayAnswer}
-use Rattle.sdl_scalars.specs.declared.check.SourceCheck.{SourceCheck}
 use Rattle.sdl_scalars.specs.declared.scalar.SourceScalar.{SourceScalar}
 use Rattle.sdl_scalars.specs.SourceScalar.{source_str, source_text}
 use Rattle.validation.specs.RootRules.{IsRootReport}
-use Rattle.validation.specs.Stages.{Rules}
+use Rattle.lint_app.specs.Rules.{SourceRules}
 use Rattle.variable_values.proofs.InTurns.{Done, done_all, done_more}
 use Rattle.variable_values.specs.Messages.{OfOperation}
 use Rattle.walk.specs.ErrorValue.{ErrorValue, error_cmp}
@@ -84,10 +83,10 @@ pub no_items : {X : Type 0} (xs : List X) (b : Bool) → b ≡ (length xs == 0) 
 no_items [] b is none = refl
 no_items (x ∷ xs) b is none = let bad : suc (length xs) ≡ 0 = zero_if (length (x ∷ xs)) (sym is ∙ none) in absurd (omega (arith, bad))
 
-module _ (rules : Rules SourceScalar SourceCheck) (root : Root) (values : Option GivenValues) (joined : Joined) (file : ℕ) (document : Document) where
+module _ (rules : SourceRules) (root : Root) (values : Option GivenValues) (joined : Joined) (file : ℕ) (document : Document) where
   -- what the root node reports, where the list is seen otherwise
   pub are_errors : (errors items : List ErrorValue) → errors ≡ items
-      → (pairs : ℕ) × IsRootReport rules root.introspection_disabled root.schema document items pairs
+      → (pairs : ℕ) × IsRootReport (rules root.schema.dialect) root.introspection_disabled root.schema document items pairs
       → (items ≡ []) ↔ IsErrorFree rules root document → IsSorted error_cmp items → AreErrorsOf rules root document errors
   are_errors errors items e (pairs, reported) valid sorted = subst (AreErrorsOf rules root document) (sym e) (record { pairs = pairs; reported = reported; valid = valid; sorted = sorted })
 
@@ -130,7 +129,7 @@ pub one_at_most : (b : Bool) (n : ℕ) → n ≡ bool_byte b → n ≤ 1
 one_at_most true n e = subst (λ m. m ≤ 1) (sym e) (omega arith)
 one_at_most false n e = subst (λ m. m ≤ 1) (sym e) (omega arith)
 
-module _ (rules : Rules SourceScalar SourceCheck) (root : Root) (values : Option GivenValues) (sources : List Source) where
+module _ (rules : SourceRules) (root : Root) (values : Option GivenValues) (sources : List Source) where
   -- so many files were judged, and of those that are documents these issues are told
   abbrev pub EachSoFar : ℕ → List Issue → ℕ → Type 0
   EachSoFar file issues count =

@@ -9,6 +9,7 @@ use Rattle.clap.specs.declared.error.kind.ErrorKind.{ErrorKind}
 use Rattle.lint_app.specs.declared.program.Told.{Told}
 use Rattle.lint_app.specs.Tasks.{TellsTask}
 use Rattle.lint_app.specs.Host.{Host}
+use Rattle.lint_app.specs.Rules.{SourceRules}
 use Rattle.lint_args.specs.Asks.{AsksFor, IsRefusal, IsRequest, input_count, word_texts}
 use Rattle.lint_args.specs.declared.task.Form.{Form}
 use Rattle.lint_args.specs.declared.task.Form.TheVariants as form
@@ -16,9 +17,6 @@ use Rattle.lint_args.specs.declared.task.Task.{Task}
 use Rattle.lint_report.specs.declared.faults.Fault.{Fault}
 use Rattle.lint_report.specs.Github.{github_text}
 use Rattle.lint_report.specs.Json.{json_text}
-use Rattle.sdl_scalars.specs.declared.check.SourceCheck.{SourceCheck}
-use Rattle.sdl_scalars.specs.declared.scalar.SourceScalar.{SourceScalar}
-use Rattle.validation.specs.Stages.{Rules}
 
 -- the beginning of a text was written
 abbrev pub WritesPart : List ℕ → Option (List ℕ) → Option (List ℕ) → Type 0
@@ -46,8 +44,8 @@ IsShown kind text = (text ≡ []) ⊎ IsRequest kind
 abbrev pub IsRefused : List Text → List ℕ → Type 0
 IsRefused words text = (error : Error) × IsRefusal words error × IsShown (kind_of error) text
 
--- By what is known of all rules.
-module _ (rules : Rules SourceScalar SourceCheck) where
+-- By what is known of the rules of each dialect.
+module _ (rules : SourceRules) where
   -- of a task: it names the standard input twice; it ends early; or what is told of its files was not all written, or
   -- not all of them were judged
   abbrev pub EndsTask : Host → Task → List ℕ → Type 0

@@ -1,10 +1,11 @@
 -- What is told where the words ask for it.
-use Rattle.std.specs.Prelude.{◌≡◌, ◌-◌, ◌==◌, ◌&&◌, not, ℕ, Bool, List, Option, is_some, length, string_bytes, vec_len}
+use Rattle.std.specs.Prelude.{◌≡◌, ◌-◌, ◌==◌, ◌&&◌, if◌then◌else◌, not, ℕ, Bool, List, Option, is_some, length, string_bytes, vec_len}
 use Rattle.lint_app.specs.declared.documents.Report.{Report}
 use Rattle.lint_app.specs.declared.program.Told.{Told}
 use Rattle.lint_app.specs.Host.{Host}
 use Rattle.lint_app.specs.Paths.{ArePathsOf, Paths}
 use Rattle.lint_app.specs.Told.{AreReadOf, GivenValues, IsReport, Root}
+use Rattle.lint_app.specs.Rules.{SourceRules}
 use Rattle.lint_report.specs.declared.faults.Fault.{Fault}
 use Rattle.lint_report.specs.declared.issues.Issue.{Issue}
 use Rattle.lint_report.specs.declared.sources.Source.{Source}
@@ -14,9 +15,8 @@ use Rattle.lint_report.specs.Texts.{IsTextReport}
 use Rattle.lint_args.specs.declared.task.Form.{Form}
 use Rattle.lint_args.specs.declared.task.Form.TheVariants as form
 use Rattle.lint_args.specs.declared.task.Task.{Task}
-use Rattle.sdl_scalars.specs.declared.check.SourceCheck.{SourceCheck}
-use Rattle.sdl_scalars.specs.declared.scalar.SourceScalar.{SourceScalar}
-use Rattle.validation.specs.Stages.{Rules}
+use Rattle.schema.specs.declared.model.dialect.Dialect.{Dialect}
+use Rattle.schema.specs.declared.model.dialect.Dialect.TheVariants as d
 
 -- the text of a report. As text it says how many files were judged and how many weren't, and else it has the faults
 abbrev pub IsTextIn : Bool → Form → List Fault → List Source → List Issue → ℕ → ℕ → List ℕ → Type 0
@@ -33,8 +33,17 @@ pub record IsToldOf (coloured : Bool) (task : Task) (files : ℕ) (faults : List
   pub has_errors : told.has_errors ≡ not (vec_len report.issues == 0)
   pub is_whole : told.is_whole ≡ ((length faults == 0) && (report.judged == files))
 
--- By what is known of all rules.
-module _ (rules : Rules SourceScalar SourceCheck) where
+-- the dialect that the words ask for
+abbrev pub dialect_of : Task → Dialect
+dialect_of task = if task.is_juniper then d.Juniper else d.October2021
+
+-- a root node has that dialect, and introspection is closed exactly where the words ask for that
+pub record IsRootOf (task : Task) (root : Root) : Type 0 where
+  pub dialect : root.schema.dialect ≡ dialect_of task
+  pub closed : root.introspection_disabled ≡ task.is_closed
+
+-- By what is known of the rules of each dialect.
+module _ (rules : SourceRules) where
   -- the files that the words name or that are below a directory were read and judged, and a report on them is told
   pub record TellsQueries (host : Host) (task : Task) (root : Root) (values : Option GivenValues) (told : Told) : Type 0 where
     pub paths : Paths
@@ -50,6 +59,6 @@ module _ (rules : Rules SourceScalar SourceCheck) where
   abbrev pub TellsBy : Host → Task → Root → Told → Type 0
   TellsBy host task root told = (values : Option GivenValues) × (is_some values ≡ is_some task.variables) × TellsQueries host task root values told
 
-  -- the same by some root node, in which introspection is closed exactly where the words ask for that
+  -- the same by some root node that has what the words ask for
   abbrev pub TellsTask : Host → Task → Told → Type 0
-  TellsTask host task told = (root : Root) × (root.introspection_disabled ≡ task.is_closed) × TellsBy host task root told
+  TellsTask host task told = (root : Root) × IsRootOf task root × TellsBy host task root told

@@ -9,6 +9,7 @@ use Rattle.language.specs.declared.tree.Operation.{Operation}
 use Rattle.lint_app.specs.declared.documents.Report.{Report}
 use Rattle.lint_app.specs.Host.{Host}
 use Rattle.lint_app.specs.Paths.{Paths}
+use Rattle.lint_app.specs.Rules.{SourceRules}
 use Rattle.lint_report.specs.declared.issues.Issue.{Issue}
 use Rattle.lint_report.specs.declared.sources.Joined.{Joined}
 use Rattle.lint_report.specs.declared.sources.Source.{Source}
@@ -20,7 +21,6 @@ use Rattle.sdl_scalars.specs.Checks.{MayAnswer}
 use Rattle.sdl_scalars.specs.SourceScalar.{source_str, source_text}
 use Rattle.validation.specs.declared.root_node.RootNodeOf.{RootNodeOf}
 use Rattle.validation.specs.RootRules.{IsRootReport, IsRootValid}
-use Rattle.validation.specs.Stages.{Rules}
 use Rattle.variable_values.specs.Inputs.{HasInputTypes}
 use Rattle.variable_values.specs.InTurn.{InTurn}
 use Rattle.variable_values.specs.Messages.{OfOperation, Values}
@@ -116,16 +116,16 @@ abbrev pub FaultsOf : Root → Option GivenValues → Document → List ErrorVal
 FaultsOf root values document [] faults = FaultsIn root values document faults
 FaultsOf root values document (error ∷ errors) faults = faults ≡ []
 
--- By what is known of all rules.
-module _ (rules : Rules SourceScalar SourceCheck) where
+-- By what is known of the rules of each dialect.
+module _ (rules : SourceRules) where
   -- the document is valid, and where introspection is closed it asks for none
   abbrev pub IsErrorFree : Root → Document → Type 0
-  IsErrorFree root document = IsRootValid rules root.introspection_disabled root.schema document
+  IsErrorFree root document = IsRootValid (rules root.schema.dialect) root.introspection_disabled root.schema document
 
   -- what the root node reports of a document, in ascending order; it is nothing exactly where the document is valid
   pub record AreErrorsOf (root : Root) (document : Document) (errors : List ErrorValue) : Type 0 where
     pub pairs : ℕ
-    pub reported : IsRootReport rules root.introspection_disabled root.schema document errors pairs
+    pub reported : IsRootReport (rules root.schema.dialect) root.introspection_disabled root.schema document errors pairs
     pub valid : (errors ≡ []) ↔ IsErrorFree root document
     pub sorted : IsSorted error_cmp errors
 

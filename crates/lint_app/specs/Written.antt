@@ -7,11 +7,9 @@ use Rattle.std.specs.Str.{bytes_eq}
 use Rattle.lint_app.specs.declared.program.Told.{Told}
 use Rattle.lint_app.specs.Tasks.{TellsTask}
 use Rattle.lint_app.specs.Host.{Host}
+use Rattle.lint_app.specs.Rules.{SourceRules}
 use Rattle.lint_args.specs.Asks.{AsksFor, word_texts}
 use Rattle.lint_args.specs.declared.task.Task.{Task}
-use Rattle.sdl_scalars.specs.declared.check.SourceCheck.{SourceCheck}
-use Rattle.sdl_scalars.specs.declared.scalar.SourceScalar.{SourceScalar}
-use Rattle.validation.specs.Stages.{Rules}
 
 -- a word that is answered with help or the version: `--help`, `--version`, and one that begins with `-h` or `-V`
 abbrev pub begins_request : List ℕ → Bool
@@ -21,8 +19,8 @@ begins_request word =
 abbrev pub asks_for_text : List (String Global) → Bool
 asks_for_text = list_any (λ word. begins_request (string_bytes word))
 
--- By what is known of all rules.
-module _ (rules : Rules SourceScalar SourceCheck) where
+-- By what is known of the rules of each dialect.
+module _ (rules : SourceRules) where
   -- what is told of a task's files was written in one piece, every file was judged, and the status says whether there are errors
   pub record WritesTask (host : Host) (task : Task) (old new : Option (List ℕ)) (status : ℕ) : Type 0 where
     pub told : Told

@@ -11,7 +11,7 @@ use lint_report::faults::Fault;
 use lint_report::issues::Issue;
 use lint_report::sources::{Joined, Place, Source};
 use std::alloc::Global;
-use validation::laws::clean_documents;
+use validation::dialects::clean_by_each_dialect;
 use validation::{Definition, OutOfMemory, RootNode, RuleError, Variables, validate_input_values};
 
 /// The schema and the values by which files of queries are judged, and the files.
@@ -225,7 +225,7 @@ impl Judge<'_> {
             issues.old.items issues.new.items) }
     {
         // The variables of a document without errors have input types, which are known.
-        clean_documents::<SourceScalar>();
+        clean_by_each_dialect::<SourceScalar>();
         for definition in document {
             self.add_faults_at(alloc, joined, file, definition, values, issues)?;
         }

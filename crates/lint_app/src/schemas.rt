@@ -1,5 +1,7 @@
 //! Reads the schema from its files.
 ghost use Rattle.std.specs.Prelude.{◌≡◌, IfOk};
+ghost use Rattle.lint_app.specs.Tasks.{IsRootOf};
+ghost use Rattle.lint_app.specs.Tasks as tasks;
 
 use crate::failure::Failure;
 use crate::files::{Inputs, read_sources};
@@ -10,9 +12,10 @@ use lint_report::faults::Fault;
 use lint_report::sources::Source;
 use lint_schema::schema_of;
 use std::alloc::Global;
-use validation::{RootNode, SchemaType};
+use validation::{Dialect, RootNode, SchemaType};
 
-/// The schema of a task, with introspection disabled if the task says so. Its faults go to `faults`.
+/// The schema of a task, with the dialect that the task asks for, and introspection disabled if it says so. Its faults
+/// go to `faults`.
 ///
 /// # Errors
 ///
@@ -23,17 +26,28 @@ pub fn read_root<I: Inputs>(
     inputs: &I,
     faults: &mut Vec<Fault>,
 ) -> Result<RootNode<SourceScalar>, Failure>
-    ensures { IfOk result (λ root. root.introspection_disabled ≡ task.now.is_closed) }
+    ensures { IfOk result (IsRootOf task.now) }
 {
     let paths = paths_of(alloc, inputs, task.schemas.as_slice())?;
     let sources = read_sources(alloc, inputs, paths.as_slice(), faults)?;
     let schema = schema_of_files(alloc, sources.as_slice(), faults)?;
-    let root = RootNode::new(schema);
+    let root = RootNode::new(schema).with_dialect(dialect_of(task));
     Ok(if task.is_closed {
         root.disable_introspection()
     } else {
         root
     })
+}
+
+// The dialect that a task asks for.
+fn dialect_of(task: &Task<'_>) -> Dialect
+    ensures { result ≡ tasks.dialect_of task.now }
+{
+    if task.is_juniper {
+        Dialect::Juniper
+    } else {
+        Dialect::October2021
+    }
 }
 
 fn schema_of_files(

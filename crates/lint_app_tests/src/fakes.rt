@@ -63,6 +63,10 @@ const FILES: &[(&str, &str)] = &[
     ("use.graphql", "{\n  item(id: 1) {\n    ...Names\n  }\n}\n"),
     ("names.graphql", "fragment Names on Item {\n  name\n}\n"),
     ("cut.graphql", "{ item(id: 1) {\n"),
+    (
+        "default.graphql",
+        "query ($id: ID! = \"7\") { item(id: $id) { name } }\n",
+    ),
     ("empty.graphql", "\n"),
     ("kennel.graphql", KENNEL),
     ("kennel.json", KENNEL_RESULT),

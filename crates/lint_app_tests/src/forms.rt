@@ -237,6 +237,18 @@ const RUNS: &[(&str, u8, &str, &str)] = &[
         "no errors in 2 files\n",
         "",
     ),
+    (
+        "--schema shop.graphql --schema item.graphql default.graphql",
+        0,
+        "no errors in 1 file\n",
+        "",
+    ),
+    (
+        "--schema shop.graphql --schema item.graphql --dialect juniper default.graphql",
+        1,
+        "default.graphql:1:19: error: Argument \"id\" has type \"ID!\" and is not nullable, so it can't have a default value\nquery ($id: ID! = \"7\") { item(id: $id) { name } }\n                  ^\n1 error in 1 of 1 file\n",
+        "",
+    ),
     ("--version", 0, "lint 0.1.0\n", ""),
     ("-V", 0, "lint 0.1.0\n", ""),
 ];
@@ -414,6 +426,10 @@ const STATUSES: &[(&str, u8)] = &[
     ),
     (
         "--schema shop.graphql --schema item.graphql --max-depth -1 good.graphql",
+        2,
+    ),
+    (
+        "--schema shop.graphql --schema item.graphql --dialect 2021 good.graphql",
         2,
     ),
     ("--help", 0),

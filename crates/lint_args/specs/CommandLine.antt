@@ -50,7 +50,7 @@ depth_rule = record (new_rule (codes "depth")) {
   parser = Some (Unsigned 0 usize_max);
 }
 
--- `--dialect DIALECT`, which is `october2021` where it is left out
+-- `--dialect NAME`, which is `october2021` where it is left out
 abbrev pub dialect_rule : Bor (List (Bor Text)) → Rule
 dialect_rule dialects = record (new_rule (codes "dialect")) {
   long = Some (codes "dialect");

@@ -123,7 +123,7 @@ fn dialect_argument<'w>(alloc: Global) -> Arg<'w>
 {
     Arg::new(alloc, "dialect")
         .long("dialect")
-        .value_name("DIALECT")
+        .value_name("NAME")
         .help("By whose rules queries are judged")
         .value_parser(DIALECTS.as_slice())
         .default_value("october2021")

@@ -2,8 +2,6 @@
 use Rattle.std.specs.Prelude.{◌≡◌, Bool, true, false, ℕ, List, [], ◌++◌, IsPermutation}
 use Rattle.language.specs.declared.tree.Definition.{Definition}
 use Rattle.schema.specs.Catalog.{Catalog}
-use Rattle.schema.specs.declared.model.dialect.Dialect.{Dialect}
-use Rattle.schema.specs.declared.model.dialect.Dialect.TheVariants as d
 use Rattle.events.specs.Typing.{Typing, untyped}
 use Rattle.walk.specs.ContextState.{ContextState, DocumentScope, scope_of, typing, with_errors}
 use Rattle.walk.specs.Entering.{everywhere, found}
@@ -11,11 +9,6 @@ use Rattle.walk.specs.ErrorValue.{ErrorValue}
 use Rattle.walk.specs.Rule.{Allowance, exactly, nothing}
 use Rattle.rules_fields.specs.DisableIntrospection.{introspection_fields, AsksNoSchema}
 use Rattle.validation.specs.Stages.{IsValid, Reported, Rules}
-
--- for each dialect what is so in it: first in juniper's
-abbrev pub by_dialect : {A : Type 1} → A → A → Dialect → A
-by_dialect of_juniper of_october d.Juniper = of_juniper
-by_dialect of_juniper of_october d.October2021 = of_october
 
 module _ {S C : Type 0} where
   -- the fields that ask for the schema itself, where introspection is disabled

@@ -6,15 +6,15 @@
 #![tactic(auto)]
 
 pub mod ast;
+pub mod dialects;
 pub mod parser;
 mod root_node;
 pub mod rules;
 pub mod specified_rules;
 pub mod value;
 
-pub use crate::root_node::{
-    DialectRules, RootNode, RootNodeOf, visit_dialect_rules, visit_root_rules,
-};
+pub use crate::dialects::{DialectRules, visit_dialect_rules};
+pub use crate::root_node::{RootNode, RootNodeOf, visit_root_rules};
 pub use crate::rules::{AllRules, visit_all_rules};
 pub use crate::specified_rules::{SpecifiedRules, visit_specified_rules};
 pub use events;

@@ -5,17 +5,14 @@ ghost use Rattle.walk.specs.ContextState.{IsMadeFor};
 ghost use Rattle.walk.specs.ErrorValue.{error_cmp};
 ghost use Rattle.walk.specs.Rule.{Appended, AppendsAllowed, any_value};
 ghost use Rattle.walk.specs.Step.{KeepsPlace};
-ghost use Rattle.validation.specs.RootRules.{AppendsRootReported, IsRootReport, IsRootValid, by_dialect, introspection};
-ghost use Rattle.validation.specs.Stages.{AppendsReported, Rules};
+ghost use Rattle.validation.specs.RootRules.{AppendsRootReported, IsRootReport, IsRootValid, introspection};
 
+use crate::dialects::{DialectRules, clean_by_each_dialect, visit_dialect_rules};
 use crate::rules::{AllRules, disable_introspection, visit_all_rules};
-use crate::specified_rules::{SpecifiedRules, visit_specified_rules};
 use language::error::OutOfMemory;
 use language::tree::Definition;
 use language::value::DefaultScalarValue;
 use meta::check::CheckedScalar;
-use rules_first_stage::laws::clean_documents;
-use rules_specified_stage::laws::clean_documents as clean_specified_documents;
 use schema::model::{Dialect, SchemaTypeOf};
 use std::alloc::Global;
 use walk::{MultiVisitorNil, RuleError, ValidatorContext, visit_rules};
@@ -94,45 +91,11 @@ impl<S: CheckedScalar> RootNodeOf<S, S::Check> {
             self.now.introspection_disabled self.now.schema document.now) }
         ensures sorted { IfOk result (λ errors. IsSorted error_cmp errors.items) }
     {
-        clean_documents::<S>();
-        clean_specified_documents::<S>();
+        clean_by_each_dialect::<S>();
         let mut ctx = ValidatorContext::new(alloc, &self.schema, document)?;
         visit_dialect_rules(&mut ctx, document)?;
         report_introspection(&mut ctx, document, self.introspection_disabled)?;
         ctx.into_errors()
-    }
-}
-
-/// The rules of each dialect, for a kind of scalars. Every kind of scalars has them.
-pub trait DialectRules<'a>: CheckedScalar {
-    // What the rules of a dialect report, and where they find nothing.
-    ghost rules_of: { Dialect → Rules Self Self.Check };
-}
-
-impl<'a, S: CheckedScalar + 'a> DialectRules<'a> for S {
-    ghost rules_of = { by_dialect ⟦<S as AllRules<'a>>⟧.rules ⟦<S as SpecifiedRules<'a>>⟧.specified_rules };
-}
-
-/// Tries every rule of the schema's dialect on a document, and appends the errors: as `visit_all_rules` for juniper's, and as
-/// `visit_specified_rules` for October 2021. Returns what they return: how many pairs of fragments were compared.
-///
-/// # Errors
-///
-/// Out of memory. The context fails from then on.
-pub fn visit_dialect_rules<'a, S: CheckedScalar>(
-    ctx: &mut ValidatorContext<'a, S>,
-    document: &'a [Definition<'_, S>],
-) -> Result<u128, OutOfMemory>
-    ensures appended { IfOk result (λ pairs. IsMadeFor ctx.old document.now
-        → AppendsReported (⟦<S as DialectRules<'a>>⟧.rules_of ctx.old.schema.dialect) ctx.old ctx.new document.now pairs) }
-    ensures only { OnOk result (Appended any_value ctx.old ctx.new) }
-    ensures err { OnErr result (KeepsPlace ctx.old ctx.new) }
-    ensures failed { OnErr result (ctx.new.failed ≡ true) }
-    ensures stays { ctx.old.failed ≡ true → IsErr result }
-{
-    match ctx.schema.dialect() {
-        Dialect::Juniper => visit_all_rules(ctx, document),
-        Dialect::October2021 => visit_specified_rules(ctx, document),
     }
 }
 

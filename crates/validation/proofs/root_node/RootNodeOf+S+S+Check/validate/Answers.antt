@@ -1,20 +1,9 @@
 use Rattle.std.proofs.Common.{ap, subst}
 use Rattle.std.proofs.lemmas.Result.{IfOk-weaker}
-use Rattle.schema.specs.declared.model.dialect.Dialect.{Dialect}
-use Rattle.schema.specs.declared.model.dialect.Dialect.TheVariants as d
-use Rattle.rules_first_stage.specs.CleanStage.{IsCleanWhere}
 use Rattle.validation.specs.RootRules.{IsRootReport}
-use Rattle.validation.specs.Stages.{Rules}
 use Rattle.validation.proofs.Reports.{told_all, told_more}
 use Rattle.validation.proofs.Root.{root_valid}
 use Rattle.validation.proofs.root_node.RootNodeOf+S+S+Check.validate.Goals as goal
-
--- the rules of each dialect leave clean documents
-clean_of : {S C : Type 0} (of : Dialect → Rules S C) (dialect : Dialect)
-    → IsCleanWhere (of d.Juniper).first_stage.find_nothing → IsCleanWhere (of d.October2021).first_stage.find_nothing
-    → IsCleanWhere (of dialect).first_stage.find_nothing
-clean_of of d.Juniper j o = j
-clean_of of d.October2021 j o = o
 
 pub returns-clause-all : goal.returns-clause-all
 returns-clause-all g c =
@@ -36,5 +25,5 @@ returns-clause-valid g c =
     IfOk-weaker c.into_errors.result _ _
     (λ errors (pairs, report).
     root_valid _ c.args.self.now.schema c.args.document.now c.args.self.now.introspection_disabled errors.items pairs report
-    (clean_of g.S.DialectRules.rules_of c.args.self.now.schema.dialect c.clean_documents.ensures c.clean_specified_documents.ensures))
+    (c.clean_by_each_dialect.ensures c.args.self.now.schema.dialect))
     (returns-clause-all g c)
