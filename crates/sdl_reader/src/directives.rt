@@ -3,7 +3,10 @@ use crate::fields::{arguments_of, copied};
 use graphql_reader::SourceScalar;
 use graphql_reader::type_system::{DirectiveDefinition, DirectivePlace};
 use language::error::OutOfMemory;
-use language::position::Spanning;
+use language::position::{SourcePosition, Spanning};
+use language::types::Type;
+use language::value::InputValue;
+use meta::Argument;
 use schema::error::SchemaError;
 use schema::model::{DirectiveLocation, DirectiveType, SchemaTypeOf};
 use sdl_index::error::{SchemaFault, SchemaReadError};
@@ -13,7 +16,8 @@ use std::alloc::Global;
 /// A schema that is read from a text.
 pub type SourceSchema = SchemaTypeOf<SourceScalar, SourceCheck>;
 
-/// Adds directives to a schema. One of the name of a standard directive takes its place.
+/// Adds directives to a schema, after `@deprecated` with its default reason (section 3.13.3), which the directives that each schema
+/// has lack. One of the name of a standard directive takes its place.
 ///
 /// # Errors
 ///
@@ -23,26 +27,45 @@ pub fn add_directives<'a>(
     schema: &mut SourceSchema,
     directives: &[DirectiveDefinition<'a>],
 ) -> Result<(), SchemaReadError<'a>> {
+    let deprecated = deprecated(alloc)?;
+    add_directive(alloc, schema, deprecated, SourcePosition::new(0, 0, 0))?;
     for defined in directives {
-        add_directive(alloc, schema, defined)?;
+        let directive = directive_of(alloc, defined)?;
+        add_directive(alloc, schema, directive, defined.name.span.start)?;
     }
     Ok(())
 }
 
+// Adds a directive that stands at a position.
 fn add_directive<'a>(
     alloc: Global,
     schema: &mut SourceSchema,
-    defined: &DirectiveDefinition<'a>,
+    directive: DirectiveType<SourceScalar>,
+    position: SourcePosition,
 ) -> Result<(), SchemaReadError<'a>> {
-    let directive = directive_of(alloc, defined)?;
     match schema.add_directive(directive) {
         Ok(()) => Ok(()),
         Err(SchemaError::OutOfMemory) => Err(SchemaReadError::OutOfMemory),
-        Err(error) => {
-            let position = defined.name.span.start;
-            Err(SchemaReadError::of_fault(alloc, position, SchemaFault::Refused(error)))
-        }
+        Err(error) => Err(SchemaReadError::of_fault(alloc, position, SchemaFault::Refused(error))),
     }
+}
+
+// `directive @deprecated(reason: String = "No longer supported") on FIELD_DEFINITION | ENUM_VALUE` (section 3.13.3).
+fn deprecated(alloc: Global) -> Result<DirectiveType<SourceScalar>, OutOfMemory> {
+    let text = String::from_str(alloc, "No longer supported")?;
+    let reason = Argument::new(alloc, "reason", Type::nullable(alloc, "String")?)?.default_value(
+        InputValue::Scalar(SourceScalar::String(text)),
+    );
+    Ok(DirectiveType {
+        name: String::from_str(alloc, "deprecated")?,
+        description: None,
+        locations: vec![in alloc;
+            DirectiveLocation::FieldDefinition,
+            DirectiveLocation::EnumValue,
+        ]?,
+        arguments: vec![in alloc; reason]?,
+        is_repeatable: false,
+    })
 }
 
 fn directive_of(
