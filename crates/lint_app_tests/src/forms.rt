@@ -28,10 +28,7 @@ far.graphql:2:25: error: Unknown directive \"far\"
 far.graphql:6:5: error: Field \"name\" must not have a selection since type String! has no subfields
     name { first }
     ^
-far.graphql:6:12: error: Unknown field \"first\" on type \"String\"
-    name { first }
-           ^
-9 errors in 2 of 2 files
+8 errors in 2 of 2 files
 ";
 
 // A file that can't be read, one that is no document, and one with an error.
