@@ -24,6 +24,7 @@ const FILES: &[&str] = &[
     "pets_merge.txt",
     "boxes_merge.txt",
     "pets_variables.txt",
+    "variables.txt",
     "check_documents.txt",
     "check_merging.txt",
     "check_texts.txt",

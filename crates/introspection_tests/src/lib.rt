@@ -1,18 +1,8 @@
-//! Tests of the crate `introspection`: a schema by its introspection and by its own text, values against both, what is written of
-//! single definitions, and faults with their paths.
+//! Tests of the crates `introspection` and `sdl_reader`: memory is refused. What comes of texts is in the rows of
+//! `reader_rows`.
 #![tactic(auto)]
 
 #[cfg(test)]
-mod defaults;
+mod refused_memory;
 #[cfg(test)]
-mod faults;
-#[cfg(test)]
-mod inputs;
-#[cfg(test)]
-mod results;
-#[cfg(test)]
-mod schemas;
-#[cfg(test)]
-mod shown;
-#[cfg(test)]
-mod texts;
+mod shop;

@@ -1,11 +1,14 @@
-//! The program `reader_rows`: reads texts by `graphql_reader` and `sdl_reader`, and reports where what comes is not what
-//! is expected.
+//! The program `reader_rows`: reads texts by `graphql_reader`, `sdl_reader` and `introspection`, and reports where what
+//! comes is not what is expected.
 #![tactic(auto)]
 
+mod inputs;
 mod questions;
+mod results;
 mod shown;
 mod trees;
 mod values;
+mod whole;
 
 use row_files::{Judge, run};
 use std::alloc::{AllocError, Global};
@@ -19,6 +22,7 @@ const FILES: &[&str] = &[
     "nested.txt",
     "values.txt",
     "schemas.txt",
+    "introspection.txt",
 ];
 
 /// What the readers make of texts.
@@ -35,6 +39,12 @@ impl Judge for Readers {
         match kind {
             "value" => values::tell_value(alloc, text, came)?,
             "schema" => questions::tell_schema(alloc, text, came)?,
+            "both forms" => whole::tell_both(alloc, text, came)?,
+            "inputs" => inputs::tell_inputs(alloc, false, text, came)?,
+            "introspection inputs" => inputs::tell_inputs(alloc, true, text, came)?,
+            _ if kind.starts_with("introspection") => {
+                return results::tell_result(alloc, kind, text, came);
+            }
             _ => return trees::tell_count(alloc, kind, text, came),
         }
         Ok(true)

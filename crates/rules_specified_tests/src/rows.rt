@@ -11,6 +11,7 @@ use schema::model::{Dialect, SchemaType};
 use sdl_reader::read_schema;
 use sdl_scalars::SourceCheck;
 use std::alloc::Global;
+use std::process::Abort;
 use walk::{Rule, ValidatorContext, Visitor, visit_rules};
 
 const SCHEMA: &str = "
@@ -263,42 +264,6 @@ fn told<'a, R: Visitor<'a, SourceScalar> + Rule<SourceScalar, SourceCheck> + Dro
     Ok(text)
 }
 
-#[test]
-fn roots_of_subscriptions(rt: HostRuntime) {
-    let alloc = rt.alloc();
-    let schema = read_schema(alloc, SCHEMA).expect(&rt, "it is a schema");
-    for (text, want) in ROOTS {
-        let document = read_document(alloc, *text).expect(&rt, "it is a document");
-        let rule = single_root_field::factory(alloc);
-        let said = told(alloc, &schema, document.as_slice(), rule).expect(&rt, "memory");
-        assert_eq!(rt; said.as_str(), *want, "{text}");
-    }
-}
-
-#[test]
-fn positions_of_variables(rt: HostRuntime) {
-    let alloc = rt.alloc();
-    let schema = read_schema(alloc, INPUTS).expect(&rt, "it is a schema");
-    for (text, want) in POSITIONS {
-        let document = read_document(alloc, *text).expect(&rt, "it is a document");
-        let rule = variables_in_allowed_position::factory(alloc);
-        let said = told(alloc, &schema, document.as_slice(), rule).expect(&rt, "memory");
-        assert_eq!(rt; said.as_str(), *want, "{text}");
-    }
-}
-
-#[test]
-fn default_values(rt: HostRuntime) {
-    let alloc = rt.alloc();
-    let schema = read_schema(alloc, INPUTS).expect(&rt, "it is a schema");
-    for (text, want) in DEFAULTS {
-        let document = read_document(alloc, *text).expect(&rt, "it is a document");
-        let rule = default_values_of_correct_type::factory(alloc);
-        let said = told(alloc, &schema, document.as_slice(), rule).expect(&rt, "memory");
-        assert_eq!(rt; said.as_str(), *want, "{text}");
-    }
-}
-
 /// What the rules on values say of a document.
 fn told_of_values(
     alloc: Global,
@@ -321,15 +286,84 @@ fn told_of_values(
     Ok(text)
 }
 
+/// What the rule of this name says of a document, or what the rules on values say.
+fn told_by(
+    alloc: Global,
+    schema: &SchemaType<SourceScalar>,
+    document: &[Definition<'_, SourceScalar>],
+    rule: &str,
+) -> Result<String, OutOfMemory> {
+    match rule {
+        "single_root_field" => told(alloc, schema, document, single_root_field::factory(alloc)),
+        "variables_in_allowed_position" => {
+            let rule = variables_in_allowed_position::factory(alloc);
+            told(alloc, schema, document, rule)
+        }
+        "default_values_of_correct_type" => {
+            let rule = default_values_of_correct_type::factory(alloc);
+            told(alloc, schema, document, rule)
+        }
+        "typename_leafs" => told(alloc, schema, document, typename_leafs::factory()),
+        _ => told_of_values(alloc, schema, document),
+    }
+}
+
+/// Asserts that the rule says this of the document of the text.
+fn says(
+    rt: &impl Abort,
+    alloc: Global,
+    schema: &SchemaType<SourceScalar>,
+    rule: &str,
+    text: &str,
+    want: &str,
+) {
+    let document = read_document(alloc, text).expect(rt, "it is a document");
+    let said = told_by(alloc, schema, document.as_slice(), rule).expect(rt, "memory");
+    assert_eq!(rt; said.as_str(), want, "{text}");
+}
+
+/// Asserts that the rule says of each document what its row says.
+fn says_all(rt: &impl Abort, alloc: Global, schema: &str, rule: &str, rows: &[(&str, &str)]) {
+    let schema = read_schema(alloc, schema).expect(rt, "it is a schema");
+    for (text, want) in rows {
+        says(rt, alloc, &schema, rule, text, want);
+    }
+}
+
+#[test]
+fn roots_of_subscriptions(rt: HostRuntime) {
+    says_all(&rt, rt.alloc(), SCHEMA, "single_root_field", ROOTS);
+}
+
+#[test]
+fn positions_of_variables(rt: HostRuntime) {
+    says_all(
+        &rt,
+        rt.alloc(),
+        INPUTS,
+        "variables_in_allowed_position",
+        POSITIONS,
+    );
+}
+
+#[test]
+fn default_values(rt: HostRuntime) {
+    says_all(
+        &rt,
+        rt.alloc(),
+        INPUTS,
+        "default_values_of_correct_type",
+        DEFAULTS,
+    );
+}
+
 #[test]
 fn literals_by_october_2021(rt: HostRuntime) {
     let alloc = rt.alloc();
     let mut schema = read_schema(alloc, INPUTS).expect(&rt, "it is a schema");
     schema.set_dialect(Dialect::October2021);
     for (text, want, _) in LITERALS {
-        let document = read_document(alloc, *text).expect(&rt, "it is a document");
-        let said = told_of_values(alloc, &schema, document.as_slice()).expect(&rt, "memory");
-        assert_eq!(rt; said.as_str(), *want, "{text}");
+        says(&rt, alloc, &schema, "values", text, want);
     }
 }
 
@@ -338,20 +372,11 @@ fn literals_by_juniper(rt: HostRuntime) {
     let alloc = rt.alloc();
     let schema = read_schema(alloc, INPUTS).expect(&rt, "it is a schema");
     for (text, _, want) in LITERALS {
-        let document = read_document(alloc, *text).expect(&rt, "it is a document");
-        let said = told_of_values(alloc, &schema, document.as_slice()).expect(&rt, "memory");
-        assert_eq!(rt; said.as_str(), *want, "{text}");
+        says(&rt, alloc, &schema, "values", text, want);
     }
 }
 
 #[test]
 fn typenames(rt: HostRuntime) {
-    let alloc = rt.alloc();
-    let schema = read_schema(alloc, INPUTS).expect(&rt, "it is a schema");
-    for (text, want) in TYPENAMES {
-        let document = read_document(alloc, *text).expect(&rt, "it is a document");
-        let rule = typename_leafs::factory();
-        let said = told(alloc, &schema, document.as_slice(), rule).expect(&rt, "memory");
-        assert_eq!(rt; said.as_str(), *want, "{text}");
-    }
+    says_all(&rt, rt.alloc(), INPUTS, "typename_leafs", TYPENAMES);
 }

@@ -1,5 +1,5 @@
-//! Values of variables: the rows of a text and its values, lists with an expected size, the two dialects, and requests
-//! for memory refused in turn.
+//! Values of variables: the two dialects, and requests for memory refused in turn. What is said of values by juniper is in
+//! the rows of `conformance`.
 #![tactic(auto)]
 
 #[cfg(test)]
@@ -14,7 +14,3 @@ mod operations;
 mod pets;
 #[cfg(test)]
 mod refused_memory;
-#[cfg(test)]
-mod rows;
-#[cfg(test)]
-mod sized_lists;

@@ -1,62 +1,6 @@
-//! Schemas in both forms: as type definitions, and as the result of an introspection query.
-use crate::shown::shown_text;
-use introspection::schema_text;
+//! The result of an introspection query.
 
-const SHOP: &str = r#"
-"The \"small\" shop,\nwith a \\ and a tab\tand a bell\u0007."
-schema { query: Shop subscription: News }
-
-"A day, as 2021-10-26."
-scalar Day @specifiedBy(url: "https://day.example/\"day\"")
-scalar Weight
-
-"What has a number."
-interface Numbered { number: ID! }
-interface Priced implements Numbered {
-  number: ID!
-  "What it costs"
-  price(currency: Currency = EURO): Float
-}
-
-type Shop {
-  wares("How many, at most" first: Int! = 10, like: Taste = {colours: ["red", "a \"b\"\\n"], weight: 1.5e3}): [[Ware!]!]!
-  old: Boolean @deprecated
-  oldest: Boolean @deprecated(reason: "Never\n\"was\"")
-}
-type Book implements Numbered & Priced {
-  number: ID!
-  price(currency: Currency = EURO): Float
-  title: String
-  written: Day
-}
-type Lamp implements Numbered { number: ID! }
-union Ware = Book | Lamp
-
-"Money"
-enum Currency {
-  EURO
-  "Not any more"
-  MARK @deprecated(reason: "gone")
-  CROWN @deprecated
-}
-
-"What is liked"
-input Taste {
-  "By name"
-  colours: [String!] = []
-  weight: Weight
-  inner: Taste = null
-}
-
-type News { said: String! }
-type Mutation { no: Int }
-type Empty
-
-"Told \"near\""
-directive @near("Where" place: String = "home", far: Boolean) repeatable on FIELD | OBJECT | QUERY
-directive @bare on SCALAR
-"#;
-
+/// The schema of a shop, of which the rows of `reader_rows` have the definitions, too.
 pub const SHOP_RESULT: &str = r#"{"data": {"__schema": {
 "description": "The \"small\" shop,\nwith a \\ and a tab\tand a bell\u0007.",
 "queryType": {"name": "Shop"},
@@ -134,27 +78,3 @@ pub const SHOP_RESULT: &str = r#"{"data": {"__schema": {
   {"name": "deprecated", "description": "Old", "isRepeatable": false, "locations": ["FIELD_DEFINITION", "ENUM_VALUE"],
    "args": [{"name": "reason", "type": {"kind": "SCALAR", "name": "String"}, "defaultValue": "\"No longer supported\""}]}]
 }}}"#;
-
-// A schema whose root types have other names, as an older server returns it.
-const SMALL: &str =
-    "schema { query: Q mutation: M } type Q { a: Int } type M { a: Query } scalar Query";
-
-const SMALL_RESULT: &str =
-    r#"{"__schema": {"queryType": {"name": "Q"}, "mutationType": {"name": "M"},
-"types": [
-  {"kind": "OBJECT", "name": "Q", "fields": [{"name": "a", "args": [], "type": {"kind": "SCALAR", "name": "Int"}}]},
-  {"kind": "SCALAR", "name": "Int"},
-  {"kind": "OBJECT", "name": "M", "fields": [{"name": "a", "args": [], "type": {"kind": "SCALAR", "name": "Query"}}]},
-  {"kind": "SCALAR", "name": "Query"}],
-"directives": [{"name": "skip", "args": [], "onOperation": false, "onFragment": true, "onField": true}]}}"#;
-
-#[test]
-fn are_the_same_in_both_ways(rt: HostRuntime) {
-    for (own, response) in [(SHOP, SHOP_RESULT), (SMALL, SMALL_RESULT)] {
-        let text = schema_text(rt.alloc(), response).expect(&rt, "a text");
-        let found = shown_text(rt.alloc(), text.as_str()).expect(&rt, "memory");
-        let wanted = shown_text(rt.alloc(), own).expect(&rt, "memory");
-        assert!(rt; wanted.as_str().starts_with("schema "));
-        assert_eq!(rt; found.as_str(), wanted.as_str());
-    }
-}
