@@ -1,15 +1,15 @@
-//! Every rule of the first stage but the last two, in groups, the newest first. Where no rule differs from juniper's, a
-//! group is that of `rules_first_stage`.
+//! The rules of the first stage in groups, the newest first. Where no rule differs from juniper's, a group is that of
+//! `rules_first_stage`.
 
+use crate::arguments;
+use crate::arguments::ArgumentRules;
 use rules_document::no_undefined_variables::NoUndefinedVariables;
 use rules_document::no_unused_fragments::NoUnusedFragments;
 use rules_document::no_unused_variables::NoUnusedVariables;
 use rules_document::{no_undefined_variables, no_unused_fragments, no_unused_variables};
 use rules_fields::scalar_leafs;
 use rules_fields::scalar_leafs::ScalarLeafs;
-use rules_first_stage::rules::{
-    OfArguments, OfFragments, OfOperations, of_arguments, of_fragments, of_operations,
-};
+use rules_first_stage::rules::{OfFragments, OfOperations, of_fragments, of_operations};
 use rules_specified::single_root_field;
 use rules_specified::single_root_field::SingleRootField;
 use rules_specified_fields::fields_on_correct_type::FieldsOnCorrectType;
@@ -59,7 +59,7 @@ pub type Groups<'a> = MultiVisitorCons<
         MultiVisitorCons<
             OfFragments<'a>,
             MultiVisitorCons<
-                OfArguments<'a>,
+                ArgumentRules<'a>,
                 MultiVisitorCons<OfFields, MultiVisitorCons<OfOperations<'a>, MultiVisitorNil>>,
             >,
         >,
@@ -104,7 +104,7 @@ pub fn groups<'a>(alloc: Global) -> Groups<'a>
     MultiVisitorNil
         .with_rule(of_operations(alloc))
         .with_rule(of_fields(alloc))
-        .with_rule(of_arguments(alloc))
+        .with_rule(arguments::factory(alloc))
         .with_rule(of_fragments(alloc))
         .with_rule(of_values(alloc))
         .with_rule(of_document(alloc))

@@ -2,9 +2,9 @@
 //! (GraphQL, October 2021, section 5).
 #![tactic(auto)]
 
-mod groups;
+pub mod arguments;
+pub mod groups;
 pub mod laws;
-mod others;
 pub mod rules;
 
 pub use crate::rules::{SpecifiedStage, SpecifiedStageRules, visit_specified_stage};

@@ -7,8 +7,7 @@ ghost use Rattle.walk.specs.Step.{KeepsPlace};
 ghost use Rattle.fragment_graph.specs.DocumentCycles.{SearchedDocument};
 ghost use Rattle.rules_first_stage.specs.Stage.{Stage};
 
-use crate::others;
-use crate::others::OtherRules;
+use crate::groups::{Groups, groups};
 use fragment_graph::cycles::DocumentCycles;
 use language::error::OutOfMemory;
 use language::tree::Definition;
@@ -18,12 +17,12 @@ use rules_document::no_fragment_cycles::NoFragmentCycles;
 use rules_fragments::possible_fragment_spreads;
 use rules_fragments::possible_fragment_spreads::PossibleFragmentSpreads;
 use walk::laws::pair_runs;
-use walk::{Criterion, MultiVisitorCons, MultiVisitorNil, Rule, ValidatorContext, visit_settled};
+use walk::{Criterion, MultiVisitorCons, Rule, ValidatorContext, visit_settled};
 
 /// All rules of the first stage, the newest first. Each says in its module what it finds nothing in.
 pub type SpecifiedStageRules<'a, S> = MultiVisitorCons<
     PossibleFragmentSpreads<'a, S>,
-    MultiVisitorCons<NoFragmentCycles<'a>, MultiVisitorCons<OtherRules<'a>, MultiVisitorNil>>,
+    MultiVisitorCons<NoFragmentCycles<'a>, Groups<'a>>,
 >;
 
 /// The first stage, for a kind of scalars. Every kind of scalars has it.
@@ -66,8 +65,7 @@ pub fn visit_specified_stage<'a, 't, S: CheckedScalar>(
     ensures stays { ctx.old.failed ≡ true → IsErr result }
 {
     let alloc = ctx.allocator();
-    let mut rules = MultiVisitorNil
-        .with_rule(others::factory(alloc))
+    let mut rules = groups(alloc)
         .with_rule(no_fragment_cycles::factory(alloc))
         .with_rule(possible_fragment_spreads::factory(alloc));
     visit_settled(&mut rules, ctx, document)?;
@@ -76,14 +74,9 @@ pub fn visit_specified_stage<'a, 't, S: CheckedScalar>(
         S,
         S::Check,
         PossibleFragmentSpreads<'a, S>,
-        MultiVisitorCons<NoFragmentCycles<'a>, MultiVisitorCons<OtherRules<'a>, MultiVisitorNil>>,
+        MultiVisitorCons<NoFragmentCycles<'a>, Groups<'a>>,
     >();
-    pair_runs::<
-        S,
-        S::Check,
-        NoFragmentCycles<'a>,
-        MultiVisitorCons<OtherRules<'a>, MultiVisitorNil>,
-    >();
+    pair_runs::<S, S::Check, NoFragmentCycles<'a>, Groups<'a>>();
     let (_, others) = rules.into_parts();
     let (rule, _) = others.into_parts();
     match rule.into_found() {

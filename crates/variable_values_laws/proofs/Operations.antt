@@ -41,7 +41,7 @@ unless_none false P h = h refl
 
 one_unless : (b : Bool) (P : List (List ℕ) → Type 0) → One P → One (Unless b P)
 one_unless true P one ms ns p q = p ∙ sym q
-one_unless false P one = one
+one_unless false P one ms ns p q = one ms ns p q
 
 -- no default stands in for a value that is there
 never : (d : Dialect) → in_october_2021 d false ≡ false
