@@ -95,6 +95,10 @@ impl Ended {
 
 /// How the run ends.
 pub fn outcome(alloc: Global, run: &Run) -> Result<Ended, AllocError> {
+    let words = [String::from_str(alloc, run.word)?];
+    let mut input = run.input;
+    let mut output = Sink::new(alloc, run.output)?;
+    let mut faults = Sink::new(alloc, run.faults)?;
     let checks = Checks {
         int: DefaultCheck::with_token(check_int, refuse_token),
         string: DefaultCheck::with_token(check_string, refuse_token),
@@ -104,10 +108,6 @@ pub fn outcome(alloc: Global, run: &Run) -> Result<Ended, AllocError> {
         complex_input: DefaultCheck::new(check_complex_input),
         pair_input: DefaultCheck::new(check_pair_input),
     };
-    let words = [String::from_str(alloc, run.word)?];
-    let mut input = run.input;
-    let mut output = Sink::new(alloc, run.output)?;
-    let mut faults = Sink::new(alloc, run.faults)?;
     let status = program::run(alloc, checks, &words, &mut input, &mut output, &mut faults);
     Ok(Ended {
         status,
