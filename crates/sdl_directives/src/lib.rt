@@ -1,0 +1,13 @@
+//! Directives in a type system document that are not as the rules on directives and their arguments ask (GraphQL,
+//! October 2021, section 3.13, with sections 5.4 and 5.7): [`directive_faults`].
+#![tactic(auto)]
+
+mod arguments;
+pub mod fault;
+mod judging;
+mod known;
+mod locations;
+mod sites;
+
+pub use fault::{DirectiveFault, DirectiveFaultOf, PlacedDirectiveFault};
+pub use judging::directive_faults;
