@@ -104,7 +104,19 @@ pub(crate) fn report_missing<'d, 't>(
     ensures { OnOk result (fault_values faults.new.items ≡ fault_values faults.old.items
         ++ missing_arguments defined.now directive.now) }
 {
-    for parameter in &defined.arguments {
+    report_parameters(faults, defined, directive, defined.arguments.as_slice())
+}
+
+fn report_parameters<'d, 't>(
+    faults: &mut Vec<PlacedDirectiveFault<'d>>,
+    defined: &'d DirectiveDefinition<'t>,
+    directive: &'d Spanning<Directive<'t, SourceScalar>>,
+    parameters: &'d [InputValueDefinition<'t>],
+) -> Result<(), OutOfMemory>
+    ensures { OnOk result (fault_values faults.new.items ≡ fault_values faults.old.items
+        ++ flat_map (missing_argument defined.now directive.now) parameters.now) }
+{
+    for parameter in parameters {
         report_parameter(faults, defined, directive, parameter)?;
     }
     Ok(())

@@ -1,9 +1,10 @@
 //! The faults of the directives of a document.
-ghost use Rattle.std.specs.Prelude.{◌≡◌, ◌++◌, IfOk, OnOk, option_copied};
+ghost use Rattle.std.specs.Prelude.{◌≡◌, ◌++◌, [], IfOk, OnOk};
 ghost use Rattle.std.specs.List.{flat_map};
 ghost use Rattle.language.specs.References.{list_copied};
+ghost use Rattle.sdl_directives.specs.Earlier.{each_after};
 ghost use Rattle.sdl_directives.specs.Fault.{fault_values};
-ghost use Rattle.sdl_directives.specs.Judged.{document_faults, has_name, judged, judged_by, judged_known, misplaced, repeated, site_faults};
+ghost use Rattle.sdl_directives.specs.Judged.{document_faults, has_name, judged, judged_known, misplaced, repeated, site_faults};
 ghost use Rattle.sdl_directives.specs.Sites.{site_value};
 
 use crate::arguments::{report_arguments, report_missing};
@@ -36,30 +37,36 @@ pub fn directive_faults<'d, 't>(
     let known = directives_of(alloc, document, standard)?;
     let sites = sites_of(alloc, document)?;
     let mut faults = Vec::new(alloc);
-    for site in &sites {
-        report_site(&mut faults, known.as_slice(), *site)?;
-    }
+    report_sites(&mut faults, known.as_slice(), sites.as_slice())?;
     Ok(faults)
 }
 
-// Reports the faults of directives that stand together.
-fn report_site<'d, 't>(
+fn report_sites<'d, 't>(
     faults: &mut Vec<PlacedDirectiveFault<'d>>,
     known: &[&'d DirectiveDefinition<'t>],
-    site: Site<'d, 't>,
+    sites: &[Site<'d, 't>],
 ) -> Result<(), OutOfMemory>
     ensures { OnOk result (fault_values faults.new.items ≡ fault_values faults.old.items
-        ++ site_faults (list_copied known.now) (site_value site.entry)) }
+        ++ flat_map (λ s. site_faults (list_copied known.now) (site_value s)) sites.now) }
 {
-    let directives = site.directives;
+    for site in sites {
+        report_listed(faults, known, site.location, site.directives)?;
+    }
+    Ok(())
+}
+
+// Reports the faults of directives that stand together.
+fn report_listed<'d, 't>(
+    faults: &mut Vec<PlacedDirectiveFault<'d>>,
+    known: &[&'d DirectiveDefinition<'t>],
+    location: DirectivePlace,
+    directives: &'d [Spanning<Directive<'t, SourceScalar>>],
+) -> Result<(), OutOfMemory>
+    ensures { OnOk result (fault_values faults.new.items ≡ fault_values faults.old.items
+        ++ each_after (judged (list_copied known.now) location) [] directives.now) }
+{
     for (index, directive) in directives.iter().enumerate() {
-        report_directive(
-            faults,
-            known,
-            site.location,
-            &directives[..index],
-            directive,
-        )?;
+        report_directive(faults, known, location, &directives[..index], directive)?;
     }
     Ok(())
 }
