@@ -50,13 +50,12 @@ depth_rule = record (new_rule (codes "depth")) {
   parser = Some (Unsigned 0 usize_max);
 }
 
--- each other word, at least one
+-- each other word
 abbrev pub query_rule : Rule
 query_rule = record (new_rule (codes "query")) {
   action = Some Append;
   range = Some (record { start_inclusive = 1; end_inclusive = usize_max });
   value_names = 1;
-  required = true;
 }
 
 -- the program has a version, which `--version` and `-V` ask for
