@@ -1,5 +1,6 @@
 -- What is told where the words ask for it.
-use Rattle.std.specs.Prelude.{◌≡◌, ◌-◌, ◌==◌, ◌&&◌, not, ℕ, Bool, List, Option, is_some, length, string_bytes, vec_len}
+use Prim.Native.Nat.{zero, suc}
+use Rattle.std.specs.Prelude.{◌≡◌, ◌-◌, ◌==◌, ◌&&◌, codes, not, ℕ, Bool, List, Option, is_some, length, string_bytes, vec_len}
 use Rattle.lint_app.specs.declared.documents.Report.{Report}
 use Rattle.lint_app.specs.declared.program.Told.{Told}
 use Rattle.lint_app.specs.Host.{Host}
@@ -14,18 +15,24 @@ use Rattle.lint_report.specs.Texts.{IsTextReport}
 use Rattle.lint_args.specs.declared.task.Form.{Form}
 use Rattle.lint_args.specs.declared.task.Form.TheVariants as form
 use Rattle.lint_args.specs.declared.task.Task.{Task}
+use Rattle.sdl_faults.specs.Valid.{IsValidSchema}
 use Rattle.sdl_scalars.specs.declared.check.SourceCheck.{SourceCheck}
 use Rattle.sdl_scalars.specs.declared.scalar.SourceScalar.{SourceScalar}
 use Rattle.validation.specs.Stages.{Rules}
 
+-- a text on so many files, of which so many were judged; on none it says that the schema has no fault
+abbrev pub IsTextOn : ℕ → Bool → List Source → List Issue → ℕ → List ℕ → Type 0
+IsTextOn zero coloured sources issues judged text = text ≡ codes "no errors in the schema\n"
+IsTextOn (suc n) coloured sources issues judged text = IsTextReport coloured sources issues judged (suc n - judged) text
+
 -- the text of a report. As text it says how many files were judged and how many weren't, and else it has the faults
-abbrev pub IsTextIn : Bool → Form → List Fault → List Source → List Issue → ℕ → ℕ → List ℕ → Type 0
-IsTextIn coloured form.Text faults sources issues judged unjudged text = IsTextReport coloured sources issues judged unjudged text
-IsTextIn coloured form.Json faults sources issues judged unjudged text = text ≡ json_text faults sources issues
-IsTextIn coloured form.Github faults sources issues judged unjudged text = text ≡ github_text faults sources issues
+abbrev pub IsTextIn : Form → Bool → ℕ → List Fault → List Source → List Issue → ℕ → List ℕ → Type 0
+IsTextIn form.Text coloured files faults sources issues judged text = IsTextOn files coloured sources issues judged text
+IsTextIn form.Json coloured files faults sources issues judged text = text ≡ json_text faults sources issues
+IsTextIn form.Github coloured files faults sources issues judged text = text ≡ github_text faults sources issues
 
 abbrev pub IsTextOf : Bool → Task → ℕ → List Fault → List Source → Report → List ℕ → Type 0
-IsTextOf coloured task files faults sources report = IsTextIn coloured task.form faults sources report.issues.items report.judged (files - report.judged)
+IsTextOf coloured task files faults sources report = IsTextIn task.form coloured files faults sources report.issues.items report.judged
 
 -- a report on so many files is told: whether it has issues, and whether there is no fault and all files were judged
 pub record IsToldOf (coloured : Bool) (task : Task) (files : ℕ) (faults : List Fault) (sources : List Source) (report : Report) (told : Told) : Type 0 where
@@ -50,6 +57,7 @@ module _ (rules : Rules SourceScalar SourceCheck) where
   abbrev pub TellsBy : Host → Task → Root → Told → Type 0
   TellsBy host task root told = (values : Option GivenValues) × (is_some values ≡ is_some task.variables) × TellsQueries host task root values told
 
-  -- the same by some root node, in which introspection is closed exactly where the words ask for that
+  -- the same by some root node of a valid type system, in which introspection is closed exactly where the words ask for that
   abbrev pub TellsTask : Host → Task → Told → Type 0
-  TellsTask host task told = (root : Root) × (root.introspection_disabled ≡ task.is_closed) × TellsBy host task root told
+  TellsTask host task told =
+      (root : Root) × (root.introspection_disabled ≡ task.is_closed) × IsValidSchema root.schema × TellsBy host task root told

@@ -1,5 +1,6 @@
 //! Reads the schema from its files.
 ghost use Rattle.std.specs.Prelude.{◌≡◌, IfOk};
+ghost use Rattle.sdl_faults.specs.Valid.{IsValidSchema};
 
 use crate::failure::Failure;
 use crate::files::{Inputs, read_sources};
@@ -12,7 +13,7 @@ use lint_schema::schema_of;
 use std::alloc::Global;
 use validation::{RootNode, SchemaType};
 
-/// The schema of a task, with introspection disabled if the task says so. Its faults go to `faults`.
+/// The schema of a task, a valid type system, with introspection disabled if the task says so. Its faults go to `faults`.
 ///
 /// # Errors
 ///
@@ -23,7 +24,8 @@ pub fn read_root<I: Inputs>(
     inputs: &I,
     faults: &mut Vec<Fault>,
 ) -> Result<RootNode<SourceScalar>, Failure>
-    ensures { IfOk result (λ root. root.introspection_disabled ≡ task.now.is_closed) }
+    ensures closed { IfOk result (λ root. root.introspection_disabled ≡ task.now.is_closed) }
+    ensures valid { IfOk result (λ root. IsValidSchema root.schema) }
 {
     let paths = paths_of(alloc, inputs, task.schemas.as_slice())?;
     let sources = read_sources(alloc, inputs, paths.as_slice(), faults)?;
@@ -40,7 +42,9 @@ fn schema_of_files(
     alloc: Global,
     sources: &[Source],
     faults: &mut Vec<Fault>,
-) -> Result<SchemaType<SourceScalar>, Failure> {
+) -> Result<SchemaType<SourceScalar>, Failure>
+    ensures { IfOk result IsValidSchema }
+{
     match schema_of(alloc, sources, faults)? {
         Some(schema) => Ok(schema),
         None => Err(Failure::Told),
