@@ -79,7 +79,8 @@ fn write_misplaced<W: fmt::Write>(
     name: &str,
     location: DirectivePlace,
 ) -> fmt::Result
-    ensures { WritesOnOk W.write_str_gives f.old result (kind_text (DirectiveFaultOf.Misplaced name.now location)) f.new }
+    ensures { WritesOnOk W.write_str_gives f.old result
+        (kind_text (DirectiveFaultOf.Misplaced name.now location)) f.new }
 {
     let words = location_words(location);
     write!(f, "Directive \"{name}\" may not be used on {words}")
