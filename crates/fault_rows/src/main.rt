@@ -1,13 +1,15 @@
-//! The program `fault_rows`: judges schemas by `sdl_faults`, and reports where what comes is not what is expected.
+//! The program `fault_rows`: judges schemas by `sdl_faults` and their directives by `sdl_directives`, and reports where
+//! what comes is not what is expected.
 #![tactic(auto)]
 
+mod directives;
 mod told;
 
 use row_files::{Judge, run};
 use std::alloc::{AllocError, Global};
 use std::process::ExitCode;
 
-const FILES: &[&str] = &["rules.txt", "several.txt"];
+const FILES: &[&str] = &["rules.txt", "several.txt", "directives.txt"];
 
 /// What is told of schemas.
 struct Faults;
@@ -20,10 +22,11 @@ impl Judge for Faults {
         text: &str,
         came: &mut String,
     ) -> Result<bool, AllocError> {
-        if kind != "schema" {
-            return Ok(false);
+        match kind {
+            "schema" => told::tell_schema(alloc, text, came)?,
+            "directives" => directives::tell_directives(alloc, text, came)?,
+            _ => return Ok(false),
         }
-        told::tell_schema(alloc, text, came)?;
         Ok(true)
     }
 }

@@ -41,9 +41,9 @@ site_at location (Some ds) = record { location = location; directives = ds.items
 abbrev pub parameter_sites : DirectivePlace → InputValueDefinition → List SiteValue
 parameter_sites location a = site_at location a.directives
 
--- of a field and then of its arguments
+-- of the arguments of a field and then of the field
 abbrev pub field_sites : FieldDefinition → List SiteValue
-field_sites f = site_at l.FieldDefinition f.directives ++ flat_map (parameter_sites l.ArgumentDefinition) f.arguments.items
+field_sites f = flat_map (parameter_sites l.ArgumentDefinition) f.arguments.items ++ site_at l.FieldDefinition f.directives
 
 -- of a value of an enum
 abbrev pub enum_value_sites : EnumValueDefinition → List SiteValue

@@ -19,8 +19,8 @@ use language::position::Spanning;
 use language::tree::Directive;
 use std::alloc::Global;
 
-/// The faults of the directives of a document, in the order of the text. `standard` defines the directives that each
-/// document may use.
+/// The faults of the directives of a document, directive by directive in the order of the text. `standard` defines the
+/// directives that each document may use, as [`crate::STANDARD_DIRECTIVES`].
 ///
 /// Values of arguments are not judged.
 ///

@@ -8,6 +8,8 @@ mod judging;
 mod known;
 mod locations;
 mod sites;
+mod standard;
 
 pub use fault::{DirectiveFault, DirectiveFaultOf, PlacedDirectiveFault};
 pub use judging::directive_faults;
+pub use standard::STANDARD_DIRECTIVES;

@@ -105,12 +105,12 @@ fn add_field<'d, 't>(
 ) -> Result<(), OutOfMemory>
     ensures { OnOk result (site_values sites.new.items ≡ site_values sites.old.items ++ field_sites field.now) }
 {
-    add_site(sites, DirectivePlace::FieldDefinition, &field.directives)?;
     add_parameters(
         sites,
         DirectivePlace::ArgumentDefinition,
         field.arguments.as_slice(),
-    )
+    )?;
+    add_site(sites, DirectivePlace::FieldDefinition, &field.directives)
 }
 
 // Adds the directives of arguments, or of fields of an input object.
