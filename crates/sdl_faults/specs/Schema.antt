@@ -14,7 +14,7 @@ use Rattle.sdl_scalars.specs.SourceScalar.{source_str, source_text}
 use Rattle.type_system.specs.All.{all_faults, directive_faults}
 use Rattle.type_system_defaults.specs.Conforming.{HasConformingDefaults}
 use Rattle.type_system_defaults.specs.Faults.{DefaultFaultValue}
-use Rattle.type_system_defaults.specs.Faults as defaults
+use Rattle.type_system_defaults.specs.Faults as default_values
 use Rattle.type_system_defaults.specs.Given.{all_defaults}
 use Rattle.type_system_inputs.specs.declared.circles.InputCircle.{InputCircle}
 use Rattle.type_system_inputs.specs.Inputs.{FindsInputCircles}
@@ -49,7 +49,7 @@ module _ (document : List TypeSystemDefinition) (schema : SourceSchema) where
     pub directives : List (DirectiveType SourceScalar)
     pub are_directives : AreDirectives schema directives
     pub faults : List DefaultFaultValue
-    pub found : defaults.AreFaults schema MayAnswer (printed_value source_text source_str) (all_defaults schema directives) faults
+    pub found : default_values.AreFaults schema MayAnswer (printed_value source_text source_str) (all_defaults schema directives) faults
     pub none : (faults ≡ []) ↔ HasConformingDefaults schema MayAnswer (printed_value source_text source_str)
     pub told_is : told ≡ map (told_default document) faults
 
