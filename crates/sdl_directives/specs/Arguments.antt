@@ -38,6 +38,10 @@ is_parameter n xs = list_any (λ a. bytes_eq a.name.item.now n) xs
 abbrev pub is_required : InputValueDefinition → Bool
 is_required a = is_never_null (shape a.value_type.item) && not (is_some a.default_value)
 
+-- required, and none of those that are given
+abbrev pub is_missing : InputValueDefinition → List Given → Bool
+is_missing a xs = is_required a && not (has_argument a.name.item.now xs)
+
 -- an argument that stands before in the list
 abbrev pub repeated_argument : List Given → Given → List FaultValue
 repeated_argument before a = fault_if (has_argument a.0.item.now before) a.0.span.start (k.RepeatedArgument a.0.item.now)
@@ -61,7 +65,7 @@ module _ (defined : DirectiveDefinition) where
   -- a required argument that is not given
   abbrev pub missing_argument : Applied → InputValueDefinition → List FaultValue
   missing_argument x a =
-      fault_if (is_required a && not (has_argument a.name.item.now (arguments_of x.item))) x.span.start (k.MissingArgument defined.name.item.now a.name.item.now (shape a.value_type.item))
+      fault_if (is_missing a (arguments_of x.item)) x.span.start (k.MissingArgument defined.name.item.now a.name.item.now (shape a.value_type.item))
 
   abbrev pub missing_arguments : Applied → List FaultValue
   missing_arguments x = flat_map (missing_argument x) defined.arguments.items

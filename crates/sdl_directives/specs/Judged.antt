@@ -26,8 +26,11 @@ abbrev pub misplaced : DirectiveDefinition → DirectivePlace → Applied → Li
 misplaced defined location x = fault_if (not (is_listed location defined.locations.items)) x.span.start (k.Misplaced (applied_name x) location)
 
 -- one that is not repeatable, behind another of its name
+abbrev pub is_repeated : DirectiveDefinition → List Applied → List ℕ → Bool
+is_repeated defined before n = not defined.is_repeatable && has_name n before
+
 abbrev pub repeated : DirectiveDefinition → List Applied → Applied → List FaultValue
-repeated defined before x = fault_if (not defined.is_repeatable && has_name (applied_name x) before) x.span.start (k.Repeated (applied_name x))
+repeated defined before x = fault_if (is_repeated defined before (applied_name x)) x.span.start (k.Repeated (applied_name x))
 
 -- one that is defined, behind others
 abbrev pub judged_known : DirectiveDefinition → DirectivePlace → List Applied → Applied → List FaultValue

@@ -1,7 +1,7 @@
 //! The faults of the arguments of a directive.
 ghost use Rattle.std.specs.Prelude.{◌≡◌, ◌++◌, IsTrue, OnOk};
 ghost use Rattle.std.specs.List.{flat_map};
-ghost use Rattle.sdl_directives.specs.Arguments.{argument_faults, argument_judged, arguments_of, has_argument, is_parameter, is_required, listed_faults, missing_argument, missing_arguments, repeated_argument, unknown_argument};
+ghost use Rattle.sdl_directives.specs.Arguments.{argument_faults, argument_judged, arguments_of, has_argument, is_missing, is_parameter, is_required, listed_faults, missing_argument, missing_arguments, repeated_argument, unknown_argument};
 ghost use Rattle.sdl_directives.specs.Fault.{fault_values};
 
 use crate::fault::{DirectiveFaultOf, PlacedDirectiveFault, report};
@@ -132,13 +132,20 @@ fn report_parameter<'d, 't>(
         ++ missing_argument defined.now directive.now parameter.now) }
 {
     let name = parameter.name.item;
-    if is_required(parameter) && !has_argument(arguments_of(&directive.item), name) {
+    if is_missing(parameter, arguments_of(&directive.item)) {
         let of = defined.name.item;
         let expected = parameter.value_type.item.as_borrowed();
         let fault = DirectiveFaultOf::MissingArgument(of, name, expected);
         report(faults, directive.span.start, fault)?;
     }
     Ok(())
+}
+
+// Whether a required argument is none of these.
+fn is_missing(parameter: &InputValueDefinition<'_>, arguments: &[Argument<'_>]) -> bool
+    ensures { result ≡ is_missing parameter.now arguments.now }
+{
+    is_required(parameter) && !has_argument(arguments, parameter.name.item)
 }
 
 // Whether an argument must be given: it is non-null, and has no default value.

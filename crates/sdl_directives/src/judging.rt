@@ -4,7 +4,7 @@ ghost use Rattle.std.specs.List.{flat_map};
 ghost use Rattle.language.specs.References.{list_copied};
 ghost use Rattle.sdl_directives.specs.Earlier.{each_after};
 ghost use Rattle.sdl_directives.specs.Fault.{fault_values};
-ghost use Rattle.sdl_directives.specs.Judged.{document_faults, has_name, judged, judged_known, misplaced, repeated, site_faults};
+ghost use Rattle.sdl_directives.specs.Judged.{document_faults, has_name, is_repeated, judged, judged_known, misplaced, repeated, site_faults};
 ghost use Rattle.sdl_directives.specs.Sites.{site_value};
 
 use crate::arguments::{report_arguments, report_missing};
@@ -136,7 +136,7 @@ fn report_repeated<'d, 't>(
         ++ repeated defined.now before.now directive.now) }
 {
     let name = directive.item.name.item;
-    if !defined.is_repeatable && has_name(before, name) {
+    if is_repeated(defined, before, name) {
         report(
             faults,
             directive.span.start,
@@ -144,6 +144,17 @@ fn report_repeated<'d, 't>(
         )?;
     }
     Ok(())
+}
+
+// Whether a directive of this name stands before, though it is not repeatable.
+fn is_repeated(
+    defined: &DirectiveDefinition<'_>,
+    before: &[Spanning<Directive<'_, SourceScalar>>],
+    name: &str,
+) -> bool
+    ensures { result ≡ is_repeated defined.now before.now name.now }
+{
+    !defined.is_repeatable && has_name(before, name)
 }
 
 // Whether one of these directives has the name.
