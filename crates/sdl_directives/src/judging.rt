@@ -37,17 +37,17 @@ pub fn directive_faults<'d, 't>(
     let known = directives_of(alloc, document, standard)?;
     let sites = sites_of(alloc, document)?;
     let mut faults = Vec::new(alloc);
-    report_sites(&mut faults, known.as_slice(), sites.as_slice())?;
+    report_sites(&mut faults, &known, sites.as_slice())?;
     Ok(faults)
 }
 
 fn report_sites<'d, 't>(
     faults: &mut Vec<PlacedDirectiveFault<'d>>,
-    known: &[&'d DirectiveDefinition<'t>],
+    known: &Vec<&'d DirectiveDefinition<'t>>,
     sites: &[Site<'d, 't>],
 ) -> Result<(), OutOfMemory>
     ensures { OnOk result (fault_values faults.new.items ≡ fault_values faults.old.items
-        ++ flat_map (λ s. site_faults (list_copied known.now) (site_value s)) sites.now) }
+        ++ flat_map (λ s. site_faults (list_copied known.now.items) (site_value s)) sites.now) }
 {
     for site in sites {
         report_listed(faults, known, site.location, site.directives)?;
@@ -58,12 +58,12 @@ fn report_sites<'d, 't>(
 // Reports the faults of directives that stand together.
 fn report_listed<'d, 't>(
     faults: &mut Vec<PlacedDirectiveFault<'d>>,
-    known: &[&'d DirectiveDefinition<'t>],
+    known: &Vec<&'d DirectiveDefinition<'t>>,
     location: DirectivePlace,
     directives: &'d [Spanning<Directive<'t, SourceScalar>>],
 ) -> Result<(), OutOfMemory>
     ensures { OnOk result (fault_values faults.new.items ≡ fault_values faults.old.items
-        ++ each_after (judged (list_copied known.now) location) [] directives.now) }
+        ++ each_after (judged (list_copied known.now.items) location) [] directives.now) }
 {
     for (index, directive) in directives.iter().enumerate() {
         report_directive(faults, known, location, &directives[..index], directive)?;
@@ -73,13 +73,13 @@ fn report_listed<'d, 't>(
 
 fn report_directive<'d, 't>(
     faults: &mut Vec<PlacedDirectiveFault<'d>>,
-    known: &[&'d DirectiveDefinition<'t>],
+    known: &Vec<&'d DirectiveDefinition<'t>>,
     location: DirectivePlace,
     before: &[Spanning<Directive<'t, SourceScalar>>],
     directive: &'d Spanning<Directive<'t, SourceScalar>>,
 ) -> Result<(), OutOfMemory>
     ensures { OnOk result (fault_values faults.new.items ≡ fault_values faults.old.items
-        ++ judged (list_copied known.now) location before.now directive.now) }
+        ++ judged (list_copied known.now.items) location before.now directive.now) }
 {
     let name = directive.item.name.item;
     match directive_named(known, name) {

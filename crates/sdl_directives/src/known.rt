@@ -48,10 +48,10 @@ fn add_directive<'d, 't>(
 
 /// The first directive of this name.
 pub(crate) fn directive_named<'d, 't>(
-    known: &[&'d DirectiveDefinition<'t>],
+    known: &Vec<&'d DirectiveDefinition<'t>>,
     name: &str,
 ) -> Option<&'d DirectiveDefinition<'t>>
-    ensures { option_copied result ≡ directive_named name.now (list_copied known.now) }
+    ensures { option_copied result ≡ directive_named name.now (list_copied known.now.items) }
 {
     for defined in known {
         if defined.name.item == name {

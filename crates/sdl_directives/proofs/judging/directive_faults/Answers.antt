@@ -12,11 +12,10 @@ use Rattle.sdl_directives.proofs.judging.directive_faults.Goals as goal
 pub returns : goal.returns
 returns c =
     let all = directives_in c.args.document.now ++ directives_in c.args.standard.now in
-    let known = ap list_copied c.as_slice.ensures.value ∙ c.in_ok-known.ensures in
-    let sites = ap site_values c.as_slice-2.ensures.value ∙ c.in_ok-sites.ensures in
-    let listed = c.as_slice-2.result.now in
+    let sites = ap site_values c.as_slice.ensures.value ∙ c.in_ok-sites.ensures in
+    let listed = c.as_slice.result.now in
     c.in_ok-report_sites.ensures
-    ∙ ap (λ z. fault_values z ++ flat_map (λ s. site_faults (list_copied c.as_slice.result.now) (site_value s)) listed) c.new-faults.ensures.items
-    ∙ ap (λ z. flat_map (λ s. site_faults z (site_value s)) listed) known
+    ∙ ap (λ z. fault_values z ++ flat_map (λ s. site_faults (list_copied c.in_ok-known.known.items) (site_value s)) listed) c.new-faults.ensures.items
+    ∙ ap (λ z. flat_map (λ s. site_faults z (site_value s)) listed) c.in_ok-known.ensures
     ∙ flat_mapped (site_faults all) site_value listed
     ∙ ap (flat_map (site_faults all)) sites

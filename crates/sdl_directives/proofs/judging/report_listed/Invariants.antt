@@ -7,4 +7,4 @@ use Rattle.sdl_directives.proofs.judging.report_listed.Given as goal
 
 -- those of what was seen
 abbrev pub invariant-loop-index : goal.invariant-loop-index
-invariant-loop-index l = fault_values l.faults.items ≡ fault_values l.initial.faults.items ++ each_after (judged (list_copied l.known) l.location) [] (take l.index l.directives)
+invariant-loop-index l = fault_values l.faults.items ≡ fault_values l.initial.faults.items ++ each_after (judged (list_copied l.known.items) l.location) [] (take l.index l.directives)

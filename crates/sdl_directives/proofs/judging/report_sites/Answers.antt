@@ -6,4 +6,4 @@ use Rattle.sdl_directives.proofs.judging.report_sites.Goals as goal
 
 pub loop-site-preserved : goal.loop-site-preserved
 loop-site-preserved c =
-    reports_next (λ s. site_faults (list_copied c.args.known.now) (site_value s)) c.args.sites.now c.loop-site.site-index c.site-item.result _ _ _ _ c.loop-site-test.true c.site-item.is c.loop-site.invariant c.in_ok-report_listed.ensures
+    reports_next (λ s. site_faults (list_copied c.args.known.now.items) (site_value s)) c.args.sites.now c.loop-site.site-index c.site-item.result _ _ _ _ c.loop-site-test.true c.site-item.is c.loop-site.invariant c.in_ok-report_listed.ensures

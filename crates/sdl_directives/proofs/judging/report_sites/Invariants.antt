@@ -8,4 +8,4 @@ use Rattle.sdl_directives.proofs.judging.report_sites.Given as goal
 
 -- those of what was seen
 abbrev pub invariant-loop-site : goal.invariant-loop-site
-invariant-loop-site l = fault_values l.faults.items ≡ fault_values l.initial.faults.items ++ flat_map (λ s. site_faults (list_copied l.known) (site_value s)) (take l.site-index l.sites)
+invariant-loop-site l = fault_values l.faults.items ≡ fault_values l.initial.faults.items ++ flat_map (λ s. site_faults (list_copied l.known.items) (site_value s)) (take l.site-index l.sites)
