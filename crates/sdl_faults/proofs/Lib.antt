@@ -1,2 +1,2 @@
-mod Telling
+mod Tells
 mod Validity

@@ -1,7 +1,7 @@
 use Rattle.std.proofs.Common.{◌++◌, ap, map, refl, ◌∙◌}
 use Rattle.type_system_defaults.specs.Faults.{default_fault}
 use Rattle.sdl_faults.specs.Told.{told_default, told_values}
-use Rattle.sdl_faults.proofs.Telling.{mapped-twice}
+use Rattle.sdl_faults.proofs.Tells.{mapped-twice}
 use Rattle.sdl_faults.proofs.all.add_defaults.Goals as goal
 
 pub returns : goal.returns

@@ -3,7 +3,7 @@ use Rattle.std.specs.List.{flat_map}
 use Rattle.type_system.specs.All.{all_faults, directive_faults}
 use Rattle.type_system_report.specs.Fault.{fault_value}
 use Rattle.sdl_faults.specs.Told.{told_fault, told_values}
-use Rattle.sdl_faults.proofs.Telling.{mapped-twice}
+use Rattle.sdl_faults.proofs.Tells.{mapped-twice}
 use Rattle.sdl_faults.proofs.all.add_faults.Goals as goal
 
 pub returns : goal.returns

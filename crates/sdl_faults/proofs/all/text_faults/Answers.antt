@@ -1,4 +1,4 @@
-use Rattle.sdl_faults.proofs.Telling.{tells_all}
+use Rattle.sdl_faults.proofs.Tells.{tells_all}
 use Rattle.sdl_faults.proofs.Validity.{iff_valid}
 use Rattle.sdl_faults.proofs.all.text_faults.Goals as goal
 

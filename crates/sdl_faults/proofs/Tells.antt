@@ -22,12 +22,12 @@ tells_value position message old new h =
     ap told_values h.all ∙ mapped-append told_value old (h.fault ∷ []) ∙ ap (λ v. told_values old ++ v ∷ []) text
 
 -- the same in a loop
-pub tells_next : {T : Type 0} (f : T → ToldFault) (xs : List T) (i : ℕ) (x : T) (start old new : List LocatedFault) → i < length xs → x ≡ get_or xs i x
+pub tells_next : {T : Type 0} (f : T → ToldFault) (xs : List T) (i : ℕ) (x d : T) (start old new : List LocatedFault) → i < length xs → x ≡ get_or xs i d
     → told_values old ≡ told_values start ++ map f (take i xs) → Tells (f x).position (Some (f x).message) old new
     → told_values new ≡ told_values start ++ map f (take (i + 1) xs)
-tells_next f xs i x start old new here is before more =
+tells_next f xs i x d start old new here is before more =
     let last : map f (take (i + 1) xs) ≡ map f (take i xs) ++ f x ∷ [] =
-    ap (map f) (take_more xs i x here) ∙ mapped-append f (take i xs) (get_or xs i x ∷ []) ∙ ap (λ z. map f (take i xs) ++ f z ∷ []) (sym is) in
+    ap (map f) (take_more xs i d here) ∙ mapped-append f (take i xs) (get_or xs i d ∷ []) ∙ ap (λ z. map f (take i xs) ++ f z ∷ []) (sym is) in
     tells_value (f x).position (f x).message old new more ∙ ap (λ z. z ++ f x ∷ []) before
     ∙ append_assoc (told_values start) (map f (take i xs)) (f x ∷ []) ∙ ap (λ zs. told_values start ++ zs) (sym last)
 

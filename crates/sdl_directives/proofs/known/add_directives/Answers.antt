@@ -1,7 +1,0 @@
-use Rattle.sdl_directives.specs.Known.{defined_directive}
-use Rattle.sdl_directives.proofs.Earlier.{reports_next}
-use Rattle.sdl_directives.proofs.known.add_directives.Goals as goal
-
-pub loop-definition-preserved : goal.loop-definition-preserved
-loop-definition-preserved c =
-    reports_next (defined_directive) c.args.document.now c.loop-definition.definition-index c.definition-item.result _ _ _ _ c.loop-definition-test.true c.definition-item.is c.loop-definition.invariant c.in_ok-add_directive.ensures
