@@ -1,5 +1,5 @@
 -- Nothing is told if and only if the schema is a valid type system.
-use Rattle.std.proofs.Common.{◌≡◌, ◌↔◌, ℕ, List, [], ◌∷◌, ◌++◌, arith, length, map, ap, refl, sym, subst, ◌∙◌}
+use Rattle.std.proofs.Common.{◌≡◌, ◌↔◌, List, [], ◌∷◌, ◌++◌, arith, length, map, ap, refl, sym, ◌∙◌}
 use Rattle.std.specs.List.{flat_map}
 use Rattle.std.specs.List.Sorted.{IsPermutation}
 use Rattle.std.proofs.lemmas.List.Sorted.{length_permutation}
@@ -9,7 +9,7 @@ use Rattle.type_system_inputs.specs.Told.{circle_fields}
 use Rattle.type_system_validity.proofs.Valid.{iff_definitions}
 use Rattle.sdl_faults.specs.declared.located.LocatedFault.{LocatedFault}
 use Rattle.sdl_faults.specs.Schema.{SourceSchema, TellsFaults}
-use Rattle.sdl_faults.specs.Told.{ToldFault, told_circle, told_default, told_fault, told_value, told_values}
+use Rattle.sdl_faults.specs.Told.{told_circle, told_default, told_fault, told_value, told_values}
 use Rattle.sdl_faults.specs.Valid.{IsValidSchema}
 
 left_none : {X : Type 0} (xs ys : List X) → xs ++ ys ≡ [] → xs ≡ []

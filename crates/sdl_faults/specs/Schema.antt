@@ -19,7 +19,6 @@ use Rattle.type_system_defaults.specs.Given.{all_defaults}
 use Rattle.type_system_inputs.specs.declared.circles.InputCircle.{InputCircle}
 use Rattle.type_system_inputs.specs.Inputs.{FindsInputCircles}
 use Rattle.type_system_inputs.specs.Told.{circle_fields}
-use Rattle.type_system_report.specs.Fault.{FaultValue}
 use Rattle.sdl_faults.specs.declared.located.LocatedFault.{LocatedFault}
 use Rattle.sdl_faults.specs.Told.{ToldFault, place_index, told_circle, told_default, told_fault, told_values}
 

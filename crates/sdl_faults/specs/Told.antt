@@ -1,5 +1,5 @@
 -- What is told of faults: their places and their texts.
-use Rattle.std.specs.Prelude.{◌≡◌, ℕ, List, ◌∷◌, [], ◌++◌, Option, Some, None, IfSome, map, string_bytes}
+use Rattle.std.specs.Prelude.{◌≡◌, ℕ, List, ◌∷◌, [], ◌++◌, Option, IfSome, map, string_bytes}
 use Rattle.std.specs.Option.{option_map_or}
 use Rattle.graphql_reader.specs.declared.type_system.TypeSystemDefinition.{TypeSystemDefinition}
 use Rattle.language.specs.declared.position.SourcePosition.{SourcePosition}

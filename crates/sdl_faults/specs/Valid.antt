@@ -1,5 +1,5 @@
 -- Schemas of which nothing is told (section 3).
-use Rattle.std.specs.Prelude.{ℕ, List}
+use Rattle.std.specs.Prelude.{List}
 use Rattle.language.specs.ValuesPrinted.{printed_value}
 use Rattle.sdl_scalars.specs.Checks.{MayAnswer}
 use Rattle.sdl_scalars.specs.SourceScalar.{source_str, source_text}
