@@ -1,2 +1,2 @@
-mod Judging
+mod Located
 mod Telling

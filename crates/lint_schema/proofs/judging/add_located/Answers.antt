@@ -1,4 +1,4 @@
-use Rattle.lint_schema.proofs.Judging.{located_more}
+use Rattle.lint_schema.proofs.Located.{located_more}
 use Rattle.lint_schema.proofs.judging.add_located.Goals as goal
 
 -- one more fault

@@ -4,4 +4,4 @@ use Rattle.lint_schema.proofs.reading.judge.Goals as goal
 
 -- why they could not be read
 pub returns-in-Err : goal.returns-in-Err
-returns-in-Err c = on_ok_weaker c.add_schema_faults.result (λ e h. inr (c.from.result, h)) c.add_schema_faults.ensures
+returns-in-Err c = on_ok_weaker c.add_schema_faults.result (λ h. inr (c.from.result, h)) c.add_schema_faults.ensures

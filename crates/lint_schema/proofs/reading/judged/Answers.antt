@@ -1,5 +1,5 @@
 use Rattle.std.proofs.Common.{arith}
-use Rattle.lint_schema.proofs.Judging.{none_judged}
+use Rattle.lint_schema.proofs.Located.{none_judged}
 use Rattle.lint_schema.proofs.reading.judged.Goals as goal
 
 pub returns-clause-some : goal.returns-clause-some
