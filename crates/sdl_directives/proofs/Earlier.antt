@@ -1,5 +1,5 @@
 -- What is found at each item, given those before it, as a loop goes on.
-use Rattle.std.proofs.Common.{◌≡◌, ◌∙◌, ℕ, ◌+◌, ◌-◌, ◌<◌, arith, List, [], ◌∷◌, ◌++◌, append_assoc, length, get_or, take, map, refl, sym, ap}
+use Rattle.std.proofs.Common.{◌≡◌, ◌∙◌, ℕ, ◌+◌, ◌<◌, List, [], ◌∷◌, ◌++◌, append_assoc, length, get_or, take, map, refl, sym, ap}
 use Rattle.std.specs.List.{flat_map}
 use Rattle.std.proofs.lemmas.List.{append-nil, take_more}
 use Rattle.sdl_directives.specs.Earlier.{each_after}
@@ -15,14 +15,12 @@ module _ {A B : Type 0} (f : List A → A → List B) where
 
   -- what was found at those that were seen, and then at the next
   pub after_next : (xs : List A) (i : ℕ) (x : A) (r r₁ r₂ : List B) → i < length xs → x ≡ get_or xs i x
-      → r₁ ≡ r ++ each_after f [] (take i xs) → r₂ ≡ r₁ ++ f (take (i - 0) xs) x → r₂ ≡ r ++ each_after f [] (take (i + 1) xs)
+      → r₁ ≡ r ++ each_after f [] (take i xs) → r₂ ≡ r₁ ++ f (take i xs) x → r₂ ≡ r ++ each_after f [] (take (i + 1) xs)
   after_next xs i x r r₁ r₂ here is seen more =
-      let front : i - 0 ≡ i = omega arith in
       let found = each_after f [] (take i xs) in
       more
-      ∙ ap (λ z. z ++ f (take (i - 0) xs) x) seen
-      ∙ append_assoc r found (f (take (i - 0) xs) x)
-      ∙ ap (λ k. r ++ (found ++ f (take k xs) x)) front
+      ∙ ap (λ z. z ++ f (take i xs) x) seen
+      ∙ append_assoc r found (f (take i xs) x)
       ∙ ap (λ z. r ++ z) (sym (after_more [] (take i xs) x))
       ∙ ap (λ z. r ++ each_after f [] (take i xs ++ z ∷ [])) is
       ∙ ap (λ zs. r ++ each_after f [] zs) (sym (take_more xs i x here))

@@ -1,4 +1,4 @@
-use Rattle.std.proofs.Common.{◌≡◌, ◌++◌, take}
+use Rattle.std.proofs.Common.{◌≡◌, take}
 use Rattle.std.specs.List.{flat_map}
 use Rattle.sdl_directives.specs.Sites.{definition_sites, site_values}
 use Rattle.sdl_directives.proofs.sites.sites_of.Given as goal
