@@ -1,1 +1,1 @@
-mod Earlier
+pub mod Earlier

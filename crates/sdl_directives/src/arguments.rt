@@ -12,7 +12,8 @@ use language::position::Spanning;
 use language::tree::Directive;
 use language::value::InputValue;
 
-type Argument<'t> = (Spanning<&'t str>, Spanning<InputValue<SourceScalar>>);
+/// An argument of a directive: its name and its value.
+pub type Argument<'t> = (Spanning<&'t str>, Spanning<InputValue<SourceScalar>>);
 
 /// Reports arguments that the directive does not have, and arguments that stand before in the list.
 pub(crate) fn report_arguments<'d, 't>(
@@ -26,8 +27,8 @@ pub(crate) fn report_arguments<'d, 't>(
     report_listed(faults, defined, arguments_of(directive))
 }
 
-// The arguments of a directive.
-fn arguments_of<'d, 't>(directive: &'d Directive<'t, SourceScalar>) -> &'d [Argument<'t>]
+/// The arguments of a directive.
+pub fn arguments_of<'d, 't>(directive: &'d Directive<'t, SourceScalar>) -> &'d [Argument<'t>]
     ensures { result.now ≡ arguments_of directive.now }
 {
     match &directive.arguments {

@@ -5,7 +5,7 @@ ghost use Rattle.sdl_directives.specs.Known.{defined_in, definition_named, direc
 use graphql_reader::type_system::{DirectiveDefinition, TypeSystemDefinition};
 
 /// The first directive of this name that a document defines, or else another one.
-pub(crate) fn directive_named<'d, 't>(
+pub fn directive_named<'d, 't>(
     document: &'d [TypeSystemDefinition<'t>],
     standard: &'d [TypeSystemDefinition<'t>],
     name: &str,

@@ -2,12 +2,12 @@
 //! October 2021, section 3.13, with sections 5.4 and 5.7): [`directive_faults`].
 #![tactic(auto)]
 
-mod arguments;
+pub mod arguments;
 pub mod fault;
 mod judging;
-mod known;
+pub mod known;
 mod locations;
-mod sites;
+pub mod sites;
 mod standard;
 
 pub use fault::{DirectiveFault, DirectiveFaultOf, PlacedDirectiveFault};

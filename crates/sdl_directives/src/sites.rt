@@ -17,13 +17,17 @@ use std::alloc::Global;
 
 /// The directives of a definition or of a member, and their location.
 #[derive(Clone, Copy)]
-pub(crate) struct Site<'d, 't> {
+pub struct Site<'d, 't> {
     pub location: DirectivePlace,
     pub directives: &'d [Spanning<Directive<'t, SourceScalar>>],
 }
 
-/// All directives of a document, by the definitions and members that have them.
-pub(crate) fn sites_of<'d, 't>(
+/// All directives of a document, by the definitions and members that have them, in the order of the text.
+///
+/// # Errors
+///
+/// Out of memory.
+pub fn sites_of<'d, 't>(
     alloc: Global,
     document: &'d [TypeSystemDefinition<'t>],
 ) -> Result<Vec<Site<'d, 't>>, OutOfMemory>
