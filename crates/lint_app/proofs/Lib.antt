@@ -1,3 +1,4 @@
 pub mod Endings
 pub mod KnownTypes
+pub mod PlainText
 pub mod Telling

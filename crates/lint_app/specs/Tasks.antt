@@ -1,5 +1,6 @@
 -- What is told where the words ask for it.
-use Rattle.std.specs.Prelude.{◌≡◌, ◌-◌, ◌==◌, ◌&&◌, if◌then◌else◌, not, ℕ, Bool, List, Option, is_some, length, string_bytes, vec_len}
+use Prim.Native.Nat.{zero, suc}
+use Rattle.std.specs.Prelude.{◌≡◌, ◌-◌, ◌==◌, ◌&&◌, if◌then◌else◌, codes, not, ℕ, Bool, List, Option, is_some, length, string_bytes, vec_len}
 use Rattle.lint_app.specs.declared.documents.Report.{Report}
 use Rattle.lint_app.specs.declared.program.Told.{Told}
 use Rattle.lint_app.specs.Host.{Host}
@@ -17,15 +18,21 @@ use Rattle.lint_args.specs.declared.task.Form.TheVariants as form
 use Rattle.lint_args.specs.declared.task.Task.{Task}
 use Rattle.schema.specs.declared.model.dialect.Dialect.{Dialect}
 use Rattle.schema.specs.declared.model.dialect.Dialect.TheVariants as d
+use Rattle.sdl_faults.specs.Valid.{IsValidSchema}
+
+-- a text on so many files, of which so many were judged; on none it says that the schema has no fault
+abbrev pub IsTextOn : ℕ → Bool → List Source → List Issue → ℕ → List ℕ → Type 0
+IsTextOn zero coloured sources issues judged text = text ≡ codes "no errors in the schema\n"
+IsTextOn (suc n) coloured sources issues judged text = IsTextReport coloured sources issues judged (suc n - judged) text
 
 -- the text of a report. As text it says how many files were judged and how many weren't, and else it has the faults
-abbrev pub IsTextIn : Bool → Form → List Fault → List Source → List Issue → ℕ → ℕ → List ℕ → Type 0
-IsTextIn coloured form.Text faults sources issues judged unjudged text = IsTextReport coloured sources issues judged unjudged text
-IsTextIn coloured form.Json faults sources issues judged unjudged text = text ≡ json_text faults sources issues
-IsTextIn coloured form.Github faults sources issues judged unjudged text = text ≡ github_text faults sources issues
+abbrev pub IsTextIn : Form → Bool → ℕ → List Fault → List Source → List Issue → ℕ → List ℕ → Type 0
+IsTextIn form.Text coloured files faults sources issues judged text = IsTextOn files coloured sources issues judged text
+IsTextIn form.Json coloured files faults sources issues judged text = text ≡ json_text faults sources issues
+IsTextIn form.Github coloured files faults sources issues judged text = text ≡ github_text faults sources issues
 
 abbrev pub IsTextOf : Bool → Task → ℕ → List Fault → List Source → Report → List ℕ → Type 0
-IsTextOf coloured task files faults sources report = IsTextIn coloured task.form faults sources report.issues.items report.judged (files - report.judged)
+IsTextOf coloured task files faults sources report = IsTextIn task.form coloured files faults sources report.issues.items report.judged
 
 -- a report on so many files is told: whether it has issues, and whether there is no fault and all files were judged
 pub record IsToldOf (coloured : Bool) (task : Task) (files : ℕ) (faults : List Fault) (sources : List Source) (report : Report) (told : Told) : Type 0 where
@@ -37,8 +44,14 @@ pub record IsToldOf (coloured : Bool) (task : Task) (files : ℕ) (faults : List
 abbrev pub dialect_of : Task → Dialect
 dialect_of task = if task.is_juniper then d.Juniper else d.October2021
 
--- a root node has that dialect, and introspection is closed exactly where the words ask for that
+-- a schema is a valid type system in this dialect
+pub record IsSchemaOf (dialect : Dialect) (schema : SourceSchema) : Type 0 where
+  pub valid : IsValidSchema schema
+  pub dialect_is : schema.dialect ≡ dialect
+
+-- a root node is a valid type system in that dialect, and introspection is closed exactly where the words ask for that
 pub record IsRootOf (task : Task) (root : Root) : Type 0 where
+  pub valid : IsValidSchema root.schema
   pub dialect : root.schema.dialect ≡ dialect_of task
   pub closed : root.introspection_disabled ≡ task.is_closed
 

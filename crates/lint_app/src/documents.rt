@@ -101,9 +101,10 @@ impl Judge<'_> {
         })
     }
 
-    // Whether each of several files is a document by itself, so that no token reaches from one into the next.
+    // Whether there is a file, and each of several is a document by itself, so that no token reaches from one into the
+    // next.
     fn are_documents(&self, alloc: Global, faults: &mut Vec<Fault>) -> Result<bool, Failure> {
-        let mut are_all = true;
+        let mut are_all = !self.sources.is_empty();
         if self.sources.len() > 1 {
             for (file, source) in self.sources.iter().enumerate() {
                 if !self.is_document(alloc, file, source, faults)? {

@@ -6,7 +6,7 @@ ghost use Rattle.clap.specs.Values.{kind_of};
 ghost use Rattle.lint_args.specs.Asks.{IsRequest, WantsText, word_texts};
 ghost use Rattle.lint_app.specs.Ended.{Ends, EndsEarly, EndsTask, IsFaultReport, IsShown, WritesPart, WritesSome};
 ghost use Rattle.lint_app.specs.Told.{GivenValues, IsReport};
-ghost use Rattle.lint_app.specs.Tasks.{IsTextOf, IsToldOf, TellsBy, TellsQueries, TellsTask};
+ghost use Rattle.lint_app.specs.Tasks.{IsTextOf, IsTextOn, IsToldOf, TellsBy, TellsQueries, TellsTask};
 ghost use Rattle.lint_app.specs.Written.{WritesAsked, WritesTask, asks_for_text, begins_request};
 
 use crate::colours::Colours;
@@ -24,6 +24,7 @@ use graphql_reader::SourceScalar;
 use lint_args::task::{Form, Task};
 use lint_report::faults::Fault;
 use lint_report::github_report::github_report;
+use lint_report::issues::Issue;
 use lint_report::json_report::json_report;
 use lint_report::sources::Source;
 use lint_report::text_report::{faults_text, text_report};
@@ -471,10 +472,27 @@ fn text_of(
         report.now (string_bytes text)) }
 {
     let issues = report.issues.as_slice();
-    let unjudged = files.saturating_sub(report.judged);
     match task.form {
-        Form::Text => text_report(alloc, is_coloured, sources, issues, report.judged, unjudged),
+        Form::Text => plain_text_of(alloc, is_coloured, files, sources, issues, report.judged),
         Form::Json => json_report(alloc, faults, sources, issues),
         Form::Github => github_report(alloc, faults, sources, issues),
     }
+}
+
+// The report as text. Without a file the schema alone was judged.
+fn plain_text_of(
+    alloc: Global,
+    is_coloured: bool,
+    files: usize,
+    sources: &[Source],
+    issues: &[Issue],
+    judged: usize,
+) -> Result<String, OutOfMemory>
+    ensures { IfOk result (λ text. IsTextOn files is_coloured sources.now issues.now judged (string_bytes text)) }
+{
+    if files == 0 {
+        return Ok(String::from_str(alloc, "no errors in the schema\n")?);
+    }
+    let unjudged = files.saturating_sub(judged);
+    text_report(alloc, is_coloured, sources, issues, judged, unjudged)
 }

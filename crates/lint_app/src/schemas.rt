@@ -1,6 +1,6 @@
 //! Reads the schema from its files.
 ghost use Rattle.std.specs.Prelude.{◌≡◌, IfOk};
-ghost use Rattle.lint_app.specs.Tasks.{IsRootOf};
+ghost use Rattle.lint_app.specs.Tasks.{IsRootOf, IsSchemaOf};
 ghost use Rattle.lint_app.specs.Tasks as tasks;
 
 use crate::failure::Failure;
@@ -14,8 +14,8 @@ use lint_schema::schema_of;
 use std::alloc::Global;
 use validation::{Dialect, RootNode, SchemaType};
 
-/// The schema of a task, with the dialect that the task asks for, and introspection disabled if it says so. Its faults
-/// go to `faults`.
+/// The schema of a task, a valid type system in the dialect that the task asks for, with introspection disabled if it says
+/// so. Its faults go to `faults`.
 ///
 /// # Errors
 ///
@@ -30,8 +30,8 @@ pub fn read_root<I: Inputs>(
 {
     let paths = paths_of(alloc, inputs, task.schemas.as_slice())?;
     let sources = read_sources(alloc, inputs, paths.as_slice(), faults)?;
-    let schema = schema_of_files(alloc, sources.as_slice(), faults)?;
-    let root = RootNode::new(schema).with_dialect(dialect_of(task));
+    let schema = schema_of_files(alloc, dialect_of(task), sources.as_slice(), faults)?;
+    let root = RootNode::new(schema);
     Ok(if task.is_closed {
         root.disable_introspection()
     } else {
@@ -52,10 +52,13 @@ fn dialect_of(task: &Task<'_>) -> Dialect
 
 fn schema_of_files(
     alloc: Global,
+    dialect: Dialect,
     sources: &[Source],
     faults: &mut Vec<Fault>,
-) -> Result<SchemaType<SourceScalar>, Failure> {
-    match schema_of(alloc, sources, faults)? {
+) -> Result<SchemaType<SourceScalar>, Failure>
+    ensures { IfOk result (IsSchemaOf dialect) }
+{
+    match schema_of(alloc, dialect, sources, faults)? {
         Some(schema) => Ok(schema),
         None => Err(Failure::Told),
     }

@@ -45,6 +45,10 @@ directive @near(place: String) on FIELD
 const KENNEL_RESULT: &str =
     r#"{"data":{"__schema":{"queryType":{"name":"Query"},"types":[{"kind":"OBJECT","name":"Query","interfaces":[],"fields":[{"name":"dog","args":[{"name":"name","type":{"kind":"NON_NULL","ofType":{"kind":"SCALAR","name":"String"}},"defaultValue":null}],"type":{"kind":"OBJECT","name":"Dog"},"isDeprecated":false},{"name":"pets","args":[{"name":"like","type":{"kind":"INPUT_OBJECT","name":"Taste"},"defaultValue":null},{"name":"size","type":{"kind":"ENUM","name":"Size"},"defaultValue":"SMALL"}],"type":{"kind":"NON_NULL","ofType":{"kind":"LIST","ofType":{"kind":"NON_NULL","ofType":{"kind":"UNION","name":"Pet"}}}},"isDeprecated":false}]},{"kind":"INTERFACE","name":"Named","interfaces":[],"fields":[{"name":"name","args":[],"type":{"kind":"NON_NULL","ofType":{"kind":"SCALAR","name":"String"}},"isDeprecated":false}]},{"kind":"OBJECT","name":"Dog","interfaces":[{"name":"Named"}],"fields":[{"name":"name","args":[],"type":{"kind":"NON_NULL","ofType":{"kind":"SCALAR","name":"String"}},"isDeprecated":false},{"name":"barks","args":[],"type":{"kind":"SCALAR","name":"Boolean"},"isDeprecated":false}]},{"kind":"OBJECT","name":"Cat","interfaces":[{"name":"Named"}],"fields":[{"name":"name","args":[],"type":{"kind":"NON_NULL","ofType":{"kind":"SCALAR","name":"String"}},"isDeprecated":false},{"name":"lives","args":[],"type":{"kind":"SCALAR","name":"Int"},"isDeprecated":false}]},{"kind":"UNION","name":"Pet","possibleTypes":[{"name":"Dog"},{"name":"Cat"}]},{"kind":"ENUM","name":"Size","enumValues":[{"name":"SMALL","isDeprecated":false},{"name":"BIG","isDeprecated":false}]},{"kind":"INPUT_OBJECT","name":"Taste","inputFields":[{"name":"food","type":{"kind":"LIST","ofType":{"kind":"NON_NULL","ofType":{"kind":"SCALAR","name":"String"}}},"defaultValue":"[\"bone\"]"}]},{"kind":"SCALAR","name":"String"},{"kind":"SCALAR","name":"Boolean"},{"kind":"SCALAR","name":"Int"}],"directives":[{"name":"near","args":[{"name":"place","type":{"kind":"SCALAR","name":"String"},"defaultValue":null}],"locations":["FIELD"]}]}}}"#;
 
+// An introspection result with a default value of another type.
+const FAULTY_RESULT: &str =
+    r#"{"data":{"__schema":{"queryType":{"name":"Query"},"types":[{"kind":"OBJECT","name":"Query","interfaces":[],"fields":[{"name":"a","args":[{"name":"x","type":{"kind":"SCALAR","name":"Int"},"defaultValue":"\"one\""}],"type":{"kind":"SCALAR","name":"Int"},"isDeprecated":false}]},{"kind":"SCALAR","name":"Int"}],"directives":[]}}}"#;
+
 const FILES: &[(&str, &str)] = &[
     ("shop.graphql", "type Query {\n  item(id: ID!): Item\n}\n"),
     (
@@ -90,6 +94,15 @@ const FILES: &[(&str, &str)] = &[
         "own.graphql",
         "{\n  dog(name: \"Rex\") @far {\n    lives\n  }\n}\n",
     ),
+    (
+        "faulty.graphql",
+        "type Query implements Thing {\n  item(id: ID!, in: Unit = USD): Item\n}\n\ninterface Thing {\n  name: String\n}\n",
+    ),
+    (
+        "more.graphql",
+        "extend type Item {\n  __own(as: Unit! = EUR @deprecated): Float\n}\n",
+    ),
+    ("faulty.json", FAULTY_RESULT),
     ("values.json", "{\"id\": \"7\"}"),
     ("null.json", "{\"id\": null}"),
     ("-", "{ item(id: 1) { name } }"),

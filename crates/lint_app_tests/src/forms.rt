@@ -302,6 +302,19 @@ const SCHEMA_GITHUB: &str =
 ::error file=wrong.graphql,line=6,col=8::the type \"Fur\" is not defined
 ";
 
+// The faults of a type system over three files.
+const FAULTY_SCHEMA: &str =
+    "faulty.graphql:1:6: error: Interface field Thing.name expected but Query does not provide it
+type Query implements Thing {
+     ^
+faulty.graphql:2:17: error: Invalid default value of Query.item(in:), reason: Invalid value \"USD\" for type \"Unit\"
+  item(id: ID!, in: Unit = USD): Item
+                ^
+more.graphql:2:3: error: Name \"__own\" must not begin with \"__\", which is reserved by introspection
+  __own(as: Unit! = EUR @deprecated): Float
+  ^
+";
+
 // Schemas of several files, in the same form.
 const SCHEMAS: &[(&str, u8, &str, &str)] = &[
     (
@@ -391,6 +404,37 @@ query Good($id: ID!) {
         SCHEMA_GITHUB,
         "",
     ),
+    (
+        "--schema faulty.graphql --schema item.graphql --schema more.graphql good.graphql",
+        2,
+        "",
+        FAULTY_SCHEMA,
+    ),
+    (
+        "--schema more.graphql --schema shop.graphql --schema item.graphql --format github",
+        2,
+        "::error file=more.graphql,line=2,col=3::Name \"__own\" must not begin with \"__\", which is reserved by introspection\n",
+        "",
+    ),
+    (
+        "--schema faulty.json good.graphql",
+        2,
+        "",
+        "faulty.json: error: Invalid default value of Query.a(x:), reason: Invalid value \"\"one\"\" for type \"Int\"\n",
+    ),
+    (
+        "--schema shop.graphql --schema item.graphql",
+        0,
+        "no errors in the schema\n",
+        "",
+    ),
+    (
+        "--schema kennel.json --together",
+        0,
+        "no errors in the schema\n",
+        "",
+    ),
+    ("--schema kennel.graphql --format json", 0, "[]\n", ""),
 ];
 
 // Arguments and exit statuses: errors whose texts are tested elsewhere, and faults.

@@ -73,13 +73,12 @@ pub record AreKnown (choices : Choices) : Type 0 where
   pub forms : HasForms choices.forms
   pub dialects : HasDialects choices.dialects
 
--- each other word, at least one
+-- each other word
 abbrev pub query_rule : Rule
 query_rule = record (new_rule (codes "query")) {
   action = Some Append;
   range = Some (record { start_inclusive = 1; end_inclusive = usize_max });
   value_names = 1;
-  required = true;
 }
 
 -- the program has a version, which `--version` and `-V` ask for

@@ -135,8 +135,9 @@ fn query_argument<'w>(alloc: Global) -> Arg<'w>
 {
     Arg::new(alloc, "query")
         .value_name("QUERY_FILE")
-        .help("Operations and fragments; each file is a document of its own")
+        .help(
+            "Operations and fragments; each file is a document of its own; without one the schema alone is judged",
+        )
         .action(ArgAction::Append)
         .num_args(1..)
-        .required(true)
 }

@@ -1,1 +1,2 @@
+mod Located
 mod Telling

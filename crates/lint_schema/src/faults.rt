@@ -76,8 +76,8 @@ fn add_all(
     Ok(())
 }
 
-// Adds a fault of the definitions. Those of an introspection result are not its text, so they have no places in it.
-fn add_placed<M: fmt::Display>(
+/// Adds a fault of the definitions. Those of an introspection result are not its text, so they have no places in it.
+pub(crate) fn add_placed<M: fmt::Display>(
     alloc: Global,
     sources: &[Source],
     place: Place,

@@ -1,55 +1,134 @@
 //! Reads a schema from its files.
-ghost use Rattle.std.specs.Prelude.{◌≡◌, ◌<◌, [], IfOk, IfSome, None, length};
+ghost use Rattle.std.specs.Prelude.{◌≡◌, ◌<◌, [], IfOk, IfSome, None, OnOk, length};
+ghost use Rattle.lint_schema.specs.Judged.{IsJudged};
+ghost use Rattle.sdl_faults.specs.Valid.{IsValidSchema};
 
 use crate::definitions::definitions_of;
 use crate::faults::add_schema_faults;
-use graphql_reader::SourceScalar;
+use crate::judging::add_type_system_faults;
+use graphql_reader::type_system::TypeSystemDefinition;
+use graphql_reader::{SourceScalar, read_type_system};
 use language::error::OutOfMemory;
 use lint_report::faults::Fault;
 use lint_report::sources::{Joined, Source};
-use schema::model::SchemaTypeOf;
-use sdl_reader::read_schema;
+use schema::model::{Dialect, SchemaTypeOf};
+use sdl_reader::{SchemaReadError, read_schema};
 use sdl_scalars::check::SourceCheck;
 use std::alloc::Global;
 
 type SourceSchema = SchemaTypeOf<SourceScalar, SourceCheck>;
 
-/// The schema of these files, or `None` if there are faults. Those of the files are added to `faults`: what is no type
-/// definitions by itself, or if there is no such file and no earlier fault, why the definitions of all make no schema.
+/// The schema of these files in this dialect, or `None` if there are faults. Those of the files are added to `faults`:
+/// what is no type definitions by itself; if there is no such file and no earlier fault, why the definitions of all make
+/// no schema; and if they make one, what is wrong with it as a type system.
 ///
 /// # Errors
 ///
 /// Out of memory; some faults may be added then.
 pub fn schema_of(
     alloc: Global,
+    dialect: Dialect,
     sources: &[Source],
     faults: &mut Vec<Fault>,
 ) -> Result<Option<SourceSchema>, OutOfMemory>
     ensures some { IfOk result (λ read. IfSome read (λ _. faults.new.items ≡ [])) }
     ensures none { IfOk result (λ read. read ≡ None → 0 < length faults.new.items) }
+    ensures valid { IfOk result (λ read. IfSome read IsValidSchema) }
+    ensures dialect { IfOk result (λ read. IfSome read (λ schema. schema.dialect ≡ dialect)) }
 {
     let joined = definitions_of(alloc, sources, faults)?;
     if !faults.is_empty() {
         return Ok(None);
     }
-    schema_of_joined(alloc, sources, &joined, faults)
+    schema_of_joined(alloc, dialect, sources, &joined, faults)
 }
 
 // The schema of these definitions.
 fn schema_of_joined(
     alloc: Global,
+    dialect: Dialect,
     sources: &[Source],
     joined: &Joined,
     faults: &mut Vec<Fault>,
 ) -> Result<Option<SourceSchema>, OutOfMemory>
     ensures some { IfOk result (λ read. IfSome read (λ _. faults.new.items ≡ faults.old.items)) }
     ensures none { IfOk result (λ read. read ≡ None → 0 < length faults.new.items) }
+    ensures valid { IfOk result (λ read. IfSome read IsValidSchema) }
+    ensures dialect { IfOk result (λ read. IfSome read (λ schema. schema.dialect ≡ dialect)) }
 {
     match read_schema(alloc, joined.text()) {
-        Ok(schema) => Ok(Some(schema)),
+        Ok(schema) => judged(alloc, sources, joined, in_dialect(schema, dialect), faults),
         Err(error) => {
             add_schema_faults(alloc, sources, joined, &error, faults)?;
             Ok(None)
         }
     }
+}
+
+// The schema in another dialect. It is set before the schema is judged, since which default values conform hangs on it.
+fn in_dialect(schema: SourceSchema, dialect: Dialect) -> SourceSchema
+    ensures { result ≡ record schema { dialect = dialect } }
+{
+    let mut schema = schema;
+    schema.set_dialect(dialect);
+    schema
+}
+
+// A schema of these definitions, unless it has faults.
+fn judged(
+    alloc: Global,
+    sources: &[Source],
+    joined: &Joined,
+    schema: SourceSchema,
+    faults: &mut Vec<Fault>,
+) -> Result<Option<SourceSchema>, OutOfMemory>
+    ensures some { IfOk result (λ read. IfSome read (λ _. faults.new.items ≡ faults.old.items)) }
+    ensures none { IfOk result (λ read. read ≡ None → 0 < length faults.new.items) }
+    ensures valid { IfOk result (λ read. IfSome read IsValidSchema) }
+    ensures dialect { IfOk result (λ read. IfSome read (λ kept. kept.dialect ≡ schema.dialect)) }
+{
+    let before = faults.len();
+    judge(alloc, sources, joined, &schema, faults)?;
+    if faults.len() > before {
+        return Ok(None);
+    }
+    Ok(Some(schema))
+}
+
+// Adds what is wrong with a schema of these definitions. They are read again, for the places.
+fn judge(
+    alloc: Global,
+    sources: &[Source],
+    joined: &Joined,
+    schema: &SourceSchema,
+    faults: &mut Vec<Fault>,
+) -> Result<(), OutOfMemory>
+    ensures { OnOk result (IsJudged sources.now joined.now schema.now faults.old.items faults.new.items) }
+{
+    match read_type_system(alloc, joined.text()) {
+        Ok(document) => {
+            judge_document(alloc, sources, joined, document.as_slice(), schema, faults)
+        }
+        Err(error) => add_schema_faults(
+            alloc,
+            sources,
+            joined,
+            &SchemaReadError::from(error),
+            faults,
+        ),
+    }
+}
+
+fn judge_document(
+    alloc: Global,
+    sources: &[Source],
+    joined: &Joined,
+    document: &[TypeSystemDefinition<'_>],
+    schema: &SourceSchema,
+    faults: &mut Vec<Fault>,
+) -> Result<(), OutOfMemory>
+    ensures { OnOk result (IsJudged sources.now joined.now schema.now faults.old.items faults.new.items) }
+{
+    add_type_system_faults(alloc, sources, joined, document, schema, faults)?;
+    Ok(())
 }

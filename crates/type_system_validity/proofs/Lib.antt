@@ -3,4 +3,4 @@ mod InterfaceLaws
 mod Iff
 mod MemberLaws
 mod NameLaws
-mod Valid
+pub mod Valid

@@ -1,0 +1,60 @@
+-- What is told of a schema's faults, as a loop goes on.
+use Rattle.std.proofs.Common.{◌≡◌, ◌∙◌, ℕ, ◌+◌, ◌<◌, ◌≤◌, arith, List, [], ◌∷◌, ◌++◌, None, append_assoc, length, length-append, get_or, take, refl, sym, subst, ap, inl, inr}
+use Rattle.std.specs.List.{AllZip}
+use Rattle.std.proofs.lemmas.List.{append-nil, take_more}
+use Rattle.std.proofs.lemmas.Slice.Zip.{all_zipped_more}
+use Rattle.lint_report.specs.declared.faults.Fault.{Fault}
+use Rattle.lint_report.specs.declared.sources.Joined.{Joined}
+use Rattle.lint_report.specs.declared.sources.Source.{Source}
+use Rattle.lint_report.specs.Places.{place_in}
+use Rattle.lint_schema.specs.Judged.{AddsLocated, IsJudged, IsToldLocated}
+use Rattle.lint_schema.specs.Told.{AddsFault, AddsFaultsOf, IsToldAt}
+use Rattle.sdl_faults.specs.Schema.{SourceSchema}
+use Rattle.sdl_faults.specs.Valid.{IsValidSchema}
+use Rattle.sdl_index.specs.declared.error.SchemaReadError.{SchemaReadError}
+use Rattle.sdl_index.specs.declared.error.SchemaReadError.TheVariants as read
+use Rattle.sdl_faults.specs.declared.located.LocatedFault.{LocatedFault}
+
+-- one more fault is told
+pub located_more : (sources : List Source) (joined : Joined) (found : List LocatedFault) (k : ℕ) (located : LocatedFault) (old before new : List Fault)
+    → k < length found → located ≡ get_or found k located → AddsFault (IsToldLocated sources joined located) before new
+    → AddsLocated sources joined (take k found) old before → AddsLocated sources joined (take (k + 1) found) old new
+located_more sources joined found k located old before new here is added h =
+    let next : take (k + 1) found ≡ take k found ++ located ∷ [] = take_more found k located here ∙ ap (λ p. take k found ++ p ∷ []) (sym is) in
+    record {
+      more = h.more ++ added.fault ∷ [];
+      told = subst (λ ps. AllZip (IsToldLocated sources joined) ps (h.more ++ added.fault ∷ [])) (sym next)
+          (all_zipped_more (IsToldLocated sources joined) (take k found) h.more located added.fault h.told added.told);
+      all = added.all ∙ ap (λ xs. xs ++ added.fault ∷ []) h.all ∙ append_assoc old h.more (added.fault ∷ []);
+    }
+
+no_more : {X : Type 0} (xs : List X) → length xs ≤ 0 → xs ≡ []
+no_more [] h = refl
+no_more (x ∷ xs) h = absurd (omega (arith, h))
+
+zipped_none : {A B : Type 0} (R : A → B → Type 0) (xs : List A) (ys : List B) → AllZip R xs ys → ys ≡ [] → xs ≡ []
+zipped_none R [] ys h e = refl
+zipped_none R (x ∷ xs) [] h e = absurd h
+zipped_none R (x ∷ xs) (y ∷ ys) h e = cc
+
+-- where nothing was added
+none_added : (old more new : List Fault) → new ≡ old ++ more → length new ≤ length old → more ≡ []
+none_added old more new all h = no_more more (omega (arith, h, ap length all, length-append old more))
+
+more_told : (sources : List Source) (joined : Joined) (error : SchemaReadError) (old new : List Fault) → AddsFaultsOf sources joined error old new → length new ≤ length old → ⊥
+more_told sources joined (read.Syntax error) old new h le =
+    let none : h.fault ∷ [] ≡ [] = none_added old (h.fault ∷ []) new h.all le in cc
+more_told sources joined (read.Faults found) old new h le =
+    let none : h.1.more ≡ [] = none_added old h.1.more new h.1.all le in
+    let empty : found.list.items ≡ [] = zipped_none (λ p f. IsToldAt sources (place_in joined p.position) None f) found.list.items h.1.more h.1.told none in
+    omega (arith, h.0, ap length empty)
+more_told sources joined read.OutOfMemory old new h le = h
+
+-- then the schema is a valid type system
+pub none_judged : (sources : List Source) (joined : Joined) (schema : SourceSchema) (old new : List Fault) → IsJudged sources joined schema old new → length new ≤ length old → (new ≡ old) × IsValidSchema schema
+none_judged sources joined schema old new (inl h) le =
+    let adds = h.1.adds in
+    let none : adds.more ≡ [] = none_added old adds.more new adds.all le in
+    let found : h.1.found ≡ [] = zipped_none (IsToldLocated sources joined) h.1.found adds.more adds.told none in
+    (adds.all ∙ ap (λ z. old ++ z) none ∙ append-nil old, h.1.valid.0 found)
+none_judged sources joined schema old new (inr h) le = absurd (more_told sources joined h.0 old new h.1 le)

@@ -1,0 +1,7 @@
+use Rattle.std.proofs.Common.{inr}
+use Rattle.std.proofs.lemmas.Result.{on_ok_weaker}
+use Rattle.lint_schema.proofs.reading.judge.Goals as goal
+
+-- why they could not be read
+pub returns-in-Err : goal.returns-in-Err
+returns-in-Err c = on_ok_weaker c.add_schema_faults.result (λ h. inr (c.from.result, h)) c.add_schema_faults.ensures

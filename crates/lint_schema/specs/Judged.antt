@@ -1,0 +1,43 @@
+-- What is told of the faults of a schema as a type system (section 3).
+use Rattle.std.specs.Prelude.{◌≡◌, ◌↔◌, ◌⊎◌, ◌++◌, ℕ, List, [], Option, None, Some, string_bytes}
+use Rattle.std.specs.List.{AllZip}
+use Rattle.graphql_reader.specs.declared.type_system.TypeSystemDefinition.{TypeSystemDefinition}
+use Rattle.language.specs.declared.position.SourcePosition.{SourcePosition}
+use Rattle.lint_report.specs.declared.faults.Fault.{Fault}
+use Rattle.lint_report.specs.declared.sources.Joined.{Joined}
+use Rattle.lint_report.specs.declared.sources.Source.{Source}
+use Rattle.lint_report.specs.Faults.{IsFault}
+use Rattle.lint_report.specs.Places.{place_in}
+use Rattle.lint_report.specs.Texts.{path_in}
+use Rattle.lint_schema.specs.Told.{AddsFaultsOf, IsToldAt}
+use Rattle.sdl_index.specs.declared.error.SchemaReadError.{SchemaReadError}
+use Rattle.sdl_faults.specs.declared.located.LocatedFault.{LocatedFault}
+use Rattle.sdl_faults.specs.Schema.{SourceSchema, TellsFaults}
+use Rattle.sdl_faults.specs.Valid.{IsValidSchema}
+
+-- a fault is told at its place; one without a place, of the first file
+abbrev pub IsToldIn : List Source → Joined → Option (List ℕ) → Option SourcePosition → Fault → Type 0
+IsToldIn sources joined said (Some position) fault = IsToldAt sources (place_in joined position) said fault
+IsToldIn sources joined said None fault = IsFault (path_in sources 0) [] None said fault
+
+abbrev pub IsToldLocated : List Source → Joined → LocatedFault → Fault → Type 0
+IsToldLocated sources joined located fault = IsToldIn sources joined (Some (string_bytes located.message)) located.position fault
+
+-- after the faults that were there came one for each of these, in order
+pub record AddsLocated (sources : List Source) (joined : Joined) (found : List LocatedFault) (old new : List Fault) : Type 0 where
+  pub more : List Fault
+  pub told : AllZip (IsToldLocated sources joined) found more
+  pub all : new ≡ old ++ more
+
+-- those of a schema that was read from the document; there is none if and only if it is a valid type system
+pub record AddsTypeSystemFaults (sources : List Source) (joined : Joined) (document : List TypeSystemDefinition) (schema : SourceSchema) (old new : List Fault) : Type 0 where
+  pub found : List LocatedFault
+  pub are : TellsFaults document schema found
+  pub valid : (found ≡ []) ↔ IsValidSchema schema
+  pub adds : AddsLocated sources joined found old new
+
+-- those of a schema of these definitions; or why they could not be read again
+abbrev pub IsJudged : List Source → Joined → SourceSchema → List Fault → List Fault → Type 0
+IsJudged sources joined schema old new =
+    ((document : List TypeSystemDefinition) × AddsTypeSystemFaults sources joined document schema old new)
+    ⊎ ((error : SchemaReadError) × AddsFaultsOf sources joined error old new)

@@ -1,0 +1,25 @@
+-- The faults of values, of one more each time.
+use Rattle.std.proofs.Common.{◌≡◌, ℕ, ◌+◌, ◌<◌, get_or, List, [], ◌∷◌, ◌++◌, take, map, length, ap, refl, sym, ◌∙◌, subst, append_assoc}
+use Rattle.std.proofs.lemmas.List.{append-nil, map-append, take_more}
+use Rattle.language.specs.declared.value.InputValue.{InputValue}
+use Rattle.meta.specs.Answers.{Answers}
+use Rattle.schema.specs.Catalog.{Catalog}
+use Rattle.sdl_scalars.specs.declared.check.SourceCheck.{SourceCheck}
+use Rattle.sdl_scalars.specs.declared.scalar.SourceScalar.{SourceScalar}
+use Rattle.sdl_directive_values.specs.Faults.{AddsFaults, AreFaults, ValueFaultAt}
+use Rattle.sdl_directive_values.specs.Given.{GivenAt}
+
+module _ (schema : Catalog SourceScalar SourceCheck) (may : Answers (InputValue SourceScalar) SourceCheck) (shown : InputValue SourceScalar → List ℕ) where
+  faults_more : (ds : List GivenAt) (d : GivenAt) (before after : List ValueFaultAt) → AreFaults schema may shown ds before → AddsFaults schema may shown d before after → AreFaults schema may shown (ds ++ d ∷ []) after
+  faults_more [] d before after is (fs, own, e) =
+      (fs, [], own, refl, e ∙ ap (λ z. z ++ fs) is ∙ sym (append-nil fs))
+  faults_more (x ∷ ds) d before after (first, rest, at, there, is) (fs, own, e) =
+      (first, rest ++ fs, at, faults_more ds d rest (rest ++ fs) there (fs, own, refl), e ∙ ap (λ z. z ++ fs) is ∙ append_assoc first rest fs)
+
+  -- those of the values that were seen, and then that of the next
+  pub faults_next : {T : Type 0} (value : T → GivenAt) (xs : List T) (i : ℕ) (x d : T) (before after : List ValueFaultAt) → i < length xs → x ≡ get_or xs i d
+      → AreFaults schema may shown (map value (take i xs)) before → AddsFaults schema may shown (value x) before after → AreFaults schema may shown (map value (take (i + 1) xs)) after
+  faults_next value xs i x d before after h e seen more =
+      subst (λ zs. AreFaults schema may shown zs after)
+      (sym (ap (map value) (take_more xs i d h) ∙ map-append value (take i xs) (get_or xs i d ∷ [])))
+      (faults_more (map value (take i xs)) (value (get_or xs i d)) before after seen (subst (λ z. AddsFaults schema may shown (value z) before after) e more))
