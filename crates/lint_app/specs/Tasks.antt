@@ -18,6 +18,7 @@ use Rattle.lint_args.specs.declared.task.Form.TheVariants as form
 use Rattle.lint_args.specs.declared.task.Task.{Task}
 use Rattle.schema.specs.declared.model.dialect.Dialect.{Dialect}
 use Rattle.schema.specs.declared.model.dialect.Dialect.TheVariants as d
+use Rattle.sdl_faults.specs.Schema.{SourceSchema}
 use Rattle.sdl_faults.specs.Valid.{IsValidSchema}
 
 -- a text on so many files, of which so many were judged; on none it says that the schema has no fault
