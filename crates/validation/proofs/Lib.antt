@@ -1,3 +1,4 @@
 pub mod Stages
 pub mod Reports
 pub mod Root
+mod ByDialect

@@ -11,4 +11,4 @@ each of j o d.Juniper = j
 each of j o d.October2021 = o
 
 pub returns : goal.returns
-returns g c = each _ c.clean_documents.ensures c.clean_specified_documents.ensures
+returns g c = each _ c.clean_documents.ensures c.clean_documents-2.ensures

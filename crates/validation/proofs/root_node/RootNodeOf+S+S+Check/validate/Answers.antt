@@ -1,6 +1,6 @@
-use Rattle.std.proofs.Common.{ap, subst}
+use Rattle.std.proofs.Common.{ap}
 use Rattle.std.proofs.lemmas.Result.{IfOk-weaker}
-use Rattle.validation.specs.RootRules.{IsRootReport}
+use Rattle.validation.proofs.ByDialect.{reported_by}
 use Rattle.validation.proofs.Reports.{told_all, told_more}
 use Rattle.validation.proofs.Root.{root_valid}
 use Rattle.validation.proofs.root_node.RootNodeOf+S+S+Check.validate.Goals as goal
@@ -9,11 +9,11 @@ pub returns-clause-all : goal.returns-clause-all
 returns-clause-all g c =
     let root = c.args.self.now in
     let document = c.args.document.now in
-    let same = ap (λ w. w.schema) c.in_ok-ctx.ensures in
+    let ctx = c.in_ok-ctx.ctx in
     IfOk-weaker c.into_errors.result _ _
     (λ errors sorted. (
       _,
-      subst (λ s. IsRootReport (g.S.DialectRules.rules_of s.dialect) root.introspection_disabled root.schema document errors.items _) same
+      reported_by _ _ ctx.schema.dialect root.schema.dialect document (ap (λ w. w.schema.dialect) c.in_ok-ctx.ensures) root.introspection_disabled root.schema errors.items _
           (told_all _ document root.introspection_disabled _ root.schema _ _ errors.items _ c.in_ok-ctx.ensures
           (told_more _ document root.introspection_disabled _ _ _ _ c.in_ok-visit_dialect_rules.ensures.appended c.in_ok-report_introspection.ensures.appended)
           sorted),
