@@ -1,6 +1,3 @@
-pub mod BlockLaws
-pub mod BlockValue
-pub mod EscapeLaws
 pub mod Found
 pub mod Lists
 pub mod Names
@@ -10,7 +7,6 @@ pub mod Progress
 pub mod Quoted
 pub mod Read
 pub mod Runs
-pub mod StringLaws
 pub mod Turns
 pub mod Unique
 pub mod Written
