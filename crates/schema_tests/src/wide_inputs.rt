@@ -86,52 +86,31 @@ fn found(alloc: Global, schema: &Schema, name: &str, key: &str) -> Result<String
     }
 }
 
-/// Asserts that the look-up of each text's first word finds a field as the text says.
-fn finds(rt: &impl Abort, alloc: Global, schema: &Schema, texts: &[&str]) {
-    for text in texts {
-        let key = text.split_once(' ').unwrap_or((*text, "")).0;
-        says(rt, found(alloc, schema, "Wide", key), text);
-    }
-}
-
 #[test]
 fn of_few_fields_the_first_of_a_name_is_found(rt: HostRuntime) {
     let alloc = rt.alloc();
     let schema = schema_with(&rt, alloc, mixed(&rt, alloc, 4));
-    finds(
-        &rt,
-        alloc,
-        &schema,
-        &["b second", "m first", "z fourth", "a none"],
-    );
+    says(&rt, found(alloc, &schema, "Wide", "b"), "b second");
+    says(&rt, found(alloc, &schema, "Wide", "m"), "m first");
+    says(&rt, found(alloc, &schema, "Wide", "z"), "z fourth");
+    says(&rt, found(alloc, &schema, "Wide", "a"), "a none");
     says(&rt, found(alloc, &schema, "Dog", "name"), "name none");
 }
-
-/// What is found of the mixed fields.
-const FOUND: [&str; 10] = [
-    "a fifth",
-    "b second",
-    "m first",
-    "mm seventh",
-    "z fourth",
-    "Z eighth",
-    " none",
-    "A none",
-    "ma none",
-    "zz none",
-];
 
 #[test]
 fn of_mixed_fields_the_first_of_a_name_is_found(rt: HostRuntime) {
     let alloc = rt.alloc();
     let schema = schema_with(&rt, alloc, mixed(&rt, alloc, 9));
-    finds(&rt, alloc, &schema, &FOUND);
-}
-
-/// Asserts that the first field of this number is found, which stands there.
-fn finds_numbered(rt: &impl Abort, alloc: Global, schema: &Schema, number: usize, place: usize) {
-    let text = format!(in alloc; "f{number} at {place}").expect(rt, "memory");
-    finds(rt, alloc, schema, &[text.as_str()]);
+    says(&rt, found(alloc, &schema, "Wide", "a"), "a fifth");
+    says(&rt, found(alloc, &schema, "Wide", "b"), "b second");
+    says(&rt, found(alloc, &schema, "Wide", "m"), "m first");
+    says(&rt, found(alloc, &schema, "Wide", "mm"), "mm seventh");
+    says(&rt, found(alloc, &schema, "Wide", "z"), "z fourth");
+    says(&rt, found(alloc, &schema, "Wide", "Z"), "Z eighth");
+    says(&rt, found(alloc, &schema, "Wide", ""), " none");
+    says(&rt, found(alloc, &schema, "Wide", "A"), "A none");
+    says(&rt, found(alloc, &schema, "Wide", "ma"), "ma none");
+    says(&rt, found(alloc, &schema, "Wide", "zz"), "zz none");
 }
 
 #[test]
@@ -139,7 +118,14 @@ fn of_many_fields_the_first_of_a_name_is_found(rt: HostRuntime) {
     let alloc = rt.alloc();
     let schema = schema_with(&rt, alloc, twice(&rt, alloc));
     for place in 0..NAMES {
-        finds_numbered(&rt, alloc, &schema, place * 7 % NAMES, place);
+        let key = format!(in alloc; "f{}", place * 7 % NAMES).expect(&rt, "memory");
+        let want = format!(in alloc; "{} at {place}", key.as_str()).expect(&rt, "memory");
+        says(
+            &rt,
+            found(alloc, &schema, "Wide", key.as_str()),
+            want.as_str(),
+        );
     }
-    finds(&rt, alloc, &schema, &["f40 none", "f none"]);
+    says(&rt, found(alloc, &schema, "Wide", "f40"), "f40 none");
+    says(&rt, found(alloc, &schema, "Wide", "f"), "f none");
 }
