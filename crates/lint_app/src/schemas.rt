@@ -13,7 +13,8 @@ use lint_schema::schema_of;
 use std::alloc::Global;
 use validation::{RootNode, SchemaType};
 
-/// The schema of a task, a valid type system, with introspection disabled if the task says so. Its faults go to `faults`.
+/// The schema of a task, a valid type system, with introspection disabled if the task says so. Its faults go to
+/// `faults`.
 ///
 /// # Errors
 ///
