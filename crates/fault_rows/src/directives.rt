@@ -24,10 +24,11 @@ pub fn tell_directives(alloc: Global, text: &str, came: &mut String) -> Result<(
     tell_values(alloc, text, document.as_slice(), standard.as_slice(), came)
 }
 
-fn tell_read(
+// The lifetimes are named so that both documents have one.
+fn tell_read<'d, 't>(
     alloc: Global,
-    document: &[TypeSystemDefinition<'_>],
-    standard: &[TypeSystemDefinition<'_>],
+    document: &'d [TypeSystemDefinition<'t>],
+    standard: &'d [TypeSystemDefinition<'t>],
     came: &mut String,
 ) -> Result<(), AllocError> {
     match directive_faults(alloc, document, standard) {
@@ -44,11 +45,11 @@ fn tell_faults(faults: &[PlacedDirectiveFault<'_>], came: &mut String) -> Result
 }
 
 // The faults of values, by the types of the schema.
-fn tell_values(
+fn tell_values<'d, 't>(
     alloc: Global,
     text: &str,
-    document: &[TypeSystemDefinition<'_>],
-    standard: &[TypeSystemDefinition<'_>],
+    document: &'d [TypeSystemDefinition<'t>],
+    standard: &'d [TypeSystemDefinition<'t>],
     came: &mut String,
 ) -> Result<(), AllocError> {
     let Ok(schema) = read_schema(alloc, text) else {

@@ -6,8 +6,8 @@ use sdl_faults::{LocatedFault, text_faults};
 use sdl_reader::{SchemaReadError, read_schema};
 use std::alloc::{AllocError, Global};
 
-/// Appends each fault of a schema: line and column, counted from 1, and its text. A text that is no schema has its first
-/// reason alone.
+/// Appends each fault of a schema: line and column, counted from 1, and its text. A text that is no schema has the
+/// reasons alone.
 ///
 /// # Errors
 ///
