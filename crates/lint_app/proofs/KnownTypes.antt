@@ -6,6 +6,7 @@ use Rattle.language.specs.declared.tree.Definition.TheVariants as definition
 use Rattle.lint_app.specs.Told.{Document, HasKnownTypes, IsErrorFree, Root}
 use Rattle.lint_app.specs.Rules.{SourceRules}
 use Rattle.schema.specs.declared.model.dialect.Dialect.{Dialect}
+use Rattle.sdl_scalars.specs.declared.scalar.SourceScalar.{SourceScalar}
 use Rattle.rules_first_stage.specs.CleanStage.{IsCleanWhere}
 
 -- their types are known input types

@@ -2,3 +2,4 @@ pub mod Endings
 pub mod KnownTypes
 pub mod PlainText
 pub mod Telling
+mod Roots

@@ -1,12 +1,8 @@
 use Rattle.std.proofs.Common.{string_bytes, subst}
 use Rattle.std.proofs.lemmas.Result.{IfOk-weaker}
 use Rattle.lint_report.specs.Texts.{IsTextReport}
-use Rattle.lint_app.proofs.PlainText.{on_none, on_some}
+use Rattle.lint_app.proofs.PlainText.{on_some}
 use Rattle.lint_app.proofs.program.plain_text_of.Goals as goal
-
--- no file
-pub returns-in_ok-from_str-then-files-eq0 : goal.returns-in_ok-from_str-then-files-eq0
-returns-in_ok-from_str-then-files-eq0 c = on_none c.args.files c.args.is_coloured c.args.sources.now c.args.issues.now c.args.judged _ c.if-files-eq0.true c.in_ok-from_str-then-files-eq0.ensures.ok
 
 -- some files
 pub returns : goal.returns

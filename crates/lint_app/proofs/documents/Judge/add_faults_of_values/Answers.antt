@@ -1,11 +1,12 @@
 use Rattle.std.proofs.Common.{sym, drop_of_length-le}
+use Rattle.lint_app.specs.contracts.rules.SourceScalarLintRules.TheImpl.{rules-value}
 use Rattle.lint_app.proofs.KnownTypes.{known_types}
 use Rattle.lint_app.proofs.Telling.{faults_all, faults_more, faults_none}
 use Rattle.lint_app.proofs.documents.Judge.add_faults_of_values.Goals as goal
 
 pub add_faults_at-requires : goal.add_faults_at-requires
 add_faults_at-requires c =
-    known_types _ c.args.self.now.root.now c.args.document.now c.definition-item.result c.requires c.clean_by_each_dialect.ensures (c.loop-definition.definition-index, c.loop-definition-test.true, sym c.definition-item.is)
+    known_types rules-value.it c.args.self.now.root.now c.args.document.now c.definition-item.result c.requires c.clean_by_each_dialect.ensures (c.loop-definition.definition-index, c.loop-definition-test.true, sym c.definition-item.is)
 
 pub loop-definition-init : goal.loop-definition-init
 loop-definition-init c = faults_none c.args.self.now.root.now c.args.values.now c.args.joined.now c.args.file c.args.document.now c.args.issues.now.items
