@@ -12,6 +12,6 @@ returns g c =
     let is = subst (λ d. IsSchemaOf d schema) c.dialect_of.ensures c.in_ok-schema.ensures in
     let of = ap (λ r. r.schema) c.new-root.ensures in
     elim c.if-task.branch [
-      then-task w ↦ subst (IsRootOf task) (sym w.result-is) (closed_root task schema root is w.disable_introspection.result of w.if-task.true w.disable_introspection.ensures)
+      | then-task w ↦ subst (IsRootOf task) (sym w.result-is) (closed_root task schema root is w.disable_introspection.result of w.if-task.true w.disable_introspection.ensures)
       | else-task w ↦ subst (IsRootOf task) (sym w.result-is) (open_root task schema root is of (ap (λ r. r.introspection_disabled) c.new-root.ensures) w.if-task.false)
     ]
