@@ -1,6 +1,6 @@
 //! The phases of a document: it is read, and it is judged.
 use crate::failure::Failure;
-use crate::times::{Stopwatch, Taken};
+use crate::times::{Stopwatch, median_of};
 use sample_reader::read_document;
 use std::alloc::Global;
 use std::rt::CpuClock;
@@ -18,22 +18,11 @@ pub fn time_reading<R: CpuClock>(
     text: &[u8],
     times: usize,
 ) -> Result<Option<u128>, Failure> {
-    let mut taken = Taken::new(alloc);
-    for _ in 0..times {
-        taken.add(time_read(watch, alloc, text)?)?;
-    }
-    Ok(taken.median())
-}
-
-// The document is dropped once the time is taken.
-fn time_read<R: CpuClock>(
-    watch: &mut Stopwatch<'_, R>,
-    alloc: Global,
-    text: &[u8],
-) -> Result<Duration, Failure> {
-    let start = watch.start()?;
-    let _document = read_document(alloc, text)?;
-    watch.since(start)
+    median_of(
+        alloc,
+        times,
+        || watch.time_of(|| Ok(read_document(alloc, text)?)),
+    )
 }
 
 /// Judges the document by all rules so often, and returns the median of the times in nanoseconds, or `None` for no
@@ -49,11 +38,7 @@ pub fn time_walking<R: CpuClock>(
     document: &[Definition<'_, DefaultScalarValue>],
     times: usize,
 ) -> Result<Option<u128>, Failure> {
-    let mut taken = Taken::new(alloc);
-    for _ in 0..times {
-        taken.add(time_walk(watch, alloc, schema, document)?)?;
-    }
-    Ok(taken.median())
+    median_of(alloc, times, || time_walk(watch, alloc, schema, document))
 }
 
 fn time_walk<'a, R: CpuClock>(
@@ -63,7 +48,5 @@ fn time_walk<'a, R: CpuClock>(
     document: &'a [Definition<'_, DefaultScalarValue>],
 ) -> Result<Duration, Failure> {
     let mut ctx = ValidatorContext::new(alloc, schema, document)?;
-    let start = watch.start()?;
-    visit_all_rules(&mut ctx, document)?;
-    watch.since(start)
+    watch.time_of(|| Ok(visit_all_rules(&mut ctx, document)?))
 }

@@ -2,15 +2,16 @@
 use crate::failure::Failure;
 use crate::phases::{time_reading, time_walking};
 use crate::readers::{kind_named, time_reader};
-use crate::schemas::schema_named;
+use crate::schemas::{root_fields, wide_input};
 use crate::times::Stopwatch;
 use crate::values::{first_operation, judge, time_values, values_of};
 use sample_reader::read_document;
-use samples::build::Checks;
+use samples::build::{Checks, common, object, scalar};
 use samples::checks::{
     check_boolean, check_complex_input, check_dog_command, check_id, check_int, check_pair_input,
     check_string, refuse_token,
 };
+use samples::pets;
 use std::alloc::Global;
 use std::env::{self, Env};
 use std::io::{self, Read};
@@ -82,10 +83,7 @@ fn words<R: Env + AllocGlobal>(rt: &R) -> io::Result<Vec<String>> {
 }
 
 fn number(word: &String) -> Result<usize, Failure> {
-    match word.parse::<usize>() {
-        Ok(number) => Ok(number),
-        Err(_) => Err(Failure::Usage),
-    }
+    word.parse::<usize>().map_err(|_| Failure::Usage)
 }
 
 fn measure_reader<R: CpuClock + AllocGlobal + Print>(
@@ -96,11 +94,12 @@ fn measure_reader<R: CpuClock + AllocGlobal + Print>(
     reads: usize,
 ) -> Result<(), Failure> {
     let kind = kind_named(word)?;
-    let Ok(text) = str::from_utf8(text) else {
-        return Err(Failure::Syntax);
-    };
-    let time = time_reader(watch, rt.alloc(), kind, text, reads)?;
-    tell(rt, "read", time)
+    let text = str::from_utf8(text).map_err(|_| Failure::Syntax)?;
+    tell(
+        rt,
+        "read",
+        time_reader(watch, rt.alloc(), kind, text, reads)?,
+    )
 }
 
 fn measure_against<R: CpuClock + AllocGlobal + Print>(
@@ -110,8 +109,11 @@ fn measure_against<R: CpuClock + AllocGlobal + Print>(
     text: &[u8],
     times: Times,
 ) -> Result<(), Failure> {
-    let time = time_reading(watch, rt.alloc(), text, times.reads)?;
-    tell(rt, "read", time)?;
+    tell(
+        rt,
+        "read",
+        time_reading(watch, rt.alloc(), text, times.reads)?,
+    )?;
     let checks = Checks {
         int: DefaultCheck::with_token(check_int, refuse_token),
         string: DefaultCheck::with_token(check_string, refuse_token),
@@ -121,7 +123,24 @@ fn measure_against<R: CpuClock + AllocGlobal + Print>(
         complex_input: DefaultCheck::new(check_complex_input),
         pair_input: DefaultCheck::new(check_pair_input),
     };
-    let schema = schema_named(rt.alloc(), word, checks)?;
+    let alloc = rt.alloc();
+    let types = if word == "pets" {
+        pets::types(alloc, checks)?
+    } else {
+        let count = word.parse::<usize>().map_err(|_| Failure::Usage)?;
+        let mut types = common(alloc, checks.string, checks.boolean)?;
+        types.push(scalar(alloc, "Int", checks.int)?)?;
+        types.push(wide_input(alloc, count, checks.complex_input)?)?;
+        types.push(object(alloc, "QueryRoot", &[], root_fields(alloc)?)?)?;
+        types
+    };
+    let schema = SchemaType::<DefaultScalarValue>::new(
+        alloc,
+        types,
+        "QueryRoot",
+        "_EmptyMutation",
+        "_EmptySubscription",
+    )?;
     measure_text(rt, watch, &schema, text, times)
 }
 

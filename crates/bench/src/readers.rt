@@ -1,12 +1,11 @@
 //! The readers of a team's texts, in time of the processor.
 use crate::failure::Failure;
-use crate::times::{Stopwatch, Taken};
+use crate::times::{Stopwatch, median_of};
 use graphql_reader::{SourceScalar, read_document, read_type_system};
 use introspection::schema_text;
 use sdl_reader::read_schema;
 use std::alloc::Global;
 use std::rt::CpuClock;
-use std::time::Duration;
 use validation::SchemaType;
 
 /// What a text is read as.
@@ -54,64 +53,18 @@ pub fn time_reader<R: CpuClock>(
     text: &str,
     times: usize,
 ) -> Result<Option<u128>, Failure> {
-    let mut taken = Taken::new(alloc);
-    for _ in 0..times {
-        taken.add(time_once(watch, alloc, kind, text)?)?;
-    }
-    Ok(taken.median())
-}
-
-fn time_once<R: CpuClock>(
-    watch: &mut Stopwatch<'_, R>,
-    alloc: Global,
-    kind: Kind,
-    text: &str,
-) -> Result<Duration, Failure> {
     match kind {
-        Kind::TypeSystem => time_type_system(watch, alloc, text),
-        Kind::Queries => time_queries(watch, alloc, text),
-        Kind::Schema => time_schema(watch, alloc, text),
-        Kind::Introspection => time_introspection(watch, alloc, text),
+        Kind::TypeSystem => median_of(alloc, times, || {
+            watch.time_of(|| Ok(read_type_system(alloc, text)?))
+        }),
+        Kind::Queries => median_of(alloc, times, || {
+            watch.time_of(|| Ok(read_document(alloc, text)?))
+        }),
+        Kind::Schema => median_of(alloc, times, || {
+            watch.time_of(|| Ok(read_schema(alloc, text)?))
+        }),
+        Kind::Introspection => median_of(alloc, times, || {
+            watch.time_of(|| read_introspection(alloc, text))
+        }),
     }
-}
-
-// What is made is dropped once the time is taken, here and below.
-fn time_type_system<R: CpuClock>(
-    watch: &mut Stopwatch<'_, R>,
-    alloc: Global,
-    text: &str,
-) -> Result<Duration, Failure> {
-    let start = watch.start()?;
-    let _definitions = read_type_system(alloc, text)?;
-    watch.since(start)
-}
-
-fn time_queries<R: CpuClock>(
-    watch: &mut Stopwatch<'_, R>,
-    alloc: Global,
-    text: &str,
-) -> Result<Duration, Failure> {
-    let start = watch.start()?;
-    let _document = read_document(alloc, text)?;
-    watch.since(start)
-}
-
-fn time_schema<R: CpuClock>(
-    watch: &mut Stopwatch<'_, R>,
-    alloc: Global,
-    text: &str,
-) -> Result<Duration, Failure> {
-    let start = watch.start()?;
-    let _schema = read_schema(alloc, text)?;
-    watch.since(start)
-}
-
-fn time_introspection<R: CpuClock>(
-    watch: &mut Stopwatch<'_, R>,
-    alloc: Global,
-    text: &str,
-) -> Result<Duration, Failure> {
-    let start = watch.start()?;
-    let _schema = read_introspection(alloc, text)?;
-    watch.since(start)
 }

@@ -36,56 +36,43 @@ impl<'r, R: CpuClock> Stopwatch<'r, R> {
         }
     }
 
-    /// Goes through the memory, and returns when the work starts.
+    /// How long some work takes. Dropping its result isn't timed.
     ///
     /// # Errors
     ///
-    /// The clock failed.
-    pub fn start(&mut self) -> Result<Duration, Failure> {
+    /// The work failed, or the clock did.
+    pub fn time_of<T: Drop, F: FnOnce() -> Result<T, Failure>>(
+        &mut self,
+        work: F,
+    ) -> Result<Duration, Failure>
+        requires { F.IsAlwaysCallable work }
+    {
         self.go_through_memory();
-        Ok(self.clock.process_cpu_time()?)
-    }
-
-    /// How long the work took that started then.
-    ///
-    /// # Errors
-    ///
-    /// The clock failed.
-    pub fn since(&self, start: Duration) -> Result<Duration, Failure> {
-        Ok(self.clock.process_cpu_time()?.saturating_sub(start))
+        let start = self.clock.process_cpu_time()?;
+        let made = work()?;
+        let end = self.clock.process_cpu_time();
+        drop(made);
+        Ok(end?.saturating_sub(start))
     }
 }
 
-/// How long work took, each time that it was done.
-#[derive(Debug, Drop)]
-pub struct Taken {
-    times: Vec<Duration>,
-}
-
-impl Taken {
-    /// No times.
-    pub fn new(alloc: Global) -> Taken {
-        Taken {
-            times: Vec::new(alloc),
-        }
+/// The median of so many times in nanoseconds, or `None` for no times.
+///
+/// # Errors
+///
+/// Taking a time failed, or out of memory.
+pub fn median_of<F: FnMut() -> Result<Duration, Failure>>(
+    alloc: Global,
+    times: usize,
+    mut take: F,
+) -> Result<Option<u128>, Failure>
+    requires { F.IsAlwaysCallable take }
+{
+    let mut taken = Vec::new(alloc);
+    for _ in 0..times {
+        taken.push(take()?)?;
     }
-
-    /// Adds a time.
-    ///
-    /// # Errors
-    ///
-    /// Out of memory.
-    pub fn add(&mut self, time: Duration) -> Result<(), AllocError> {
-        Ok(self.times.push(time)?)
-    }
-
-    /// The median of the times in nanoseconds, or `None` for no times.
-    pub fn median(mut self) -> Option<u128> {
-        self.times.sort_unstable();
-        let middle = self.times.len() / 2;
-        match self.times.get(middle) {
-            Some(time) => Some(time.as_nanos()),
-            None => None,
-        }
-    }
+    taken.sort_unstable();
+    let middle = taken.len() / 2;
+    Ok(taken.get(middle).map(|time| time.as_nanos()))
 }

@@ -1,10 +1,9 @@
 //! The phase that judges the values of an operation's variables.
 use crate::failure::Failure;
-use crate::times::{Stopwatch, Taken};
+use crate::times::{Stopwatch, median_of};
 use std::alloc::Global;
 use std::collections::BTreeMap;
 use std::rt::CpuClock;
-use std::time::Duration;
 use validation::ast::Operation;
 use validation::parser::Spanning;
 use validation::{
@@ -76,22 +75,7 @@ pub fn time_values<R: CpuClock>(
     values: &Variables,
     times: usize,
 ) -> Result<Option<u128>, Failure> {
-    let mut taken = Taken::new(alloc);
-    for _ in 0..times {
-        taken.add(time_once(watch, alloc, schema, operation, values)?)?;
-    }
-    Ok(taken.median())
-}
-
-// The faults are dropped once the time is taken.
-fn time_once<R: CpuClock>(
-    watch: &mut Stopwatch<'_, R>,
-    alloc: Global,
-    schema: &SchemaType<DefaultScalarValue>,
-    operation: &PlacedOperation<'_>,
-    values: &Variables,
-) -> Result<Duration, Failure> {
-    let start = watch.start()?;
-    let _faults = judge(alloc, schema, operation, values)?;
-    watch.since(start)
+    median_of(alloc, times, || {
+        watch.time_of(|| judge(alloc, schema, operation, values))
+    })
 }
