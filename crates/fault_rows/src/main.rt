@@ -3,13 +3,14 @@
 #![tactic(auto)]
 
 mod directives;
+mod made;
 mod told;
 
 use row_files::{Judge, run};
 use std::alloc::{AllocError, Global};
 use std::process::ExitCode;
 
-const FILES: &[&str] = &["rules.txt", "several.txt", "directives.txt"];
+const FILES: &[&str] = &["rules.txt", "several.txt", "directives.txt", "made.txt"];
 
 /// What is told of schemas.
 struct Faults;
@@ -25,6 +26,7 @@ impl Judge for Faults {
         match kind {
             "schema" => told::tell_schema(alloc, text, came)?,
             "directives" => directives::tell_directives(alloc, text, came)?,
+            "made" => told::tell_made(alloc, text, came)?,
             _ => return Ok(false),
         }
         Ok(true)

@@ -1,13 +1,16 @@
 //! The faults of a text, with their places.
+use crate::made::made_schema;
 use graphql_reader::type_system::TypeSystemDefinition;
 use graphql_reader::{SourceScalar, read_type_system};
+use language::position::SourcePosition;
 use schema::model::SchemaType;
+use sdl_directives::STANDARD_DIRECTIVES;
 use sdl_faults::{LocatedFault, text_faults};
 use sdl_reader::{SchemaReadError, read_schema};
 use std::alloc::{AllocError, Global};
 
-/// Appends each fault of a schema: line and column, counted from 1, and its text. A text that is no schema has the
-/// reasons alone.
+/// Appends each fault of a schema: line and column, counted from 1, and its text; then a line for each further place. A
+/// text that is no schema has the reasons alone.
 ///
 /// # Errors
 ///
@@ -16,20 +19,46 @@ pub fn tell_schema(alloc: Global, text: &str, came: &mut String) -> Result<(), A
     let Ok(document) = read_type_system(alloc, text) else {
         return came.push_str("no document\n");
     };
+    let Ok(standard) = read_type_system(alloc, STANDARD_DIRECTIVES) else {
+        return came.push_str("no document\n");
+    };
     match read_schema(alloc, text) {
-        Ok(schema) => tell_read(alloc, document.as_slice(), &schema, came),
+        Ok(schema) => tell_read(
+            alloc,
+            document.as_slice(),
+            standard.as_slice(),
+            &schema,
+            came,
+        ),
         Err(SchemaReadError::OutOfMemory) => came.push_str("out of memory\n"),
         Err(error) => writeln!(came, "no schema: {error}"),
     }
 }
 
-fn tell_read(
+/// The same of a schema that is made, whose text has as many groups of types as the row says; first how long it is.
+///
+/// # Errors
+///
+/// Out of memory.
+pub fn tell_made(alloc: Global, text: &str, came: &mut String) -> Result<(), AllocError> {
+    let Ok(groups) = text.trim().parse::<usize>() else {
+        return came.push_str("no number\n");
+    };
+    let made = made_schema(alloc, groups)?;
+    let lines = made.lines().count();
+    writeln!(came, "{lines} lines")?;
+    tell_schema(alloc, made.as_str(), came)
+}
+
+// The lifetimes are named so that both documents have one.
+fn tell_read<'d, 't>(
     alloc: Global,
-    document: &[TypeSystemDefinition<'_>],
+    document: &'d [TypeSystemDefinition<'t>],
+    standard: &'d [TypeSystemDefinition<'t>],
     schema: &SchemaType<SourceScalar>,
     came: &mut String,
 ) -> Result<(), AllocError> {
-    match text_faults(alloc, document, schema) {
+    match text_faults(alloc, document, standard, schema) {
         Ok(faults) => tell_faults(faults.as_slice(), came),
         Err(_) => came.push_str("out of memory\n"),
     }
@@ -46,10 +75,24 @@ fn tell_fault(fault: &LocatedFault, came: &mut String) -> Result<(), AllocError>
     let message = fault.message.as_str();
     match fault.position {
         Some(position) => {
-            let line = position.line().saturating_add(1);
-            let column = position.column().saturating_add(1);
-            writeln!(came, "{line}:{column} {message}")
+            tell_place(position, came)?;
+            writeln!(came, " {message}")?;
         }
-        None => writeln!(came, "{message}"),
+        None => writeln!(came, "{message}")?,
     }
+    tell_others(fault.others.as_slice(), came)
+}
+
+fn tell_others(others: &[SourcePosition], came: &mut String) -> Result<(), AllocError> {
+    for position in others {
+        tell_place(*position, came)?;
+        came.push_str(" also here\n")?;
+    }
+    Ok(())
+}
+
+fn tell_place(position: SourcePosition, came: &mut String) -> Result<(), AllocError> {
+    let line = position.line().saturating_add(1);
+    let column = position.column().saturating_add(1);
+    write!(came, "{line}:{column}")
 }

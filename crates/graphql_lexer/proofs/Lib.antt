@@ -1,3 +1,7 @@
+pub mod BlockLaws
+pub mod BlockValue
+pub mod EscapeLaws
+pub mod FaultLaws
 pub mod Found
 pub mod Lists
 pub mod Names
@@ -7,6 +11,7 @@ pub mod Progress
 pub mod Quoted
 pub mod Read
 pub mod Runs
+pub mod StringLaws
 pub mod Turns
 pub mod Unique
 pub mod Written

@@ -1,4 +1,8 @@
 //! Values, arguments and directives (GraphQL, October 2021, sections 2.6, 2.9 and 2.12).
+ghost use Rattle.std.specs.Prelude.{◌≡◌, IfOk, OnOk, List, ℕ, string_bytes};
+ghost use Rattle.graphql_lexer.specs.Ahead.{ahead_of, behind, left};
+ghost use Rattle.graphql_reader.specs.StringTexts.{IsTextOf};
+
 use crate::depth::check_depth;
 use graphql_lexer::error::{Found, ReadError, SyntaxError, SyntaxFault};
 use graphql_lexer::lexer::{Punctuator, Token};
@@ -225,18 +229,34 @@ fn named_value(alloc: Global, name: &str) -> Result<Value, OutOfMemory> {
 /// # Errors
 ///
 /// No string is next, one of its escape sequences is invalid, or out of memory.
-pub fn read_string<'a>(tokens: &mut Tokens<'a>) -> Result<String, ReadError<'a>> {
-    let start = tokens.start();
-    let text = match tokens.ahead() {
-        Token::String(raw) => match string_value(tokens.alloc(), raw) {
-            Ok(text) => text,
-            Err(error) => return Err(string_fault(start, raw, error)),
-        },
-        Token::BlockString(raw) => block_string_value(tokens.alloc(), raw)?,
-        _ => return Err(tokens.fault("a string")),
-    };
+pub fn read_string<'a>(tokens: &mut Tokens<'a>) -> Result<String, ReadError<'a>>
+    ensures text { IfOk result (λ s. IsTextOf (ahead_of tokens.old).token (string_bytes s)) }
+    ensures only { IfOk result
+        (λ s. (v : List ℕ) → IsTextOf (ahead_of tokens.old).token v → v ≡ string_bytes s) }
+    ensures left { OnOk result (left tokens.new ≡ behind tokens.old) }
+{
+    let text = text_ahead(tokens)?;
     tokens.advance();
     Ok(text)
+}
+
+// The text that the next token stands for, which is a string or a block string.
+fn text_ahead<'a>(tokens: &Tokens<'a>) -> Result<String, ReadError<'a>>
+    ensures text { IfOk result (λ s. IsTextOf (ahead_of tokens.now).token (string_bytes s)) }
+    ensures only { IfOk result
+        (λ s. (v : List ℕ) → IsTextOf (ahead_of tokens.now).token v → v ≡ string_bytes s) }
+{
+    match tokens.ahead() {
+        Token::String(raw) => match string_value(tokens.alloc(), raw) {
+            Ok(text) => Ok(text),
+            Err(error) => Err(string_fault(tokens.start(), raw, error)),
+        },
+        Token::BlockString(raw) => {
+            let text = block_string_value(tokens.alloc(), raw)?;
+            Ok(text)
+        }
+        _ => Err(tokens.fault("a string")),
+    }
 }
 
 // An invalid escape sequence at its position. A string is on one line, after its quote.

@@ -3,12 +3,13 @@ use Rattle.std.proofs.Common.{◌≡◌, ◌∙◌, ℕ, ◌+◌, ◌<◌, ◌�
 use Rattle.std.specs.List.{AllZip}
 use Rattle.std.proofs.lemmas.List.{append-nil, take_more}
 use Rattle.std.proofs.lemmas.Slice.Zip.{all_zipped_more}
+use Rattle.language.specs.declared.position.SourcePosition.{SourcePosition}
 use Rattle.lint_report.specs.declared.faults.Fault.{Fault}
 use Rattle.lint_report.specs.declared.sources.Joined.{Joined}
 use Rattle.lint_report.specs.declared.sources.Source.{Source}
 use Rattle.lint_report.specs.Places.{place_in}
 use Rattle.lint_schema.specs.Judged.{AddsLocated, IsJudged, IsToldLocated}
-use Rattle.lint_schema.specs.Told.{AddsFault, AddsFaultsOf, IsToldAt}
+use Rattle.lint_schema.specs.Told.{AddsFault, AddsFaultsOf, HasAllFurther, HasFurther, IsToldAt}
 use Rattle.sdl_faults.specs.Schema.{SourceSchema}
 use Rattle.sdl_faults.specs.Valid.{IsValidSchema}
 use Rattle.sdl_index.specs.declared.error.SchemaReadError.{SchemaReadError}
@@ -28,6 +29,19 @@ located_more sources joined found k located old before new here is added h =
       all = added.all ∙ ap (λ xs. xs ++ added.fault ∷ []) h.all ∙ append_assoc old h.more (added.fault ∷ []);
     }
 
+further_end : (sources : List Source) (joined : Joined) (ps : List SourcePosition) (p : SourcePosition) (old before new : Fault) → HasAllFurther sources joined ps old before
+    → HasFurther sources (place_in joined p) before new → HasAllFurther sources joined (ps ++ p ∷ []) old new
+further_end sources joined [] p old before new is more = (new, subst (λ f. HasFurther sources (place_in joined p) f new) is more, refl)
+further_end sources joined (q ∷ ps) p old before new (between, first, rest) more = (between, first, further_end sources joined ps p between before new rest more)
+
+-- one further place more
+pub further_more : (sources : List Source) (joined : Joined) (others : List SourcePosition) (k : ℕ) (p : SourcePosition) (old before new : Fault)
+    → k < length others → p ≡ get_or others k p → HasAllFurther sources joined (take k others) old before
+    → HasFurther sources (place_in joined p) before new → HasAllFurther sources joined (take (k + 1) others) old new
+further_more sources joined others k p old before new here is h more =
+    let next : take (k + 1) others ≡ take k others ++ p ∷ [] = take_more others k p here ∙ ap (λ q. take k others ++ q ∷ []) (sym is) in
+    subst (λ ps. HasAllFurther sources joined ps old new) (sym next) (further_end sources joined (take k others) p old before new h more)
+
 no_more : {X : Type 0} (xs : List X) → length xs ≤ 0 → xs ≡ []
 no_more [] h = refl
 no_more (x ∷ xs) h = absurd (omega (arith, h))
@@ -36,6 +50,10 @@ zipped_none : {A B : Type 0} (R : A → B → Type 0) (xs : List A) (ys : List B
 zipped_none R [] ys h e = refl
 zipped_none R (x ∷ xs) [] h e = absurd h
 zipped_none R (x ∷ xs) (y ∷ ys) h e = cc
+
+-- what was there stays
+pub more_stay : (old new more : List Fault) → new ≡ old ++ more → 0 < length old → 0 < length new
+more_stay old new more all some = omega (arith, some, ap length all, length-append old more)
 
 -- where nothing was added
 none_added : (old more new : List Fault) → new ≡ old ++ more → length new ≤ length old → more ≡ []
@@ -53,8 +71,8 @@ more_told sources joined read.OutOfMemory old new h le = h
 -- then the schema is a valid type system
 pub none_judged : (sources : List Source) (joined : Joined) (schema : SourceSchema) (old new : List Fault) → IsJudged sources joined schema old new → length new ≤ length old → (new ≡ old) × IsValidSchema schema
 none_judged sources joined schema old new (inl h) le =
-    let adds = h.1.adds in
+    let adds = h.1.1.adds in
     let none : adds.more ≡ [] = none_added old adds.more new adds.all le in
-    let found : h.1.found ≡ [] = zipped_none (IsToldLocated sources joined) h.1.found adds.more adds.told none in
-    (adds.all ∙ ap (λ z. old ++ z) none ∙ append-nil old, h.1.valid.0 found)
+    let found : h.1.1.found ≡ [] = zipped_none (IsToldLocated sources joined) h.1.1.found adds.more adds.told none in
+    (adds.all ∙ ap (λ z. old ++ z) none ∙ append-nil old, (h.1.1.valid.0 found).valid)
 none_judged sources joined schema old new (inr h) le = absurd (more_told sources joined h.0 old new h.1 le)

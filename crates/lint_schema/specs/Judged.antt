@@ -9,19 +9,23 @@ use Rattle.lint_report.specs.declared.sources.Source.{Source}
 use Rattle.lint_report.specs.Faults.{IsFault}
 use Rattle.lint_report.specs.Places.{place_in}
 use Rattle.lint_report.specs.Texts.{path_in}
-use Rattle.lint_schema.specs.Told.{AddsFaultsOf, IsToldAt}
+use Rattle.lint_schema.specs.Told.{AddsFaultsOf, HasAllFurther, IsToldAt}
 use Rattle.sdl_index.specs.declared.error.SchemaReadError.{SchemaReadError}
 use Rattle.sdl_faults.specs.declared.located.LocatedFault.{LocatedFault}
-use Rattle.sdl_faults.specs.Schema.{SourceSchema, TellsFaults}
-use Rattle.sdl_faults.specs.Valid.{IsValidSchema}
+use Rattle.sdl_faults.specs.Schema.{SourceSchema}
+use Rattle.sdl_faults.specs.Text.{TellsFaults, TellsPlainFaults}
+use Rattle.sdl_faults.specs.Valid.{IsValidText}
 
 -- a fault is told at its place; one without a place, of the first file
 abbrev pub IsToldIn : List Source → Joined → Option (List ℕ) → Option SourcePosition → Fault → Type 0
 IsToldIn sources joined said (Some position) fault = IsToldAt sources (place_in joined position) said fault
 IsToldIn sources joined said None fault = IsFault (path_in sources 0) [] None said fault
 
-abbrev pub IsToldLocated : List Source → Joined → LocatedFault → Fault → Type 0
-IsToldLocated sources joined located fault = IsToldIn sources joined (Some (string_bytes located.message)) located.position fault
+-- and its further places
+pub record IsToldLocated (sources : List Source) (joined : Joined) (located : LocatedFault) (fault : Fault) : Type 0 where
+  pub first : Fault
+  pub is_first : IsToldIn sources joined (Some (string_bytes located.message)) located.position first
+  pub further : HasAllFurther sources joined located.others.items first fault
 
 -- after the faults that were there came one for each of these, in order
 pub record AddsLocated (sources : List Source) (joined : Joined) (found : List LocatedFault) (old new : List Fault) : Type 0 where
@@ -29,15 +33,22 @@ pub record AddsLocated (sources : List Source) (joined : Joined) (found : List L
   pub told : AllZip (IsToldLocated sources joined) found more
   pub all : new ≡ old ++ more
 
--- those of a schema that was read from the document; there is none if and only if it is a valid type system
-pub record AddsTypeSystemFaults (sources : List Source) (joined : Joined) (document : List TypeSystemDefinition) (schema : SourceSchema) (old new : List Fault) : Type 0 where
+-- those of a schema that was read from the document; there is none if and only if it is a valid type system and the
+-- directives of the document are used rightly
+pub record AddsTypeSystemFaults (sources : List Source) (joined : Joined) (document standard : List TypeSystemDefinition) (schema : SourceSchema) (old new : List Fault) : Type 0 where
   pub found : List LocatedFault
-  pub are : TellsFaults document schema found
-  pub valid : (found ≡ []) ↔ IsValidSchema schema
+  pub are : TellsFaults document standard schema found
+  pub valid : (found ≡ []) ↔ IsValidText document standard schema
+  pub adds : AddsLocated sources joined found old new
+
+-- those of directives, where the document makes no schema
+pub record AddsDirectiveFaults (sources : List Source) (joined : Joined) (document standard : List TypeSystemDefinition) (old new : List Fault) : Type 0 where
+  pub found : List LocatedFault
+  pub are : TellsPlainFaults document standard found
   pub adds : AddsLocated sources joined found old new
 
 -- those of a schema of these definitions; or why they could not be read again
 abbrev pub IsJudged : List Source → Joined → SourceSchema → List Fault → List Fault → Type 0
 IsJudged sources joined schema old new =
-    ((document : List TypeSystemDefinition) × AddsTypeSystemFaults sources joined document schema old new)
+    ((document : List TypeSystemDefinition) × (standard : List TypeSystemDefinition) × AddsTypeSystemFaults sources joined document standard schema old new)
     ⊎ ((error : SchemaReadError) × AddsFaultsOf sources joined error old new)

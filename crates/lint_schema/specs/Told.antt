@@ -7,7 +7,7 @@ use Rattle.lint_report.specs.declared.faults.Fault.{Fault}
 use Rattle.lint_report.specs.declared.sources.Joined.{Joined}
 use Rattle.lint_report.specs.declared.sources.Place.{Place}
 use Rattle.lint_report.specs.declared.sources.Source.{Source}
-use Rattle.lint_report.specs.Faults.{IsFault}
+use Rattle.lint_report.specs.Faults.{HasPlaceMore, IsFault}
 use Rattle.lint_report.specs.Places.{place_in}
 use Rattle.lint_report.specs.ShownLines.{IsLineOf}
 use Rattle.lint_report.specs.Texts.{path_in, text_in}
@@ -30,6 +30,23 @@ IsToldInLine sources place said fault =
 -- the same; the definitions of an introspection result are not its text, so their faults have no place
 abbrev pub IsToldAt : List Source → Place → Option (List ℕ) → Fault → Type 0
 IsToldAt sources place said fault = IsToldInLine sources place said fault ⊎ IsFault (path_in sources place.file) [] None said fault
+
+-- it has a further place, with the line of that; unless the definitions are an introspection result
+pub record HasPlaceInLine (sources : List Source) (place : Place) (old new : Fault) : Type 0 where
+  pub line : List ℕ
+  pub is_line : IsLineOf (text_in sources place.file) place.position line
+  pub position : SourcePosition
+  pub in_line : IsInLine place.position position
+  pub has : HasPlaceMore (path_in sources place.file) line position old new
+
+abbrev pub HasFurther : List Source → Place → Fault → Fault → Type 0
+HasFurther sources place old new = HasPlaceInLine sources place old new ⊎ (new ≡ old)
+
+-- it has these further places
+abbrev pub HasAllFurther : List Source → Joined → List SourcePosition → Fault → Fault → Type 0
+HasAllFurther sources joined [] old new = new ≡ old
+HasAllFurther sources joined (p ∷ ps) old new =
+    (between : Fault) × HasFurther sources (place_in joined p) old between × HasAllFurther sources joined ps between new
 
 -- after the faults that were there came one of which this holds
 pub record AddsFault (P : Fault → Type 0) (old new : List Fault) : Type 0 where

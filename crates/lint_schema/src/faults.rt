@@ -1,7 +1,7 @@
 //! Faults of a schema's files.
-ghost use Rattle.std.specs.Prelude.{◌≡◌, [], None, OnOk};
+ghost use Rattle.std.specs.Prelude.{◌≡◌, [], IfOk, None, OnOk};
 ghost use Rattle.lint_report.specs.Faults.{IsFault};
-ghost use Rattle.lint_schema.specs.Told.{AddsFault, AddsFaults, AddsFaultsOf, IsToldAt, IsToldInLine};
+ghost use Rattle.lint_schema.specs.Told.{AddsFault, AddsFaults, AddsFaultsOf, HasFurther, IsInLine, IsToldAt, IsToldInLine};
 
 use language::error::OutOfMemory;
 use language::position::SourcePosition;
@@ -76,8 +76,8 @@ fn add_all(
     Ok(())
 }
 
-/// Adds a fault of the definitions. Those of an introspection result are not its text, so they have no places in it.
-pub(crate) fn add_placed<M: fmt::Display>(
+// Adds a fault of the definitions.
+fn add_placed<M: fmt::Display>(
     alloc: Global,
     sources: &[Source],
     place: Place,
@@ -87,29 +87,64 @@ pub(crate) fn add_placed<M: fmt::Display>(
     ensures { OnOk result
         (AddsFault (IsToldAt sources.now place (M.output message.now)) faults.old.items faults.new.items) }
 {
-    if is_object_text(text_of(sources, place.file)) {
-        add_file_fault(alloc, path_of(sources, place.file), message, faults)?;
-        return Ok(());
-    }
-    add_in_line(alloc, sources, place, message, faults)?;
+    faults.push(placed_fault(alloc, sources, place, message)?)?;
     Ok(())
 }
 
-// Adds a fault with its line alone, since a long file may have many.
-fn add_in_line<M: fmt::Display>(
+/// A fault of the definitions. Those of an introspection result are not its text, so they have no places in it.
+pub(crate) fn placed_fault<M: fmt::Display>(
     alloc: Global,
     sources: &[Source],
     place: Place,
     message: &M,
-    faults: &mut Vec<Fault>,
-) -> Result<(), OutOfMemory>
-    ensures { OnOk result
-        (AddsFault (IsToldInLine sources.now place (M.output message.now)) faults.old.items faults.new.items) }
+) -> Result<Fault, OutOfMemory>
+    ensures { IfOk result (IsToldAt sources.now place (M.output message.now)) }
+{
+    if is_object_text(text_of(sources, place.file)) {
+        return Fault::new(alloc, path_of(sources, place.file), "", None, message);
+    }
+    fault_in_line(alloc, sources, place, message)
+}
+
+// A fault with its line alone, since a long file may have many.
+fn fault_in_line<M: fmt::Display>(
+    alloc: Global,
+    sources: &[Source],
+    place: Place,
+    message: &M,
+) -> Result<Fault, OutOfMemory>
+    ensures { IfOk result (IsToldInLine sources.now place (M.output message.now)) }
 {
     let (path, text) = (path_of(sources, place.file), text_of(sources, place.file));
     let line = line_of(text, place.position);
-    let column = place.position.column();
-    let position = SourcePosition::new(column, place.position.line(), column);
-    faults.push(Fault::new(alloc, path, line, Some(position), message)?)?;
-    Ok(())
+    Fault::new(alloc, path, line, Some(in_line(place.position)), message)
+}
+
+/// Adds a further place to a fault of the definitions, with its line alone, unless they are an introspection result.
+///
+/// # Errors
+///
+/// Out of memory.
+pub(crate) fn add_further(
+    alloc: Global,
+    sources: &[Source],
+    place: Place,
+    fault: &mut Fault,
+) -> Result<(), OutOfMemory>
+    ensures { OnOk result (HasFurther sources.now place fault.old fault.new) }
+{
+    let (path, text) = (path_of(sources, place.file), text_of(sources, place.file));
+    if is_object_text(text) {
+        return Ok(());
+    }
+    let line = line_of(text, place.position);
+    fault.add_place(alloc, path, line, in_line(place.position))
+}
+
+// A position in its line alone.
+fn in_line(position: SourcePosition) -> SourcePosition
+    ensures { IsInLine position result }
+{
+    let column = position.column();
+    SourcePosition::new(column, position.line(), column)
 }

@@ -5,22 +5,24 @@ ghost use Rattle.sdl_faults.specs.Valid.{IsValidSchema};
 
 use crate::definitions::definitions_of;
 use crate::faults::add_schema_faults;
-use crate::judging::add_type_system_faults;
+use crate::judging::{add_directive_faults, add_type_system_faults};
 use graphql_reader::type_system::TypeSystemDefinition;
-use graphql_reader::{SourceScalar, read_type_system};
+use graphql_reader::{ReadError, SourceScalar, read_type_system};
 use language::error::OutOfMemory;
 use lint_report::faults::Fault;
 use lint_report::sources::{Joined, Source};
 use schema::model::{Dialect, SchemaTypeOf};
+use sdl_directives::STANDARD_DIRECTIVES;
 use sdl_reader::{SchemaReadError, read_schema};
 use sdl_scalars::check::SourceCheck;
 use std::alloc::Global;
 
 type SourceSchema = SchemaTypeOf<SourceScalar, SourceCheck>;
+type TypeSystem<'t> = Vec<TypeSystemDefinition<'t>>;
 
 /// The schema of these files in this dialect, or `None` if there are faults. Those of the files are added to `faults`:
 /// what is no type definitions by itself; if there is no such file and no earlier fault, why the definitions of all make
-/// no schema; and if they make one, what is wrong with it as a type system.
+/// no schema and what is wrong with their directives; and if they make one, what is wrong with it as a type system.
 ///
 /// # Errors
 ///
@@ -59,9 +61,34 @@ fn schema_of_joined(
     match read_schema(alloc, joined.text()) {
         Ok(schema) => judged(alloc, sources, joined, in_dialect(schema, dialect), faults),
         Err(error) => {
-            add_schema_faults(alloc, sources, joined, &error, faults)?;
+            add_refusal(alloc, sources, joined, &error, faults)?;
             Ok(None)
         }
+    }
+}
+
+// Adds why the definitions make no schema, and what is wrong with their directives, if they can be read.
+fn add_refusal(
+    alloc: Global,
+    sources: &[Source],
+    joined: &Joined,
+    error: &SchemaReadError<'_>,
+    faults: &mut Vec<Fault>,
+) -> Result<(), OutOfMemory>
+    ensures { OnOk result (0 < length faults.new.items) }
+{
+    add_schema_faults(alloc, sources, joined, error, faults)?;
+    match documents_of(alloc, joined.text()) {
+        Ok((document, standard)) => add_directive_faults(
+            alloc,
+            sources,
+            joined,
+            document.as_slice(),
+            standard.as_slice(),
+            faults,
+        ),
+        Err(ReadError::Syntax(_)) => Ok(()),
+        Err(ReadError::OutOfMemory) => Err(OutOfMemory),
     }
 }
 
@@ -95,7 +122,7 @@ fn judged(
     Ok(Some(schema))
 }
 
-// Adds what is wrong with a schema of these definitions. They are read again, for the places.
+// Adds what is wrong with a schema of these definitions. They are read again, for the places and the directives.
 fn judge(
     alloc: Global,
     sources: &[Source],
@@ -105,10 +132,16 @@ fn judge(
 ) -> Result<(), OutOfMemory>
     ensures { OnOk result (IsJudged sources.now joined.now schema.now faults.old.items faults.new.items) }
 {
-    match read_type_system(alloc, joined.text()) {
-        Ok(document) => {
-            judge_document(alloc, sources, joined, document.as_slice(), schema, faults)
-        }
+    match documents_of(alloc, joined.text()) {
+        Ok((document, standard)) => add_type_system_faults(
+            alloc,
+            sources,
+            joined,
+            document.as_slice(),
+            standard.as_slice(),
+            schema,
+            faults,
+        ),
         Err(error) => add_schema_faults(
             alloc,
             sources,
@@ -119,16 +152,9 @@ fn judge(
     }
 }
 
-fn judge_document(
-    alloc: Global,
-    sources: &[Source],
-    joined: &Joined,
-    document: &[TypeSystemDefinition<'_>],
-    schema: &SourceSchema,
-    faults: &mut Vec<Fault>,
-) -> Result<(), OutOfMemory>
-    ensures { OnOk result (IsJudged sources.now joined.now schema.now faults.old.items faults.new.items) }
-{
-    add_type_system_faults(alloc, sources, joined, document, schema, faults)?;
-    Ok(())
+// The definitions of a text, and those of the directives that each text may use.
+fn documents_of(alloc: Global, text: &str) -> Result<(TypeSystem<'_>, TypeSystem<'_>), ReadError<'_>> {
+    let document = read_type_system(alloc, text)?;
+    let standard = read_type_system(alloc, STANDARD_DIRECTIVES)?;
+    Ok((document, standard))
 }

@@ -103,7 +103,7 @@ impl<C: Drop> ScalarMetaOf<C> {
 
 impl<C> ScalarMetaOf<C> {
     /// The same scalar, whose check is asked of lists and objects, too, where a schema is judged by October 2021
-    /// (section 3.5.6).
+    /// (section 3.5).
     pub fn with_any_literal(mut self) -> Self
         ensures { result ≡ taking_any_literal self }
     {

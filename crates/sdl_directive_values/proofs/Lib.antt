@@ -1,1 +1,2 @@
+mod Conforms
 mod Found

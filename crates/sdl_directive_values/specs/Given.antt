@@ -11,7 +11,7 @@ use Rattle.language.specs.Types.{TypeShape, borrowed_shape, shape}
 use Rattle.sdl_scalars.specs.declared.scalar.SourceScalar.{SourceScalar}
 use Rattle.sdl_directives.specs.Arguments.{Given, arguments_of}
 use Rattle.sdl_directives.specs.Judged.{applied_name}
-use Rattle.sdl_directives.specs.Known.{directive_named}
+use Rattle.sdl_directives.specs.Known.{directive_named, known_directives}
 use Rattle.sdl_directives.specs.Sites.{Applied, SiteValue, definition_sites}
 use Rattle.sdl_directive_values.specs.declared.given.GivenValue.{GivenValue}
 
@@ -45,13 +45,14 @@ abbrev pub defined_values : Applied → Option DirectiveDefinition → List Give
 defined_values x None = []
 defined_values x (Some defined) = flat_map (argument_values defined.arguments.items) (arguments_of x.item)
 
-module _ (document standard : List TypeSystemDefinition) where
+module _ (known : List DirectiveDefinition) where
   abbrev pub directive_values : Applied → List GivenAt
-  directive_values x = defined_values x (directive_named document standard (applied_name x))
+  directive_values x = defined_values x (directive_named known (applied_name x))
 
-  -- of directives that stand together, and of all of a document
+  -- of directives that stand together
   abbrev pub site_given : SiteValue → List GivenAt
   site_given s = flat_map directive_values s.directives
 
-  abbrev pub document_values : List GivenAt
-  document_values = flat_map site_given (flat_map definition_sites document)
+-- of all of a document, by the directives that it defines and those that another one does
+abbrev pub document_values : List TypeSystemDefinition → List TypeSystemDefinition → List GivenAt
+document_values document standard = flat_map (site_given (known_directives document standard)) (flat_map definition_sites document)

@@ -1,2 +1,3 @@
+pub mod Conforming
 pub mod Faults
 pub mod Given

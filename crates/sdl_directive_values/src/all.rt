@@ -1,8 +1,9 @@
 //! The faults of all values of arguments of directives.
-ghost use Rattle.std.specs.Prelude.{◌≡◌, IfOk, OnOk, map};
+ghost use Rattle.std.specs.Prelude.{◌≡◌, ◌↔◌, [], IfOk, OnOk, map};
 ghost use Rattle.language.specs.ValuesPrinted.{printed_value};
 ghost use Rattle.sdl_scalars.specs.Checks.{MayAnswer};
 ghost use Rattle.sdl_scalars.specs.SourceScalar.{source_str, source_text};
+ghost use Rattle.sdl_directive_values.specs.Conforming.{HasConformingValues};
 ghost use Rattle.sdl_directive_values.specs.Faults.{AddsFaults, AreFaults, reported};
 ghost use Rattle.sdl_directive_values.specs.Given.{document_values, given_value};
 
@@ -13,6 +14,7 @@ use graphql_reader::type_system::TypeSystemDefinition;
 use language::error::OutOfMemory;
 use literals::validate_written_value;
 use schema::model::SchemaType;
+use sdl_directives::known::known_directives;
 use sdl_directives::sites::sites_of;
 use std::alloc::Global;
 
@@ -28,12 +30,15 @@ pub fn directive_value_faults<'d, 't>(
     standard: &'d [TypeSystemDefinition<'t>],
     schema: &SchemaType<SourceScalar>,
 ) -> Result<Vec<ValueFault<'d>>, OutOfMemory>
-    ensures { IfOk result (λ v. AreFaults schema.now MayAnswer (printed_value source_text source_str)
+    ensures all { IfOk result (λ v. AreFaults schema.now MayAnswer (printed_value source_text source_str)
         (document_values document.now standard.now) (reported v.items)) }
+    ensures none { IfOk result (λ v. (v.items ≡ [])
+        ↔ HasConformingValues schema.now MayAnswer (printed_value source_text source_str) document.now standard.now) }
 {
+    let known = known_directives(alloc, document, standard)?;
     let sites = sites_of(alloc, document)?;
     let mut given = Vec::new(alloc);
-    add_sites(&mut given, document, standard, sites.as_slice())?;
+    add_sites(&mut given, known.as_slice(), sites.as_slice())?;
     let faults = faults_of(alloc, schema, given.as_slice())?;
     Ok(faults)
 }

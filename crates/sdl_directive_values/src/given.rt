@@ -1,18 +1,19 @@
 //! The values of arguments of directives, in their order.
 ghost use Rattle.std.specs.Prelude.{◌≡◌, ◌++◌, OnOk, option_copied};
 ghost use Rattle.std.specs.List.{flat_map};
+ghost use Rattle.sdl_directives.specs.Known.{definitions_of};
 ghost use Rattle.sdl_directives.specs.Sites.{site_value};
 ghost use Rattle.sdl_directive_values.specs.Given.{argument_values, directive_values, given_values, parameter_named, site_given, values_by};
 
 use graphql_reader::SourceScalar;
-use graphql_reader::type_system::{InputValueDefinition, TypeSystemDefinition};
+use graphql_reader::type_system::InputValueDefinition;
 use language::error::OutOfMemory;
 use language::position::{SourcePosition, Spanning};
 use language::tree::Directive;
 use language::types::BorrowedType;
 use language::value::InputValue;
 use sdl_directives::arguments::{Argument, arguments_of};
-use sdl_directives::known::directive_named;
+use sdl_directives::known::{Known, directive_named};
 use sdl_directives::sites::Site;
 
 /// A value: the name of its argument, where it starts, and the type that it must conform to.
@@ -27,44 +28,41 @@ pub struct GivenValue<'d> {
 /// Appends the values of these directives.
 pub(crate) fn add_sites<'d, 't>(
     given: &mut Vec<GivenValue<'d>>,
-    document: &'d [TypeSystemDefinition<'t>],
-    standard: &'d [TypeSystemDefinition<'t>],
+    known: &[Known<'d, 't>],
     sites: &[Site<'d, 't>],
 ) -> Result<(), OutOfMemory>
     ensures { OnOk result (given_values given.new.items ≡ given_values given.old.items
-        ++ flat_map (λ s. site_given document.now standard.now (site_value s)) sites.now) }
+        ++ flat_map (λ s. site_given (definitions_of known.now) (site_value s)) sites.now) }
 {
     for site in sites {
-        add_directives(given, document, standard, site.directives)?;
+        add_directives(given, known, site.directives)?;
     }
     Ok(())
 }
 
 fn add_directives<'d, 't>(
     given: &mut Vec<GivenValue<'d>>,
-    document: &'d [TypeSystemDefinition<'t>],
-    standard: &'d [TypeSystemDefinition<'t>],
+    known: &[Known<'d, 't>],
     directives: &'d [Spanning<Directive<'t, SourceScalar>>],
 ) -> Result<(), OutOfMemory>
     ensures { OnOk result (given_values given.new.items ≡ given_values given.old.items
-        ++ flat_map (directive_values document.now standard.now) directives.now) }
+        ++ flat_map (directive_values (definitions_of known.now)) directives.now) }
 {
     for directive in directives {
-        add_directive(given, document, standard, directive)?;
+        add_directive(given, known, directive)?;
     }
     Ok(())
 }
 
 fn add_directive<'d, 't>(
     given: &mut Vec<GivenValue<'d>>,
-    document: &'d [TypeSystemDefinition<'t>],
-    standard: &'d [TypeSystemDefinition<'t>],
+    known: &[Known<'d, 't>],
     directive: &'d Spanning<Directive<'t, SourceScalar>>,
 ) -> Result<(), OutOfMemory>
     ensures { OnOk result (given_values given.new.items ≡ given_values given.old.items
-        ++ directive_values document.now standard.now directive.now) }
+        ++ directive_values (definitions_of known.now) directive.now) }
 {
-    match directive_named(document, standard, directive.item.name.item) {
+    match directive_named(known, directive.item.name.item) {
         Some(defined) => add_arguments(
             given,
             defined.arguments.as_slice(),

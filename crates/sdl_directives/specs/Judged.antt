@@ -9,7 +9,7 @@ use Rattle.sdl_directives.specs.declared.fault.DirectiveFaultOf.TheVariants as k
 use Rattle.sdl_directives.specs.Arguments.{argument_faults, missing_arguments}
 use Rattle.sdl_directives.specs.Earlier.{each_after}
 use Rattle.sdl_directives.specs.Fault.{FaultValue, fault_if}
-use Rattle.sdl_directives.specs.Known.{directive_named}
+use Rattle.sdl_directives.specs.Known.{directive_named, known_directives}
 use Rattle.sdl_directives.specs.Locations.{is_listed}
 use Rattle.sdl_directives.specs.Sites.{Applied, SiteValue, definition_sites}
 
@@ -41,15 +41,15 @@ abbrev pub judged_by : Option DirectiveDefinition → DirectivePlace → List Ap
 judged_by None location before x = record { position = x.span.start; fault = k.Unknown (applied_name x) } ∷ []
 judged_by (Some defined) location before x = judged_known defined location before x
 
-module _ (document standard : List TypeSystemDefinition) where
+module _ (known : List DirectiveDefinition) where
   -- a directive behind others
   abbrev pub judged : DirectivePlace → List Applied → Applied → List FaultValue
-  judged location before x = judged_by (directive_named document standard (applied_name x)) location before x
+  judged location before x = judged_by (directive_named known (applied_name x)) location before x
 
   -- directives that stand together
   abbrev pub site_faults : SiteValue → List FaultValue
   site_faults s = each_after (judged s.location) [] s.directives
 
-  -- those of a document, by the directives that it defines and those that another one does
-  abbrev pub document_faults : List FaultValue
-  document_faults = flat_map site_faults (flat_map definition_sites document)
+-- those of a document, by the directives that it defines and those that another one does
+abbrev pub document_faults : List TypeSystemDefinition → List TypeSystemDefinition → List FaultValue
+document_faults document standard = flat_map (site_faults (known_directives document standard)) (flat_map definition_sites document)

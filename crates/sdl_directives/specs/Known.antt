@@ -1,21 +1,25 @@
 -- The directives that a document may use (section 3.13).
-use Rattle.std.specs.Prelude.{ℕ, List, [], ◌∷◌, Option, Some, None, if◌then◌else◌}
-use Rattle.std.specs.Option.{option_or}
+use Rattle.std.specs.Prelude.{ℕ, List, [], ◌∷◌, ◌++◌, Option, find, map}
+use Rattle.std.specs.List.{flat_map}
 use Rattle.std.specs.Str.{bytes_eq}
 use Rattle.graphql_reader.specs.declared.type_system.DirectiveDefinition.{DirectiveDefinition}
 use Rattle.graphql_reader.specs.declared.type_system.TypeSystemDefinition.{TypeSystemDefinition}
 use Rattle.graphql_reader.specs.declared.type_system.TypeSystemDefinition.TheVariants as d
+use Rattle.sdl_directives.specs.declared.known.Known.{Known}
 
--- the directive of a definition, if it has this name
-abbrev pub definition_named : List ℕ → TypeSystemDefinition → Option DirectiveDefinition
-definition_named n (d.Directive x) = if bytes_eq x.item.name.item.now n then Some x.item else None
-definition_named n _ = None
+-- their definitions
+abbrev pub definitions_of : List Known → List DirectiveDefinition
+definitions_of = map (λ k. k.definition.now)
 
--- the first of a name that a document defines
-abbrev pub defined_in : List ℕ → List TypeSystemDefinition → Option DirectiveDefinition
-defined_in n [] = None
-defined_in n (x ∷ xs) = option_or (definition_named n x) (defined_in n xs)
+-- the directive of a definition, if it is one
+abbrev pub directive_of : TypeSystemDefinition → List DirectiveDefinition
+directive_of (d.Directive x) = x.item ∷ []
+directive_of _ = []
 
--- or else that of another one
-abbrev pub directive_named : List TypeSystemDefinition → List TypeSystemDefinition → List ℕ → Option DirectiveDefinition
-directive_named document standard n = option_or (defined_in n document) (defined_in n standard)
+-- those that a document defines, and then those of another one
+abbrev pub known_directives : List TypeSystemDefinition → List TypeSystemDefinition → List DirectiveDefinition
+known_directives document standard = flat_map directive_of document ++ flat_map directive_of standard
+
+-- the first of a name
+abbrev pub directive_named : List DirectiveDefinition → List ℕ → Option DirectiveDefinition
+directive_named known n = find (λ x. bytes_eq x.name.item.now n) known

@@ -4,5 +4,6 @@ pub mod Fault
 pub mod Judged
 pub mod Known
 pub mod Locations
+pub mod Right
 pub mod Sites
 pub mod Texts

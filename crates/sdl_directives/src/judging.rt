@@ -1,14 +1,16 @@
 //! The faults of the directives of a document.
-ghost use Rattle.std.specs.Prelude.{◌≡◌, ◌++◌, [], IfOk, OnOk};
+ghost use Rattle.std.specs.Prelude.{◌≡◌, ◌++◌, ◌↔◌, [], IfOk, OnOk};
 ghost use Rattle.std.specs.List.{flat_map};
 ghost use Rattle.sdl_directives.specs.Earlier.{each_after};
 ghost use Rattle.sdl_directives.specs.Fault.{fault_values};
 ghost use Rattle.sdl_directives.specs.Judged.{document_faults, has_name, is_repeated, judged, judged_known, misplaced, repeated, site_faults};
+ghost use Rattle.sdl_directives.specs.Known.{definitions_of};
+ghost use Rattle.sdl_directives.specs.Right.{HasRightDirectives};
 ghost use Rattle.sdl_directives.specs.Sites.{site_value};
 
 use crate::arguments::{report_arguments, report_missing};
 use crate::fault::{DirectiveFaultOf, PlacedDirectiveFault, report};
-use crate::known::directive_named;
+use crate::known::{Known, directive_named, known_directives};
 use crate::locations::is_listed;
 use crate::sites::{Site, sites_of};
 use graphql_reader::SourceScalar;
@@ -31,25 +33,26 @@ pub fn directive_faults<'d, 't>(
     document: &'d [TypeSystemDefinition<'t>],
     standard: &'d [TypeSystemDefinition<'t>],
 ) -> Result<Vec<PlacedDirectiveFault<'d>>, OutOfMemory>
-    ensures { IfOk result (λ v. fault_values v.items ≡ document_faults document.now standard.now) }
+    ensures all { IfOk result (λ v. fault_values v.items ≡ document_faults document.now standard.now) }
+    ensures none { IfOk result (λ v. (v.items ≡ []) ↔ HasRightDirectives document.now standard.now) }
 {
+    let known = known_directives(alloc, document, standard)?;
     let sites = sites_of(alloc, document)?;
     let mut faults = Vec::new(alloc);
-    report_sites(&mut faults, document, standard, sites.as_slice())?;
+    report_sites(&mut faults, known.as_slice(), sites.as_slice())?;
     Ok(faults)
 }
 
 fn report_sites<'d, 't>(
     faults: &mut Vec<PlacedDirectiveFault<'d>>,
-    document: &'d [TypeSystemDefinition<'t>],
-    standard: &'d [TypeSystemDefinition<'t>],
+    known: &[Known<'d, 't>],
     sites: &[Site<'d, 't>],
 ) -> Result<(), OutOfMemory>
     ensures { OnOk result (fault_values faults.new.items ≡ fault_values faults.old.items
-        ++ flat_map (λ s. site_faults document.now standard.now (site_value s)) sites.now) }
+        ++ flat_map (λ s. site_faults (definitions_of known.now) (site_value s)) sites.now) }
 {
     for site in sites {
-        report_listed(faults, document, standard, site.location, site.directives)?;
+        report_listed(faults, known, site.location, site.directives)?;
     }
     Ok(())
 }
@@ -57,40 +60,31 @@ fn report_sites<'d, 't>(
 // Reports the faults of directives that stand together.
 fn report_listed<'d, 't>(
     faults: &mut Vec<PlacedDirectiveFault<'d>>,
-    document: &'d [TypeSystemDefinition<'t>],
-    standard: &'d [TypeSystemDefinition<'t>],
+    known: &[Known<'d, 't>],
     location: DirectivePlace,
     directives: &'d [Spanning<Directive<'t, SourceScalar>>],
 ) -> Result<(), OutOfMemory>
     ensures { OnOk result (fault_values faults.new.items ≡ fault_values faults.old.items
-        ++ each_after (judged document.now standard.now location) [] directives.now) }
+        ++ each_after (judged (definitions_of known.now) location) [] directives.now) }
 {
     for (index, directive) in directives.iter().enumerate() {
-        report_directive(
-            faults,
-            document,
-            standard,
-            location,
-            &directives[..index],
-            directive,
-        )?;
+        report_directive(faults, known, location, &directives[..index], directive)?;
     }
     Ok(())
 }
 
 fn report_directive<'d, 't>(
     faults: &mut Vec<PlacedDirectiveFault<'d>>,
-    document: &'d [TypeSystemDefinition<'t>],
-    standard: &'d [TypeSystemDefinition<'t>],
+    known: &[Known<'d, 't>],
     location: DirectivePlace,
     before: &[Spanning<Directive<'t, SourceScalar>>],
     directive: &'d Spanning<Directive<'t, SourceScalar>>,
 ) -> Result<(), OutOfMemory>
     ensures { OnOk result (fault_values faults.new.items ≡ fault_values faults.old.items
-        ++ judged document.now standard.now location before.now directive.now) }
+        ++ judged (definitions_of known.now) location before.now directive.now) }
 {
     let name = directive.item.name.item;
-    match directive_named(document, standard, name) {
+    match directive_named(known, name) {
         Some(defined) => report_known(faults, defined, location, before, directive),
         None => report(
             faults,

@@ -6,7 +6,9 @@ use Rattle.std.specs.List.Sorted.{IsNonDecreasingBy, IsPermutation}
 use Rattle.graphql_reader.specs.declared.type_system.TypeSystemDefinition.{TypeSystemDefinition}
 use Rattle.language.specs.declared.position.SourcePosition.{SourcePosition}
 use Rattle.sdl_faults.specs.declared.located.LocatedFault.{LocatedFault}
-use Rattle.sdl_faults.specs.Schema.{AreCircles, AreDefaults, AreFaults, SourceSchema, TellsFaults}
+use Rattle.sdl_faults.specs.Schema.{AreCircles, AreDefaults, AreFaults, AreSchemaFaults, SourceSchema}
+use Rattle.sdl_faults.specs.Text.{AreDirectiveFaults, AreGivenFaults, ArePlainFaults, AreUses, TellsFaults, TellsPlainFaults}
+use Rattle.sdl_faults.specs.Text as text
 use Rattle.sdl_faults.specs.Told.{Adds, Tells, ToldFault, place_index, told_value, told_values}
 
 mapped-append : {T A : Type 0} (f : T → A) (xs ys : List T) → map f (xs ++ ys) ≡ map f xs ++ map f ys
@@ -14,41 +16,89 @@ mapped-append f [] ys = refl
 mapped-append f (x ∷ xs) ys = ap (λ zs. f x ∷ zs) (mapped-append f xs ys)
 
 -- one more fault is told
-tells_value : (position : Option SourcePosition) (message : List ℕ) (old new : List LocatedFault) → Tells position (Some message) old new
-    → told_values new ≡ told_values old ++ record { position = position; message = message } ∷ []
-tells_value position message old new h =
-    let place : told_value h.fault ≡ record { position = position; message = string_bytes h.fault.message } = ap (λ p. record { position = p; message = string_bytes h.fault.message }) h.told.position_is in
-    let text : told_value h.fault ≡ record { position = position; message = message } = place ∙ ap (λ m. record { position = position; message = m }) h.told.message_is in
-    ap told_values h.all ∙ mapped-append told_value old (h.fault ∷ []) ∙ ap (λ v. told_values old ++ v ∷ []) text
+pub tells_value : (position : Option SourcePosition) (others : List SourcePosition) (message : List ℕ) (old new : List LocatedFault)
+    → Tells position others (Some message) old new → told_values new ≡ told_values old ++ record { position = position; others = others; message = message } ∷ []
+tells_value position others message old new h =
+    let of : Option SourcePosition → List SourcePosition → List ℕ → ToldFault = λ p o m. record { position = p; others = o; message = m } in
+    let text = string_bytes h.fault.message in
+    let value : told_value h.fault ≡ of position others message =
+    ap (λ p. of p h.fault.others.items text) h.position_is ∙ ap (λ o. of position o text) h.others_are ∙ ap (of position others) h.message_is in
+    ap told_values h.all ∙ mapped-append told_value old (h.fault ∷ []) ∙ ap (λ v. told_values old ++ v ∷ []) value
 
 -- the same in a loop
 pub tells_next : {T : Type 0} (f : T → ToldFault) (xs : List T) (i : ℕ) (x d : T) (start old new : List LocatedFault) → i < length xs → x ≡ get_or xs i d
-    → told_values old ≡ told_values start ++ map f (take i xs) → Tells (f x).position (Some (f x).message) old new
+    → told_values old ≡ told_values start ++ map f (take i xs) → told_values new ≡ told_values old ++ f x ∷ []
     → told_values new ≡ told_values start ++ map f (take (i + 1) xs)
 tells_next f xs i x d start old new here is before more =
     let last : map f (take (i + 1) xs) ≡ map f (take i xs) ++ f x ∷ [] =
     ap (map f) (take_more xs i d here) ∙ mapped-append f (take i xs) (get_or xs i d ∷ []) ∙ ap (λ z. map f (take i xs) ++ f z ∷ []) (sym is) in
-    tells_value (f x).position (f x).message old new more ∙ ap (λ z. z ++ f x ∷ []) before
+    more ∙ ap (λ z. z ++ f x ∷ []) before
     ∙ append_assoc (told_values start) (map f (take i xs)) (f x ∷ []) ∙ ap (λ zs. told_values start ++ zs) (sym last)
 
 pub mapped-twice : {T U A : Type 0} (g : U → A) (f : T → U) (xs : List T) → map (λ x. g (f x)) xs ≡ map g (map f xs)
 mapped-twice g f [] = refl
 mapped-twice g f (x ∷ xs) = ap (λ zs. g (f x) ∷ zs) (mapped-twice g f xs)
 
--- what the three parts told, in the order of the text
-pub tells_all : (document : List TypeSystemDefinition) (schema : SourceSchema) (none one two three told : List LocatedFault) → none ≡ []
-    → Adds (AreFaults document schema) none one → Adds (AreCircles document schema) one two → Adds (AreDefaults document schema) two three
-    → IsPermutation three told → IsNonDecreasingBy place_index told → TellsFaults document schema told
-tells_all document schema none one two three told empty faults circles defaults moved sorted =
-    let all : told_values three ≡ (faults.more ++ circles.more) ++ defaults.more =
-    defaults.all ∙ ap (λ z. z ++ defaults.more) (circles.all ∙ ap (λ z. z ++ circles.more) (faults.all ∙ ap (λ z. told_values z ++ faults.more) empty)) in
+-- three parts one behind the other
+pub added_thrice : {P Q R : List ToldFault → Type 0} (old one two new : List LocatedFault) (p : Adds P old one) (q : Adds Q one two) (r : Adds R two new)
+    → told_values new ≡ told_values old ++ ((p.more ++ q.more) ++ r.more)
+added_thrice old one two new p q r =
+    r.all ∙ ap (λ z. z ++ r.more) (q.all ∙ ap (λ z. z ++ q.more) p.all ∙ append_assoc (told_values old) p.more q.more) ∙ append_assoc (told_values old) (p.more ++ q.more) r.more
+
+pub adds_schema : (document : List TypeSystemDefinition) (schema : SourceSchema) (old one two new : List LocatedFault)
+    → Adds (AreFaults document schema) old one → Adds (AreCircles document schema) one two → Adds (AreDefaults document schema) two new
+    → Adds (AreSchemaFaults document schema) old new
+adds_schema document schema old one two new faults circles defaults = record {
+  more = (faults.more ++ circles.more) ++ defaults.more;
+  told = record {
+    faults = faults.more;
+    circles = circles.more;
+    defaults = defaults.more;
+    are_faults = faults.told;
+    are_circles = circles.told;
+    are_defaults = defaults.told;
+    all = refl;
+  };
+  all = added_thrice old one two new faults circles defaults;
+}
+
+pub adds_plain : (document standard : List TypeSystemDefinition) (old one new : List LocatedFault)
+    → Adds (AreUses document standard) old one → Adds (text.AreCircles document) one new → Adds (ArePlainFaults document standard) old new
+adds_plain document standard old one new uses circles = record {
+  more = uses.more ++ circles.more;
+  told = record { uses = uses.more; circles = circles.more; are_uses = uses.told; are_circles = circles.told; all = refl };
+  all = circles.all ∙ ap (λ z. z ++ circles.more) uses.all ∙ append_assoc (told_values old) uses.more circles.more;
+}
+
+pub adds_directives : (document standard : List TypeSystemDefinition) (schema : SourceSchema) (old one new : List LocatedFault)
+    → Adds (ArePlainFaults document standard) old one → Adds (AreGivenFaults document standard schema) one new
+    → Adds (AreDirectiveFaults document standard schema) old new
+adds_directives document standard schema old one new plain given = record {
+  more = plain.more ++ given.more;
+  told = record { plain = plain.more; given = given.more; are_plain = plain.told; are_given = given.told; all = refl };
+  all = given.all ∙ ap (λ z. z ++ given.more) plain.all ∙ append_assoc (told_values old) plain.more given.more;
+}
+
+pub tells_plain : (document standard : List TypeSystemDefinition) (none one told : List LocatedFault) → none ≡ []
+    → Adds (ArePlainFaults document standard) none one → IsPermutation one told → IsNonDecreasingBy place_index told → TellsPlainFaults document standard told
+tells_plain document standard none one told empty plain moved sorted = record {
+  faults = plain.more;
+  are = plain.told;
+  all = subst (λ z. IsPermutation z (told_values told)) (plain.all ∙ ap (λ z. told_values z ++ plain.more) empty) (IsPermutation-map told_value one told moved);
+  in_order = sorted;
+}
+
+-- what both parts told, in the order of the text
+pub tells_all : (document standard : List TypeSystemDefinition) (schema : SourceSchema) (none one two told : List LocatedFault) → none ≡ []
+    → Adds (AreSchemaFaults document schema) none one → Adds (AreDirectiveFaults document standard schema) one two
+    → IsPermutation two told → IsNonDecreasingBy place_index told → TellsFaults document standard schema told
+tells_all document standard schema none one two told empty first second moved sorted =
+    let all : told_values two ≡ first.more ++ second.more = second.all ∙ ap (λ z. z ++ second.more) (first.all ∙ ap (λ z. told_values z ++ first.more) empty) in
     record {
-      faults = faults.more;
-      circles = circles.more;
-      defaults = defaults.more;
-      are_faults = faults.told;
-      are_circles = circles.told;
-      are_defaults = defaults.told;
-      all = subst (λ z. IsPermutation z (told_values told)) all (IsPermutation-map told_value three told moved);
+      of_schema = first.more;
+      of_directives = second.more;
+      are_of_schema = first.told;
+      are_of_directives = second.told;
+      all = subst (λ z. IsPermutation z (told_values told)) all (IsPermutation-map told_value two told moved);
       in_order = sorted;
     }

@@ -1,7 +1,7 @@
 -- The faults of a schema that was read from a document (section 3).
 use Rattle.std.specs.Prelude.{◌≡◌, ◌↔◌, ◌++◌, List, [], map}
 use Rattle.std.specs.List.{flat_map}
-use Rattle.std.specs.List.Sorted.{IsNonDecreasingBy, IsPermutation, IsSorted}
+use Rattle.std.specs.List.Sorted.{IsPermutation, IsSorted}
 use Rattle.graphql_reader.specs.declared.type_system.TypeSystemDefinition.{TypeSystemDefinition}
 use Rattle.language.specs.ValuesPrinted.{printed_value}
 use Rattle.schema.specs.Catalog.{Catalog}
@@ -19,8 +19,7 @@ use Rattle.type_system_defaults.specs.Given.{all_defaults}
 use Rattle.type_system_inputs.specs.declared.circles.InputCircle.{InputCircle}
 use Rattle.type_system_inputs.specs.Inputs.{FindsInputCircles}
 use Rattle.type_system_inputs.specs.Told.{circle_fields}
-use Rattle.sdl_faults.specs.declared.located.LocatedFault.{LocatedFault}
-use Rattle.sdl_faults.specs.Told.{ToldFault, place_index, told_circle, told_default, told_fault, told_values}
+use Rattle.sdl_faults.specs.Told.{ToldFault, told_circle, told_default, told_fault}
 
 abbrev pub SourceSchema : Type 0
 SourceSchema = Catalog SourceScalar SourceCheck
@@ -52,13 +51,12 @@ module _ (document : List TypeSystemDefinition) (schema : SourceSchema) where
     pub none : (faults ≡ []) ↔ HasConformingDefaults schema MayAnswer (printed_value source_text source_str)
     pub told_is : told ≡ map (told_default document) faults
 
-  -- of all these, in the order of the text
-  pub record TellsFaults (told : List LocatedFault) : Type 0 where
+  -- of all these
+  pub record AreSchemaFaults (told : List ToldFault) : Type 0 where
     pub faults : List ToldFault
     pub circles : List ToldFault
     pub defaults : List ToldFault
     pub are_faults : AreFaults faults
     pub are_circles : AreCircles circles
     pub are_defaults : AreDefaults defaults
-    pub all : IsPermutation (faults ++ circles ++ defaults) (told_values told)
-    pub in_order : IsNonDecreasingBy place_index told
+    pub all : told ≡ (faults ++ circles) ++ defaults

@@ -1,12 +1,14 @@
 //! All faults of a schema's text.
 ghost use Rattle.std.specs.Prelude.{◌≡◌, ◌↔◌, [], IfOk, OnOk};
 ghost use Rattle.std.specs.List.Sorted.{IsNonDecreasingBy, IsPermutation};
+ghost use Rattle.sdl_faults.specs.Schema.{AreCircles, AreDefaults, AreFaults, AreSchemaFaults};
+ghost use Rattle.sdl_faults.specs.Text.{TellsFaults, TellsPlainFaults};
 ghost use Rattle.sdl_faults.specs.Told.{Adds, place_index};
-ghost use Rattle.sdl_faults.specs.Schema.{AreCircles, AreDefaults, AreFaults, TellsFaults};
-ghost use Rattle.sdl_faults.specs.Valid.{IsValidSchema};
+ghost use Rattle.sdl_faults.specs.Valid.{IsValidText};
 
+use crate::directives::{add_directive_faults, add_plain_faults};
 use crate::located::LocatedFault;
-use crate::telling::{tell_circles, tell_defaults, tell_faults};
+use crate::telling::tell_each;
 use graphql_reader::SourceScalar;
 use graphql_reader::type_system::TypeSystemDefinition;
 use language::error::OutOfMemory;
@@ -16,24 +18,46 @@ use type_system::schema_faults;
 use type_system_defaults::default_value_faults;
 use type_system_inputs::input_circles;
 
-/// The faults of a schema, each at its place in the document from which it was read, in the order of the text. Faults
-/// that have no place there come first. There is none if and only if the schema is a valid type system.
+/// The faults of a schema and of the document from which it was read, each at its place there, in the order of the
+/// text. Faults that have no place in it come first. `standard` defines the directives that each document may use, as
+/// `sdl_directives::STANDARD_DIRECTIVES`.
+///
+/// There is none if and only if the schema is a valid type system and the directives of the document are used rightly.
 ///
 /// # Errors
 ///
 /// Out of memory, also in a check.
-pub fn text_faults(
+pub fn text_faults<'d, 't>(
     alloc: Global,
-    document: &[TypeSystemDefinition<'_>],
+    document: &'d [TypeSystemDefinition<'t>],
+    standard: &'d [TypeSystemDefinition<'t>],
     schema: &SchemaType<SourceScalar>,
 ) -> Result<Vec<LocatedFault>, OutOfMemory>
-    ensures told { IfOk result (λ told. TellsFaults document.now schema.now told.items) }
-    ensures valid { IfOk result (λ told. (told.items ≡ []) ↔ IsValidSchema schema.now) }
+    ensures told { IfOk result (λ told. TellsFaults document.now standard.now schema.now told.items) }
+    ensures valid { IfOk result (λ told. (told.items ≡ []) ↔ IsValidText document.now standard.now schema.now) }
 {
     let mut told = Vec::new(alloc);
-    add_faults(alloc, document, schema, &mut told)?;
-    add_circles(alloc, document, schema, &mut told)?;
-    add_defaults(alloc, document, schema, &mut told)?;
+    add_schema_faults(alloc, document, schema, &mut told)?;
+    add_directive_faults(alloc, document, standard, schema, &mut told)?;
+    sort_faults(&mut told)?;
+    Ok(told)
+}
+
+/// The faults of the directives of a document for which no schema is needed, as where the document is none: each at its
+/// place, in the order of the text. Values of their arguments are not judged.
+///
+/// # Errors
+///
+/// Out of memory.
+pub fn directive_text_faults<'d, 't>(
+    alloc: Global,
+    document: &'d [TypeSystemDefinition<'t>],
+    standard: &'d [TypeSystemDefinition<'t>],
+) -> Result<Vec<LocatedFault>, OutOfMemory>
+    ensures { IfOk result (λ told. TellsPlainFaults document.now standard.now told.items) }
+{
+    let mut told = Vec::new(alloc);
+    add_plain_faults(alloc, document, standard, &mut told)?;
     sort_faults(&mut told)?;
     Ok(told)
 }
@@ -46,6 +70,20 @@ fn sort_faults(told: &mut Vec<LocatedFault>) -> Result<(), OutOfMemory>
     Ok(())
 }
 
+// Appends those of the schema.
+fn add_schema_faults(
+    alloc: Global,
+    document: &[TypeSystemDefinition<'_>],
+    schema: &SchemaType<SourceScalar>,
+    told: &mut Vec<LocatedFault>,
+) -> Result<(), OutOfMemory>
+    ensures { OnOk result (Adds (AreSchemaFaults document.now schema.now) told.old.items told.new.items) }
+{
+    add_faults(alloc, document, schema, told)?;
+    add_circles(alloc, document, schema, told)?;
+    add_defaults(alloc, document, schema, told)
+}
+
 fn add_faults(
     alloc: Global,
     document: &[TypeSystemDefinition<'_>],
@@ -55,7 +93,7 @@ fn add_faults(
     ensures { OnOk result (Adds (AreFaults document.now schema.now) told.old.items told.new.items) }
 {
     let faults = schema_faults(alloc, schema)?;
-    tell_faults(alloc, document, faults.as_slice(), told)?;
+    tell_each(alloc, document, faults.as_slice(), told)?;
     Ok(())
 }
 
@@ -68,7 +106,7 @@ fn add_circles(
     ensures { OnOk result (Adds (AreCircles document.now schema.now) told.old.items told.new.items) }
 {
     let circles = input_circles(alloc, schema)?;
-    tell_circles(alloc, document, circles.as_slice(), told)?;
+    tell_each(alloc, document, circles.as_slice(), told)?;
     Ok(())
 }
 
@@ -81,6 +119,6 @@ fn add_defaults(
     ensures { OnOk result (Adds (AreDefaults document.now schema.now) told.old.items told.new.items) }
 {
     let faults = default_value_faults(alloc, schema)?;
-    tell_defaults(alloc, document, faults.as_slice(), told)?;
+    tell_each(alloc, document, faults.as_slice(), told)?;
     Ok(())
 }

@@ -1,7 +1,7 @@
 //! Faults with their places.
-ghost use Rattle.std.specs.Prelude.{◌≡◌, IfOk, OnOk};
+ghost use Rattle.std.specs.Prelude.{◌≡◌, [], OnOk};
 ghost use Rattle.type_system_report.specs.Fault.{coordinate_value};
-ghost use Rattle.sdl_faults.specs.Told.{IsLocated, Tells, place_index};
+ghost use Rattle.sdl_faults.specs.Told.{Tells, place_index};
 ghost use Rattle.sdl_places.specs.Places.{place_in};
 
 use graphql_reader::type_system::TypeSystemDefinition;
@@ -15,8 +15,11 @@ use type_system_report::Coordinate;
 /// What is wrong with a schema, and where.
 #[derive(Debug, Drop)]
 pub struct LocatedFault {
-    /// The position of the name at the fault's coordinate, unless the text has no such name.
+    /// The position of the name at the fault's coordinate, unless the text has no such name; of a directive where it
+    /// starts, and of its argument the name or the value.
     pub position: Option<SourcePosition>,
+    /// Further places: of a circle of input objects, the names of its other fields.
+    pub others: Vec<SourcePosition>,
     /// What is wrong, in a sentence without a period.
     pub message: String,
 }
@@ -34,28 +37,35 @@ impl LocatedFault {
 }
 
 /// Appends a fault at a coordinate.
-pub(crate) fn tell<M: fmt::Display>(
+pub(crate) fn tell_at<M: fmt::Display>(
     alloc: Global,
     document: &[TypeSystemDefinition<'_>],
     at: Coordinate<'_>,
     message: &M,
     told: &mut Vec<LocatedFault>,
 ) -> Result<(), OutOfMemory>
-    ensures { OnOk result (Tells (place_in document.now (coordinate_value at.entry)) (M.output message.now)
+    ensures { OnOk result (Tells (place_in document.now (coordinate_value at.entry)) [] (M.output message.now)
         told.old.items told.new.items) }
 {
-    told.push(located(alloc, place_of(document, at), message)?)?;
-    Ok(())
+    let position = place_of(document, at);
+    tell(alloc, position, Vec::new(alloc), message, told)
 }
 
-// A fault at a place.
-fn located<M: fmt::Display>(
+/// Appends a fault at these places.
+pub(crate) fn tell<M: fmt::Display>(
     alloc: Global,
     position: Option<SourcePosition>,
+    others: Vec<SourcePosition>,
     message: &M,
-) -> Result<LocatedFault, OutOfMemory>
-    ensures { IfOk result (IsLocated position (M.output message.now)) }
+    told: &mut Vec<LocatedFault>,
+) -> Result<(), OutOfMemory>
+    ensures { OnOk result (Tells position others.items (M.output message.now) told.old.items told.new.items) }
 {
     let message = format!(in alloc; "{message}")?;
-    Ok(LocatedFault { position, message })
+    told.push(LocatedFault {
+        position,
+        others,
+        message,
+    })?;
+    Ok(())
 }

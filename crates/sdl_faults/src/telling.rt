@@ -1,62 +1,137 @@
-//! What is told of each list of faults.
-ghost use Rattle.std.specs.Prelude.{◌≡◌, ◌++◌, OnOk, map};
+//! What is told of each kind of fault.
+ghost use Rattle.std.specs.Prelude.{◌≡◌, ◌++◌, ◌∷◌, [], List, OnOk, map};
+ghost use Rattle.graphql_reader.specs.declared.type_system.TypeSystemDefinition.{TypeSystemDefinition};
+ghost use Rattle.sdl_directive_values.specs.Faults.{value_fault};
+ghost use Rattle.sdl_directives.specs.Fault.{fault_value as use_value};
 ghost use Rattle.type_system_report.specs.Fault.{fault_value};
 ghost use Rattle.type_system_defaults.specs.Faults.{default_fault};
-ghost use Rattle.sdl_faults.specs.Told.{told_circle, told_default, told_fault, told_values};
+ghost use Rattle.sdl_faults.specs.Told.{ToldFault, told_circle, told_default, told_directive_circle, told_fault, told_given, told_use, told_values};
 
-use crate::located::{LocatedFault, tell};
+use crate::located::{LocatedFault, tell, tell_at};
+use crate::places::places_of;
 use graphql_reader::type_system::TypeSystemDefinition;
 use language::error::OutOfMemory;
+use sdl_directive_circles::DirectiveCircle;
+use sdl_directive_values::ValueFault;
+use sdl_directives::PlacedDirectiveFault;
+use sdl_places::place_of;
 use std::alloc::Global;
 use type_system_defaults::DefaultFault;
 use type_system_inputs::InputCircle;
-use type_system_report::{CoordinateOf, Fault};
+use type_system_report::Fault;
 
-/// Appends faults of types and directives.
-pub(crate) fn tell_faults(
+/// A fault of which something is told.
+pub(crate) trait Tell {
+    // Its places in a document, and its text.
+    ghost told: { List TypeSystemDefinition → Self → ToldFault };
+
+    /// Appends what is told.
+    ///
+    /// # Errors
+    ///
+    /// Out of memory.
+    fn tell(
+        &self,
+        alloc: Global,
+        document: &[TypeSystemDefinition<'_>],
+        told: &mut Vec<LocatedFault>,
+    ) -> Result<(), OutOfMemory>
+        ensures { OnOk result (told_values told.new.items
+            ≡ told_values told.old.items ++ Self.told document.now self.now ∷ []) };
+}
+
+/// Appends what is told of these faults.
+pub(crate) fn tell_each<F: Tell>(
     alloc: Global,
     document: &[TypeSystemDefinition<'_>],
-    faults: &[Fault<'_>],
+    faults: &[F],
     told: &mut Vec<LocatedFault>,
 ) -> Result<(), OutOfMemory>
     ensures { OnOk result (told_values told.new.items ≡ told_values told.old.items
-        ++ map (λ f. told_fault document.now (fault_value f)) faults.now) }
+        ++ map (F.told document.now) faults.now) }
 {
     for fault in faults {
-        tell(alloc, document, fault.coordinate, fault, told)?;
+        fault.tell(alloc, document, told)?;
     }
     Ok(())
 }
 
-/// Appends circles of input objects.
-pub(crate) fn tell_circles(
-    alloc: Global,
-    document: &[TypeSystemDefinition<'_>],
-    circles: &[InputCircle<'_>],
-    told: &mut Vec<LocatedFault>,
-) -> Result<(), OutOfMemory>
-    ensures { OnOk result (told_values told.new.items ≡ told_values told.old.items
-        ++ map (told_circle document.now) circles.now) }
-{
-    for circle in circles {
-        let at = CoordinateOf::Field(circle.first.of, circle.first.name);
-        tell(alloc, document, at, circle, told)?;
+impl Tell for Fault<'_> {
+    ghost told = { λ document f. told_fault document (fault_value f) };
+
+    fn tell(
+        &self,
+        alloc: Global,
+        document: &[TypeSystemDefinition<'_>],
+        told: &mut Vec<LocatedFault>,
+    ) -> Result<(), OutOfMemory> {
+        tell_at(alloc, document, self.coordinate, self, told)
     }
-    Ok(())
 }
 
-/// Appends faults of default values.
-pub(crate) fn tell_defaults(
-    alloc: Global,
-    document: &[TypeSystemDefinition<'_>],
-    faults: &[DefaultFault<'_>],
-    told: &mut Vec<LocatedFault>,
-) -> Result<(), OutOfMemory>
-    ensures { OnOk result (told_values told.new.items ≡ told_values told.old.items
-        ++ map (λ f. told_default document.now (default_fault f)) faults.now) }
-{
-    for fault in faults {
-        tell(alloc, document, fault.coordinate, fault, told)?;
+impl Tell for DefaultFault<'_> {
+    ghost told = { λ document f. told_default document (default_fault f) };
+
+    fn tell(
+        &self,
+        alloc: Global,
+        document: &[TypeSystemDefinition<'_>],
+        told: &mut Vec<LocatedFault>,
+    ) -> Result<(), OutOfMemory> {
+        tell_at(alloc, document, self.coordinate, self, told)
     }
-    Ok(())
+}
+
+impl Tell for InputCircle<'_> {
+    ghost told = { told_circle };
+
+    fn tell(
+        &self,
+        alloc: Global,
+        document: &[TypeSystemDefinition<'_>],
+        told: &mut Vec<LocatedFault>,
+    ) -> Result<(), OutOfMemory> {
+        let position = place_of(document, self.first.coordinate());
+        let others = places_of(alloc, document, self.others.as_slice())?;
+        tell(alloc, position, others, self, told)
+    }
+}
+
+impl Tell for PlacedDirectiveFault<'_> {
+    ghost told = { λ document f. told_use (use_value f) };
+
+    fn tell(
+        &self,
+        alloc: Global,
+        _document: &[TypeSystemDefinition<'_>],
+        told: &mut Vec<LocatedFault>,
+    ) -> Result<(), OutOfMemory> {
+        tell(alloc, Some(self.position), Vec::new(alloc), &self.fault, told)
+    }
+}
+
+impl Tell for ValueFault<'_> {
+    ghost told = { λ document f. told_given (value_fault f) };
+
+    fn tell(
+        &self,
+        alloc: Global,
+        _document: &[TypeSystemDefinition<'_>],
+        told: &mut Vec<LocatedFault>,
+    ) -> Result<(), OutOfMemory> {
+        tell(alloc, Some(self.position), Vec::new(alloc), self, told)
+    }
+}
+
+impl Tell for DirectiveCircle<'_> {
+    ghost told = { λ document c. told_directive_circle c };
+
+    fn tell(
+        &self,
+        alloc: Global,
+        _document: &[TypeSystemDefinition<'_>],
+        told: &mut Vec<LocatedFault>,
+    ) -> Result<(), OutOfMemory> {
+        tell(alloc, Some(self.position), Vec::new(alloc), self, told)
+    }
 }

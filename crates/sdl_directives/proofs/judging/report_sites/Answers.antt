@@ -1,8 +1,9 @@
 use Rattle.sdl_directives.specs.Judged.{site_faults}
 use Rattle.sdl_directives.specs.Sites.{site_value}
+use Rattle.sdl_directives.specs.Known.{definitions_of}
 use Rattle.sdl_directives.proofs.Earlier.{reports_next}
 use Rattle.sdl_directives.proofs.judging.report_sites.Goals as goal
 
 pub loop-site-preserved : goal.loop-site-preserved
 loop-site-preserved c =
-    reports_next (λ s. site_faults c.args.document.now c.args.standard.now (site_value s)) c.args.sites.now c.loop-site.site-index c.site-item.result _ _ _ _ c.loop-site-test.true c.site-item.is c.loop-site.invariant c.in_ok-report_listed.ensures
+    reports_next (λ s. site_faults (definitions_of c.args.known.now) (site_value s)) c.args.sites.now c.loop-site.site-index c.site-item.result _ _ _ _ c.loop-site-test.true c.site-item.is c.loop-site.invariant c.in_ok-report_listed.ensures

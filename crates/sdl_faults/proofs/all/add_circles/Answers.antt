@@ -8,5 +8,5 @@ returns c =
     record {
       more = map (told_circle document) c.in_ok-circles.circles.items;
       told = record { circles = c.in_ok-circles.circles.items; found = c.in_ok-circles.ensures; told_is = refl };
-      all = c.in_ok-tell_circles.ensures ∙ ap (λ z. told_values c.args.told.now.items ++ map (told_circle document) z) c.as_slice.ensures.value;
+      all = c.in_ok-tell_each.ensures ∙ ap (λ z. told_values c.args.told.now.items ++ map (told_circle document) z) c.as_slice.ensures.value;
     }

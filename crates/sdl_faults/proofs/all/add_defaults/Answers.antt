@@ -18,6 +18,6 @@ returns c =
         none = c.in_ok-faults.ensures.none;
         told_is = refl;
       };
-      all = c.in_ok-tell_defaults.ensures ∙ ap (λ z. told_values c.args.told.now.items ++ z)
+      all = c.in_ok-tell_each.ensures ∙ ap (λ z. told_values c.args.told.now.items ++ z)
           (ap (map (λ f. told_default document (default_fault f))) c.as_slice.ensures.value ∙ mapped-twice (told_default document) default_fault c.in_ok-faults.faults.items);
     }

@@ -14,6 +14,6 @@ returns c =
     record {
       more = map (told_fault document) (all_faults schema ++ flat_map directive_faults directives);
       told = record { directives = directives; are_directives = record { all = moved; sorted = sorted }; told_is = refl };
-      all = c.in_ok-tell_faults.ensures ∙ ap (λ z. told_values c.args.told.now.items ++ z)
+      all = c.in_ok-tell_each.ensures ∙ ap (λ z. told_values c.args.told.now.items ++ z)
           (ap (map (λ f. told_fault document (fault_value f))) c.as_slice.ensures.value ∙ mapped-twice (told_fault document) fault_value c.in_ok-faults.faults.items ∙ ap (map (told_fault document)) is);
     }

@@ -1,0 +1,34 @@
+//! Each request for memory refused in turn, where a schema is judged.
+use graphql_reader::read_type_system;
+use sdl_directives::STANDARD_DIRECTIVES;
+use sdl_faults::text_faults;
+use sdl_reader::{SchemaReadError, read_schema};
+use std::alloc::Global;
+
+/// Texts, and how many faults each has.
+const TEXTS: [(&str, usize); 3] = [
+    ("type Query { a(b: Int = 1): Int @deprecated }", 0),
+    ("input A { b: B! } input B { a: A! = {} } type Query { a: Int @c }", 3),
+    ("directive @a(b: Int @a(b: true)) on ARGUMENT_DEFINITION type Query { a: Int }", 2),
+];
+
+/// Run with each request for memory refused in turn, a schema has as many faults as expected, or out of memory comes.
+#[test]
+fn a_refused_request_hides_no_fault(rt: HostRuntime) {
+    for (text, count) in TEXTS {
+        let is_steady = match fault_count(rt.alloc(), text) {
+            Ok(found) => found == count,
+            Err(SchemaReadError::OutOfMemory) => true,
+            Err(_) => false,
+        };
+        assert!(rt; is_steady);
+    }
+}
+
+fn fault_count(alloc: Global, text: &str) -> Result<usize, SchemaReadError<'_>> {
+    let document = read_type_system(alloc, text)?;
+    let standard = read_type_system(alloc, STANDARD_DIRECTIVES)?;
+    let schema = read_schema(alloc, text)?;
+    let told = text_faults(alloc, document.as_slice(), standard.as_slice(), &schema)?;
+    Ok(told.len())
+}
