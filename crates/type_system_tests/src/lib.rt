@@ -1,15 +1,10 @@
-//! Tests of the crate `type_system`: for each rule a schema that keeps it and one that does not.
+//! Tests of the crates `type_system` and `type_system_validity`: what no text of a schema can say. The program
+//! `fault_rows` has a right schema and a wrong one for each other rule.
 #![tactic(auto)]
 
 #[cfg(test)]
-mod defaults;
+mod directives;
 #[cfg(test)]
-mod deprecated;
+mod enums;
 #[cfg(test)]
-mod inputs;
-#[cfg(test)]
-mod interfaces;
-#[cfg(test)]
-mod schemas;
-#[cfg(test)]
-mod single;
+mod told;
