@@ -23,7 +23,7 @@ use type_system_report::Fault;
 /// A fault of which something is told.
 pub(crate) trait Tell {
     // Its places in a document, and its text.
-    ghost told: { List TypeSystemDefinition → Self → ToldFault };
+    ghost telling: { List TypeSystemDefinition → Self → ToldFault };
 
     /// Appends what is told.
     ///
@@ -37,7 +37,7 @@ pub(crate) trait Tell {
         told: &mut Vec<LocatedFault>,
     ) -> Result<(), OutOfMemory>
         ensures { OnOk result (told_values told.new.items
-            ≡ told_values told.old.items ++ Self.told document.now self.now ∷ []) };
+            ≡ told_values told.old.items ++ Self.telling document.now self.now ∷ []) };
 }
 
 /// Appends what is told of these faults.
@@ -48,7 +48,7 @@ pub(crate) fn tell_each<F: Tell>(
     told: &mut Vec<LocatedFault>,
 ) -> Result<(), OutOfMemory>
     ensures { OnOk result (told_values told.new.items ≡ told_values told.old.items
-        ++ map (F.told document.now) faults.now) }
+        ++ map (F.telling document.now) faults.now) }
 {
     for fault in faults {
         fault.tell(alloc, document, told)?;
@@ -57,7 +57,7 @@ pub(crate) fn tell_each<F: Tell>(
 }
 
 impl Tell for Fault<'_> {
-    ghost told = { λ document f. told_fault document (fault_value f) };
+    ghost telling = { λ document f. told_fault document (fault_value f) };
 
     fn tell(
         &self,
@@ -70,7 +70,7 @@ impl Tell for Fault<'_> {
 }
 
 impl Tell for DefaultFault<'_> {
-    ghost told = { λ document f. told_default document (default_fault f) };
+    ghost telling = { λ document f. told_default document (default_fault f) };
 
     fn tell(
         &self,
@@ -83,7 +83,7 @@ impl Tell for DefaultFault<'_> {
 }
 
 impl Tell for InputCircle<'_> {
-    ghost told = { told_circle };
+    ghost telling = { told_circle };
 
     fn tell(
         &self,
@@ -98,7 +98,7 @@ impl Tell for InputCircle<'_> {
 }
 
 impl Tell for PlacedDirectiveFault<'_> {
-    ghost told = { λ document f. told_use (use_value f) };
+    ghost telling = { λ document f. told_use (use_value f) };
 
     fn tell(
         &self,
@@ -111,7 +111,7 @@ impl Tell for PlacedDirectiveFault<'_> {
 }
 
 impl Tell for ValueFault<'_> {
-    ghost told = { λ document f. told_given (value_fault f) };
+    ghost telling = { λ document f. told_given (value_fault f) };
 
     fn tell(
         &self,
@@ -124,7 +124,7 @@ impl Tell for ValueFault<'_> {
 }
 
 impl Tell for DirectiveCircle<'_> {
-    ghost told = { λ document c. told_directive_circle c };
+    ghost telling = { λ document c. told_directive_circle c };
 
     fn tell(
         &self,

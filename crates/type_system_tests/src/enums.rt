@@ -15,6 +15,10 @@ use type_system_validity::{has_valid_definitions, is_valid_type_system};
 
 const ROOT: [ObjectRow; 1] = [("QueryRoot", &[], &[("name", "String", &[])])];
 
+fn scalar_check() -> DefaultCheck {
+    DefaultCheck::with_token(check_string, refuse_token)
+}
+
 fn enum_of(alloc: Global, values: &[&str]) -> Result<MetaType, OutOfMemory> {
     let mut listed = Vec::new(alloc);
     for value in values {
@@ -25,8 +29,7 @@ fn enum_of(alloc: Global, values: &[&str]) -> Result<MetaType, OutOfMemory> {
 }
 
 fn types_of(alloc: Global, values: &[&str]) -> Result<Vec<MetaType>, OutOfMemory> {
-    let check = DefaultCheck::with_token(check_string, refuse_token);
-    let mut types = common(alloc, check, check)?;
+    let mut types = common(alloc, scalar_check(), scalar_check())?;
     add_objects(alloc, &mut types, &ROOT)?;
     types.push(enum_of(alloc, values)?)?;
     Ok(types)
