@@ -20,7 +20,7 @@ below it, in ascending order of their paths; links to directories are not follow
 judged once. On a terminal text is coloured, unless the environment variable NO_COLOR is set and not empty.
 Lines and columns count from 1, columns in characters. In a file of variables a string may also be an enum value,
 and a number without fraction and exponent is an integer.
-With --together, JSON has only those locations of an error that are in the file of its first one.
+Of an error with locations in several files, JSON has only those in the file of its first one.
 
 Exit status: 0 for no errors, 1 for errors, 2 for invalid arguments, a file that can't be read, a syntax error,
 an invalid schema, or out of memory. What ends with 2 is reported on the standard error. With --format json or github,

@@ -40,9 +40,9 @@ issue_command sources issue =
     codes "::error file=" ++ (property_text (path_in sources issue.file)
     ++ (place_properties sources issue.places.items ++ (codes "::" ++ line (message_text (string_bytes issue.message)))))
 
--- a fault is an issue of its own file alone
+-- a fault is an issue of its own files
 abbrev pub fault_command : Fault → List ℕ
-fault_command fault = issue_command (fault.source ∷ []) fault.issue
+fault_command fault = issue_command fault.sources.items fault.issue
 
 -- the faults and then the errors, each in order
 abbrev pub github_text : List Fault → List Source → List Issue → List ℕ

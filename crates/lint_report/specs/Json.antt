@@ -1,6 +1,7 @@
 -- Errors as JSON: the tokens of the text, which the crate `json` lays out and escapes (RFC 8259).
-use Rattle.std.specs.Prelude.{◌==◌, ℕ, List, [], ◌∷◌, ◌++◌, codes, flat_map, if◌then◌else◌, string_bytes}
+use Rattle.std.specs.Prelude.{ℕ, List, [], ◌∷◌, ◌++◌, codes, flat_map, if◌then◌else◌, string_bytes}
 use Rattle.std.specs.Fmt.{decimal}
+use Rattle.std.specs.Str.{bytes_eq}
 use Rattle.json.specs.Layout.{pretty}
 use Rattle.json.specs.Token.{Token, begin_array, begin_object, end_array, end_object, key, number, string}
 use Rattle.lint_report.specs.declared.faults.Fault.{Fault}
@@ -22,11 +23,11 @@ location_tokens sources place =
     begin_object ∷ number_member (codes "line") (told_line place)
     ++ number_member (codes "column") (told_column sources place) ++ end_object ∷ []
 
--- a place, if it is in the file
+-- a place, if its file has the same path
 abbrev pub told_locations : List Source → ℕ → Place → List Token
-told_locations sources file place = if place.file == file then location_tokens sources place else []
+told_locations sources file place = if bytes_eq (path_in sources place.file) (path_in sources file) then location_tokens sources place else []
 
--- the places in the file, as a list
+-- the places in that file, as a list
 abbrev pub locations_tokens : List Source → ℕ → List Place → List Token
 locations_tokens sources file places = begin_array ∷ flat_map (told_locations sources file) places ++ end_array ∷ []
 
@@ -37,9 +38,9 @@ issue_tokens sources issue =
     ++ text_member (codes "message") (string_bytes issue.message)
     ++ key (codes "locations") ∷ locations_tokens sources issue.file issue.places.items ++ end_object ∷ []
 
--- a fault is an issue of its own file alone
+-- a fault is an issue of its own files
 abbrev pub fault_tokens : Fault → List Token
-fault_tokens fault = issue_tokens (fault.source ∷ []) fault.issue
+fault_tokens fault = issue_tokens fault.sources.items fault.issue
 
 -- the faults and then the errors, each in order, as a list
 abbrev pub report_tokens : List Fault → List Source → List Issue → List Token

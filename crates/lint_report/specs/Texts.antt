@@ -129,9 +129,9 @@ pub record IsTextReport (coloured : Bool) (sources : List Source) (issues : List
   pub each : AllZip (IsIssueText coloured sources) issues texts
   pub text_is : text ≡ concat texts ++ last_line (length issues) (file_count issues) judged unjudged
 
--- why files could not be judged: an error for each, which has the fault's file alone
+-- why files could not be judged: an error for each, in the fault's own files
 abbrev pub IsFaultText : Bool → Fault → List ℕ → Type 0
-IsFaultText coloured fault text = IsIssueText coloured (fault.source ∷ []) fault.issue text
+IsFaultText coloured fault text = IsIssueText coloured fault.sources.items fault.issue text
 
 abbrev pub AreFaultTexts : Bool → List Fault → List ℕ → Type 0
 AreFaultTexts coloured faults text = AreTexts (IsFaultText coloured) faults text

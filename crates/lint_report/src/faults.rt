@@ -1,7 +1,7 @@
 //! Why files could not be judged.
-ghost use Rattle.std.specs.Prelude.{◌≡◌, IfOk, Some, option_map};
+ghost use Rattle.std.specs.Prelude.{◌≡◌, IfOk, OnOk, Some, option_map};
 ghost use Rattle.std.specs.Option.{option_to_list};
-ghost use Rattle.lint_report.specs.Faults.{IsFault, of_file};
+ghost use Rattle.lint_report.specs.Faults.{HasPlaceMore, IsFault, IsSource, of_file};
 ghost use Rattle.lint_report.specs.Texts.{path_in, text_in};
 
 use crate::issues::Issue;
@@ -15,9 +15,10 @@ use std::fmt;
 /// Why a file could not be judged.
 #[derive(Debug, Drop)]
 pub struct Fault {
-    /// The file.
-    pub source: Source,
-    /// An error of this file alone.
+    /// The file, with the number 0, and then one source for each further place: the file of that place, and the text
+    /// in which its position is.
+    pub sources: Vec<Source>,
+    /// An error of the file, whose places are in these sources.
     pub issue: Issue,
 }
 
@@ -36,12 +37,12 @@ impl Fault {
     ) -> Result<Fault, OutOfMemory>
         ensures { IfOk result (IsFault path.now text.now position (M.output message.now)) }
     {
-        let path = String::from_str(alloc, path)?;
-        let text = String::from_str(alloc, text)?;
+        let mut sources = Vec::new(alloc);
+        sources.push(source_of(alloc, path, text)?)?;
         let message = format!(in alloc; "{message}")?;
         let places = places_of(alloc, position)?;
         Ok(Fault {
-            source: Source { path, text },
+            sources,
             issue: Issue {
                 file: 0,
                 message,
@@ -68,6 +69,35 @@ impl Fault {
         let (path, text) = (path_of(sources, place.file), text_of(sources, place.file));
         Fault::new(alloc, path, text, Some(place.position), message)
     }
+
+    /// Adds a further place: a position of a text, and the path of its file, which may be another one.
+    ///
+    /// # Errors
+    ///
+    /// Out of memory; the places are as they were then.
+    pub fn add_place(
+        &mut self,
+        alloc: Global,
+        path: &str,
+        text: &str,
+        position: SourcePosition,
+    ) -> Result<(), OutOfMemory>
+        ensures { OnOk result (HasPlaceMore path.now text.now position self.old self.new) }
+    {
+        let source = source_of(alloc, path, text)?;
+        let file = self.sources.len();
+        self.sources.push(source)?;
+        self.issue.places.push(Place { file, position })?;
+        Ok(())
+    }
+}
+
+fn source_of(alloc: Global, path: &str, text: &str) -> Result<Source, AllocError>
+    ensures { IfOk result (IsSource path.now text.now) }
+{
+    let path = String::from_str(alloc, path)?;
+    let text = String::from_str(alloc, text)?;
+    Ok(Source { path, text })
 }
 
 // The places of a fault, whose file has the number 0.

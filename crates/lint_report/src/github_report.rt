@@ -8,7 +8,6 @@ use crate::sources::{Place, Source};
 use crate::text_report::{path_of, told_column, told_line};
 use language::error::OutOfMemory;
 use std::alloc::{AllocError, Global};
-use std::slice;
 
 /// The faults and then the errors, each in order and each in a line as `::error file=path,line=1,col=1::message`. Of an
 /// error with several places it has the first.
@@ -34,7 +33,7 @@ fn write_faults(text: &mut String, faults: &[Fault]) -> Result<(), AllocError>
     ensures { OnOk result (string_bytes text.new ≡ string_bytes text.old ++ flat_map fault_command faults.now) }
 {
     for fault in faults {
-        write_issue(text, slice::from_ref(&fault.source), &fault.issue)?;
+        write_issue(text, fault.sources.as_slice(), &fault.issue)?;
     }
     Ok(())
 }

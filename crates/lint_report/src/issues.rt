@@ -10,10 +10,10 @@ use language::position::SourcePosition;
 use std::alloc::{AllocError, Global};
 use std::collections::BTreeSet;
 
-/// An error of a document.
+/// An error of a document, or of a file that could not be judged.
 #[derive(Debug, Drop)]
 pub struct Issue {
-    /// The 0-based number of its file: that of its first place.
+    /// The 0-based number of its file. Of an error of a document it is that of its first place.
     pub file: usize,
     pub message: String,
     /// Its places, in order.

@@ -11,11 +11,10 @@ use crate::text_report::{path_of, told_column, told_line};
 use json::{Pretty, Token};
 use language::error::OutOfMemory;
 use std::alloc::{AllocError, Global};
-use std::slice;
 
-/// The faults and then the errors, each in order, as a list of objects with `path`, `message` and `locations`. An error
-/// with places in several files has only those in the file of its first place. Lines and columns count from 1, columns
-/// in characters.
+/// The faults and then the errors, each in order, as a list of objects with `path`, `message` and `locations`. One with
+/// places in several files has only those in the file with its `path`. Lines and columns count from 1, columns in
+/// characters.
 ///
 /// # Errors
 ///
@@ -65,7 +64,7 @@ fn write_faults(alloc: Global, out: &mut Pretty, faults: &[Fault]) -> Result<(),
     ensures { OnOk result (out.new ≡ out.old ++ flat_map fault_tokens faults.now) }
 {
     for fault in faults {
-        write_issue(alloc, out, slice::from_ref(&fault.source), &fault.issue)?;
+        write_issue(alloc, out, fault.sources.as_slice(), &fault.issue)?;
     }
     Ok(())
 }
@@ -108,7 +107,7 @@ fn write_text(out: &mut Pretty, name: &str, text: &str) -> Result<(), AllocError
     out.token(Token::String(text))
 }
 
-// The places in the error's own file.
+// The places in the file of the error's path.
 fn write_locations(
     alloc: Global,
     out: &mut Pretty,
@@ -125,7 +124,7 @@ fn write_locations(
     Ok(())
 }
 
-// A place, if it is in this file.
+// A place, if it is in this file. Each place of a fault has a source of its own, so paths are compared.
 fn write_place(
     alloc: Global,
     out: &mut Pretty,
@@ -135,7 +134,7 @@ fn write_place(
 ) -> Result<(), AllocError>
     ensures { OnOk result (out.new ≡ out.old ++ told_locations sources.now file place) }
 {
-    if place.file != file {
+    if path_of(sources, place.file) != path_of(sources, file) {
         return Ok(());
     }
     write_location(alloc, out, sources, place)

@@ -7,6 +7,7 @@
 //! - the joined text has the files as they are, with a line feed between each two;
 //! - a position belongs to the last file that starts at or before it, and counts from there;
 //! - an issue has its error's message and positions, and belongs to the file of the first one;
+//! - a fault has its file, its message and its places, of which further ones may be in other files;
 //! - the reports as text, as JSON and for GitHub are pinned byte for byte, down to the line that counts errors and
 //!   files.
 #![tactic(auto)]

@@ -11,7 +11,7 @@ use crate::text_places::{characters_before, line_of};
 use crate::windows::write_window;
 use language::error::OutOfMemory;
 use std::alloc::{AllocError, Global};
-use std::{fmt, slice};
+use std::fmt;
 
 // A count in words: `no errors`, `1 error`, `2 errors`.
 #[derive(Clone, Copy, Debug)]
@@ -83,7 +83,7 @@ pub fn faults_text(
         write_issue(
             &mut text,
             is_coloured,
-            slice::from_ref(&fault.source),
+            fault.sources.as_slice(),
             &fault.issue,
         )?;
     }

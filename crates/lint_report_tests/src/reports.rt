@@ -63,6 +63,47 @@ const FAULTS_JSON: &str = "[
 ]
 ";
 
+// A fault with places in two files, and one of a file as a whole.
+const SPREAD_TEXT: &str = "a.graphql:1:11: error: A needs itself
+input A { b: B! }
+          ^
+b.graphql:5:6: note: also here
+\t\"\u{e9}\" c: C!
+\t    ^
+a.graphql:2:11: note: also here
+input C { a: A! }
+          ^
+c.graphql: error: entity not found
+";
+
+// The locations of the fault in the file of its first place.
+const SPREAD_JSON: &str = "[
+  {
+    \"path\": \"a.graphql\",
+    \"message\": \"A needs itself\",
+    \"locations\": [
+      {
+        \"line\": 1,
+        \"column\": 11
+      },
+      {
+        \"line\": 2,
+        \"column\": 11
+      }
+    ]
+  },
+  {
+    \"path\": \"c.graphql\",
+    \"message\": \"entity not found\",
+    \"locations\": []
+  }
+]
+";
+
+const SPREAD_GITHUB: &str = "::error file=a.graphql,line=1,col=11::A needs itself
+::error file=c.graphql::entity not found
+";
+
 const GITHUB: &str = "::error file=c%3A 1%2C2.graphql,line=2,col=3::50%25 of%0D%0A\u{e9} is bad
 ::error file=d.graphql::entity not found
 ::error file=a.graphql,line=2,col=8::One \"place\"
@@ -160,6 +201,25 @@ fn faults(alloc: Global) -> Result<Vec<Fault>, OutOfMemory> {
     Ok(faults)
 }
 
+// A fault whose further places have their lines alone.
+fn spread(alloc: Global) -> Result<Fault, OutOfMemory> {
+    let text = "input A { b: B! }\ninput C { a: A! }";
+    let place = SourcePosition::new(10, 0, 10);
+    let mut fault = Fault::new(alloc, "a.graphql", text, Some(place), &"A needs itself")?;
+    let line = "\t\"\u{e9}\" c: C!";
+    fault.add_place(alloc, "b.graphql", line, SourcePosition::new(6, 4, 6))?;
+    let line = "input C { a: A! }";
+    fault.add_place(alloc, "a.graphql", line, SourcePosition::new(10, 1, 10))?;
+    Ok(fault)
+}
+
+fn spread_faults(alloc: Global) -> Result<Vec<Fault>, OutOfMemory> {
+    let mut faults = Vec::new(alloc);
+    faults.push(spread(alloc)?)?;
+    faults.push(Fault::new(alloc, "c.graphql", "", None, &"entity not found")?)?;
+    Ok(faults)
+}
+
 #[test]
 fn json(rt: HostRuntime) {
     let alloc = rt.alloc();
@@ -182,6 +242,18 @@ fn faults_are_told(rt: HostRuntime) {
     assert_eq!(rt; text.as_str(), FAULTS_COLOURED);
     let json = json_report(alloc, faults.as_slice(), &[], &[]).expect(&rt, "memory");
     assert_eq!(rt; json.as_str(), FAULTS_JSON);
+}
+
+#[test]
+fn faults_have_further_places(rt: HostRuntime) {
+    let alloc = rt.alloc();
+    let faults = spread_faults(alloc).expect(&rt, "memory");
+    let text = faults_text(alloc, false, faults.as_slice()).expect(&rt, "memory");
+    assert_eq!(rt; text.as_str(), SPREAD_TEXT);
+    let json = json_report(alloc, faults.as_slice(), &[], &[]).expect(&rt, "memory");
+    assert_eq!(rt; json.as_str(), SPREAD_JSON);
+    let told = github_report(alloc, faults.as_slice(), &[], &[]).expect(&rt, "memory");
+    assert_eq!(rt; told.as_str(), SPREAD_GITHUB);
 }
 
 #[test]

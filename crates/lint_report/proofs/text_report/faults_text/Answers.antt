@@ -6,7 +6,7 @@ use Rattle.lint_report.proofs.text_report.faults_text.Goals as goal
 -- the next fault was written
 pub loop-fault-preserved : goal.loop-fault-preserved
 loop-fault-preserved c = texts_more (IsFaultText c.args.is_coloured) c.args.faults.now c.loop-fault.fault-index c.fault-item.result c.fault-item.result [] _ _ (omega arith) c.fault-item.is c.loop-fault.invariant
-    (subst (λ sources. Adds (IsIssueText c.args.is_coloured sources c.fault-item.result.issue) (string_bytes c.loop-fault.text) (string_bytes c.write_issue.new.text)) c.from_ref.ensures.value c.in_ok-write_issue.ensures)
+    (subst (λ sources. Adds (IsIssueText c.args.is_coloured sources c.fault-item.result.issue) (string_bytes c.loop-fault.text) (string_bytes c.write_issue.new.text)) c.as_slice.ensures.value c.in_ok-write_issue.ensures)
 
 -- all were
 pub returns : goal.returns
