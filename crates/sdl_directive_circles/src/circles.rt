@@ -11,7 +11,7 @@ ghost use Rattle.sdl_directive_circles.specs.Uses.{directive_name};
 use crate::graph::{References, references_in};
 use crate::names::NameOf;
 use crate::places::place_of;
-use graph_ways::way_back;
+use graph_ways::{Way, way_back};
 use graphql_reader::type_system::{DirectiveDefinition, TypeSystemDefinition};
 use language::error::OutOfMemory;
 use language::position::SourcePosition;
@@ -111,8 +111,8 @@ fn circle_from<'d, 't>(
     requires place { place_of references.now.places (directive_name defined.now) ≡ Some root }
     ensures { IfOk result (λ told. IsToldOf document.now defined.now (option_map circle_value told)) }
 {
-    let found = way_back(alloc, references.nodes.as_slice(), root)?;
-    match found.links {
+    let Way { links, .. } = way_back(alloc, references.nodes.as_slice(), root)?;
+    match links {
         Some(links) => {
             let way = names_on(alloc, document, links.as_slice())?;
             Ok(Some(DirectiveCircle {
