@@ -9,7 +9,9 @@ use Rattle.type_system_circles.specs.declared.graph.Edge.{Edge}
 use Rattle.type_system_circles.specs.declared.graph.Link.{Link}
 use Rattle.type_system_circles.specs.declared.graph.Node.{Node}
 use Rattle.type_system_circles.specs.Graph.{Stands, edges_of}
-use Rattle.sdl_directive_circles.specs.Graph.{AddsLinks, AreBare, link}
+use Rattle.sdl_directive_circles.specs.declared.places.Places.{Places}
+use Rattle.sdl_directive_circles.specs.Graph.{AddsLinks, AreBare, AreWithin, link, links_between, place_by}
+use Rattle.sdl_directive_circles.specs.Uses.{Name}
 use Rattle.sdl_directive_circles.proofs.Lists.{flat_next}
 
 pub adds_none : (nodes : List Node) → AddsLinks [] nodes nodes
@@ -99,3 +101,12 @@ bare_more count nodes new n is empty h = record {
               let none : m.edges.items ≡ [] = ap (λ (x : Node). x.edges.items) (sym last.1) ∙ empty in
               none_some l.edge (subst (λ (es : List Edge). slice_get es s.0 ≡ Some l.edge) none own)
         ]
+
+-- the links of what has no place
+pub links_none : {T : Type 0} (place : T → Option ℕ) (us : List T) → flat_map (λ u. links_between None (place u)) us ≡ []
+links_none place [] = refl
+links_none place (u ∷ us) = links_none place us
+
+pub inside : (places : Places) (count : ℕ) → AreWithin places count → (o : Option Name) (v : ℕ) → place_by places o ≡ Some v → v < count
+inside places count h None v is = absurd (none_some v is)
+inside places count h (Some a) v is = h a v is

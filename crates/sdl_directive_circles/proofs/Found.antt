@@ -35,8 +35,8 @@ module _ (document : List TypeSystemDefinition) where
   none_told d (Some c) rest one e = absurd cc
 
   told_none : (d : DirectiveDefinition) (told : Option CircleValue) → IsToldOf document d told → (RefersToItself document d → ⊥) → option_to_list told ≡ []
-  told_none d None one no = refl
-  told_none d (Some c) one no = absurd (no (one.names, one.back))
+  told_none d None one never = refl
+  told_none d (Some c) one never = absurd (never (one.names, one.back))
 
   none_refers : (ds : List DirectiveDefinition) (cs : List CircleValue) → AreCirclesOf document ds cs → cs ≡ [] → All (λ d. RefersToItself document d → ⊥) ds
   none_refers [] cs is none = All-nil (λ d. RefersToItself document d → ⊥)
@@ -47,8 +47,8 @@ module _ (document : List TypeSystemDefinition) where
   refers_none : (ds : List DirectiveDefinition) (cs : List CircleValue) → AreCirclesOf document ds cs → All (λ d. RefersToItself document d → ⊥) ds → cs ≡ []
   refers_none [] cs is h = is
   refers_none (d ∷ ds) cs (told, rest, one, there, is) h =
-      let no = λ x. RefersToItself document x → ⊥ in
-      is ∙ ap (λ z. z ++ rest) (told_none d told one (All-head no d ds h)) ∙ refers_none ds rest there (All-tail no d ds h)
+      let never : DirectiveDefinition → Type 0 = λ x. RefersToItself document x → ⊥ in
+      is ∙ ap (λ z. z ++ rest) (told_none d told one (All-head never d ds h)) ∙ refers_none ds rest there (All-tail never d ds h)
 
   -- nothing is told if and only if none refers to itself
   pub iff_none : (ds : List DirectiveDefinition) (cs : List CircleValue) → AreCirclesOf document ds cs → (cs ≡ []) ↔ All (λ d. RefersToItself document d → ⊥) ds

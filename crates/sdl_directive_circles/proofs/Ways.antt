@@ -1,5 +1,5 @@
 -- Ways of references, by numbers and by names.
-use Rattle.std.proofs.Common.{◌≡◌, ℕ, ◌+◌, ◌<◌, List, [], ◌∷◌, ◌++◌, length, refl, sym, subst, ap, arith, Option, None, Some, slice_get, ◌∙◌}
+use Rattle.std.proofs.Common.{◌≡◌, ℕ, ◌+◌, ◌<◌, List, [], ◌∷◌, ◌++◌, length, refl, sym, subst, ap, arith, Option, None, Some, inl, inr, slice_get, ◌∙◌}
 use Rattle.std.specs.List.{Contains, flat_map}
 use Rattle.std.specs.Option.{option_map_or}
 use Rattle.fragment_graph.proofs.Lists.{contains_get, contains_none, contains_one, none_some, one_contains, same_item, same_some}
@@ -13,7 +13,7 @@ use Rattle.type_system_circles.specs.Graph.{IsGraph, IsWalk, Stands}
 use Rattle.sdl_directive_circles.specs.declared.graph.References.{References}
 use Rattle.sdl_directive_circles.specs.declared.places.Places.{Places}
 use Rattle.sdl_directive_circles.specs.Circles.{IsWay, IsWayBack, RefersToItself, told_name}
-use Rattle.sdl_directive_circles.specs.Graph.{AddsLinks, AreBare, HasPlaces, HasReferences, link, link_told, links_between, links_of, place_by, place_of}
+use Rattle.sdl_directive_circles.specs.Graph.{AddsLinks, AreBare, HasPlaces, HasReferences, definition_told, link, link_told, links_between, links_of, place_by, place_of}
 use Rattle.sdl_directive_circles.specs.Uses.{Name, RefersTo, defined_name, directive_name, uses_of}
 use Rattle.sdl_directive_circles.proofs.Lists.{flat_real, flat_whole}
 use Rattle.sdl_directive_circles.proofs.Placing.{within}
@@ -36,9 +36,6 @@ between_real (Some v) None l c = absurd (contains_none l c)
 between_real None p l c = absurd (contains_none l c)
 
 module _ (document : List TypeSystemDefinition) (r : References) (has : HasReferences document r) where
-  nodes : List Node
-  nodes = r.nodes.items
-
   -- what a link stands for
   record IsReference (l : Link) : Type 0 where
     of : Name
@@ -47,7 +44,7 @@ module _ (document : List TypeSystemDefinition) (r : References) (has : HasRefer
     to_place : place_of r.places to ≡ Some l.edge.target
     refers : RefersTo document of to
 
-  reference : (l : Link) → Stands nodes l → IsReference l
+  reference : (l : Link) → Stands r.nodes.items l → IsReference l
   reference l s =
       let x = flat_real (links_of r.places) document l (has.real l s) in
       let u = flat_real (λ (u : Name). links_between (place_by r.places (defined_name x.0)) (place_of r.places u)) (uses_of x.0) l x.2 in
@@ -59,7 +56,7 @@ module _ (document : List TypeSystemDefinition) (r : References) (has : HasRefer
       step x listed u used to None is from = absurd (none_some l.from from)
       step x listed u used to (Some a) is from = record { of = a; to = u; from_place = from; to_place = to; refers = (x, listed, is, used) }
 
-  linked : (a b : Name) (v w : ℕ) → RefersTo document a b → place_of r.places a ≡ Some v → place_of r.places b ≡ Some w → Stands nodes (link v w)
+  linked : (a b : Name) (v w : ℕ) → RefersTo document a b → place_of r.places a ≡ Some v → place_of r.places b ≡ Some w → Stands r.nodes.items (link v w)
   linked a b v w (x, listed, is, used) from to =
       let own : place_by r.places (defined_name x) ≡ Some v = ap (place_by r.places) is ∙ from in
       let between : links_between (place_by r.places (defined_name x)) (place_of r.places b) ≡ link v w ∷ [] = (λ i. links_between (own i) (to i)) in
@@ -68,12 +65,12 @@ module _ (document : List TypeSystemDefinition) (r : References) (has : HasRefer
       (subst (λ (ls : List Link). Contains ls (link v w)) (sym between) (one_contains (link v w)))))
 
   -- each edge leads to a node
-  pub is_graph : IsGraph nodes
+  pub is_graph : IsGraph r.nodes.items
   is_graph v k e h =
       let l : Link = record { from = v; edge = e } in
       let q = reference l (k, h) in
       let inside : e.target < length document = within document r.places has.places q.to e.target q.to_place in
-      let sized : length nodes ≡ length document = has.sized in
+      let sized : length r.nodes.items ≡ length document = has.sized in
       omega (arith, inside, sized)
 
   -- two names have two places
@@ -88,11 +85,11 @@ module _ (document : List TypeSystemDefinition) (r : References) (has : HasRefer
   told_at : (b : Name) (l : Link) → place_of r.places b ≡ Some l.edge.target → link_told document l ≡ told_name b
   told_at b l to =
       let x = has.places.real b l.edge.target to in
-      ap (λ (o : Option TypeSystemDefinition). option_map_or (λ (y : TypeSystemDefinition). option_map_or told_name (defined_name y) []) o []) x.1
+      ap (λ (o : Option TypeSystemDefinition). option_map_or definition_told o []) x.1
       ∙ ap (λ (o : Option Name). option_map_or told_name o []) x.2
 
   -- a walk is a way, with the same directives
-  way : (a b : Name) (v w : ℕ) (ls : List Link) → place_of r.places a ≡ Some v → place_of r.places b ≡ Some w → IsWalk nodes v ls w
+  way : (a b : Name) (v w : ℕ) (ls : List Link) → place_of r.places a ≡ Some v → place_of r.places b ≡ Some w → IsWalk r.nodes.items v ls w
       → (xs : List Name) × IsWay document a xs b × (flat_map (link_told document) ls ≡ flat_map told_name xs) × (length xs ≡ length ls)
   way a b v w [] at_a at_b h = ([], one_name a b v at_a (at_b ∙ ap (λ (u : ℕ). Some u) (sym h)), refl, refl)
   way a b v w (l ∷ ls) at_a at_b h =
@@ -117,7 +114,7 @@ module _ (document : List TypeSystemDefinition) (r : References) (has : HasRefer
 
   -- and a way a walk
   walk : (a b : Name) (v w : ℕ) (xs : List Name) → place_of r.places a ≡ Some v → place_of r.places b ≡ Some w → IsWay document a xs b
-      → (ls : List Link) × IsWalk nodes v ls w × (length ls ≡ length xs)
+      → (ls : List Link) × IsWalk r.nodes.items v ls w × (length ls ≡ length xs)
   walk a b v w [] at_a at_b h = ([], same_some v w (sym at_a ∙ ap (place_of r.places) h ∙ at_b), refl)
   walk a b v w (x ∷ xs) at_a at_b h =
       let u = placed_on x b w xs at_b h.1 in
@@ -136,14 +133,14 @@ module _ (document : List TypeSystemDefinition) (r : References) (has : HasRefer
 
     module _ (root : ℕ) (at : place_of r.places (directive_name d) ≡ Some root) where
       -- no way back by numbers is none by names
-      pub no_way : numbers.HasNoWayBack nodes root → RefersToItself document d → ⊥
+      pub no_way : numbers.HasNoWayBack r.nodes.items root → RefersToItself document d → ⊥
       no_way none (xs, back) =
           let w = walk (directive_name d) (directive_name d) root root xs at at back.way in
           let some : 0 < length xs = back.some in
           none w.0 (record { walk = w.1; some = omega (arith, some, w.2) })
 
       -- and one by numbers is one by names
-      pub way_found : (ls : List Link) → numbers.IsWayBack nodes root ls → (xs : List Name) × IsWayBack document (directive_name d) xs × (flat_map (link_told document) ls ≡ flat_map told_name xs)
+      pub way_found : (ls : List Link) → numbers.IsWayBack r.nodes.items root ls → (xs : List Name) × IsWayBack document (directive_name d) xs × (flat_map (link_told document) ls ≡ flat_map told_name xs)
       way_found ls back =
           let w = way (directive_name d) (directive_name d) root root ls at at back.walk in
           let some : 0 < length ls = back.some in

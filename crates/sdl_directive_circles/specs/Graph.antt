@@ -5,7 +5,6 @@ use Rattle.std.specs.List.{Contains, flat_map}
 use Rattle.std.specs.Option.{option_map_or}
 use Rattle.graphql_reader.specs.declared.type_system.TypeSystemDefinition.{TypeSystemDefinition}
 use Rattle.name_tables.specs.Maps.{value_of}
-use Rattle.sdl_directives.specs.Known.{directive_of}
 use Rattle.type_system_circles.specs.declared.graph.Link.{Link}
 use Rattle.type_system_circles.specs.declared.graph.Node.{Node}
 use Rattle.type_system_circles.specs.Graph.{Stands}
@@ -80,6 +79,10 @@ pub record HasReferences (document : List TypeSystemDefinition) (r : References)
   pub real : (l : Link) → Stands r.nodes.items l → Contains (flat_map (links_of r.places) document) l
   pub whole : (l : Link) → Contains (flat_map (links_of r.places) document) l → Stands r.nodes.items l
 
--- the directive to whose place a link leads
+-- the name of a directive that is defined
+abbrev pub definition_told : TypeSystemDefinition → List (List ℕ)
+definition_told x = option_map_or told_name (defined_name x) []
+
+-- that of the one to whose place a link leads
 abbrev pub link_told : List TypeSystemDefinition → Link → List (List ℕ)
-link_told document l = option_map_or (λ x. option_map_or told_name (defined_name x) []) (slice_get document l.edge.target) []
+link_told document l = option_map_or definition_told (slice_get document l.edge.target) []

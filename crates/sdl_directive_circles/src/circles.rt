@@ -5,7 +5,7 @@ ghost use Rattle.std.specs.List.{flat_map};
 ghost use Rattle.language.specs.References.{list_copied};
 ghost use Rattle.sdl_directives.specs.Known.{directive_of};
 ghost use Rattle.sdl_directive_circles.specs.Circles.{AddsCircles, AreCircles, HasNoDirectiveCircle, IsToldOf, circle_text, circle_value, circle_values, steps_text};
-ghost use Rattle.sdl_directive_circles.specs.Graph.{HasReferences, link_told, place_of};
+ghost use Rattle.sdl_directive_circles.specs.Graph.{HasReferences, definition_told, link_told, place_of};
 ghost use Rattle.sdl_directive_circles.specs.Uses.{directive_name};
 
 use crate::graph::{References, references_in};
@@ -145,12 +145,30 @@ fn add_name<'d, 't>(
     document: &'d [TypeSystemDefinition<'t>],
     link: Link,
 ) -> Result<(), OutOfMemory>
-    ensures { OnOk result (list_copied names.new.items ≡ list_copied names.old.items ++ link_told document.now link) }
+    ensures { OnOk result (list_copied names.new.items ≡ list_copied names.old.items
+        ++ link_told document.now link) }
 {
-    if let Some(TypeSystemDefinition::Directive(defined)) = document.get(link.edge.target) {
-        names.push(defined.item.name.item)?;
+    match document.get(link.edge.target) {
+        Some(definition) => add_directive(names, definition),
+        None => Ok(()),
     }
-    Ok(())
+}
+
+fn add_directive<'d, 't>(
+    names: &mut Vec<&'d str>,
+    definition: &'d TypeSystemDefinition<'t>,
+) -> Result<(), OutOfMemory>
+    ensures { OnOk result (list_copied names.new.items ≡ list_copied names.old.items
+        ++ definition_told definition.now) }
+{
+    match definition {
+        TypeSystemDefinition::Directive(defined) => {
+            names.push(defined.item.name.item)?;
+            Ok(())
+        }
+        TypeSystemDefinition::Schema(_) => Ok(()),
+        TypeSystemDefinition::Type(_) => Ok(()),
+    }
 }
 
 /// What is wrong, in a sentence without a period.

@@ -108,7 +108,7 @@ fn add_link(
     nodes: &mut Vec<Node>,
 ) -> Result<(), OutOfMemory>
     requires { from < length nodes.old.items }
-    ensures { OnOk result (AddsLinks (links_between (Some from) (place_of places.now (name_value name)))
+    ensures { OnOk result (AddsLinks (links_between (Some from) (place_of places.now (name_value name.entry)))
         nodes.old.items nodes.new.items) }
 {
     match place_of(places, name) {

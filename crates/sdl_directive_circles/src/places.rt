@@ -60,7 +60,7 @@ fn note_definition<'d, 't>(
 
 /// The place of a directive or a type, if the document has it.
 pub(crate) fn place_of(places: &Places<'_>, name: Name<'_>) -> Option<usize>
-    ensures { result ≡ place_of places.now (name_value name) }
+    ensures { result ≡ place_of places.now (name_value name.entry) }
 {
     match name {
         NameOf::Directive(name) => value_of(&places.directives, name),
