@@ -1,0 +1,6 @@
+mod Adding
+mod Found
+mod Lists
+mod Placing
+mod Text
+mod Ways
