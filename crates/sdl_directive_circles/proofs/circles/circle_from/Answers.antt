@@ -17,7 +17,7 @@ returns-in_ok-way-in-Some c =
     let document = c.args.document.now in
     let root = c.args.root in
     let links = c.in-Some.links.items in
-    let back = subst (λ (o : Option (Vec Link Global)). IfSome o (λ ls. IsWayBack c.as_slice.result.now root ls.items)) (sym c.in_ok-links.links-is ∙ c.in-Some.is) c.in_ok-links.ensures.real in
+    let back = subst (λ (o : Option (Vec Link Global)). IfSome o (λ ls. IsWayBack c.as_slice.result.now root ls.items)) (c.in-Some.is) c.in_ok-links.ensures.real in
     let w = way_found document c.args.references.now c.requires.references c.args.defined.now root c.requires.place links (subst (λ g. IsWayBack g root links) c.as_slice.ensures.value back) in
     record {
       position = refl;
@@ -30,4 +30,4 @@ returns-in_ok-way-in-Some c =
 pub returns-in-None : goal.returns-in-None
 returns-in-None c =
     no_way c.args.document.now c.args.references.now c.requires.references c.args.defined.now c.args.root c.requires.place
-    (subst (λ g. HasNoWayBack g c.args.root) c.as_slice.ensures.value (c.in_ok-links.ensures.none (sym c.in_ok-links.links-is ∙ c.in-None.is)))
+    (subst (λ g. HasNoWayBack g c.args.root) c.as_slice.ensures.value (c.in_ok-links.ensures.none (c.in-None.is)))
