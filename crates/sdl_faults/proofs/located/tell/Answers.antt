@@ -9,6 +9,6 @@ returns g c =
       fault = fault;
       position_is = refl;
       others_are = refl;
-      message_is = c.in_ok-message.ensures;
+      message_is = c.in_ok-message.ensures.ok;
       all = c.in_ok-push.ensures.items;
     }
