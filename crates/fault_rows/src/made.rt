@@ -36,7 +36,10 @@ fn add_group(text: &mut String, group: usize) -> Result<(), AllocError> {
 fn add_object(text: &mut String, group: usize) -> Result<(), AllocError> {
     writeln!(text, "type Thing{group} implements Named & Node {{")?;
     text.push_str("  id: ID!\n  name: String!\n  created: DateTime! @cost(points: 2)\n")?;
-    writeln!(text, "  kind: Kind{group}!\n  node: Node @deprecated(reason: \"gone\")")?;
+    writeln!(
+        text,
+        "  kind: Kind{group}!\n  node: Node @deprecated(reason: \"gone\")"
+    )?;
     writeln!(
         text,
         "  others(first: Int = 10, after: String, filter: Filter{group} = {{ kind: OPEN }}): Connection{group}!\n}}"
@@ -44,8 +47,14 @@ fn add_object(text: &mut String, group: usize) -> Result<(), AllocError> {
 }
 
 fn add_connection(text: &mut String, group: usize) -> Result<(), AllocError> {
-    writeln!(text, "type Connection{group} {{ edges: [Edge{group}!]! pageInfo: PageInfo! }}")?;
-    writeln!(text, "type Edge{group} {{ node: Thing{group} cursor: String! }}")
+    writeln!(
+        text,
+        "type Connection{group} {{ edges: [Edge{group}!]! pageInfo: PageInfo! }}"
+    )?;
+    writeln!(
+        text,
+        "type Edge{group} {{ node: Thing{group} cursor: String! }}"
+    )
 }
 
 fn add_query(text: &mut String, groups: usize) -> Result<(), AllocError> {

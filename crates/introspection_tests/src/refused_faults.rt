@@ -8,8 +8,14 @@ use std::alloc::Global;
 /// Texts, and how many faults each has.
 const TEXTS: [(&str, usize); 3] = [
     ("type Query { a(b: Int = 1): Int @deprecated }", 0),
-    ("input A { b: B! } input B { a: A! = {} } type Query { a: Int @c }", 3),
-    ("directive @a(b: Int @a(b: true)) on ARGUMENT_DEFINITION type Query { a: Int }", 2),
+    (
+        "input A { b: B! } input B { a: A! = {} } type Query { a: Int @c }",
+        3,
+    ),
+    (
+        "directive @a(b: Int @a(b: true)) on ARGUMENT_DEFINITION type Query { a: Int }",
+        2,
+    ),
 ];
 
 /// Run with each request for memory refused in turn, a schema has as many faults as expected, or out of memory comes.

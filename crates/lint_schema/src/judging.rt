@@ -88,7 +88,13 @@ fn add_one(
         faults.new.items) }
 {
     let mut fault = first_told(alloc, sources, joined, located)?;
-    add_others(alloc, sources, joined, located.others.as_slice(), &mut fault)?;
+    add_others(
+        alloc,
+        sources,
+        joined,
+        located.others.as_slice(),
+        &mut fault,
+    )?;
     faults.push(fault)?;
     Ok(())
 }

@@ -18,6 +18,7 @@ use sdl_scalars::check::SourceCheck;
 use std::alloc::Global;
 
 type SourceSchema = SchemaTypeOf<SourceScalar, SourceCheck>;
+
 type TypeSystem<'t> = Vec<TypeSystemDefinition<'t>>;
 
 /// The schema of these files in this dialect, or `None` if there are faults. Those of the files are added to `faults`:
@@ -153,7 +154,10 @@ fn judge(
 }
 
 // The definitions of a text, and those of the directives that each text may use.
-fn documents_of(alloc: Global, text: &str) -> Result<(TypeSystem<'_>, TypeSystem<'_>), ReadError<'_>> {
+fn documents_of(
+    alloc: Global,
+    text: &str,
+) -> Result<(TypeSystem<'_>, TypeSystem<'_>), ReadError<'_>> {
     let document = read_type_system(alloc, text)?;
     let standard = read_type_system(alloc, STANDARD_DIRECTIVES)?;
     Ok((document, standard))

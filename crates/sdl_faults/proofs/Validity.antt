@@ -107,16 +107,16 @@ iff_valid document standard schema told tells =
     let first = tells.of_schema in
     let second = tells.of_directives in (
       λ e.
-        let all : first ++ second ≡ [] = none_before _ _ tells.all (ap told_values e) in
-        let right = right_if_none document standard schema second tells.are_of_directives (right_none first second all) in
-        record {
-          valid = valid_if_none document schema first tells.are_of_schema (left_none first second all);
-          directives = right.directives;
-          values = right.values;
-          circles = right.circles;
-        },
+          let all : first ++ second ≡ [] = none_before _ _ tells.all (ap told_values e) in
+          let right = right_if_none document standard schema second tells.are_of_directives (right_none first second all) in
+          record {
+            valid = valid_if_none document schema first tells.are_of_schema (left_none first second all);
+            directives = right.directives;
+            values = right.values;
+            circles = right.circles;
+          },
       λ v.
-        let one = none_if_valid document schema first tells.are_of_schema v.valid in
-        let two = none_if_right document standard schema second tells.are_of_directives (record { directives = v.directives; values = v.values; circles = v.circles }) in
-        none_mapped told_value told (none_moved _ _ tells.all (ap (λ z. z ++ second) one ∙ two)),
+          let one = none_if_valid document schema first tells.are_of_schema v.valid in
+          let two = none_if_right document standard schema second tells.are_of_directives (record { directives = v.directives; values = v.values; circles = v.circles }) in
+          none_mapped told_value told (none_moved _ _ tells.all (ap (λ z. z ++ second) one ∙ two)),
     )

@@ -106,7 +106,13 @@ impl Tell for PlacedDirectiveFault<'_> {
         _document: &[TypeSystemDefinition<'_>],
         told: &mut Vec<LocatedFault>,
     ) -> Result<(), OutOfMemory> {
-        tell(alloc, Some(self.position), Vec::new(alloc), &self.fault, told)
+        tell(
+            alloc,
+            Some(self.position),
+            Vec::new(alloc),
+            &self.fault,
+            told,
+        )
     }
 }
 

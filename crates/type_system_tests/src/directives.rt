@@ -28,7 +28,9 @@ fn judge(rt: &impl Abort, alloc: Global, locations: Vec<DirectiveLocation>, want
 fn directives_have_locations(rt: HostRuntime) {
     let alloc = rt.alloc();
     let mut locations = Vec::new(alloc);
-    locations.push(DirectiveLocation::Field).expect(&rt, "memory");
+    locations
+        .push(DirectiveLocation::Field)
+        .expect(&rt, "memory");
     judge(&rt, alloc, locations, "");
     judge(
         &rt,

@@ -37,7 +37,13 @@ fn types_of(alloc: Global, values: &[&str]) -> Result<Vec<MetaType>, OutOfMemory
 
 fn schema_of(alloc: Global, values: &[&str]) -> Result<SchemaType, SchemaError> {
     let types = types_of(alloc, values)?;
-    SchemaType::new(alloc, types, "QueryRoot", "_EmptyMutation", "_EmptySubscription")
+    SchemaType::new(
+        alloc,
+        types,
+        "QueryRoot",
+        "_EmptyMutation",
+        "_EmptySubscription",
+    )
 }
 
 // Asserts that a schema with an enum of these values has these faults, a line for each, and is valid where it has none.
