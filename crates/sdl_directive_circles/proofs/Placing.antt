@@ -1,5 +1,5 @@
 -- The places of names, as they are noted definition by definition.
-use Rattle.std.proofs.Common.{◌≡◌, ℕ, ◌+◌, ◌<◌, List, [], ◌∷◌, ◌++◌, Bool, arith, get_or, take, true, false, length, refl, sym, subst, ap, Option, None, Some, inl, inr, ◌⊎◌, if◌then◌else◌, slice_get, ◌∙◌}
+use Rattle.std.proofs.Common.{◌≡◌, ℕ, ◌+◌, ◌<◌, List, [], ◌∷◌, ◌++◌, Bool, arith, get_or, take, true, false, length, refl, sym, subst, ap, Option, None, Some, inl, inr, ◌⊎◌, if◌then◌else◌, ◌∙◌}
 use Rattle.std.specs.Str.{bytes_eq}
 use Rattle.std.proofs.lemmas.List.{length-take-le, take_more}
 use Rattle.std.proofs.lemmas.Option.{slice_get_within}
@@ -17,7 +17,8 @@ use Rattle.sdl_directive_circles.specs.Uses.{Name, defined_name}
 unvalued : (m : NameMap ℕ) (x : List ℕ) → index_of m x ≡ None → value_of m x ≡ None
 unvalued m x none = ap (λ (o : Option ℕ). value_at (entries_of m) o) none
 
-pub no_places : (places : Places) → ((x : List ℕ) → index_of places.directives x ≡ None) → ((x : List ℕ) → index_of places.types x ≡ None) → HasPlaces [] places
+pub no_places : (places : Places) → ((x : List ℕ) → index_of places.directives x ≡ None) → ((x : List ℕ) → index_of places.types x ≡ None)
+    → HasPlaces [] places
 no_places places directives types = record {
   real = λ a v h. absurd (none_some v (sym (unplaced a) ∙ h));
   whole = λ a v at. absurd (none_some at.0 at.1);
@@ -28,7 +29,11 @@ no_places places directives types = record {
     unplaced (n.Type x) = unvalued places.types x (types x)
 
 -- a name is noted in one of the maps
-module _ (own : List ℕ) (place : ℕ) (old new : NameMap ℕ) (noted : (other : List ℕ) → value_of new other ≡ or_else (value_of old other) (if bytes_eq own other then Some place else None)) where
+abbrev pub Notes : List ℕ → ℕ → NameMap ℕ → NameMap ℕ → Type 0
+Notes own place old new =
+    (other : List ℕ) → value_of new other ≡ or_else (value_of old other) (if bytes_eq own other then Some place else None)
+
+module _ (own : List ℕ) (place : ℕ) (old new : NameMap ℕ) (noted : Notes own place old new) where
   note_real : (x : List ℕ) (v : ℕ) → value_of new x ≡ Some v → (value_of old x ≡ Some v) ⊎ ((v ≡ place) × (x ≡ own))
   note_real x v h = step (value_of old x) (bytes_eq own x) refl refl (sym (noted x) ∙ h)
     where
@@ -54,25 +59,31 @@ module _ (own : List ℕ) (place : ℕ) (old new : NameMap ℕ) (noted : (other 
       )
 
 module _ (own : List ℕ) (place : ℕ) (old new : Places) where
-  pub directive_noted : ((other : List ℕ) → value_of new.directives other ≡ or_else (value_of old.directives other) (if bytes_eq own other then Some place else None)) → new.types ≡ old.types
+  pub directive_noted : Notes own place old.directives new.directives → new.types ≡ old.types
       → IsNotedAt (n.Directive own) place old new
   directive_noted noted same = record { real = real; kept = kept; noted = note_own own place old.directives new.directives noted }
     where
       real : (b : Name) (v : ℕ) → place_of new b ≡ Some v → (place_of old b ≡ Some v) ⊎ ((v ≡ place) × (b ≡ n.Directive own))
-      real (n.Directive x) v h = elim (note_real own place old.directives new.directives noted x v h) [ inl was ↦ inl was | inr e ↦ inr (e.0, ap (λ (y : List ℕ). n.Directive y) e.1) ]
+      real (n.Directive x) v h = elim (note_real own place old.directives new.directives noted x v h) [
+        | inl was ↦ inl was
+        | inr e ↦ inr (e.0, ap (λ (y : List ℕ). n.Directive y) e.1)
+      ]
       real (n.Type x) v h = inl (subst (λ (m : NameMap ℕ). value_of m x ≡ Some v) same h)
 
       kept : (b : Name) (v : ℕ) → place_of old b ≡ Some v → place_of new b ≡ Some v
       kept (n.Directive x) v h = note_kept own place old.directives new.directives noted x v h
       kept (n.Type x) v h = subst (λ (m : NameMap ℕ). value_of m x ≡ Some v) (sym same) h
 
-  pub type_noted : ((other : List ℕ) → value_of new.types other ≡ or_else (value_of old.types other) (if bytes_eq own other then Some place else None)) → new.directives ≡ old.directives
+  pub type_noted : Notes own place old.types new.types → new.directives ≡ old.directives
       → IsNotedAt (n.Type own) place old new
   type_noted noted same = record { real = real; kept = kept; noted = note_own own place old.types new.types noted }
     where
       real : (b : Name) (v : ℕ) → place_of new b ≡ Some v → (place_of old b ≡ Some v) ⊎ ((v ≡ place) × (b ≡ n.Type own))
       real (n.Directive x) v h = inl (subst (λ (m : NameMap ℕ). value_of m x ≡ Some v) same h)
-      real (n.Type x) v h = elim (note_real own place old.types new.types noted x v h) [ inl was ↦ inl was | inr e ↦ inr (e.0, ap (λ (y : List ℕ). n.Type y) e.1) ]
+      real (n.Type x) v h = elim (note_real own place old.types new.types noted x v h) [
+        | inl was ↦ inl was
+        | inr e ↦ inr (e.0, ap (λ (y : List ℕ). n.Type y) e.1)
+      ]
 
       kept : (b : Name) (v : ℕ) → place_of old b ≡ Some v → place_of new b ≡ Some v
       kept (n.Directive x) v h = subst (λ (m : NameMap ℕ). value_of m x ≡ Some v) (sym same) h
@@ -82,7 +93,8 @@ kept_at : (xs : List TypeSystemDefinition) (x : TypeSystemDefinition) (a : Name)
 kept_at xs x a v at = (at.0, get_more xs (x ∷ []) v at.0 at.1, at.2)
 
 -- the next definition of a list
-places_more : (xs : List TypeSystemDefinition) (x : TypeSystemDefinition) (old new : Places) → HasPlaces xs old → (o : Option Name) → defined_name x ≡ o → IsNoted o (length xs) old new
+places_more : (xs : List TypeSystemDefinition) (x : TypeSystemDefinition) (old new : Places) → HasPlaces xs old → (o : Option Name)
+    → defined_name x ≡ o → IsNoted o (length xs) old new
     → HasPlaces (xs ++ x ∷ []) new
 places_more xs x old new h None is same = subst (HasPlaces (xs ++ x ∷ [])) (sym same) (record {
   real = λ a v p. kept_at xs x a v (h.real a v p);
@@ -104,11 +116,13 @@ places_more xs x old new h (Some b) is noted = record {
   ];
 }
 
-pub places_next : (xs : List TypeSystemDefinition) (i : ℕ) (x d : TypeSystemDefinition) (old new : Places) → i < length xs → x ≡ get_or xs i d
+pub places_next : (xs : List TypeSystemDefinition) (i : ℕ) (x d : TypeSystemDefinition) (old new : Places) → i < length xs
+    → x ≡ get_or xs i d
     → HasPlaces (take i xs) old → IsNoted (defined_name x) i old new → HasPlaces (take (i + 1) xs) new
 places_next xs i x d old new room is h noted =
     let many : length (take i xs) ≡ i = length-take-le i xs (omega (arith, room)) in
-    let more : take (i + 1) xs ≡ take i xs ++ x ∷ [] = take_more xs i d room ∙ ap (λ (y : TypeSystemDefinition). take i xs ++ y ∷ []) (sym is) in
+    let more : take (i + 1) xs ≡ take i xs ++ x ∷ [] = take_more xs i d room ∙ ap (λ (y : TypeSystemDefinition). take i xs ++ y ∷ [])
+    (sym is) in
     subst (λ (ys : List TypeSystemDefinition). HasPlaces ys new) (sym more)
     (places_more (take i xs) x old new h (defined_name x) refl (subst (λ (k : ℕ). IsNoted (defined_name x) k old new) (sym many) noted))
 

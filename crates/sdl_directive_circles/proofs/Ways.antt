@@ -1,17 +1,15 @@
 -- Ways of references, by numbers and by names.
-use Rattle.std.proofs.Common.{◌≡◌, ℕ, ◌+◌, ◌<◌, List, [], ◌∷◌, ◌++◌, length, refl, sym, subst, ap, arith, Option, None, Some, inl, inr, slice_get, ◌∙◌}
+use Rattle.std.proofs.Common.{◌≡◌, ℕ, ◌<◌, List, [], ◌∷◌, ◌++◌, length, refl, sym, subst, ap, arith, Option, None, Some, inl, inr, slice_get, ◌∙◌}
 use Rattle.std.specs.List.{Contains, flat_map}
 use Rattle.std.specs.Option.{option_map_or}
 use Rattle.fragment_graph.proofs.Lists.{contains_get, contains_none, contains_one, none_some, one_contains, same_item, same_some}
 use Rattle.graph_ways.specs.Ways as numbers
 use Rattle.graphql_reader.specs.declared.type_system.DirectiveDefinition.{DirectiveDefinition}
 use Rattle.graphql_reader.specs.declared.type_system.TypeSystemDefinition.{TypeSystemDefinition}
-use Rattle.type_system_circles.specs.declared.graph.Edge.{Edge}
 use Rattle.type_system_circles.specs.declared.graph.Link.{Link}
 use Rattle.type_system_circles.specs.declared.graph.Node.{Node}
 use Rattle.type_system_circles.specs.Graph.{IsGraph, IsWalk, Stands}
 use Rattle.sdl_directive_circles.specs.declared.graph.References.{References}
-use Rattle.sdl_directive_circles.specs.declared.places.Places.{Places}
 use Rattle.sdl_directive_circles.specs.Circles.{IsWay, IsWayBack, RefersToItself, told_name}
 use Rattle.sdl_directive_circles.specs.Graph.{AddsLinks, AreBare, HasPlaces, HasReferences, definition_told, link, link_told, links_between, links_of, place_by, place_of}
 use Rattle.sdl_directive_circles.specs.Uses.{Name, RefersTo, defined_name, directive_name, uses_of}
@@ -19,7 +17,8 @@ use Rattle.sdl_directive_circles.proofs.Lists.{flat_real, flat_whole}
 use Rattle.sdl_directive_circles.proofs.Placing.{within}
 
 -- the graph of a document after its links were added
-pub made : (document : List TypeSystemDefinition) (r : References) (bare : List Node) → HasPlaces document r.places → AreBare (length document) bare
+pub made : (document : List TypeSystemDefinition) (r : References) (bare : List Node) → HasPlaces document r.places
+    → AreBare (length document) bare
     → AddsLinks (flat_map (links_of r.places) document) bare r.nodes.items → HasReferences document r
 made document r bare places empty adds = record {
   places = places;
@@ -51,15 +50,18 @@ module _ (document : List TypeSystemDefinition) (r : References) (has : HasRefer
       let both = between_real (place_by r.places (defined_name x.0)) (place_of r.places u.0) l u.2 in
       step x.0 x.1 u.0 u.1 both.1 (defined_name x.0) refl both.0
     where
-      step : (x : TypeSystemDefinition) → Contains document x → (u : Name) → Contains (uses_of x) u → place_of r.places u ≡ Some l.edge.target
+      step : (x : TypeSystemDefinition) → Contains document x → (u : Name) → Contains (uses_of x) u
+          → place_of r.places u ≡ Some l.edge.target
           → (o : Option Name) → defined_name x ≡ o → place_by r.places o ≡ Some l.from → IsReference l
       step x listed u used to None is from = absurd (none_some l.from from)
       step x listed u used to (Some a) is from = record { of = a; to = u; from_place = from; to_place = to; refers = (x, listed, is, used) }
 
-  linked : (a b : Name) (v w : ℕ) → RefersTo document a b → place_of r.places a ≡ Some v → place_of r.places b ≡ Some w → Stands r.nodes.items (link v w)
+  linked : (a b : Name) (v w : ℕ) → RefersTo document a b → place_of r.places a ≡ Some v → place_of r.places b ≡ Some w
+      → Stands r.nodes.items (link v w)
   linked a b v w (x, listed, is, used) from to =
       let own : place_by r.places (defined_name x) ≡ Some v = ap (place_by r.places) is ∙ from in
-      let between : links_between (place_by r.places (defined_name x)) (place_of r.places b) ≡ link v w ∷ [] = (λ i. links_between (own i) (to i)) in
+      let between : links_between (place_by r.places (defined_name x)) (place_of r.places b) ≡ link v w ∷ [] = λ i. links_between (own i)
+      (to i) in
       has.whole (link v w) (flat_whole (links_of r.places) document x (link v w) listed
       (flat_whole (λ (u : Name). links_between (place_by r.places (defined_name x)) (place_of r.places u)) (uses_of x) b (link v w) used
       (subst (λ (ls : List Link). Contains ls (link v w)) (sym between) (one_contains (link v w)))))
@@ -108,7 +110,8 @@ module _ (document : List TypeSystemDefinition) (r : References) (has : HasRefer
       let at = contains_get document x listed in
       has.places.whole a at.0 (x, at.1, is)
 
-  placed_on : (a b : Name) (w : ℕ) (xs : List Name) → place_of r.places b ≡ Some w → IsWay document a xs b → (v : ℕ) × (place_of r.places a ≡ Some v)
+  placed_on : (a b : Name) (w : ℕ) (xs : List Name) → place_of r.places b ≡ Some w → IsWay document a xs b
+      → (v : ℕ) × (place_of r.places a ≡ Some v)
   placed_on a b w [] at_b h = (w, ap (place_of r.places) h ∙ at_b)
   placed_on a b w (x ∷ xs) at_b h = placed a x h.0
 
@@ -140,7 +143,8 @@ module _ (document : List TypeSystemDefinition) (r : References) (has : HasRefer
           none w.0 (record { walk = w.1; some = omega (arith, some, w.2) })
 
       -- and one by numbers is one by names
-      pub way_found : (ls : List Link) → numbers.IsWayBack r.nodes.items root ls → (xs : List Name) × IsWayBack document (directive_name d) xs × (flat_map (link_told document) ls ≡ flat_map told_name xs)
+      pub way_found : (ls : List Link) → numbers.IsWayBack r.nodes.items root ls
+          → (xs : List Name) × IsWayBack document (directive_name d) xs × (flat_map (link_told document) ls ≡ flat_map told_name xs)
       way_found ls back =
           let w = way (directive_name d) (directive_name d) root root ls at at back.walk in
           let some : 0 < length ls = back.some in

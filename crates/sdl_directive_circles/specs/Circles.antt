@@ -59,7 +59,8 @@ module _ (document : List TypeSystemDefinition) where
   -- what is told of these directives, in their order
   abbrev pub AreCirclesOf : List DirectiveDefinition → List CircleValue → Type 0
   AreCirclesOf [] cs = cs ≡ []
-  AreCirclesOf (d ∷ ds) cs = (told : Option CircleValue) × (rest : List CircleValue) × IsToldOf d told × AreCirclesOf ds rest × (cs ≡ option_to_list told ++ rest)
+  AreCirclesOf (d ∷ ds) cs =
+      (told : Option CircleValue) × (rest : List CircleValue) × IsToldOf d told × AreCirclesOf ds rest × (cs ≡ option_to_list told ++ rest)
 
   -- of all that the document defines
   abbrev pub AreCircles : List CircleValue → Type 0

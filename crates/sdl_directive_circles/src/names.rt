@@ -5,14 +5,14 @@ ghost use Rattle.sdl_directive_circles.specs.Uses.{defined_name, name_value};
 use graphql_reader::type_system::TypeSystemDefinition;
 
 /// The name of a directive or of a type.
-#[derive(Clone, Copy, Debug)]
-pub enum NameOf<N> {
+#[derive(Clone, Copy)]
+pub(crate) enum NameOf<N> {
     Directive(N),
     Type(N),
 }
 
 /// A name, by what the document has.
-pub type Name<'d> = NameOf<&'d str>;
+pub(crate) type Name<'d> = NameOf<&'d str>;
 
 /// The name that is defined or extended; a schema has none.
 pub(crate) fn defined_name<'d, 't>(definition: &'d TypeSystemDefinition<'t>) -> Option<Name<'d>>

@@ -13,4 +13,5 @@ returns-in_ok-push c =
     let new = circle_values c.push.new.self.items in
     let one = subst (IsToldOf document d) (ap (option_map circle_value) c.in-Some.is) c.in_ok-circle.ensures in
     let more = ap circle_values c.in_ok-push.ensures.items ∙ map-append circle_value c.args.circles.now.items (c.in-Some.circle ∷ []) in
-    subst (λ ds. AddsCircles document ds old new) (sym (ap directive_of c.in-Directive.is)) (adds_one document d (Some (circle_value c.in-Some.circle)) old new one more)
+    subst (λ ds. AddsCircles document ds old new) (sym (ap directive_of c.in-Directive.is))
+    (adds_one document d (Some (circle_value c.in-Some.circle)) old new one more)

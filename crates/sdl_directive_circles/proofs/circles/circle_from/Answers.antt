@@ -1,4 +1,4 @@
-use Rattle.std.proofs.Common.{List, Option, Vec, ap, refl, subst, sym, ◌∙◌}
+use Rattle.std.proofs.Common.{Option, Vec, ap, refl, subst, sym, ◌∙◌}
 use Rattle.std.specs.List.{flat_map}
 use Rattle.std.specs.Prelude.{IfSome}
 use Rattle.std.specs.declared.alloc.Global.{Global}
@@ -10,15 +10,18 @@ use Rattle.sdl_directive_circles.proofs.Ways.{is_graph, no_way, way_found}
 use Rattle.sdl_directive_circles.proofs.circles.circle_from.Goals as goal
 
 pub way_back-requires : goal.way_back-requires
-way_back-requires c = subst IsGraph (sym c.as_slice.ensures.value) (is_graph c.args.document.now c.args.references.now c.requires.references)
+way_back-requires c =
+    subst IsGraph (sym c.as_slice.ensures.value) (is_graph c.args.document.now c.args.references.now c.requires.references)
 
 pub returns-in_ok-way-in-Some : goal.returns-in_ok-way-in-Some
 returns-in_ok-way-in-Some c =
     let document = c.args.document.now in
     let root = c.args.root in
     let links = c.in-Some.links.items in
-    let back = subst (λ (o : Option (Vec Link Global)). IfSome o (λ ls. IsWayBack c.as_slice.result.now root ls.items)) (c.in-Some.is) c.in_ok-links.ensures.real in
-    let w = way_found document c.args.references.now c.requires.references c.args.defined.now root c.requires.place links (subst (λ g. IsWayBack g root links) c.as_slice.ensures.value back) in
+    let back = subst (λ (o : Option (Vec Link Global)). IfSome o (λ ls. IsWayBack c.as_slice.result.now root ls.items)) c.in-Some.is
+    c.in_ok-links.ensures.real in
+    let w = way_found document c.args.references.now c.requires.references c.args.defined.now root c.requires.place links
+    (subst (λ g. IsWayBack g root links) c.as_slice.ensures.value back) in
     record {
       position = refl;
       name = refl;

@@ -6,4 +6,5 @@ use Rattle.sdl_directive_circles.proofs.circles.circles_in.Given as goal
 
 -- those of the definitions that were seen
 abbrev pub invariant-loop-definition : goal.invariant-loop-definition
-invariant-loop-definition l = AreCirclesOf l.document (flat_map directive_of (take l.definition-index l.document)) (circle_values l.circles.items)
+invariant-loop-definition l =
+    AreCirclesOf l.document (flat_map directive_of (take l.definition-index l.document)) (circle_values l.circles.items)

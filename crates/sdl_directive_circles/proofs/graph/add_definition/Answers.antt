@@ -1,4 +1,4 @@
-use Rattle.std.proofs.Common.{◌≡◌, List, None, Some, ap, length, subst, sym, ◌∙◌}
+use Rattle.std.proofs.Common.{List, Some, ap, length, subst, sym, ◌∙◌}
 use Rattle.std.specs.List.{flat_map}
 use Rattle.std.specs.Prelude.{OnOk}
 use Rattle.sdl_directives.proofs.Earlier.{flat_mapped}
@@ -10,7 +10,8 @@ use Rattle.sdl_directive_circles.proofs.graph.add_definition.Goals as goal
 
 pub add_links-requires : goal.add_links-requires
 add_links-requires c =
-    inside c.args.places.now (length c.args.nodes.now.items) c.requires (defined_name c.args.definition.now) c.in-Some.from (sym c.place_by.ensures ∙ c.in-Some.is)
+    inside c.args.places.now (length c.args.nodes.now.items) c.requires (defined_name c.args.definition.now) c.in-Some.from
+    (sym c.place_by.ensures ∙ c.in-Some.is)
 
 pub returns-in_ok-uses-in-Some : goal.returns-in_ok-uses-in-Some
 returns-in_ok-uses-in-Some c =
@@ -29,5 +30,7 @@ returns-in-None c =
     let places = c.args.places.now in
     let used = uses_of c.args.definition.now in
     let nodes = c.args.nodes.now.items in
-    let none = ap (λ o. flat_map (λ u. links_between o (place_of places u)) used) (sym c.place_by.ensures ∙ c.in-None.is) ∙ links_none (place_of places) used in
+    let none =
+    ap (λ o. flat_map (λ u. links_between o (place_of places u)) used) (sym c.place_by.ensures ∙ c.in-None.is)
+    ∙ links_none (place_of places) used in
     subst (λ ls. AddsLinks ls nodes nodes) (sym none) (adds_none nodes)

@@ -5,4 +5,5 @@ use Rattle.sdl_directive_circles.proofs.graph.add_definitions.Given as goal
 
 -- those of what was seen
 abbrev pub invariant-loop-definition : goal.invariant-loop-definition
-invariant-loop-definition l = AddsLinks (flat_map (links_of l.places) (take l.definition-index l.document)) l.initial.nodes.items l.nodes.items
+invariant-loop-definition l =
+    AddsLinks (flat_map (links_of l.places) (take l.definition-index l.document)) l.initial.nodes.items l.nodes.items

@@ -1,4 +1,4 @@
-use Rattle.sdl_directive_circles.proofs.Placing.{no_places, places_next}
+use Rattle.sdl_directive_circles.proofs.Placing.{places_next}
 use Rattle.sdl_directive_circles.proofs.places.places_of.Goals as goal
 
 pub loop-place-preserved : goal.loop-place-preserved

@@ -5,4 +5,5 @@ use Rattle.sdl_directive_circles.proofs.uses.add_directives.Given as goal
 
 -- those of what was seen
 abbrev pub invariant-loop-directive : goal.invariant-loop-directive
-invariant-loop-directive l = name_values l.uses.items ≡ name_values l.initial.uses.items ++ flat_map directive_used (take l.directive-index l.directives)
+invariant-loop-directive l =
+    name_values l.uses.items ≡ name_values l.initial.uses.items ++ flat_map directive_used (take l.directive-index l.directives)

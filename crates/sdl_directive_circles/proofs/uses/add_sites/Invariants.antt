@@ -6,4 +6,6 @@ use Rattle.sdl_directive_circles.proofs.uses.add_sites.Given as goal
 
 -- those of what was seen
 abbrev pub invariant-loop-site : goal.invariant-loop-site
-invariant-loop-site l = name_values l.uses.items ≡ name_values l.initial.uses.items ++ flat_map (λ s. directives_used (site_value s)) (take l.site-index l.sites)
+invariant-loop-site l =
+    name_values l.uses.items ≡ name_values l.initial.uses.items ++ flat_map (λ s. directives_used (site_value s))
+    (take l.site-index l.sites)

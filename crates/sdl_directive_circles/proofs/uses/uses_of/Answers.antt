@@ -15,5 +15,6 @@ returns c =
     ∙ ap (λ z. name_values z ++ flat_map (λ s. directives_used (site_value s)) listed) c.new-uses.ensures.items
     ∙ flat_mapped directives_used site_value listed
     ∙ ap (flat_map directives_used)
-    (ap site_values c.as_slice.ensures.value ∙ c.in_ok-sites.ensures ∙ ap (flat_map definition_sites) c.from_ref.ensures.value ∙ append-nil (definition_sites x)) in
+    (ap site_values c.as_slice.ensures.value ∙ c.in_ok-sites.ensures ∙ ap (flat_map definition_sites)
+    c.from_ref.ensures.value ∙ append-nil (definition_sites x)) in
     c.in_ok-add_types.ensures ∙ (λ i. sites i ++ flat_map type_used (c.input_values.ensures i))
