@@ -1,5 +1,5 @@
 //! Faults with their places.
-ghost use Rattle.std.specs.Prelude.{◌≡◌, [], OnOk};
+ghost use Rattle.std.specs.Prelude.{◌≡◌, [], OnOk, Some};
 ghost use Rattle.type_system_report.specs.Fault.{coordinate_value};
 ghost use Rattle.sdl_faults.specs.Told.{Tells, place_index};
 ghost use Rattle.sdl_places.specs.Places.{place_in};
@@ -49,6 +49,18 @@ pub(crate) fn tell_at<M: fmt::Display>(
 {
     let position = place_of(document, at);
     tell(alloc, position, Vec::new(alloc), message, told)
+}
+
+/// Appends a fault at a place.
+pub(crate) fn tell_there<M: fmt::Display>(
+    alloc: Global,
+    position: SourcePosition,
+    message: &M,
+    told: &mut Vec<LocatedFault>,
+) -> Result<(), OutOfMemory>
+    ensures { OnOk result (Tells (Some position) [] (M.output message.now) told.old.items told.new.items) }
+{
+    tell(alloc, Some(position), Vec::new(alloc), message, told)
 }
 
 /// Appends a fault at these places.

@@ -1,7 +1,7 @@
 //! The places of the fields of a circle.
 ghost use Rattle.std.specs.Prelude.{◌≡◌, ◌++◌, IfOk, OnOk};
 ghost use Rattle.std.specs.List.{flat_map};
-ghost use Rattle.sdl_faults.specs.Told.{field_places};
+ghost use Rattle.sdl_faults.specs.Told.{field_place, field_places};
 
 use graphql_reader::type_system::TypeSystemDefinition;
 use language::error::OutOfMemory;
@@ -9,6 +9,16 @@ use language::position::SourcePosition;
 use sdl_places::place_of;
 use std::alloc::Global;
 use type_system_inputs::RequiredField;
+
+/// The position of the name of a field in a document, if it has the field.
+pub(crate) fn place_of_field(
+    document: &[TypeSystemDefinition<'_>],
+    field: RequiredField<'_>,
+) -> Option<SourcePosition>
+    ensures { result ≡ field_place document.now field.entry }
+{
+    place_of(document, field.coordinate())
+}
 
 /// The positions of the names of these fields in a document, of those that it has.
 pub(crate) fn places_of(
@@ -32,7 +42,7 @@ fn add_place(
 ) -> Result<(), OutOfMemory>
     ensures { OnOk result (places.new.items ≡ places.old.items ++ field_places document.now field.entry) }
 {
-    if let Some(position) = place_of(document, field.coordinate()) {
+    if let Some(position) = place_of_field(document, field) {
         places.push(position)?;
     }
     Ok(())

@@ -7,14 +7,13 @@ ghost use Rattle.type_system_report.specs.Fault.{fault_value};
 ghost use Rattle.type_system_defaults.specs.Faults.{default_fault};
 ghost use Rattle.sdl_faults.specs.Told.{ToldFault, told_circle, told_default, told_directive_circle, told_fault, told_given, told_use, told_values};
 
-use crate::located::{LocatedFault, tell, tell_at};
-use crate::places::places_of;
+use crate::located::{LocatedFault, tell, tell_at, tell_there};
+use crate::places::{place_of_field, places_of};
 use graphql_reader::type_system::TypeSystemDefinition;
 use language::error::OutOfMemory;
 use sdl_directive_circles::DirectiveCircle;
 use sdl_directive_values::ValueFault;
 use sdl_directives::PlacedDirectiveFault;
-use sdl_places::place_of;
 use std::alloc::Global;
 use type_system_defaults::DefaultFault;
 use type_system_inputs::InputCircle;
@@ -91,7 +90,7 @@ impl Tell for InputCircle<'_> {
         document: &[TypeSystemDefinition<'_>],
         told: &mut Vec<LocatedFault>,
     ) -> Result<(), OutOfMemory> {
-        let position = place_of(document, self.first.coordinate());
+        let position = place_of_field(document, self.first);
         let others = places_of(alloc, document, self.others.as_slice())?;
         tell(alloc, position, others, self, told)
     }
@@ -125,7 +124,7 @@ impl Tell for ValueFault<'_> {
         _document: &[TypeSystemDefinition<'_>],
         told: &mut Vec<LocatedFault>,
     ) -> Result<(), OutOfMemory> {
-        tell(alloc, Some(self.position), Vec::new(alloc), self, told)
+        tell_there(alloc, self.position, self, told)
     }
 }
 
@@ -138,6 +137,6 @@ impl Tell for DirectiveCircle<'_> {
         _document: &[TypeSystemDefinition<'_>],
         told: &mut Vec<LocatedFault>,
     ) -> Result<(), OutOfMemory> {
-        tell(alloc, Some(self.position), Vec::new(alloc), self, told)
+        tell_there(alloc, self.position, self, told)
     }
 }

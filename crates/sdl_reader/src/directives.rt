@@ -82,7 +82,8 @@ fn directive_of(
     })
 }
 
-// Locations that `DirectiveLocation` lacks are left out; all of them are in type system documents.
+// Locations that `DirectiveLocation` lacks are left out; all of them are in type system documents. A directive that has
+// no other keeps `FIELD_DEFINITION` in their place, since one without any location is a fault (section 3.13).
 fn locations_of(
     alloc: Global,
     places: &[Spanning<DirectivePlace>],
@@ -92,6 +93,9 @@ fn locations_of(
         if let Some(location) = location_of(place.item) {
             locations.push(location)?;
         }
+    }
+    if locations.is_empty() {
+        locations.push(DirectiveLocation::FieldDefinition)?;
     }
     Ok(locations)
 }
