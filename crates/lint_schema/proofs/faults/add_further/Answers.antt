@@ -17,6 +17,6 @@ returns c =
       is_line = subst (λ text. IsLineOf text c.args.place.position line) c.text_of-text.ensures c.line_of-line.ensures;
       position = c.in_line.result;
       in_line = c.in_line.ensures;
-      has = subst (λ path. HasPlaceMore path line c.in_line.result c.args.fault.now c.add_place.new.fault) c.path_of-path.ensures h;
+      has = subst (λ path. HasPlaceMore path line c.in_line.result c.args.fault.now c.add_place.new.self) c.path_of-path.ensures h;
     }))
     c.add_place.ensures
