@@ -35,11 +35,11 @@ further_end sources joined [] p old before new is more = (new, subst (λ f. HasF
 further_end sources joined (q ∷ ps) p old before new (between, first, rest) more = (between, first, further_end sources joined ps p between before new rest more)
 
 -- one further place more
-pub further_more : (sources : List Source) (joined : Joined) (others : List SourcePosition) (k : ℕ) (p : SourcePosition) (old before new : Fault)
-    → k < length others → p ≡ get_or others k p → HasAllFurther sources joined (take k others) old before
+pub further_more : (sources : List Source) (joined : Joined) (others : List SourcePosition) (k : ℕ) (p d : SourcePosition) (old before new : Fault)
+    → k < length others → p ≡ get_or others k d → HasAllFurther sources joined (take k others) old before
     → HasFurther sources (place_in joined p) before new → HasAllFurther sources joined (take (k + 1) others) old new
-further_more sources joined others k p old before new here is h more =
-    let next : take (k + 1) others ≡ take k others ++ p ∷ [] = take_more others k p here ∙ ap (λ q. take k others ++ q ∷ []) (sym is) in
+further_more sources joined others k p d old before new here is h more =
+    let next : take (k + 1) others ≡ take k others ++ p ∷ [] = take_more others k d here ∙ ap (λ q. take k others ++ q ∷ []) (sym is) in
     subst (λ ps. HasAllFurther sources joined ps old new) (sym next) (further_end sources joined (take k others) p old before new h more)
 
 no_more : {X : Type 0} (xs : List X) → length xs ≤ 0 → xs ≡ []
@@ -71,8 +71,8 @@ more_told sources joined read.OutOfMemory old new h le = h
 -- then the schema is a valid type system
 pub none_judged : (sources : List Source) (joined : Joined) (schema : SourceSchema) (old new : List Fault) → IsJudged sources joined schema old new → length new ≤ length old → (new ≡ old) × IsValidSchema schema
 none_judged sources joined schema old new (inl h) le =
-    let adds = h.1.1.adds in
+    let adds = h.2.adds in
     let none : adds.more ≡ [] = none_added old adds.more new adds.all le in
-    let found : h.1.1.found ≡ [] = zipped_none (IsToldLocated sources joined) h.1.1.found adds.more adds.told none in
-    (adds.all ∙ ap (λ z. old ++ z) none ∙ append-nil old, (h.1.1.valid.0 found).valid)
+    let found : h.2.found ≡ [] = zipped_none (IsToldLocated sources joined) h.2.found adds.more adds.told none in
+    (adds.all ∙ ap (λ z. old ++ z) none ∙ append-nil old, (h.2.valid.0 found).valid)
 none_judged sources joined schema old new (inr h) le = absurd (more_told sources joined h.0 old new h.1 le)
