@@ -105,13 +105,7 @@ impl Tell for PlacedDirectiveFault<'_> {
         _document: &[TypeSystemDefinition<'_>],
         told: &mut Vec<LocatedFault>,
     ) -> Result<(), OutOfMemory> {
-        tell(
-            alloc,
-            Some(self.position),
-            Vec::new(alloc),
-            &self.fault,
-            told,
-        )
+        tell_there(alloc, self.position, &self.fault, told)
     }
 }
 
