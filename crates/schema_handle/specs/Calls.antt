@@ -1,9 +1,11 @@
 -- What is in a handle, and what calls of C do with it.
-use Rattle.std.specs.Prelude.{◌≡◌, ◌<◌, ◌≤◌, ◌++◌, ℕ, List, [], Option, Some, None, drop, length, option_map, string_bytes}
+use Rattle.std.specs.Prelude.{◌≡◌, ◌⊎◌, ◌<◌, ◌≤◌, ◌++◌, ℕ, List, [], Option, Some, None, drop, length, option_map, string_bytes}
 use Rattle.std.specs.Arc.{arc_value}
 use Rattle.schema.specs.Catalog.{Catalog}
 use Rattle.schema_handle.specs.declared.calls.Copied.{Copied}
 use Rattle.schema_handle.specs.declared.calls.Copied.TheVariants.{Whole, TooSmall, Nothing}
+use Rattle.schema_handle.specs.declared.calls.Shared.{Shared}
+use Rattle.schema_handle.specs.declared.calls.Shared.TheVariants as shared
 use Rattle.schema_handle.specs.declared.slot.Held.{Held}
 use Rattle.sdl_scalars.specs.declared.check.SourceCheck.{SourceCheck}
 use Rattle.sdl_scalars.specs.declared.scalar.SourceScalar.{SourceScalar}
@@ -38,3 +40,13 @@ abbrev pub CopiesReport : Option Held → Copied → ℕ → List ℕ → List �
 CopiesReport None copied needed old new = (copied ≡ Nothing) × (needed ≡ 0) × (new ≡ old)
 CopiesReport (Some held) copied needed old new =
     (needed ≡ length (report_of held)) × CopiesBytes (report_of held) copied old new
+
+-- what is answered where this schema is to be given away
+abbrev pub Gives : Option SourceCatalog → Shared → Type 0
+Gives None answer = answer ≡ shared.NoSchema
+Gives (Some schema) answer = (answer ≡ shared.Done) ⊎ (answer ≡ shared.OutOfMemory)
+
+-- the same, by the schema that the other handle has
+abbrev pub Shares : Option SourceCatalog → Option SourceCatalog → Shared → Type 0
+Shares None schema answer = Gives schema answer
+Shares (Some kept) schema answer = answer ≡ shared.HasSchema

@@ -1,8 +1,8 @@
 //! What calls of C do with handles alone.
-ghost use Rattle.std.specs.Prelude.{◌≡◌, IfOk, Some, is_some};
+ghost use Rattle.std.specs.Prelude.{◌≡◌, [], IfOk, Some, is_some};
 ghost use Rattle.std.specs.Arc.{arc_value};
 ghost use Rattle.schema_handle.specs.declared.calls.Shared.TheVariants.{Done};
-ghost use Rattle.schema_handle.specs.Calls.{CopiesBytes, CopiesReport, report_of, schema_in, schema_of};
+ghost use Rattle.schema_handle.specs.Calls.{CopiesBytes, CopiesReport, Gives, Shares, report_in, report_of, schema_in, schema_of};
 
 use crate::handle::Handle;
 use crate::slot::{Held, SourceSchema};
@@ -77,6 +77,8 @@ pub fn share(alloc: Global, handle: &mut Handle, other: &mut Handle) -> Shared
     ensures same { handle.new.slot.value ≡ handle.old.slot.value }
     ensures kept { (result ≡ Done → ⊥) → other.new.slot.value ≡ other.old.slot.value }
     ensures shared { result ≡ Done → schema_in other.new.slot.value ≡ schema_in handle.old.slot.value }
+    ensures empty { result ≡ Done → report_in other.new.slot.value ≡ [] }
+    ensures answered { Shares (schema_in other.old.slot.value) (schema_in handle.old.slot.value) result }
 {
     if has_schema(alloc, other) {
         return Shared::HasSchema;
@@ -92,6 +94,8 @@ pub fn share(alloc: Global, handle: &mut Handle, other: &mut Handle) -> Shared
 fn give(alloc: Global, held: &Held, other: &mut Handle) -> Shared
     ensures kept { (result ≡ Done → ⊥) → other.new.slot.value ≡ other.old.slot.value }
     ensures given { result ≡ Done → schema_in other.new.slot.value ≡ schema_of held.now }
+    ensures empty { result ≡ Done → report_in other.new.slot.value ≡ [] }
+    ensures answered { Gives (schema_of held.now) result }
 {
     let Some(schema) = &held.schema else {
         return Shared::NoSchema;
@@ -107,7 +111,8 @@ fn give(alloc: Global, held: &Held, other: &mut Handle) -> Shared
 
 // The same schema with an empty report.
 fn second_of(alloc: Global, schema: &Arc<SourceSchema>) -> Result<Box<Held>, AllocError>
-    ensures { IfOk result (λ second. schema_of second.value ≡ Some (arc_value schema.now)) }
+    ensures schema { IfOk result (λ second. schema_of second.value ≡ Some (arc_value schema.now)) }
+    ensures report { IfOk result (λ second. report_of second.value ≡ []) }
 {
     Held::of_schema(alloc, Arc::try_clone(schema)?)
 }
