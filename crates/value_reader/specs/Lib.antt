@@ -1,0 +1,4 @@
+pub mod Values
+pub mod Grammar
+pub mod Faults
+pub mod Machine

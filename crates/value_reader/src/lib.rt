@@ -1,0 +1,4 @@
+//! Values.
+#![tactic(auto)]
+
+pub fn nothing() {}
