@@ -41,13 +41,13 @@ run_object rules a b fs rest n h =
 run_variable : (rules : Rules) (n : List ℕ) (from a b stop : SourcePosition) (fs : List Frame) (rest : List Lexeme) → rules.variables ≡ true → takes_value fs ≡ true → run rules fs (sign Dollar from a ∷ lexeme (token.name n) b stop ∷ rest) ≡ after rules (attach (plain (variable n) (span_of from stop)) fs) rest
 run_variable rules n from a b stop fs rest allowed h =
     run_going rules fs (at_name from ∷ fs) (sign Dollar from a) (lexeme (token.name n) b stop ∷ rest) (step_value rules fs (token.punctuator Dollar) from a h tt ∙ ap (λ c. push c (at_name from) fs) allowed)
-    ∙ run_attached rules (at_name from ∷ fs) fs (lexeme (token.name n) b stop) (plain (variable n) (span_of from stop)) rest refl h
+    ∙ run_attached rules (at_name from ∷ fs) fs (lexeme (token.name n) b stop) (plain (variable n) (span_of from stop)) rest refl
 
-run_list_end : (rules : Rules) (from b stop : SourcePosition) (vs : List Value) (fs : List Frame) (rest : List Lexeme) → takes_value fs ≡ true → run rules (in_list from vs ∷ fs) (sign BracketClose b stop ∷ rest) ≡ after rules (attach (list (items_of vs) (span_of from stop)) fs) rest
-run_list_end rules from b stop vs fs rest h = run_attached rules (in_list from vs ∷ fs) fs (sign BracketClose b stop) (list (items_of vs) (span_of from stop)) rest refl h
+run_list_end : (rules : Rules) (from b stop : SourcePosition) (vs : List Value) (fs : List Frame) (rest : List Lexeme) → run rules (in_list from vs ∷ fs) (sign BracketClose b stop ∷ rest) ≡ after rules (attach (list (items_of vs) (span_of from stop)) fs) rest
+run_list_end rules from b stop vs fs rest = run_attached rules (in_list from vs ∷ fs) fs (sign BracketClose b stop) (list (items_of vs) (span_of from stop)) rest refl
 
-run_object_end : (rules : Rules) (from b stop : SourcePosition) (es : List Entry) (fs : List Frame) (rest : List Lexeme) → takes_value fs ≡ true → run rules (at_key from es ∷ fs) (sign BraceClose b stop ∷ rest) ≡ after rules (attach (object (fields_of es) (span_of from stop)) fs) rest
-run_object_end rules from b stop es fs rest h = run_attached rules (at_key from es ∷ fs) fs (sign BraceClose b stop) (object (fields_of es) (span_of from stop)) rest refl h
+run_object_end : (rules : Rules) (from b stop : SourcePosition) (es : List Entry) (fs : List Frame) (rest : List Lexeme) → run rules (at_key from es ∷ fs) (sign BraceClose b stop ∷ rest) ≡ after rules (attach (object (fields_of es) (span_of from stop)) fs) rest
+run_object_end rules from b stop es fs rest = run_attached rules (at_key from es ∷ fs) fs (sign BraceClose b stop) (object (fields_of es) (span_of from stop)) rest refl
 
 run_key : (rules : Rules) (k : Key) (from a b : SourcePosition) (es : List Entry) (fs : List Frame) (rest : List Lexeme) → run rules (at_key from es ∷ fs) (lexeme (token.name k.name) k.span.start k.span.end ∷ sign Colon a b ∷ rest) ≡ run rules (at_value from es k ∷ fs) rest
 run_key rules k from a b es fs rest =
@@ -74,14 +74,14 @@ mutual
       ∙ run_list rules span.start a fs ((inner ++ sign BracketClose b span.end ∷ []) ++ rest) n t
       ∙ ap (run rules (in_list span.start [] ∷ fs)) (append_assoc inner _ _)
       ∙ complete_items rules vs span.start [] fs inner (sign BracketClose b span.end ∷ rest) h
-      ∙ run_list_end rules span.start b span.end (list_of vs) fs rest t
+      ∙ run_list_end rules span.start b span.end (list_of vs) fs rest
       ∙ ap (λ items. after rules (attach (list items span) fs) rest) (items_of-list_of vs)
   complete rules (object ms span) fs front rest t (n, inner, a, b, e, h) =
       ap (λ ts. run rules fs (ts ++ rest)) e
       ∙ run_object rules span.start a fs ((inner ++ sign BraceClose b span.end ∷ []) ++ rest) n t
       ∙ ap (run rules (at_key span.start [] ∷ fs)) (append_assoc inner _ _)
       ∙ complete_fields rules ms span.start [] fs inner (sign BraceClose b span.end ∷ rest) h
-      ∙ run_object_end rules span.start b span.end (entries_of ms) fs rest t
+      ∙ run_object_end rules span.start b span.end (entries_of ms) fs rest
       ∙ ap (λ fields. after rules (attach (object fields span) fs) rest) (fields_of-entries_of ms)
 
   complete_items : (rules : Rules) (vs : Items) (from : SourcePosition) (before : List Value) (fs : List Frame) (front rest : List Lexeme) → SpellsItems rules (suc (depth_of fs)) vs front → run rules (in_list from before ∷ fs) (front ++ rest) ≡ run rules (in_list from (before ++ list_of vs) ∷ fs) rest

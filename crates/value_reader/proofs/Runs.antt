@@ -29,17 +29,17 @@ after rules (going fs) rest = run rules fs rest
 after rules (done v) rest = Ok (v, rest)
 after rules refused rest = Err rest
 
-attached : (rules : Rules) (v : Value) (fs : List Frame) (x : Lexeme) (rest : List Lexeme) → takes_value fs ≡ true → go_on (λ gs. run rules gs rest) (attach v fs) x rest ≡ after rules (attach v fs) rest
-attached rules v [] x rest h = refl
-attached rules v (in_list from vs ∷ fs) x rest h = refl
-attached rules v (at_key from es ∷ fs) x rest h = cc
-attached rules v (at_colon from es k ∷ fs) x rest h = cc
-attached rules v (at_value from es k ∷ fs) x rest h = refl
-attached rules v (at_name from ∷ fs) x rest h = cc
+attached : (rules : Rules) (v : Value) (fs : List Frame) (x : Lexeme) (rest : List Lexeme) → go_on (λ gs. run rules gs rest) (attach v fs) x rest ≡ after rules (attach v fs) rest
+attached rules v [] x rest = refl
+attached rules v (in_list from vs ∷ fs) x rest = refl
+attached rules v (at_key from es ∷ fs) x rest = refl
+attached rules v (at_colon from es k ∷ fs) x rest = refl
+attached rules v (at_value from es k ∷ fs) x rest = refl
+attached rules v (at_name from ∷ fs) x rest = refl
 
-pub run_attached : (rules : Rules) (fs gs : List Frame) (x : Lexeme) (v : Value) (rest : List Lexeme) → step rules fs x ≡ attach v gs → takes_value gs ≡ true → run rules fs (x ∷ rest) ≡ after rules (attach v gs) rest
+pub run_attached : (rules : Rules) (fs gs : List Frame) (x : Lexeme) (v : Value) (rest : List Lexeme) → step rules fs x ≡ attach v gs → run rules fs (x ∷ rest) ≡ after rules (attach v gs) rest
 unfolding run
-run_attached rules fs gs x v rest e h = ap (λ t. go_on (λ hs. run rules hs rest) t x rest) e ∙ attached rules v gs x rest h
+run_attached rules fs gs x v rest e = ap (λ t. go_on (λ hs. run rules hs rest) t x rest) e ∙ attached rules v gs x rest
 
 pub run_going : (rules : Rules) (fs gs : List Frame) (x : Lexeme) (rest : List Lexeme) → step rules fs x ≡ going gs → run rules fs (x ∷ rest) ≡ run rules gs rest
 unfolding run
@@ -82,7 +82,7 @@ plain_value rules fs token.fault p a b e = cc
 
 pub run_plain : (rules : Rules) (fs : List Frame) (t : token.Token) (p : Plain) (a b : SourcePosition) (rest : List Lexeme) → plain_of t ≡ Some p → takes_value fs ≡ true → run rules fs (lexeme t a b ∷ rest) ≡ after rules (attach (plain p (span_of a b)) fs) rest
 run_plain rules fs t p a b rest e h =
-    run_attached rules fs fs (lexeme t a b) (plain p (span_of a b)) rest (step_value rules fs t a b h (plain_no_end t p e) ∙ plain_value rules fs t p a b e) h
+    run_attached rules fs fs (lexeme t a b) (plain p (span_of a b)) rest (step_value rules fs t a b h (plain_no_end t p e) ∙ plain_value rules fs t p a b e)
 
 -- ---- names
 differ : (xs ys : List ℕ) → (xs ≡ ys → ⊥) → bytes_eq xs ys ≡ false

@@ -78,13 +78,13 @@ fields_more rules d (w ∷ ws) k v front one a b (c, e, x, y, same, hw, hws) h =
 pub regroup : (outer inner one : List Lexeme) (x : Lexeme) → (outer ++ x ∷ inner) ++ one ≡ outer ++ x ∷ (inner ++ one)
 regroup outer inner one x = append_assoc outer (x ∷ inner) one
 
-pub attach_spells : (rules : Rules) (v : Value) (fs : List Frame) (before one : List Lexeme) → SpellsStack rules fs before → Spells rules (depth_of fs) v one → SpellsTurn rules (attach v fs) (before ++ one)
-attach_spells rules v [] before one e h = subst (Spells rules 0 v) (sym (ap (λ ts. ts ++ one) e)) h
-attach_spells rules v (in_list from vs ∷ fs) before one (outer, inner, a, e, n, hs, k, t) h =
+pub attach_spells : (rules : Rules) (v : Value) (fs : List Frame) (before one : List Lexeme) → takes_value fs ≡ true → SpellsStack rules fs before → Spells rules (depth_of fs) v one → SpellsTurn rules (attach v fs) (before ++ one)
+attach_spells rules v [] before one free e h = subst (Spells rules 0 v) (sym (ap (λ ts. ts ++ one) e)) h
+attach_spells rules v (in_list from vs ∷ fs) before one free (outer, inner, a, e, n, hs, k, t) h =
     (outer, inner ++ one, a, ap (λ ts. ts ++ one) e ∙ regroup outer inner one (sign BracketOpen from a), n, items_more rules (suc (depth_of fs)) vs v inner one hs h, k, t)
-attach_spells rules v (at_key from es ∷ fs) before one k h = tt
-attach_spells rules v (at_colon from es j ∷ fs) before one k h = tt
-attach_spells rules v (at_value from es j ∷ fs) before one (outer, inner, a, e, n, (front, c, d, e2, hm), k, t) h = (
+attach_spells rules v (at_key from es ∷ fs) before one free k h = absurd (let no : false ≡ true = free in cc)
+attach_spells rules v (at_colon from es j ∷ fs) before one free k h = absurd (let no : false ≡ true = free in cc)
+attach_spells rules v (at_value from es j ∷ fs) before one free (outer, inner, a, e, n, (front, c, d, e2, hm), k, t) h = (
   outer,
   inner ++ one,
   a,
@@ -94,7 +94,7 @@ attach_spells rules v (at_value from es j ∷ fs) before one (outer, inner, a, e
   k,
   t,
 )
-attach_spells rules v (at_name from ∷ fs) before one k h = tt
+attach_spells rules v (at_name from ∷ fs) before one free k h = absurd (let no : false ≡ true = free in cc)
 
 -- ---- one token
 push_list : (rules : Rules) (b : Bool) (start stop : SourcePosition) (fs : List Frame) (before : List Lexeme) → may_nest rules.limit (depth_of fs) ≡ b → takes_value fs ≡ true → SpellsStack rules fs before → SpellsTurn rules (push b (in_list start []) fs) (before ++ sign BracketOpen start stop ∷ [])
@@ -139,28 +139,28 @@ plain_alone rules (token.block_string raw) a b p e = subst (Alone rules (token.b
 plain_alone rules token.end a b p e = cc
 plain_alone rules token.fault a b p e = cc
 
-plain_spells : (rules : Rules) (fs : List Frame) (t : token.Token) (a b : SourcePosition) (before : List Lexeme) (o : Option Plain) → plain_of t ≡ o → SpellsStack rules fs before → SpellsTurn rules (attach_plain o (span_of a b) fs) (before ++ lexeme t a b ∷ [])
-plain_spells rules fs t a b before None e k = tt
-plain_spells rules fs t a b before (Some p) e k = attach_spells rules (plain p (span_of a b)) fs before (lexeme t a b ∷ []) k (plain_alone rules t a b p e)
+plain_spells : (rules : Rules) (fs : List Frame) (t : token.Token) (a b : SourcePosition) (before : List Lexeme) (o : Option Plain) → plain_of t ≡ o → takes_value fs ≡ true → SpellsStack rules fs before → SpellsTurn rules (attach_plain o (span_of a b) fs) (before ++ lexeme t a b ∷ [])
+plain_spells rules fs t a b before None e free k = tt
+plain_spells rules fs t a b before (Some p) e free k = attach_spells rules (plain p (span_of a b)) fs before (lexeme t a b ∷ []) free k (plain_alone rules t a b p e)
 
 value_spells : (rules : Rules) (fs : List Frame) (t : token.Token) (a b : SourcePosition) (before : List Lexeme) → takes_value fs ≡ true → SpellsStack rules fs before → SpellsTurn rules (value_turn rules fs t a b) (before ++ lexeme t a b ∷ [])
 value_spells rules fs (token.punctuator BracketOpen) a b before h k = push_list rules (may_nest rules.limit (depth_of fs)) a b fs before refl h k
 value_spells rules fs (token.punctuator BraceOpen) a b before h k = push_object rules (may_nest rules.limit (depth_of fs)) a b fs before refl h k
 value_spells rules fs (token.punctuator Dollar) a b before h k = push_name rules rules.variables a b fs before refl h k
-value_spells rules fs t a b before h k = plain_spells rules fs t a b before (plain_of t) refl k
+value_spells rules fs t a b before h k = plain_spells rules fs t a b before (plain_of t) refl h k
 
 item_spells : (rules : Rules) (from : SourcePosition) (vs : List Value) (fs : List Frame) (t : token.Token) (a b : SourcePosition) (before : List Lexeme) → SpellsStack rules (in_list from vs ∷ fs) before → SpellsTurn rules (item_turn rules from vs fs t a b) (before ++ lexeme t a b ∷ [])
 item_spells rules from vs fs (token.punctuator BracketClose) a b before (outer, inner, c, e, n, hs, k, t) =
     subst (SpellsTurn rules (attach (list (items_of vs) (span_of from b)) fs))
     (sym (ap (λ ts. ts ++ sign BracketClose a b ∷ []) e ∙ regroup outer inner (sign BracketClose a b ∷ []) (sign BracketOpen from c)))
-    (attach_spells rules (list (items_of vs) (span_of from b)) fs outer _ k (n, inner, c, a, refl, hs))
+    (attach_spells rules (list (items_of vs) (span_of from b)) fs outer _ t k (n, inner, c, a, refl, hs))
 item_spells rules from vs fs t a b before k = value_spells rules (in_list from vs ∷ fs) t a b before refl k
 
 key_spells : (rules : Rules) (from : SourcePosition) (es : List Entry) (fs : List Frame) (t : token.Token) (a b : SourcePosition) (before : List Lexeme) → SpellsStack rules (at_key from es ∷ fs) before → SpellsTurn rules (key_turn from es fs t a b) (before ++ lexeme t a b ∷ [])
 key_spells rules from es fs (token.punctuator BraceClose) a b before (outer, inner, c, e, n, hs, k, t) =
     subst (SpellsTurn rules (attach (object (fields_of es) (span_of from b)) fs))
     (sym (ap (λ ts. ts ++ sign BraceClose a b ∷ []) e ∙ regroup outer inner (sign BraceClose a b ∷ []) (sign BraceOpen from c)))
-    (attach_spells rules (object (fields_of es) (span_of from b)) fs outer _ k (n, inner, c, a, refl, hs))
+    (attach_spells rules (object (fields_of es) (span_of from b)) fs outer _ t k (n, inner, c, a, refl, hs))
 key_spells rules from es fs (token.name m) a b before (outer, inner, c, e, n, hs, k, t) =
     let x = lexeme (token.name m) a b in
     (outer, inner ++ x ∷ [], c, ap (λ ts. ts ++ x ∷ []) e ∙ regroup outer inner (x ∷ []) (sign BraceOpen from c), n, (inner, refl, hs), k, t)
@@ -185,7 +185,7 @@ name_spells rules from fs (token.name m) a b before (outer, c, e, allowed, k, t)
     let x = lexeme (token.name m) a b in
     subst (SpellsTurn rules (attach (plain (variable m) (span_of from b)) fs))
     (sym (ap (λ ts. ts ++ x ∷ []) e ∙ append_assoc outer (sign Dollar from c ∷ []) (x ∷ [])))
-    (attach_spells rules (plain (variable m) (span_of from b)) fs outer (sign Dollar from c ∷ x ∷ []) k (allowed, c, a, refl))
+    (attach_spells rules (plain (variable m) (span_of from b)) fs outer (sign Dollar from c ∷ x ∷ []) t k (allowed, c, a, refl))
 name_spells rules from fs _ a b before k = tt
 
 pub step_spells : (rules : Rules) (fs : List Frame) (t : token.Token) (a b : SourcePosition) (before : List Lexeme) → SpellsStack rules fs before → SpellsTurn rules (step_by rules fs t a b) (before ++ lexeme t a b ∷ [])

@@ -7,8 +7,10 @@ use Rattle.graphql_lexer.specs.Lexical as token
 use Rattle.graphql_lexer.specs.StringFaults.{IsFaultPlace}
 use Rattle.graphql_lexer.specs.declared.error.ReadError.{ReadError}
 use Rattle.graphql_lexer.specs.declared.error.ReadError.TheVariants.{Syntax, OutOfMemory}
+use Rattle.graphql_lexer.specs.declared.strings.StringError.{StringError}
 use Rattle.graphql_lexer.specs.declared.strings.StringError.TheVariants.{Escape}
-use Rattle.value_reader.specs.Grammar.{Rules, lexeme, Begins, GoesOn}
+use Rattle.graphql_lexer.specs.declared.strings.StringError.TheVariants as s
+use Rattle.value_reader.specs.Grammar.{Rules, lexeme, IsTextOf, Begins, GoesOn}
 use Rattle.value_reader.specs.Values.{Value}
 
 -- at most what a `usize` holds, which no place in a text passes
@@ -35,6 +37,18 @@ IsPlaceOf StringFits (token.string raw) start place = (StringFits → IsInString
 IsPlaceOf StringFits (token.block_string raw) start place = place ≡ start
 IsPlaceOf StringFits token.end start place = place ≡ start
 IsPlaceOf StringFits token.fault start place = Unit {0}
+
+-- what an error of the string tells, which starts there
+abbrev pub IsStringRefusal : SourcePosition → StringError → ReadError → Type 0
+IsStringRefusal start (Escape n expected) (Syntax e) = e.position ≡ inside_string start n
+IsStringRefusal start (Escape n expected) OutOfMemory = ⊥
+IsStringRefusal start s.OutOfMemory (Syntax e) = ⊥
+IsStringRefusal start s.OutOfMemory OutOfMemory = Unit {0}
+
+-- the token stands for no text, and the error tells the place
+abbrev pub IsTextRefusal : Lexeme → ReadError → Type 0
+IsTextRefusal x (Syntax e) = ((text : List ℕ) → IsTextOf x.token text → ⊥) × IsPlaceOf (Unit {0}) x.token x.start e.position
+IsTextRefusal x OutOfMemory = Unit {0}
 
 -- `before` begins some value, and with the next token, x, it begins none. There is such a token: the last one is in no value.
 abbrev pub IsFaultAt : Rules → List Lexeme → Lexeme → SourcePosition → Type 0

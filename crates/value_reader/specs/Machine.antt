@@ -48,14 +48,14 @@ abbrev pub depth_of : List Frame → ℕ
 depth_of [] = 0
 depth_of (f ∷ fs) = suc (depth_of fs)
 
--- a value put into what is innermost, or the whole value where nothing is begun
+-- A value put into what is innermost, or the whole value where nothing is begun. Where no value may come next none is put.
 abbrev pub attach : Value → List Frame → Turn
 attach v [] = done v
 attach v (in_list start vs ∷ fs) = going (in_list start (vs ++ v ∷ []) ∷ fs)
-attach v (at_key start es ∷ fs) = refused
-attach v (at_colon start es k ∷ fs) = refused
+attach v (at_key start es ∷ fs) = going fs
+attach v (at_colon start es k ∷ fs) = going fs
 attach v (at_value start es k ∷ fs) = going (at_key start (es ++ record { key = k; value = v } ∷ []) ∷ fs)
-attach v (at_name start ∷ fs) = refused
+attach v (at_name start ∷ fs) = going fs
 
 abbrev pub push : Bool → Frame → List Frame → Turn
 push true f fs = going (f ∷ fs)
