@@ -1,6 +1,6 @@
 pub mod Complete
 pub mod Reached
-pub mod Reads
+pub mod ReadLoop
 pub mod Runs
 pub mod Stacks
 pub mod Texts

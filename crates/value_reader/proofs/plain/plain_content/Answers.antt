@@ -14,8 +14,8 @@ returns-in-String-clause-refused c =
 
 pub returns-in-BlockString-clause-value : goal.returns-in-BlockString-clause-value
 returns-in-BlockString-clause-value c =
-    IfOk-weaker c.string_content-2.result _ _ (λ v h. string_content (ahead_of c.args.tokens.now).token (content_seen v) h) c.string_content-2.ensures.value
+    IfOk-weaker c.string_content-in-BlockString.result _ _ (λ v h. string_content (ahead_of c.args.tokens.now).token (content_seen v) h) c.string_content-in-BlockString.ensures.value
 
 pub returns-in-BlockString-clause-refused : goal.returns-in-BlockString-clause-refused
 returns-in-BlockString-clause-refused c =
-    MatchResult-weaker c.string_content-2.result c.string_content-2.ensures.refused (λ v h. h) (λ e h. block_string_refusal (ahead_of c.args.tokens.now) _ e c.in-BlockString.ensures h)
+    MatchResult-weaker c.string_content-in-BlockString.result c.string_content-in-BlockString.ensures.refused (λ v h. h) (λ e h. block_string_refusal (ahead_of c.args.tokens.now) _ e c.in-BlockString.ensures h)
