@@ -1,0 +1,5 @@
+pub mod Values
+pub mod Grammar
+pub mod Faults
+pub mod Machine
+pub mod Seen
