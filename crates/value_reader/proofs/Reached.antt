@@ -138,8 +138,8 @@ reached_fault rules ts fs x rest place h e p = (
     viable rules fs h.before h.spelled,
     stops rules ts fs (x ∷ rest) h x e,
     other_place (takes_value fs ≡ true) (GoesOn rules (h.before ++ lexeme (token.string []) x.start x.stop ∷ [])) x.token x.start place
-    (λ t. string_fits rules fs h.before x.start x.stop t h.spelled)
-    (λ g. string_taken rules ts fs (x ∷ rest) h x.start x.stop g)
-    p,
+        (λ t. string_fits rules fs h.before x.start x.stop t h.spelled)
+        (λ g. string_taken rules ts fs (x ∷ rest) h x.start x.stop g)
+        p,
   ),
 )

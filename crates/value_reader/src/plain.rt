@@ -34,10 +34,7 @@ pub(crate) fn plain_value<'a>(
     Ok(Spanning { item, span })
 }
 
-fn plain_content<'a>(
-    tokens: &Tokens<'a>,
-    variables: Variables,
-) -> Result<Value, ReadError<'a>>
+fn plain_content<'a>(tokens: &Tokens<'a>, variables: Variables) -> Result<Value, ReadError<'a>>
     ensures value { IfOk result (λ v. IsContentOf (plain_of (ahead_of tokens.now).token) (content_seen v)) }
     ensures refused { IfErr result (IsPlainRefusal (ahead_of tokens.now)) }
 {

@@ -51,10 +51,20 @@ fn read_first<'a>(
         (spec.value_turn (rules_seen rules) (stack_seen parts.old) x.token x.start x.stop)) }
 {
     if tokens.is(Punctuator::BracketOpen) {
-        return nest(tokens, rules, parts, Begun::List(tokens.start(), Vec::new(tokens.alloc())));
+        return nest(
+            tokens,
+            rules,
+            parts,
+            Begun::List(tokens.start(), Vec::new(tokens.alloc())),
+        );
     }
     if tokens.is(Punctuator::BraceOpen) {
-        return nest(tokens, rules, parts, Begun::Key(tokens.start(), Vec::new(tokens.alloc())));
+        return nest(
+            tokens,
+            rules,
+            parts,
+            Begun::Key(tokens.start(), Vec::new(tokens.alloc())),
+        );
     }
     if tokens.is(Punctuator::Dollar) {
         return begin_variable(tokens, rules, parts);
