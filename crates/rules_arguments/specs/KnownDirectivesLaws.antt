@@ -31,6 +31,14 @@ one_place l.VariableDefinition l.VariableDefinition e = refl
 one_place l.FragmentSpread l.FragmentSpread e = refl
 one_place l.InlineFragment l.InlineFragment e = refl
 one_place l.EnumValue l.EnumValue e = refl
+one_place l.Schema l.Schema e = refl
+one_place l.Object l.Object e = refl
+one_place l.ArgumentDefinition l.ArgumentDefinition e = refl
+one_place l.Interface l.Interface e = refl
+one_place l.Union l.Union e = refl
+one_place l.Enum l.Enum e = refl
+one_place l.InputObject l.InputObject e = refl
+one_place l.InputFieldDefinition l.InputFieldDefinition e = refl
 one_place _ _ e = absurd cc
 
 listed_first : (b : Bool) (x place : DirectiveLocation) (ls : List DirectiveLocation) → is_one_place x place ≡ b → (b || is_listed place ls) ≡ true

@@ -22,6 +22,14 @@ pub enum DirectiveLocation {
     FragmentSpread,
     InlineFragment,
     EnumValue,
+    Schema,
+    Object,
+    ArgumentDefinition,
+    Interface,
+    Union,
+    Enum,
+    InputObject,
+    InputFieldDefinition,
 }
 
 /// The name of the location, in lower case with spaces between the words.
@@ -41,6 +49,14 @@ impl fmt::Display for DirectiveLocation {
             DirectiveLocation::FragmentSpread => "fragment spread",
             DirectiveLocation::InlineFragment => "inline fragment",
             DirectiveLocation::EnumValue => "enum value",
+            DirectiveLocation::Schema => "schema",
+            DirectiveLocation::Object => "object",
+            DirectiveLocation::ArgumentDefinition => "argument definition",
+            DirectiveLocation::Interface => "interface",
+            DirectiveLocation::Union => "union",
+            DirectiveLocation::Enum => "enum",
+            DirectiveLocation::InputObject => "input object",
+            DirectiveLocation::InputFieldDefinition => "input field definition",
         })
     }
 }

@@ -22,24 +22,10 @@ pub enum Defined {
     Field,
     /// An argument of a field or a directive (section 3.6.1).
     Argument,
-    /// An interface that a type implements (section 3.6).
-    Interface,
-    /// A member of a union (section 3.8).
-    Member,
     /// A value of an enum (section 3.9).
     EnumValue,
     /// A field of an input object (section 3.10).
     InputField,
-}
-
-impl Defined {
-    // How it comes into its list.
-    fn verb(self) -> &'static str {
-        match self {
-            Defined::Interface | Defined::Member => "listed",
-            _ => "defined",
-        }
-    }
 }
 
 impl fmt::Display for Defined {
@@ -50,8 +36,6 @@ impl fmt::Display for Defined {
             Defined::Directive => "directive",
             Defined::Field => "field",
             Defined::Argument => "argument",
-            Defined::Interface => "interface",
-            Defined::Member => "member",
             Defined::EnumValue => "enum value",
             Defined::InputField => "input field",
         })
@@ -81,7 +65,7 @@ impl fmt::Display for SchemaFault<'_> {
             SchemaFault::SecondSchema => f.write_str("the schema is defined twice"),
             SchemaFault::NoQueryRoot => f.write_str("the schema has no query type"),
             SchemaFault::Repeated(defined, name) => {
-                write!(f, "the {defined} \"{name}\" is {} twice", defined.verb())
+                write!(f, "the {defined} \"{name}\" is defined twice")
             }
             SchemaFault::UnknownExtended(name) => {
                 write!(f, "the type \"{name}\" is extended but not defined")

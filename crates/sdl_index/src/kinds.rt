@@ -41,10 +41,9 @@ impl TypeKind {
     /// What a type of this kind lists.
     pub fn lists(self) -> Defined {
         match self {
-            TypeKind::Scalar | TypeKind::Object | TypeKind::Interface => Defined::Field,
-            TypeKind::Union => Defined::Member,
             TypeKind::Enum => Defined::EnumValue,
             TypeKind::InputObject => Defined::InputField,
+            _ => Defined::Field,
         }
     }
 }

@@ -40,20 +40,4 @@ impl<'a> Names<'a> {
         })?;
         Ok(false)
     }
-
-    /// Adds several names.
-    ///
-    /// # Errors
-    ///
-    /// Out of memory; some of the names may be added then.
-    pub fn add_all(
-        &mut self,
-        names: &[Spanning<&'a str>],
-        faults: &mut Vec<PlacedFault<'a>>,
-    ) -> Result<(), OutOfMemory> {
-        for name in names {
-            self.add(name, faults)?;
-        }
-        Ok(())
-    }
 }

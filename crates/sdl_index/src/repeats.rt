@@ -1,4 +1,4 @@
-//! Names that are defined or listed twice.
+//! Names that are defined twice.
 use crate::error::{Defined, PlacedFault};
 use crate::kinds::TypeKind;
 use crate::names::Names;
@@ -56,13 +56,10 @@ fn add_repeats_of_type<'a>(
     faults: &mut Vec<PlacedFault<'a>>,
 ) -> Result<(), OutOfMemory> {
     let kind = TypeKind::of(&defined.body);
-    let mut interfaces = Names::new(alloc, Defined::Interface);
     let mut names = Names::new(alloc, kind.lists());
-    interfaces.add_all(defined.interfaces.as_slice(), faults)?;
     add_names(defined, &mut names, faults)?;
     for part in extensions {
         if TypeKind::of(&part.body) == kind {
-            interfaces.add_all(part.interfaces.as_slice(), faults)?;
             add_names(part, &mut names, faults)?;
         }
     }
@@ -76,11 +73,10 @@ fn add_names<'a>(
     faults: &mut Vec<PlacedFault<'a>>,
 ) -> Result<(), OutOfMemory> {
     match &part.body {
-        TypeBody::Scalar => Ok(()),
+        TypeBody::Scalar | TypeBody::Union(_) => Ok(()),
         TypeBody::Object(fields) | TypeBody::Interface(fields) => {
             add_names_of_fields(fields.as_slice(), names, faults)
         }
-        TypeBody::Union(members) => names.add_all(members.as_slice(), faults),
         TypeBody::Enum(values) => {
             for value in values {
                 names.add(&value.name, faults)?;

@@ -82,26 +82,19 @@ fn directive_of(
     })
 }
 
-// Locations that `DirectiveLocation` lacks are left out; all of them are in type system documents. A directive that has
-// no other keeps `FIELD_DEFINITION` in their place, since one without any location is a fault (section 3.13).
 fn locations_of(
     alloc: Global,
     places: &[Spanning<DirectivePlace>],
 ) -> Result<Vec<DirectiveLocation>, OutOfMemory> {
     let mut locations = Vec::new(alloc);
     for place in places {
-        if let Some(location) = location_of(place.item) {
-            locations.push(location)?;
-        }
-    }
-    if locations.is_empty() {
-        locations.push(DirectiveLocation::FieldDefinition)?;
+        locations.push(location_of(place.item))?;
     }
     Ok(locations)
 }
 
-fn location_of(place: DirectivePlace) -> Option<DirectiveLocation> {
-    Some(match place {
+fn location_of(place: DirectivePlace) -> DirectiveLocation {
+    match place {
         DirectivePlace::Query => DirectiveLocation::Query,
         DirectivePlace::Mutation => DirectiveLocation::Mutation,
         DirectivePlace::Subscription => DirectiveLocation::Subscription,
@@ -110,9 +103,16 @@ fn location_of(place: DirectivePlace) -> Option<DirectiveLocation> {
         DirectivePlace::FragmentSpread => DirectiveLocation::FragmentSpread,
         DirectivePlace::InlineFragment => DirectiveLocation::InlineFragment,
         DirectivePlace::VariableDefinition => DirectiveLocation::VariableDefinition,
+        DirectivePlace::Schema => DirectiveLocation::Schema,
         DirectivePlace::Scalar => DirectiveLocation::Scalar,
+        DirectivePlace::Object => DirectiveLocation::Object,
         DirectivePlace::FieldDefinition => DirectiveLocation::FieldDefinition,
+        DirectivePlace::ArgumentDefinition => DirectiveLocation::ArgumentDefinition,
+        DirectivePlace::Interface => DirectiveLocation::Interface,
+        DirectivePlace::Union => DirectiveLocation::Union,
+        DirectivePlace::Enum => DirectiveLocation::Enum,
         DirectivePlace::EnumValue => DirectiveLocation::EnumValue,
-        _ => return None,
-    })
+        DirectivePlace::InputObject => DirectiveLocation::InputObject,
+        DirectivePlace::InputFieldDefinition => DirectiveLocation::InputFieldDefinition,
+    }
 }
