@@ -88,18 +88,33 @@ impl fmt::Display for ReadError<'_> {
 impl Error for ReadError<'_> {}
 
 impl From<AllocError> for ReadError<'_> {
+    ghost use Rattle.std.specs.Prelude.{◌≡◌};
+    ghost use Rattle.graphql_lexer.specs.declared.error.ReadError.TheVariants as e;
+
+    ghost from_gives = { λ _ r. r ≡ e.OutOfMemory };
+
     fn from(_: AllocError) -> Self {
         ReadError::OutOfMemory
     }
 }
 
 impl<T: Drop> From<AllocFailed<T>> for ReadError<'_> {
+    ghost use Rattle.std.specs.Prelude.{◌≡◌};
+    ghost use Rattle.graphql_lexer.specs.declared.error.ReadError.TheVariants as e;
+
+    ghost from_gives = { λ _ r. r ≡ e.OutOfMemory };
+
     fn from(_: AllocFailed<T>) -> Self {
         ReadError::OutOfMemory
     }
 }
 
 impl From<OutOfMemory> for ReadError<'_> {
+    ghost use Rattle.std.specs.Prelude.{◌≡◌};
+    ghost use Rattle.graphql_lexer.specs.declared.error.ReadError.TheVariants as e;
+
+    ghost from_gives = { λ _ r. r ≡ e.OutOfMemory };
+
     fn from(_: OutOfMemory) -> Self {
         ReadError::OutOfMemory
     }
