@@ -1,1 +1,3 @@
-pub mod StringTokens
+pub mod ArgumentLaws
+pub mod ConstantLaws
+pub mod PartLaws

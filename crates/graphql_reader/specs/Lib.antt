@@ -1,1 +1,3 @@
-pub mod StringTexts
+pub mod Arguments
+pub mod Constants
+pub mod Parts

@@ -1,9 +1,13 @@
 //! Executable documents (GraphQL, October 2021, sections 2.2, 2.3, 2.8 and 2.10).
-ghost use Rattle.std.specs.Prelude.{◌<◌, IfOk, length};
+ghost use Rattle.std.specs.Prelude.{◌<◌, IfOk, IfErr, length};
+ghost use Rattle.graphql_lexer.specs.Ahead.{left};
+ghost use Rattle.graphql_reader.specs.Parts.{IsDefault, IsDefaultFault};
+ghost use Rattle.value_reader.specs.Seen.{rules_of};
+ghost use Rattle.value_reader.specs.declared.rules.Variables.TheVariants.{Refused};
 
+use crate::arguments::read_directives;
 use crate::selections::read_selection_set;
 use crate::types::read_type;
-use crate::values::{Variables, read_directives, read_value};
 use graphql_lexer::error::ReadError;
 use graphql_lexer::lexer::{Punctuator, Token};
 use graphql_lexer::tokens::Tokens;
@@ -14,6 +18,8 @@ use language::tree::{
 use language::value::InputValue;
 use sdl_scalars::scalar::SourceScalar;
 use std::alloc::Global;
+use value_reader::reader::read_value;
+use value_reader::rules::Variables;
 
 /// Parses an executable document: one or more operations and fragments (section 2.2). Names are slices of the text.
 /// It takes time in proportion to the length of the text.
@@ -215,9 +221,14 @@ fn read_variable_definition<'a>(
 pub fn read_default_value<'a>(
     tokens: &mut Tokens<'a>,
     max_depth: Option<usize>,
-) -> Result<Option<Spanning<InputValue<SourceScalar>>>, ReadError<'a>> {
+) -> Result<Option<Spanning<InputValue<SourceScalar>>>, ReadError<'a>>
+    ensures default { IfOk result (IsDefault (rules_of Refused max_depth) tokens.old tokens.new) }
+    ensures fault { IfErr result
+        (IsDefaultFault (rules_of Refused max_depth) (left tokens.old) (left tokens.new)) }
+{
     if !tokens.take(Punctuator::Equals) {
         return Ok(None);
     }
-    Ok(Some(read_value(tokens, Variables::Refused, max_depth)?))
+    let value = read_value(tokens, Variables::Refused, max_depth)?;
+    Ok(Some(value))
 }

@@ -3,21 +3,25 @@
 //!
 //! Positions are those of `graphql_lexer`: 0-based index, line and column, in bytes. Selection sets, lists and objects
 //! of a value, and list types may nest as deep as memory allows, since no call reads them by recursion. A caller may
-//! set a limit, as [`NESTING_LIMIT`]: [`read_document_within`], [`read_type_system_within`]. Proved of every call: it is
-//! safe and returns, whatever the text. That the tree is that of the text is only tested.
+//! set a limit, as [`NESTING_LIMIT`]: [`read_document_within`], [`read_type_system_within`].
+//!
+//! Proved of every call: it is safe and returns, whatever the text. Values are read by `value_reader`, which is proved
+//! exact; proved here too: arguments, default values and descriptions that were read are those that the tokens spell.
+//! That the rest of the tree is that of the text is only tested.
 #![tactic(auto)]
 
+mod arguments;
+mod constants;
 mod definitions;
 mod depth;
 mod selections;
 pub mod type_system;
 mod type_system_reader;
 mod types;
-mod values;
 
+pub use constants::read_constant;
 pub use definitions::{read_document, read_document_within};
 pub use depth::NESTING_LIMIT;
 pub use graphql_lexer::error::{Found, ReadError, SyntaxError, SyntaxFault};
 pub use sdl_scalars::scalar::SourceScalar;
 pub use type_system_reader::{read_type_system, read_type_system_within};
-pub use values::read_constant;

@@ -1,6 +1,6 @@
 //! Selection sets (GraphQL, October 2021, sections 2.4, 2.5 and 2.8).
+use crate::arguments::{read_arguments, read_directives};
 use crate::depth::check_depth;
-use crate::values::{Variables, read_arguments, read_directives};
 use graphql_lexer::error::ReadError;
 use graphql_lexer::lexer::Punctuator;
 use graphql_lexer::tokens::Tokens;
@@ -8,6 +8,7 @@ use language::position::{SourcePosition, Spanning};
 use language::tree::{Field, FragmentSpread, InlineFragment, Selection};
 use sdl_scalars::scalar::SourceScalar;
 use std::mem;
+use value_reader::rules::Variables;
 
 type Nodes<'a> = Vec<Selection<'a, SourceScalar>>;
 

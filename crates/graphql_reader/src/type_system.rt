@@ -1,5 +1,5 @@
 //! The tree of a type system document (GraphQL, October 2021, section 3).
-use crate::values::Directives;
+use crate::arguments::Directives;
 use language::position::Spanning;
 use language::tree::OperationType;
 use language::types::Type;

@@ -1,6 +1,10 @@
 //! Type system documents (GraphQL, October 2021, section 3).
-ghost use Rattle.std.specs.Prelude.{◌<◌, IfOk, length};
+ghost use Rattle.std.specs.Prelude.{◌≡◌, ◌<◌, IfOk, IfErr, OnErr, length};
+ghost use Rattle.graphql_lexer.specs.Ahead.{ahead_of, left};
+ghost use Rattle.graphql_reader.specs.Parts.{IsDescription};
+ghost use Rattle.value_reader.specs.Faults.{IsTextRefusal};
 
+use crate::arguments::{Directives, read_directives};
 use crate::definitions::{operation_type_ahead, read_default_value};
 use crate::type_system::{
     Description, DirectiveDefinition, DirectivePlace, EnumValueDefinition, FieldDefinition,
@@ -8,12 +12,13 @@ use crate::type_system::{
     TypeSystemDefinition,
 };
 use crate::types::read_type;
-use crate::values::{Directives, Variables, read_directives, read_string};
 use graphql_lexer::error::ReadError;
 use graphql_lexer::lexer::{Punctuator, Token};
 use graphql_lexer::tokens::Tokens;
 use language::position::{SourcePosition, Spanning};
 use std::alloc::Global;
+use value_reader::rules::Variables;
+use value_reader::strings::read_string;
 
 type Names<'a> = Vec<Spanning<&'a str>>;
 
@@ -69,7 +74,12 @@ fn read_definition<'a>(
     read_described(tokens, max_depth, start, description, false)
 }
 
-fn read_description<'a>(tokens: &mut Tokens<'a>) -> Result<Description, ReadError<'a>> {
+// The description that is next, if there is one.
+fn read_description<'a>(tokens: &mut Tokens<'a>) -> Result<Description, ReadError<'a>>
+    ensures text { IfOk result (IsDescription tokens.old tokens.new) }
+    ensures refused { IfErr result (IsTextRefusal (ahead_of tokens.old)) }
+    ensures unread { OnErr result (left tokens.new ≡ left tokens.old) }
+{
     match tokens.ahead() {
         Token::String(_) | Token::BlockString(_) => {
             let span = tokens.span();

@@ -1,0 +1,175 @@
+-- An argument, and the arguments between parentheses.
+use Rattle.std.proofs.Common.{◌≡◌, ℕ, List, [], ◌∷◌, ◌++◌, map, append_assoc, append-nil, refl, sym, ap, subst, ◌∙◌}
+use Rattle.std.proofs.lemmas.List.{map_push}
+use Rattle.language.specs.declared.position.SourcePosition.{SourcePosition}
+use Rattle.language.specs.declared.position.Span.{Span}
+use Rattle.graphql_lexer.specs.Ahead.{ahead_of, behind, left, last_end_of, IsTaken, IsLeft, IsSpanOf}
+use Rattle.graphql_lexer.specs.Lexemes.{Lexeme}
+use Rattle.graphql_lexer.specs.Lexical as token
+use Rattle.graphql_lexer.specs.declared.error.ReadError.{ReadError}
+use Rattle.graphql_lexer.specs.declared.error.ReadError.TheVariants.{Syntax, OutOfMemory}
+use Rattle.graphql_lexer.specs.declared.lexer.Punctuator.TheVariants.{Colon, ParenOpen, ParenClose}
+use Rattle.graphql_lexer.specs.declared.tokens.Tokens.{Tokens}
+use Rattle.value_reader.specs.Faults.{IsFirstFault}
+use Rattle.value_reader.specs.Grammar.{Rules, lexeme, sign, null_name, Spells, Begins}
+use Rattle.value_reader.specs.Values.{Key, Value, plain, null}
+use Rattle.graphql_reader.specs.Arguments.{Argument, Given, argument_seen, SpellsArgument, SpellsEach, BeginsArgument, BeginsArguments, GoesOnArgument, IsArgumentFault}
+use Rattle.graphql_reader.proofs.PartLaws.{taken, tail_same, Only}
+
+abbrev pub argument : Key → Value → Argument
+argument k v = record { name = k; value = v }
+
+abbrev pub key_sign : Key → Lexeme
+key_sign k = lexeme (token.name k.name) k.span.start k.span.end
+
+-- ---- two keys with one token are one
+abbrev key_of : List ℕ → SourcePosition → SourcePosition → Key
+key_of n a b = record { name = n; span = record { start = a; end = b } }
+
+name_of : (m n : List ℕ) (a b p q : SourcePosition) → lexeme (token.name m) a b ≡ lexeme (token.name n) p q → (m ≡ n) × (a ≡ p) × (b ≡ q)
+name_of m n a b p q e =
+    let t : token.name m ≡ token.name n = ap (λ x. x.token) e in (cc, ap (λ x. x.start) e, ap (λ x. x.stop) e)
+
+key_same : (j k : Key) → key_sign j ≡ key_sign k → j ≡ k
+key_same j k e =
+    let (n, s, t) = name_of j.name k.name j.span.start j.span.end k.span.start k.span.end e in
+    ap (λ m. key_of m j.span.start j.span.end) n ∙ ap (λ a. key_of k.name a j.span.end) s ∙ ap (λ b. key_of k.name k.span.start b) t
+
+head_same : (x y : Lexeme) (xs ys : List Lexeme) → x ∷ xs ≡ y ∷ ys → x ≡ y
+head_same x y xs ys e = cc
+
+-- ---- the name and the colon
+pub named : (k : Key) (old mid : Tokens) → IsTaken (token.name k.name) old mid → IsSpanOf (ahead_of old) k.span → left old ≡ key_sign k ∷ left mid
+named k old mid t (s, e) =
+    taken (token.name k.name) old mid t
+    ∙ ap (λ a. lexeme (token.name k.name) a (ahead_of old).stop ∷ left mid) (sym s) ∙ ap (λ b. lexeme (token.name k.name) k.span.start b ∷ left mid) (sym e)
+
+abbrev colon_at : Tokens → Lexeme
+colon_at t = sign Colon (ahead_of t).start (ahead_of t).stop
+
+headed : (k : Key) (old mid new : Tokens) → IsTaken (token.name k.name) old mid → IsSpanOf (ahead_of old) k.span → IsTaken (token.punctuator Colon) mid new → left old ≡ key_sign k ∷ colon_at mid ∷ left new
+headed k old mid new t s c = named k old mid t s ∙ ap (λ xs. key_sign k ∷ xs) (taken (token.punctuator Colon) mid new c)
+
+-- ---- what is read
+pub argument_read : (rules : Rules) (k : Key) (v : Value) (old mid new : Tokens) (rest : List Lexeme) → IsTaken (token.name k.name) old mid → IsSpanOf (ahead_of old) k.span → IsTaken (token.punctuator Colon) mid new → Begins rules (left new) v rest → BeginsArgument rules (left old) (argument k v) rest
+argument_read rules k v old mid new rest t s c (front, e, h) = (
+  key_sign k ∷ colon_at mid ∷ front,
+  headed k old mid new t s c ∙ ap (λ xs. key_sign k ∷ colon_at mid ∷ xs) e,
+  ((ahead_of mid).start, (ahead_of mid).stop, front, refl, h),
+)
+
+pub argument_once : (rules : Rules) (k : Key) (v : Value) (old mid new : Tokens) (rest : List Lexeme) → IsTaken (token.name k.name) old mid → IsSpanOf (ahead_of old) k.span → IsTaken (token.punctuator Colon) mid new → Only rules (left new) v rest → (b : Argument) (more : List Lexeme) → BeginsArgument rules (left old) b more → (b ≡ argument k v) × (more ≡ rest)
+argument_once rules k v old mid new rest t s c only b more (front, e, (p, q, inner, f, h)) =
+    let whole : key_sign b.name ∷ sign Colon p q ∷ (inner ++ more) ≡ key_sign k ∷ colon_at mid ∷ left new =
+    sym (e ∙ ap (λ xs. xs ++ more) f) ∙ headed k old mid new t s c in
+    let behind_name : sign Colon p q ∷ (inner ++ more) ≡ colon_at mid ∷ left new = tail_same _ _ _ _ whole in
+    let same : left new ≡ inner ++ more = sym (tail_same _ _ _ _ behind_name) in
+    let (w, r) = only b.value more (inner, same, h) in
+    (ap (λ j. argument j b.value) (key_same b.name k (head_same _ _ _ _ whole)) ∙ ap (λ u. argument k u) w, r)
+
+-- ---- the first fault
+abbrev origin : SourcePosition
+origin = record { index = 0; line = 0; column = 0 }
+
+abbrev nothing : Value
+nothing = plain null (record { start = origin; end = origin })
+
+nothing_spelled : List Lexeme
+nothing_spelled = lexeme (token.name null_name) origin origin ∷ []
+
+after_colon : (rules : Rules) (k : Key) (p q : SourcePosition) (v : Value) (more : List Lexeme) → Spells rules 0 v more → SpellsArgument rules (argument k v) (key_sign k ∷ sign Colon p q ∷ more)
+after_colon rules k p q v more h = (p, q, more, refl, h)
+
+some_key : Key
+some_key = key_of [] origin origin
+
+goes_on_none : (rules : Rules) → GoesOnArgument rules []
+unfolding nothing_spelled
+goes_on_none rules =
+    (argument some_key nothing, key_sign some_key ∷ sign Colon origin origin ∷ nothing_spelled, after_colon rules some_key origin origin nothing nothing_spelled refl)
+
+goes_on_name : (rules : Rules) (k : Key) → GoesOnArgument rules (key_sign k ∷ [])
+unfolding nothing_spelled
+goes_on_name rules k = (argument k nothing, sign Colon origin origin ∷ nothing_spelled, after_colon rules k origin origin nothing nothing_spelled refl)
+
+pub name_fault : (rules : Rules) (old new : Tokens) (e : ReadError) → ((s : List ℕ) → IsLeft (token.name s) old new) → IsArgumentFault rules (left old) (left new) e
+name_fault rules old new OutOfMemory h = tt
+name_fault rules old new (Syntax e) h = (
+  [],
+  ahead_of old,
+  behind old,
+  ap left (h []).1,
+  refl,
+  goes_on_none rules,
+  λ (a, more, (p, q, inner, f, s)). (h a.name.name).0 (ap (λ x. x.token) (head_same _ _ _ _ f)),
+)
+
+pub colon_fault : (rules : Rules) (k : Key) (old mid new : Tokens) (e : ReadError) → IsTaken (token.name k.name) old mid → IsSpanOf (ahead_of old) k.span → IsLeft (token.punctuator Colon) mid new → IsArgumentFault rules (left old) (left new) e
+colon_fault rules k old mid new OutOfMemory t s h = tt
+colon_fault rules k old mid new (Syntax e) t s (n, h) = (
+  key_sign k ∷ [],
+  ahead_of mid,
+  behind mid,
+  ap left h,
+  named k old mid t s,
+  goes_on_name rules k,
+  λ (a, more, (p, q, inner, f, u)). n (ap (λ x. x.token) (head_same _ _ _ _ (tail_same _ _ _ _ f))),
+)
+
+pub value_fault : (rules : Rules) (k : Key) (old mid new : Tokens) (at : List Lexeme) (e : ReadError) → IsTaken (token.name k.name) old mid → IsSpanOf (ahead_of old) k.span → IsTaken (token.punctuator Colon) mid new → IsFirstFault rules (left new) at e → IsArgumentFault rules (left old) at e
+value_fault rules k old mid new at OutOfMemory t s c h = tt
+value_fault rules k old mid new at (Syntax e) t s c (before, x, more, l, f, ((v, rest, u), none, place)) = (
+  key_sign k ∷ colon_at mid ∷ before,
+  x,
+  more,
+  l,
+  headed k old mid new t s c ∙ ap (λ xs. key_sign k ∷ colon_at mid ∷ xs) f,
+  (argument k v, rest, after_colon rules k (ahead_of mid).start (ahead_of mid).stop v (before ++ rest) u),
+  λ (a, tail, (p, q, inner, g, w)). none (a.value, tail, subst (λ xs. Spells rules 0 a.value xs) (sym (tail_same _ _ _ _ (tail_same _ _ _ _ g))) w),
+)
+
+-- ---- one argument after the other
+pub each_more : (rules : Rules) (given : List Argument) (a : Argument) (front one : List Lexeme) → SpellsEach rules given front → SpellsArgument rules a one → SpellsEach rules (given ++ a ∷ []) (front ++ one)
+each_more rules [] a front one e h = (one, [], ap (λ ts. ts ++ one) e ∙ sym (append-nil one), h, refl)
+each_more rules (b ∷ given) a front one (x, y, e, hb, hs) h =
+    (x, y ++ one, ap (λ ts. ts ++ one) e ∙ append_assoc x y one, hb, each_more rules given a y one hs h)
+
+-- the tokens up to here spell these arguments
+abbrev pub Reached : Rules → List Lexeme → List Argument → List Lexeme → Type 0
+Reached rules ts given rest = (front : List Lexeme) × (ts ≡ front ++ rest) × SpellsEach rules given front
+
+pub reached_more : (rules : Rules) (ts : List Lexeme) (given : List Argument) (a : Argument) (mid rest : List Lexeme) → Reached rules ts given mid → BeginsArgument rules mid a rest → Reached rules ts (given ++ a ∷ []) rest
+reached_more rules ts given a mid rest (front, e, h) (one, f, s) =
+    (front ++ one, e ∙ ap (λ xs. front ++ xs) f ∙ sym (append_assoc front one rest), each_more rules given a front one h s)
+
+pub reached_new : (rules : Rules) (ts : List Lexeme) (items : List Given) → items ≡ [] → Reached rules ts (map argument_seen items) ts
+reached_new rules ts items e = subst (λ xs. Reached rules ts (map argument_seen xs) ts) (sym e) ([], refl, refl)
+
+seen_more : (items new : List Given) (x : Given) → new ≡ items ++ x ∷ [] → map argument_seen new ≡ map argument_seen items ++ argument_seen x ∷ []
+seen_more items new x e = ap (λ xs. map argument_seen xs) e ∙ map_push argument_seen items x
+
+pub reached_push : (rules : Rules) (ts : List Lexeme) (items new : List Given) (x : Given) (mid rest : List Lexeme) → Reached rules ts (map argument_seen items) mid → BeginsArgument rules mid (argument_seen x) rest → new ≡ items ++ x ∷ [] → Reached rules ts (map argument_seen new) rest
+reached_push rules ts items new x mid rest h b e =
+    subst (λ xs. Reached rules ts xs rest) (sym (seen_more items new x e)) (reached_more rules ts (map argument_seen items) (argument_seen x) mid rest h b)
+
+not_none : (given : List Argument) (a : Argument) → given ++ a ∷ [] ≡ [] → ⊥
+not_none [] a e = cc
+not_none (b ∷ given) a e = cc
+
+pub pushed_some : (items new : List Given) (x : Given) → new ≡ items ++ x ∷ [] → map argument_seen new ≡ [] → ⊥
+pushed_some items new x e h = not_none (map argument_seen items) (argument_seen x) (sym (seen_more items new x e) ∙ h)
+
+paren_open : (span : Span) (old first : Tokens) → IsTaken (token.punctuator ParenOpen) old first → span.start ≡ (ahead_of old).start → left old ≡ sign ParenOpen span.start (ahead_of old).stop ∷ left first
+paren_open span old first o s = taken (token.punctuator ParenOpen) old first o ∙ ap (λ p. sign ParenOpen p (ahead_of old).stop ∷ left first) (sym s)
+
+paren_close : (span : Span) (mid new : Tokens) → IsTaken (token.punctuator ParenClose) mid new → span.end ≡ last_end_of new → left mid ≡ sign ParenClose (ahead_of mid).start span.end ∷ left new
+paren_close span mid new c t =
+    taken (token.punctuator ParenClose) mid new c ∙ ap (λ p. sign ParenClose (ahead_of mid).start p ∷ left new) (sym (t ∙ c.2))
+
+pub arguments_read : (rules : Rules) (given : List Argument) (span : Span) (old first mid new : Tokens) → IsTaken (token.punctuator ParenOpen) old first → Reached rules (left first) given (left mid) → (given ≡ [] → ⊥) → IsTaken (token.punctuator ParenClose) mid new → span.start ≡ (ahead_of old).start → span.end ≡ last_end_of new → BeginsArguments rules (left old) given span (left new)
+arguments_read rules given span old first mid new o (inner, e, h) some c s t = (
+  sign ParenOpen span.start (ahead_of old).stop ∷ (inner ++ sign ParenClose (ahead_of mid).start span.end ∷ []),
+  paren_open span old first o s
+      ∙ ap (λ xs. sign ParenOpen span.start (ahead_of old).stop ∷ xs) (e ∙ ap (λ xs. inner ++ xs) (paren_close span mid new c t) ∙ sym (append_assoc inner (sign ParenClose (ahead_of mid).start span.end ∷ []) (left new))),
+  (some, inner, (ahead_of old).stop, (ahead_of mid).start, refl, h),
+)

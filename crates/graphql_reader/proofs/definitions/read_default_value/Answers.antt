@@ -1,0 +1,23 @@
+use Rattle.std.proofs.Common.{refl}
+use Rattle.std.proofs.lemmas.Result.{err_from_is_err_and}
+use Rattle.graphql_lexer.specs.Ahead.{left}
+use Rattle.value_reader.specs.Seen.{rules_of, value_seen}
+use Rattle.value_reader.specs.declared.rules.Variables.TheVariants.{Refused}
+use Rattle.graphql_reader.proofs.PartLaws.{default_read, default_once, default_fault}
+use Rattle.graphql_reader.proofs.definitions.read_default_value.Goals as goal
+
+pub returns-clause-default : goal.returns-clause-default
+returns-clause-default c =
+    let rules = rules_of Refused c.args.max_depth in
+    let old = c.args.tokens.now in
+    let mid = c.take.new.self in
+    let rest = left c.read_value.new.tokens in
+    let v = value_seen c.in_ok-value.value in (
+      default_read rules old mid v rest (c.if-not-take.ensures.taken refl) c.in_ok-value.ensures.value,
+      default_once rules old mid v rest (c.if-not-take.ensures.taken refl) c.in_ok-value.ensures.only,
+    )
+
+pub returns-in_err-value-clause-fault : goal.returns-in_err-value-clause-fault
+returns-in_err-value-clause-fault c =
+    let p = err_from_is_err_and c.from_residual.result c.from_residual.ensures.1 in
+    rw (p.1, p.2) (default_fault (rules_of Refused c.args.max_depth) c.args.tokens.now c.take.new.self (left c.read_value.new.tokens) _ (c.if-not-take.ensures.taken refl) c.in_err-value.ensures.fault)

@@ -1,0 +1,73 @@
+-- The tokens that arguments are written with (GraphQL, October 2021, section 2.6).
+use Rattle.std.specs.Prelude.{◌≡◌, ℕ, List, [], ◌∷◌, ◌++◌, map, Option, Some, None}
+use denote.Ref.{Bor}
+use Rattle.language.specs.declared.position.SourcePosition.{SourcePosition}
+use Rattle.language.specs.declared.position.Span.{Span}
+use Rattle.language.specs.declared.position.Spanning.{Spanning}
+use Rattle.language.specs.declared.tree.Arguments.{Arguments}
+use Rattle.language.specs.declared.value.InputValue.{InputValue}
+use Rattle.sdl_scalars.specs.declared.scalar.SourceScalar.{SourceScalar}
+use Rattle.graphql_lexer.specs.Ahead.{left, IsLeft}
+use Rattle.graphql_lexer.specs.Lexemes.{Lexeme}
+use Rattle.graphql_lexer.specs.Lexical as token
+use Rattle.graphql_lexer.specs.declared.error.ReadError.{ReadError}
+use Rattle.graphql_lexer.specs.declared.error.ReadError.TheVariants.{Syntax, OutOfMemory}
+use Rattle.graphql_lexer.specs.declared.lexer.Punctuator.TheVariants.{Colon, ParenOpen, ParenClose}
+use Rattle.graphql_lexer.specs.declared.tokens.Tokens.{Tokens}
+use Rattle.value_reader.specs.Grammar.{Rules, lexeme, sign, Spells}
+use Rattle.value_reader.specs.Seen.{value_seen}
+use Rattle.value_reader.specs.Values.{Key, Value}
+
+pub record Argument : Type 0 where
+  pub name : Key
+  pub value : Value
+
+-- Argument[Const]: Name `:` Value[Const]
+abbrev pub SpellsArgument : Rules → Argument → List Lexeme → Type 0
+SpellsArgument rules a ts =
+    (p : SourcePosition) × (q : SourcePosition) × (more : List Lexeme)
+    × (ts ≡ lexeme (token.name a.name.name) a.name.span.start a.name.span.end ∷ sign Colon p q ∷ more) × Spells rules 0 a.value more
+
+abbrev pub SpellsEach : Rules → List Argument → List Lexeme → Type 0
+SpellsEach rules [] ts = ts ≡ []
+SpellsEach rules (a ∷ given) ts =
+    (one : List Lexeme) × (more : List Lexeme) × (ts ≡ one ++ more) × SpellsArgument rules a one × SpellsEach rules given more
+
+-- Arguments[Const]: `(` Argument[Const]+ `)`
+abbrev pub SpellsArguments : Rules → List Argument → Span → List Lexeme → Type 0
+SpellsArguments rules given span ts =
+    (given ≡ [] → ⊥) × (inner : List Lexeme) × (a : SourcePosition) × (b : SourcePosition)
+    × (ts ≡ sign ParenOpen span.start a ∷ (inner ++ sign ParenClose b span.end ∷ [])) × SpellsEach rules given inner
+
+-- the first tokens are those of this argument, or of these, and the rest stands behind them
+abbrev pub BeginsArgument : Rules → List Lexeme → Argument → List Lexeme → Type 0
+BeginsArgument rules ts a rest = (front : List Lexeme) × (ts ≡ front ++ rest) × SpellsArgument rules a front
+
+abbrev pub BeginsArguments : Rules → List Lexeme → List Argument → Span → List Lexeme → Type 0
+BeginsArguments rules ts given span rest = (front : List Lexeme) × (ts ≡ front ++ rest) × SpellsArguments rules given span front
+
+-- some argument begins with these tokens
+abbrev pub GoesOnArgument : Rules → List Lexeme → Type 0
+GoesOnArgument rules ts = (a : Argument) × (more : List Lexeme) × SpellsArgument rules a (ts ++ more)
+
+-- No first tokens of ts are those of an argument. What is left begins with the first token with which none goes on.
+abbrev pub IsArgumentFault : Rules → List Lexeme → List Lexeme → ReadError → Type 0
+IsArgumentFault rules ts left (Syntax e) =
+    (before : List Lexeme) × (x : Lexeme) × (more : List Lexeme) × (left ≡ x ∷ more) × (ts ≡ before ++ x ∷ more)
+    × GoesOnArgument rules before × (GoesOnArgument rules (before ++ x ∷ []) → ⊥)
+IsArgumentFault rules ts left OutOfMemory = Unit {0}
+
+-- ---- what the code's arguments stand for
+abbrev pub Given : Type 0
+Given = Spanning (Bor (List ℕ)) Span × Spanning (InputValue SourceScalar) Span
+
+abbrev pub name_seen : Spanning (Bor (List ℕ)) Span → Key
+name_seen n = record { name = n.item.now; span = n.span }
+
+abbrev pub argument_seen : Given → Argument
+argument_seen a = record { name = name_seen a.0; value = value_seen a.1 }
+
+-- the arguments are those that the tokens begin with, or none where no parenthesis does
+abbrev pub IsArguments : Rules → Tokens → Tokens → Option (Spanning (Arguments SourceScalar) Span) → Type 0
+IsArguments rules old new None = IsLeft (token.punctuator ParenOpen) old new
+IsArguments rules old new (Some given) = BeginsArguments rules (left old) (map argument_seen given.item.items.items) given.span (left new)

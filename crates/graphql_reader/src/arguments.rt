@@ -1,0 +1,111 @@
+//! Arguments and directives (GraphQL, October 2021, sections 2.6 and 2.12).
+ghost use Rattle.std.specs.Prelude.{◌≡◌, IfOk, IfErr, List};
+ghost use Rattle.graphql_lexer.specs.Ahead.{left};
+ghost use Rattle.graphql_lexer.specs.Lexemes.{Lexeme};
+ghost use Rattle.graphql_reader.specs.Arguments as g;
+ghost use Rattle.graphql_reader.specs.Arguments.{argument_seen, BeginsArgument, IsArgumentFault, IsArguments};
+ghost use Rattle.value_reader.specs.Seen.{rules_of};
+
+use graphql_lexer::error::ReadError;
+use graphql_lexer::lexer::Punctuator;
+use graphql_lexer::tokens::Tokens;
+use language::position::Spanning;
+use language::tree::{Arguments, Directive};
+use language::value::InputValue;
+use sdl_scalars::scalar::SourceScalar;
+use value_reader::reader::read_value;
+use value_reader::rules::Variables;
+
+/// The directives of a node, or `None` without any.
+pub type Directives<'a> = Option<Vec<Spanning<Directive<'a, SourceScalar>>>>;
+
+type Argument<'a> = (Spanning<&'a str>, Spanning<InputValue<SourceScalar>>);
+
+/// Parses arguments, if there are any. The list is never empty.
+///
+/// # Errors
+///
+/// A syntax error after the parenthesis, a value with more levels than `max_depth`, or out of memory.
+pub fn read_arguments<'a>(
+    tokens: &mut Tokens<'a>,
+    variables: Variables,
+    max_depth: Option<usize>,
+) -> Result<Option<Spanning<Arguments<'a, SourceScalar>>>, ReadError<'a>>
+    ensures { IfOk result (IsArguments (rules_of variables max_depth) tokens.old tokens.new) }
+{
+    let start = tokens.start();
+    if !tokens.take(Punctuator::ParenOpen) {
+        return Ok(None);
+    }
+    let mut items = Vec::new(tokens.alloc());
+    for _ in 0..tokens.bound() {
+        let argument = read_argument(tokens, variables, max_depth)?;
+        items.push(argument)?;
+        if tokens.take(Punctuator::ParenClose) {
+            items.shrink_to_fit();
+            let span = tokens.span_from(start);
+            let item = Arguments { items };
+            return Ok(Some(Spanning { item, span }));
+        }
+    }
+    Err(tokens.fault(")"))
+}
+
+// One argument: its name, a colon and its value.
+fn read_argument<'a>(
+    tokens: &mut Tokens<'a>,
+    variables: Variables,
+    max_depth: Option<usize>,
+) -> Result<Argument<'a>, ReadError<'a>>
+    ensures argument { IfOk result (λ a.
+        BeginsArgument (rules_of variables max_depth) (left tokens.old) (argument_seen a) (left tokens.new)) }
+    ensures only { IfOk result (λ a. (b : g.Argument) (rest : List Lexeme)
+        → BeginsArgument (rules_of variables max_depth) (left tokens.old) b rest
+        → (b ≡ argument_seen a) × (rest ≡ left tokens.new)) }
+    ensures fault { IfErr result
+        (IsArgumentFault (rules_of variables max_depth) (left tokens.old) (left tokens.new)) }
+{
+    let name = tokens.name("an argument's name")?;
+    tokens.expect(Punctuator::Colon, ":")?;
+    let value = read_value(tokens, variables, max_depth)?;
+    Ok((name, value))
+}
+
+/// Parses directives, if there are any. The list is never empty.
+///
+/// # Errors
+///
+/// A syntax error after an `@`, a value with more levels than `max_depth`, or out of memory.
+pub fn read_directives<'a>(
+    tokens: &mut Tokens<'a>,
+    variables: Variables,
+    max_depth: Option<usize>,
+) -> Result<Directives<'a>, ReadError<'a>> {
+    if !tokens.is(Punctuator::At) {
+        return Ok(None);
+    }
+    let mut directives = Vec::new(tokens.alloc());
+    for _ in 0..tokens.bound() {
+        if !tokens.is(Punctuator::At) {
+            directives.shrink_to_fit();
+            return Ok(Some(directives));
+        }
+        directives.push(read_directive(tokens, variables, max_depth)?)?;
+    }
+    Err(tokens.fault("a directive"))
+}
+
+fn read_directive<'a>(
+    tokens: &mut Tokens<'a>,
+    variables: Variables,
+    max_depth: Option<usize>,
+) -> Result<Spanning<Directive<'a, SourceScalar>>, ReadError<'a>> {
+    let start = tokens.start();
+    tokens.advance();
+    let name = tokens.name("a directive's name")?;
+    let arguments = read_arguments(tokens, variables, max_depth)?;
+    Ok(Spanning {
+        item: Directive { name, arguments },
+        span: tokens.span_from(start),
+    })
+}
