@@ -1,0 +1,105 @@
+"""The families of documents that ask for the most work: what a server may be sent by someone who wants to stop it."""
+
+# Each differs from its neighbours, and all have as many digits, so that texts grow by the number of pieces alone.
+FIRST = 1_000
+
+# A field with an argument is not passed over as plainly alike.
+WITH_ARGUMENT = "name(surname: true)"
+
+# Two parents of a field `a` that can't be one object: no field `a` beside them is plainly alike, and none conflicts.
+APART = "... on Being { ... on Dog { a: barkVolume } } "
+
+
+def numbers(count):
+    return range(FIRST, FIRST + count)
+
+
+def spreads(count):
+    return "".join(f"...F{n} " for n in numbers(count))
+
+
+def nested(levels, inmost):
+    """A selection set below so many inline fragments."""
+    return "{ human { " + "... { " * levels + inmost + "} " * levels + "} }"
+
+
+def hub(own, below, levels=0):
+    """Fields in nested sets that spread as many fragments, of which each spreads one with as many fields."""
+
+    def text(count):
+        around = "".join(f"fragment F{n} on Being {{ ...Hub }} " for n in numbers(count))
+        fields = "... on Human { " + f"a: {below} " * count + "} " + APART
+        inmost = f"a: {own} " * count + APART + spreads(count)
+        return nested(levels * count, inmost) + f" {around}fragment Hub on Being {{ {fields}}}"
+
+    return text
+
+
+def pairs(count):
+    """Fields of one name in nested sets, which have to be compared in pairs."""
+    return nested(count, "a: iq " * count + APART)
+
+
+def plain(count):
+    """Fields in nested sets that are plainly alike."""
+    return nested(count, "iq " * count)
+
+
+def failing(levels):
+    """Fields of one name, half of which differ from the others, in one set or in nested ones."""
+    return lambda count: nested(levels * count, "a: iq " * count + "a: name " * count)
+
+
+def reopened(count):
+    """Sets below a field, each of which is searched with a chain of fragments from its end to its start."""
+    chain = "".join(f"fragment F{n} on Human {{ ...F{n + 1} }} " for n in numbers(count))
+    back = "".join(f"...F{n} " for n in reversed(numbers(count)))
+    sets = "relatives { a: iq } " * count
+    return f"{{ human {{ {sets}relatives {{ {back}}} }} }} {chain}fragment F{FIRST + count} on Human {{ a: iq }}"
+
+
+def chained(count):
+    """A chain of fragments, each with a field that has an argument."""
+    chain = "".join(f"fragment F{n} on Dog {{ {WITH_ARGUMENT} ...F{n + 1} }} " for n in numbers(count))
+    return f"{{ dog {{ ...F{FIRST} }} }} {chain}fragment F{FIRST + count} on Dog {{ name }}"
+
+
+def each_later(count):
+    """Fragments that each spread all later ones, with such a field."""
+    later = {n: "".join(f"...F{it} " for it in range(n + 1, FIRST + count)) for n in numbers(count)}
+    return f"{{ dog {{ ...F{FIRST} }} }} " + "".join(f"fragment F{n} on Dog {{ {WITH_ARGUMENT} {later[n]}}} " for n in later)
+
+
+def operations(definition):
+    """Operations that all reach one fragment, which uses a variable as often."""
+
+    def text(count):
+        uses = f"complicatedArgs {{ stringListArgField(stringListArg: [{'$a ' * count}]) }}"
+        return "".join(f"query Q{n} {definition}{{ ...Uses }} " for n in numbers(count)) + f"fragment Uses on QueryRoot {{ {uses} }}"
+
+    return text
+
+
+def long_type(count):
+    """A variable of a type of as many lists, which each error tells once more."""
+    uses = f"complicatedArgs {{ stringListArgField(stringListArg: [{'$a ' * count}]) }}"
+    return f"query ($a: {'[' * count}Int{']' * count}) {{ {uses} }}"
+
+
+# A family: its name, how a document is made of a number of pieces, the first number, and whether the document is valid.
+WORST = [
+    ("fields in nested sets", pairs, 20, True),
+    ("plain fields in nested sets", plain, 100, True),
+    ("a hub", hub("iq", "iq"), 20, True),
+    ("a hub in nested sets", hub("iq", "iq", 1), 8, True),
+    ("sets against a chain", reopened, 40, True),
+    ("arguments in a chain", chained, 200, True),
+    ("arguments in all later", each_later, 30, True),
+    ("uses in operations", operations("($a: String) "), 40, True),
+    ("wrong uses in operations", operations("($a: Int) "), 40, False),
+    ("undefined in operations", operations(""), 40, False),
+    ("a long type at each use", long_type, 200, False),
+    ("failing fields", failing(0), 40, False),
+    ("failing fields in nested sets", failing(1), 8, False),
+    ("a hub with conflicts", hub("iq", "name"), 10, False),
+]
