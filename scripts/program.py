@@ -20,7 +20,7 @@ CRATES = TOP / "crates"
 NOT_RUN = 125
 
 # A first proof of a crate takes about so many minutes of a processor, and so many more for 1,000 lines of code.
-MINUTES, MINUTES_OF_LINES = 1.0, 2.0
+MINUTES, MINUTES_OF_LINES = 1.1, 3.3
 
 # The memory that one proof may take, in bytes.
 MEMORY = 3 << 30
