@@ -48,6 +48,13 @@ union Either = Query | Subscription
 type Subscription { a: Int b: Int }
 ";
 
+/// A schema with a directive of its own.
+const TAG: &str = "type Query { dog: Dog } type Dog { name: String } directive @tag on FIELD";
+
+/// The same, where the directive is repeatable.
+const REPEATABLE: &str =
+    "type Query { dog: Dog } type Dog { name: String } directive @tag repeatable on FIELD";
+
 /// Appends the errors of a document, one per line. The kind names a dialect and a schema; what follows is for readers.
 /// Whether there is such a kind of rows.
 ///
@@ -67,11 +74,14 @@ pub fn tell_by_dialect(
         _ => return Ok(false),
     };
     let (name, _) = rest.split_once(' ').unwrap_or((rest, ""));
-    match name {
-        "library" => tell(alloc, dialect, LIBRARY, text, came)?,
-        "corners" => tell(alloc, dialect, CORNERS, text, came)?,
+    let schema = match name {
+        "library" => LIBRARY,
+        "corners" => CORNERS,
+        "tag" => TAG,
+        "repeatable" => REPEATABLE,
         _ => return Ok(false),
-    }
+    };
+    tell(alloc, dialect, schema, text, came)?;
     Ok(true)
 }
 

@@ -2,6 +2,8 @@
 ghost use Rattle.std.specs.Prelude.{◌≡◌, IfOk, string_bytes};
 ghost use Rattle.conformance.specs.Told.{TellsConflicts, TellsErrors, error_lines};
 
+use crate::asked::told_of_text;
+use crate::customs::errors_by_customs;
 use crate::variables::errors_of_values;
 use sample_reader::{ReadError, read_document};
 use samples::build::Checks;
@@ -46,6 +48,7 @@ fn errors_of_kind(
     let types = match sample {
         "pets" => pets::types(alloc, checks)?,
         "boxes" => boxes::types(alloc, checks)?,
+        "customs" => return errors_by_customs(alloc, mode, text),
         _ => return Ok(None),
     };
     match SchemaType::<DefaultScalarValue>::new(
@@ -60,22 +63,34 @@ fn errors_of_kind(
     }
 }
 
-// By every rule, where introspection is disabled or not; by the rule `overlapping_fields_can_be_merged` alone; or by the
-// check of variable values.
+// Whether introspection is disabled makes the root node.
 fn errors_by_mode(
     alloc: Global,
     root: RootNode,
     mode: &str,
     text: &str,
 ) -> Result<Option<String>, ReadError> {
-    let errors = match mode {
-        "" => errors_of_text(alloc, &root, text.as_bytes()),
-        "closed" => errors_of_text(alloc, &root.disable_introspection(), text.as_bytes()),
+    let root = match mode {
+        "closed" => root.disable_introspection(),
+        "reopened" => root.disable_introspection().enable_introspection(),
+        _ => root,
+    };
+    Ok(Some(told_by_mode(alloc, &root, mode, text)?))
+}
+
+// By every rule; by the rule `overlapping_fields_can_be_merged` alone; by the check of variable values; or what is asked.
+fn told_by_mode(
+    alloc: Global,
+    root: &RootNode,
+    mode: &str,
+    text: &str,
+) -> Result<String, ReadError> {
+    match mode {
+        "" | "closed" | "reopened" => errors_of_text(alloc, root, text.as_bytes()),
         "merge" => conflicts_of_text(alloc, &root.schema, text.as_bytes()),
         "variables" => errors_of_values(alloc, &root.schema, text),
-        _ => return Ok(None),
-    };
-    Ok(Some(errors?))
+        _ => told_of_text(alloc, &root.schema, mode, text),
+    }
 }
 
 fn errors_of_text(alloc: Global, root: &RootNode, text: &[u8]) -> Result<String, ReadError> {

@@ -1,10 +1,17 @@
 //! The program `conformance`: validates documents, and reports where what comes is not what is expected. Of most the
 //! errors of juniper's own code are known; of those for October 2021, the section of the specification that asks for them.
+//! Further rows tell of single rules, of the search for conflicts, of uses of variables and of their values.
 #![tactic(auto)]
 
+mod alone;
+mod asked;
+mod customs;
 mod dialects;
+mod found;
 mod judge;
 mod runs;
+mod texts;
+mod usages;
 mod variables;
 
 use row_files::{Judge, run};
@@ -30,6 +37,11 @@ const FILES: &[&str] = &[
     "check_texts.txt",
     "section5.txt",
     "dialects.txt",
+    "asked.txt",
+    "graphs.txt",
+    "customs.txt",
+    "alone.txt",
+    "usages.txt",
 ];
 
 /// What this repository's code makes of documents.
@@ -43,6 +55,10 @@ impl Judge for Validation {
         text: &str,
         came: &mut String,
     ) -> Result<bool, AllocError> {
+        if let Some(rule) = kind.strip_prefix("alone ") {
+            alone::tell_alone(alloc, rule, text, came)?;
+            return Ok(true);
+        }
         if dialects::tell_by_dialect(alloc, kind, text, came)? {
             return Ok(true);
         }

@@ -62,12 +62,10 @@ const READS: &[(&str, &str)] = &[
 fn a_failed_read_is_told(rt: HostRuntime) {
     for (path, output) in READS {
         let run = run_broken(rt.alloc(), LINE, path).expect(&rt, "memory");
-        assert_eq!(rt; run.status, 2);
-        assert_eq!(rt; run.output.as_slice(), output.as_bytes());
         let told = format!(in rt.alloc(); "{path}: error: permission denied\n").expect(
             &rt, "memory",
         );
-        assert_eq!(rt; run.errors.as_slice(), told.as_str().as_bytes());
+        assert!(rt; run.is(2, output, told.as_str()));
     }
 }
 

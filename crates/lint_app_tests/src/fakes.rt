@@ -235,6 +235,15 @@ pub struct Run {
     pub errors: Vec<u8>,
 }
 
+impl Run {
+    /// Whether it ended so.
+    pub fn is(&self, status: u8, output: &str, errors: &str) -> bool {
+        self.status == status
+            && self.output.as_slice() == output.as_bytes()
+            && self.errors.as_slice() == errors.as_bytes()
+    }
+}
+
 /// A run with these arguments, where one file can't be read.
 pub fn run_broken(alloc: Global, line: &str, broken: &str) -> Result<Run, AllocError> {
     let files = Memory {

@@ -1,6 +1,8 @@
 //! Runs over files in memory.
 use crate::fakes::{Memory, run_broken, run_over};
 use lint_app::colours::Colours;
+use std::alloc::Global;
+use std::process::Abort;
 
 // The errors of two documents. A schema has one meaning, as type definitions and as an introspection result.
 const KENNEL_ERRORS: &str =
@@ -480,24 +482,24 @@ const STATUSES: &[(&str, u8)] = &[
     ("", 2),
 ];
 
-#[test]
-fn reads_schemas_of_several_files(rt: HostRuntime) {
-    for (line, status, output, errors) in SCHEMAS {
-        let run = run_broken(rt.alloc(), line, "").expect(&rt, "memory");
-        assert_eq!(rt; run.status, *status);
-        assert_eq!(rt; run.output.as_slice(), output.as_bytes());
-        assert_eq!(rt; run.errors.as_slice(), errors.as_bytes());
+/// Each run ends with its status, its output and its errors.
+fn each_ends(rt: &impl Abort, alloc: Global, runs: &[(&str, u8, &str, &str)]) {
+    for (line, status, output, errors) in runs {
+        let run = run_broken(alloc, line, "").expect(rt, "memory");
+        if !run.is(*status, output, errors) {
+            rt.panic(*line);
+        }
     }
 }
 
 #[test]
+fn reads_schemas_of_several_files(rt: HostRuntime) {
+    each_ends(&rt, rt.alloc(), SCHEMAS);
+}
+
+#[test]
 fn runs(rt: HostRuntime) {
-    for (line, status, output, errors) in RUNS {
-        let run = run_broken(rt.alloc(), line, "").expect(&rt, "memory");
-        assert_eq!(rt; run.status, *status);
-        assert_eq!(rt; run.output.as_slice(), output.as_bytes());
-        assert_eq!(rt; run.errors.as_slice(), errors.as_bytes());
-    }
+    each_ends(&rt, rt.alloc(), RUNS);
 }
 
 // The streams that show colours, and both with them.
@@ -530,9 +532,7 @@ fn each_stream_has_its_colours(rt: HostRuntime) {
         let run = run_over(rt.alloc(), "--schema shop team/a.graphql absent", &files).expect(
             &rt, "memory",
         );
-        assert_eq!(rt; run.status, 2);
-        assert_eq!(rt; run.output.as_slice(), output.as_bytes());
-        assert_eq!(rt; run.errors.as_slice(), errors.as_bytes());
+        assert!(rt; run.is(2, output, errors));
     }
 }
 
@@ -541,7 +541,8 @@ fn each_stream_has_its_colours(rt: HostRuntime) {
 fn statuses(rt: HostRuntime) {
     for (line, status) in STATUSES {
         let run = run_broken(rt.alloc(), line, "").expect(&rt, "memory");
-        assert_eq!(rt; run.status, *status);
-        assert_eq!(rt; run.errors.is_empty(), *status < 2);
+        if run.status != *status || run.errors.is_empty() != (*status < 2) {
+            rt.panic(*line);
+        }
     }
 }

@@ -13,7 +13,7 @@ use std::alloc::Global;
 use std::process::Abort;
 
 /// The list, the type that is left out, what is added, for which type, the names of the three roots, and the result: the
-/// error, or the roots of the schema.
+/// error and how it prints, or the roots of the schema.
 ///
 /// Added is `List`, a list type, which has no name; `Dog`, an object with a name; `DogForDog`, the same, where the field
 /// `name` takes a `Dog`; `Friends`, an interface and a union of it; or a union, an object, an interface or an input object
@@ -23,25 +23,25 @@ const ROWS: &str =
 demo - Nothing - QueryRoot Dog _EmptySubscription: QueryRoot Dog none
 demo - Nothing - QueryRoot _EmptyMutation Dog: QueryRoot none Dog
 demo - Nothing - Dog QueryRoot String: Dog QueryRoot String
-demo - Nothing - QueryRoot Nope _EmptySubscription: MissingRoot("Nope")
-demo - Nothing - QueryRoot _EmptyMutation Nope: MissingRoot("Nope")
-demo - Nothing - QueryRoot _EmptySubscription _EmptySubscription: MissingRoot("_EmptySubscription")
-demo __Type Nothing - QueryRoot _EmptyMutation _EmptySubscription: UnknownType("__Type")
-demo - Nothing - Nope _EmptyMutation _EmptySubscription: MissingRoot("Nope")
-demo - Nothing - String _EmptyMutation _EmptySubscription: QueryNotObject
-demo - Dog - QueryRoot _EmptyMutation _EmptySubscription: RepeatedType("Dog")
-demo Dog DogForDog - QueryRoot _EmptyMutation _EmptySubscription: NotInputType("Dog")
-demo - List - QueryRoot _EmptyMutation _EmptySubscription: UnnamedType
-demo - Friends - QueryRoot _EmptyMutation _EmptySubscription: UnionMemberNotObject("Friend")
-demo - UnionOf Nope QueryRoot _EmptyMutation _EmptySubscription: UnknownType("Nope")
-demo - ObjectOf Nope QueryRoot _EmptyMutation _EmptySubscription: UnknownType("Nope")
-demo - InterfaceOf Nope QueryRoot _EmptyMutation _EmptySubscription: UnknownType("Nope")
-demo - InputOf Nope QueryRoot _EmptyMutation _EmptySubscription: UnknownType("Nope")
-demo - InputOf Dog QueryRoot _EmptyMutation _EmptySubscription: NotInputType("Dog")
+demo - Nothing - QueryRoot Nope _EmptySubscription: MissingRoot("Nope"), the root type "Nope" is not listed
+demo - Nothing - QueryRoot _EmptyMutation Nope: MissingRoot("Nope"), the root type "Nope" is not listed
+demo - Nothing - QueryRoot _EmptySubscription _EmptySubscription: MissingRoot("_EmptySubscription"), the root type "_EmptySubscription" is not listed
+demo __Type Nothing - QueryRoot _EmptyMutation _EmptySubscription: UnknownType("__Type"), the type "__Type" is not listed
+demo - Nothing - Nope _EmptyMutation _EmptySubscription: MissingRoot("Nope"), the root type "Nope" is not listed
+demo - Nothing - String _EmptyMutation _EmptySubscription: QueryNotObject, the query root is not an object
+demo - Dog - QueryRoot _EmptyMutation _EmptySubscription: RepeatedType("Dog"), two listed types are named "Dog"
+demo Dog DogForDog - QueryRoot _EmptyMutation _EmptySubscription: NotInputType("Dog"), the type "Dog" is not an input type
+demo - List - QueryRoot _EmptyMutation _EmptySubscription: UnnamedType, a listed type has no name
+demo - Friends - QueryRoot _EmptyMutation _EmptySubscription: UnionMemberNotObject("Friend"), the union member "Friend" is not an object
+demo - UnionOf Nope QueryRoot _EmptyMutation _EmptySubscription: UnknownType("Nope"), the type "Nope" is not listed
+demo - ObjectOf Nope QueryRoot _EmptyMutation _EmptySubscription: UnknownType("Nope"), the type "Nope" is not listed
+demo - InterfaceOf Nope QueryRoot _EmptyMutation _EmptySubscription: UnknownType("Nope"), the type "Nope" is not listed
+demo - InputOf Nope QueryRoot _EmptyMutation _EmptySubscription: UnknownType("Nope"), the type "Nope" is not listed
+demo - InputOf Dog QueryRoot _EmptyMutation _EmptySubscription: NotInputType("Dog"), the type "Dog" is not an input type
 demo - InputOf String QueryRoot _EmptyMutation _EmptySubscription: QueryRoot none none
 pets - Nothing - QueryRoot _EmptyMutation _EmptySubscription: QueryRoot none none
-pets Boolean Nothing - QueryRoot _EmptyMutation _EmptySubscription: UnknownType("Boolean")
-pets - UnionOf Pet QueryRoot _EmptyMutation _EmptySubscription: UnionMemberNotObject("Pet")"#;
+pets Boolean Nothing - QueryRoot _EmptyMutation _EmptySubscription: UnknownType("Boolean"), the type "Boolean" is not listed
+pets - UnionOf Pet QueryRoot _EmptyMutation _EmptySubscription: UnionMemberNotObject("Pet"), the union member "Pet" is not an object"#;
 
 const DOG: [ObjectRow; 1] = [("Dog", &[], &[("name", "String", &[])])];
 
@@ -167,7 +167,7 @@ fn lists_are_accepted_or_refused_by_name(rt: HostRuntime) {
         let mut came = said(&rt, alloc, row);
         match schema_of(alloc, types, query, mutation, subscription) {
             Ok(schema) => show_roots(&rt, alloc, &schema, &mut came),
-            Err(refused) => write!(came, " {refused:?}").expect(&rt, "memory"),
+            Err(refused) => write!(came, " {refused:?}, {refused}").expect(&rt, "memory"),
         }
         assert_eq!(rt; came.as_str(), line);
     }

@@ -1,5 +1,5 @@
 //! Input objects with few and with many fields: a look-up finds the first field of a name.
-use crate::said::{says, words};
+use crate::said::says;
 use crate::schemas::{Schema, input_check, pets_types, schema_of_queries};
 use language::value::DefaultScalarValue;
 use meta::{Argument, InputObjectMetaOf, MetaType};
@@ -72,60 +72,81 @@ fn schema_with(rt: &impl Abort, alloc: Global, fields: Vec<InputField>) -> Schem
     schema_of_queries(alloc, types).expect(rt, "a schema")
 }
 
-/// The key and the description of the field that the look-up finds.
-fn found(alloc: Global, schema: &Schema, name: &str, key: &str) -> Result<String, AllocError> {
+/// The description of the field that the look-up finds.
+fn found<'s>(schema: &'s Schema, name: &str, key: &str) -> &'s str {
     let Some(meta) = schema.concrete_type_by_name(name) else {
-        return words(alloc, "no type");
+        return "no type";
     };
     match schema.input_field_by_name(meta, key) {
         Some(field) => match &field.description {
-            Some(text) => format!(in alloc; "{key} {text}"),
-            None => format!(in alloc; "{key} undescribed"),
+            Some(text) => text.as_str(),
+            None => "undescribed",
         },
-        None => format!(in alloc; "{key} none"),
+        None => "none",
     }
 }
 
-#[test]
-fn of_few_fields_the_first_of_a_name_is_found(rt: HostRuntime) {
-    let alloc = rt.alloc();
-    let schema = schema_with(&rt, alloc, mixed(&rt, alloc, 4));
-    says(&rt, found(alloc, &schema, "Wide", "b"), "b second");
-    says(&rt, found(alloc, &schema, "Wide", "m"), "m first");
-    says(&rt, found(alloc, &schema, "Wide", "z"), "z fourth");
-    says(&rt, found(alloc, &schema, "Wide", "a"), "a none");
-    says(&rt, found(alloc, &schema, "Dog", "name"), "name none");
+/// Each key, and the description of the field that the look-up finds, on a line.
+fn found_each(
+    alloc: Global,
+    schema: &Schema,
+    name: &str,
+    keys: &str,
+) -> Result<String, AllocError> {
+    let mut told = String::new(alloc);
+    for key in keys.split(' ') {
+        writeln!(told, "{key} {}", found(schema, name, key))?;
+    }
+    Ok(told)
+}
+
+/// Of these fields the look-up finds those.
+fn finds(rt: &impl Abort, alloc: Global, fields: Vec<InputField>, keys: &str, want: &str) {
+    let schema = schema_with(rt, alloc, fields);
+    says(rt, found_each(alloc, &schema, "Wide", keys), want);
+    says(rt, found_each(alloc, &schema, "Dog", "name"), "name none\n");
+}
+
+/// Whether the look-up finds of each numbered name the first field.
+fn finds_numbered(alloc: Global, schema: &Schema) -> Result<bool, AllocError> {
+    for place in 0..NAMES {
+        let key = format!(in alloc; "f{}", place * 7 % NAMES)?;
+        let want = format!(in alloc; "at {place}")?;
+        if found(schema, "Wide", key.as_str()) != want.as_str() {
+            return Ok(false);
+        }
+    }
+    Ok(true)
 }
 
 #[test]
 fn of_mixed_fields_the_first_of_a_name_is_found(rt: HostRuntime) {
     let alloc = rt.alloc();
-    let schema = schema_with(&rt, alloc, mixed(&rt, alloc, 9));
-    says(&rt, found(alloc, &schema, "Wide", "a"), "a fifth");
-    says(&rt, found(alloc, &schema, "Wide", "b"), "b second");
-    says(&rt, found(alloc, &schema, "Wide", "m"), "m first");
-    says(&rt, found(alloc, &schema, "Wide", "mm"), "mm seventh");
-    says(&rt, found(alloc, &schema, "Wide", "z"), "z fourth");
-    says(&rt, found(alloc, &schema, "Wide", "Z"), "Z eighth");
-    says(&rt, found(alloc, &schema, "Wide", ""), " none");
-    says(&rt, found(alloc, &schema, "Wide", "A"), "A none");
-    says(&rt, found(alloc, &schema, "Wide", "ma"), "ma none");
-    says(&rt, found(alloc, &schema, "Wide", "zz"), "zz none");
+    finds(
+        &rt,
+        alloc,
+        mixed(&rt, alloc, 4),
+        "b m z a",
+        "b second\nm first\nz fourth\na none\n",
+    );
+    // One of the keys is empty.
+    finds(
+        &rt,
+        alloc,
+        mixed(&rt, alloc, 9),
+        "a b m mm z Z  A ma zz",
+        "a fifth\nb second\nm first\nmm seventh\nz fourth\nZ eighth\n none\nA none\nma none\nzz none\n",
+    );
 }
 
 #[test]
 fn of_many_fields_the_first_of_a_name_is_found(rt: HostRuntime) {
     let alloc = rt.alloc();
     let schema = schema_with(&rt, alloc, twice(&rt, alloc));
-    for place in 0..NAMES {
-        let key = format!(in alloc; "f{}", place * 7 % NAMES).expect(&rt, "memory");
-        let want = format!(in alloc; "{} at {place}", key.as_str()).expect(&rt, "memory");
-        says(
-            &rt,
-            found(alloc, &schema, "Wide", key.as_str()),
-            want.as_str(),
-        );
-    }
-    says(&rt, found(alloc, &schema, "Wide", "f40"), "f40 none");
-    says(&rt, found(alloc, &schema, "Wide", "f"), "f none");
+    assert!(rt; finds_numbered(alloc, &schema).expect(&rt, "memory"));
+    says(
+        &rt,
+        found_each(alloc, &schema, "Wide", "f40 f"),
+        "f40 none\nf none\n",
+    );
 }

@@ -1,25 +1,22 @@
-//! What `validation` reports for texts: by single rules and by chosen ones, of texts that are made to hurt, where a schema
-//! has a directive of its own, by root nodes, of events out of order, of values against types with sizes, and where requests
-//! for memory are refused in turn.
+//! What `validation` and `walk` report, beside the rows of `conformance`: events out of order, walks over every kind of node,
+//! and requests for memory that are refused in turn. And runs of the program `check` in which a read or a write fails.
 #![tactic(auto)]
 
 #[cfg(test)]
-mod boxes;
+mod broken;
 #[cfg(test)]
-mod pets;
+mod errors;
+#[cfg(test)]
+mod recorder;
 #[cfg(test)]
 mod refused_memory;
 #[cfg(test)]
-mod repeatable;
+mod runs;
 #[cfg(test)]
-mod roots;
+mod sample;
 #[cfg(test)]
-mod rows;
+mod schemas;
 #[cfg(test)]
 mod singly;
 #[cfg(test)]
-mod sized_types;
-#[cfg(test)]
-mod texts;
-#[cfg(test)]
-mod told;
+mod walks;

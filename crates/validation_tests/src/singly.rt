@@ -1,6 +1,6 @@
 //! Rules that hear of single events, as no walk tells them.
 
-use crate::pets::schema;
+use crate::schemas::schema;
 use language::position::{SourcePosition, Span, Spanning};
 use language::shorten::shorten;
 use language::tree::{Document, Fragment, Operation};
@@ -156,7 +156,7 @@ fn told_each<'a, S: CheckedScalar>(
 #[test]
 fn events_out_of_order(rt: HostRuntime) {
     let alloc = rt.alloc();
-    let schema = schema(alloc).expect(&rt, "the list is accepted");
+    let schema = schema(alloc, "pets").expect(&rt, "the list is accepted");
     let document = read_document(alloc, TEXT.as_bytes()).expect(&rt, "it is a document");
     let told = told_each(alloc, &schema, shorten(document.as_slice())).expect(&rt, "memory");
     assert_eq!(rt; told, [0, 1, 0, 0]);

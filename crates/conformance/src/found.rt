@@ -62,7 +62,11 @@ fn lines_of_graph<'a, S: ScalarValue, C>(
     lines(alloc, &graph.judge, &search)
 }
 
-/// What is found in a document's graph: `cycle` where the document has a cycle.
+/// What is found in a document's graph, in lines: `cycle` where the document has a cycle.
+///
+/// # Errors
+///
+/// Out of memory.
 pub fn found<'a, S: ScalarValue, C>(
     alloc: Global,
     schema: &'a SchemaTypeOf<S, C>,
@@ -72,6 +76,6 @@ pub fn found<'a, S: ScalarValue, C>(
     let cycles = search_document(alloc, document, names)?;
     match graph_of_document(alloc, schema, document, cycles)? {
         Some(graph) => lines_of_graph(alloc, &graph),
-        None => Ok(String::from_str(alloc, "cycle")?),
+        None => Ok(String::from_str(alloc, "cycle\n")?),
     }
 }

@@ -1,13 +1,8 @@
-//! A run of the program over a reader and writers that fail.
+//! A run of the program `check` over a reader and writers that fail.
+use crate::schemas::checks;
 use check_app::program;
-use samples::build::Checks;
-use samples::checks::{
-    check_boolean, check_complex_input, check_dog_command, check_id, check_int, check_pair_input,
-    check_string, refuse_token,
-};
 use std::alloc::{AllocError, Global};
 use std::io::{self, Read, Write};
-use validation::meta::default_check::DefaultCheck;
 
 /// Gives a text, one byte at a time, and then fails like this, or ends.
 #[derive(Clone, Copy)]
@@ -99,16 +94,14 @@ pub fn outcome(alloc: Global, run: &Run) -> Result<Ended, AllocError> {
     let mut input = run.input;
     let mut output = Sink::new(alloc, run.output)?;
     let mut faults = Sink::new(alloc, run.faults)?;
-    let checks = Checks {
-        int: DefaultCheck::with_token(check_int, refuse_token),
-        string: DefaultCheck::with_token(check_string, refuse_token),
-        boolean: DefaultCheck::with_token(check_boolean, refuse_token),
-        id: DefaultCheck::with_token(check_id, refuse_token),
-        dog_command: DefaultCheck::new(check_dog_command),
-        complex_input: DefaultCheck::new(check_complex_input),
-        pair_input: DefaultCheck::new(check_pair_input),
-    };
-    let status = program::run(alloc, checks, &words, &mut input, &mut output, &mut faults);
+    let status = program::run(
+        alloc,
+        checks(),
+        &words,
+        &mut input,
+        &mut output,
+        &mut faults,
+    );
     Ok(Ended {
         status,
         output,

@@ -1,8 +1,6 @@
 //! The sample schemas.
 
-use language::error::OutOfMemory;
 use language::value::DefaultScalarValue;
-use meta::MetaType;
 use meta::default_check::DefaultCheck;
 use samples::build::Checks;
 use samples::checks::{
@@ -14,7 +12,8 @@ use schema::error::SchemaError;
 use schema::model::SchemaType;
 use std::alloc::Global;
 
-fn checks() -> Checks {
+/// The check of each type.
+pub fn checks() -> Checks {
     Checks {
         int: DefaultCheck::with_token(check_int, refuse_token),
         string: DefaultCheck::with_token(check_string, refuse_token),
@@ -26,10 +25,12 @@ fn checks() -> Checks {
     }
 }
 
-fn of_types(
-    alloc: Global,
-    types: Result<Vec<MetaType>, OutOfMemory>,
-) -> Result<SchemaType<DefaultScalarValue>, SchemaError> {
+/// The schema `boxes` or `pets`, each type of which has its own check.
+pub fn schema(alloc: Global, sample: &str) -> Result<SchemaType<DefaultScalarValue>, SchemaError> {
+    let types = match sample {
+        "boxes" => boxes::types(alloc, checks()),
+        _ => pets::types(alloc, checks()),
+    };
     SchemaType::<DefaultScalarValue>::new(
         alloc,
         types?,
@@ -37,14 +38,4 @@ fn of_types(
         "_EmptyMutation",
         "_EmptySubscription",
     )
-}
-
-/// Dogs, cats and humans.
-pub fn of_pets(alloc: Global) -> Result<SchemaType<DefaultScalarValue>, SchemaError> {
-    of_types(alloc, pets::types(alloc, checks()))
-}
-
-/// Boxes in boxes.
-pub fn of_boxes(alloc: Global) -> Result<SchemaType<DefaultScalarValue>, SchemaError> {
-    of_types(alloc, boxes::types(alloc, checks()))
 }

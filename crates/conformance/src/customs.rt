@@ -1,17 +1,17 @@
-//! A schema with custom scalars that take any literal, and an input object with a default.
+//! Values against a schema with custom scalars that take any literal, and an input object with a default, by each dialect.
 ghost use Rattle.std.specs.Prelude.{[], true};
 ghost use Rattle.meta.specs.Answers.{AnswersBy};
 
-use language::error::{CheckError, OutOfMemory};
-use language::value::{DefaultScalarValue, InputValue};
+use crate::variables::errors_of_values;
+use language::error::CheckError;
 use meta::default_check::DefaultCheck;
 use meta::{MetaType, ScalarMetaOf};
+use sample_reader::ReadError;
 use samples::build::with_int;
 use samples::checks::{check_boolean, check_complex_input, check_int, check_string, refuse_token};
 use samples::rows::{ArgumentRow, ObjectRow, add_objects, input_object};
-use schema::error::SchemaError;
-use schema::model::SchemaType;
 use std::alloc::Global;
+use validation::{DefaultScalarValue, Dialect, InputValue, OutOfMemory, SchemaError, SchemaType};
 
 const O: [ArgumentRow; 3] = [("a", "Int! = 0"), ("b", "Int!"), ("c", "[O!]")];
 
@@ -57,8 +57,7 @@ fn types(alloc: Global) -> Result<Vec<MetaType>, OutOfMemory> {
     Ok(types)
 }
 
-/// The schema.
-pub fn schema(alloc: Global) -> Result<SchemaType<DefaultScalarValue>, SchemaError> {
+fn schema(alloc: Global) -> Result<SchemaType<DefaultScalarValue>, SchemaError> {
     SchemaType::<DefaultScalarValue>::new(
         alloc,
         types(alloc)?,
@@ -66,4 +65,28 @@ pub fn schema(alloc: Global) -> Result<SchemaType<DefaultScalarValue>, SchemaErr
         "_EmptyMutation",
         "_EmptySubscription",
     )
+}
+
+/// The errors of values for the variables of a document's first operation in a dialect, one per line. The values stand
+/// after a line `---`. `None`: there is no such dialect.
+///
+/// # Errors
+///
+/// A text can't be parsed, or out of memory.
+pub fn errors_by_customs(
+    alloc: Global,
+    dialect: &str,
+    text: &str,
+) -> Result<Option<String>, ReadError> {
+    let dialect = match dialect {
+        "october2021" => Dialect::October2021,
+        "juniper" => Dialect::Juniper,
+        _ => return Ok(None),
+    };
+    // The types are accepted, so only out of memory refuses them.
+    let Ok(mut schema) = schema(alloc) else {
+        return Err(ReadError::OutOfMemory);
+    };
+    schema.set_dialect(dialect);
+    Ok(Some(errors_of_values(alloc, &schema, text)?))
 }

@@ -11,6 +11,7 @@ use sample_reader::read_document;
 use schema::model::SchemaType;
 use std::alloc::Global;
 use std::process::Abort;
+use validation_examples::told::lines;
 use walk::{MultiVisitorCons, MultiVisitorNil, RuleError, ValidatorContext, visit, visit_rules};
 use walk_examples::kept_fields::count_and_free;
 
@@ -212,11 +213,6 @@ fn pushes(ctx: &mut Context<'_>) -> [bool; 3] {
     ]
 }
 
-/// The schema of the walks.
-fn schema(rt: &impl Abort, alloc: Global) -> SchemaType<DefaultScalarValue> {
-    sample_schema(alloc).expect(rt, "a schema")
-}
-
 /// Whether a walk tells of every kind of node. Or else it answers a refusal, and the context has failed.
 fn tells(
     rt: &impl Abort,
@@ -236,33 +232,11 @@ fn tells(
     }
 }
 
-#[test]
-fn every_kind_of_node_is_told(rt: HostRuntime) {
-    let alloc = rt.alloc();
-    let schema = schema(&rt, alloc);
-    let document = read_document(alloc, DOCUMENT).expect(&rt, "a document");
-    assert!(rt; tells(&rt, alloc, &schema, document.as_slice()));
-}
-
 /// A rule keeps the fields of a document that is freed after the walk: the walk above enters twelve.
-#[test]
-fn fields_are_kept(rt: HostRuntime) {
-    let alloc = rt.alloc();
-    let schema = schema(&rt, alloc);
-    let document = read_document(alloc, DOCUMENT).expect(&rt, "a document");
-    let count = count_and_free(alloc, &schema, document).expect(&rt, "memory");
+fn keeps_fields(rt: &impl Abort, alloc: Global, schema: &SchemaType<DefaultScalarValue>) {
+    let document = read_document(alloc, DOCUMENT).expect(rt, "a document");
+    let count = count_and_free(alloc, schema, document).expect(rt, "memory");
     assert_eq!(rt; count, 12);
-}
-
-/// Run with each request for memory refused in turn, a walk tells the same, or it answers a refusal and the context has failed.
-#[test]
-fn a_refused_request_changes_no_walk(rt: HostRuntime) {
-    let alloc = rt.alloc();
-    if let Ok(schema) = sample_schema(alloc) {
-        if let Ok(document) = read_document(alloc, DOCUMENT) {
-            tells(&rt, alloc, &schema, document.as_slice());
-        }
-    }
 }
 
 /// Writes the types at hand: with a type pushed, and with that type as the parent too; with an input type pushed; and with
@@ -296,32 +270,40 @@ fn two_more(alloc: Global) -> Result<Vec<RuleError>, OutOfMemory> {
     Ok(more)
 }
 
-/// Four errors, in a context that two rules walked with that report nothing.
-fn reported(
-    rt: &impl Abort,
-    alloc: Global,
-    schema: &SchemaType<DefaultScalarValue>,
-) -> Vec<RuleError> {
-    let mut ctx = ValidatorContext::new(alloc, schema, &[]).expect(rt, "memory");
+/// Walks with two rules that report nothing.
+fn walk_in_vain(ctx: &mut Context<'_>) -> Result<(), OutOfMemory> {
     let mut rules = MultiVisitorNil
         .with_rule(MultiVisitorNil)
         .with_rule(MultiVisitorNil);
-    visit_rules(&mut rules, &mut ctx, &[]).expect(rt, "memory");
-    ctx.report_error("late", &[late()]).expect(rt, "memory");
-    ctx.report_error("early", &[early()]).expect(rt, "memory");
-    let more = two_more(alloc).expect(rt, "memory");
-    ctx.append_errors(more).expect(rt, "memory");
-    ctx.into_errors().expect(rt, "memory")
+    visit_rules(&mut rules, ctx, &[])
 }
 
-#[test]
-fn a_context_keeps_types(rt: HostRuntime) {
-    let alloc = rt.alloc();
-    let schema = schema(&rt, alloc);
-    let mut ctx = ValidatorContext::new(alloc, &schema, &[]).expect(&rt, "memory");
+/// Reports two errors, and appends two.
+fn report_four(alloc: Global, ctx: &mut Context<'_>) -> Result<(), OutOfMemory> {
+    ctx.report_error("late", &[late()])?;
+    ctx.report_error("early", &[early()])?;
+    ctx.append_errors(two_more(alloc)?)
+}
+
+/// A context sorts its errors.
+fn sorts_errors(rt: &impl Abort, alloc: Global, schema: &SchemaType<DefaultScalarValue>) {
+    let mut ctx = ValidatorContext::new(alloc, schema, &[]).expect(rt, "memory");
+    walk_in_vain(&mut ctx).expect(rt, "memory");
+    report_four(alloc, &mut ctx).expect(rt, "memory");
+    let errors = ctx.into_errors().expect(rt, "memory");
+    let told = lines(alloc, errors).expect(rt, "memory");
+    assert_eq!(rt;
+        told.as_str(),
+        "before. At 0:3\nearly. At 0:3\nlate. At 0:7\nlate. At 0:7\n"
+    );
+}
+
+/// A context keeps the types that are pushed.
+fn keeps_types(rt: &impl Abort, alloc: Global, schema: &SchemaType<DefaultScalarValue>) {
+    let mut ctx = ValidatorContext::new(alloc, schema, &[]).expect(rt, "memory");
     assert!(rt; !ctx.is_known_fragment("F") && !ctx.has_errors());
     let mut text = String::new(alloc);
-    show_pushed(&mut ctx, &mut text).expect(&rt, "memory");
+    show_pushed(&mut ctx, &mut text).expect(rt, "memory");
     assert_eq!(rt;
         text.as_str(),
         " Dog Dog! - -\n Dog Dog! Dog -\n - - - Int\n - - - -\n"
@@ -329,15 +311,14 @@ fn a_context_keeps_types(rt: HostRuntime) {
 }
 
 #[test]
-fn a_context_sorts_its_errors(rt: HostRuntime) {
+fn every_kind_of_node_is_told(rt: HostRuntime) {
     let alloc = rt.alloc();
-    let schema = schema(&rt, alloc);
-    let errors = reported(&rt, alloc, &schema);
-    let mut messages = errors.iter().map(|error| error.message());
-    for want in ["before", "early", "late", "late"] {
-        assert_eq!(rt; messages.next(), Some(want));
-    }
-    assert_eq!(rt; messages.next(), None);
+    let schema = sample_schema(alloc).expect(&rt, "a schema");
+    let document = read_document(alloc, DOCUMENT).expect(&rt, "a document");
+    assert!(rt; tells(&rt, alloc, &schema, document.as_slice()));
+    keeps_fields(&rt, alloc, &schema);
+    keeps_types(&rt, alloc, &schema);
+    sorts_errors(&rt, alloc, &schema);
 }
 
 /// Whether a fresh context returns all errors and takes types, or refuses each call after the one that was refused.
@@ -360,11 +341,17 @@ fn keeps_all_or_refuses(
     }
 }
 
-/// Run with each request for memory refused in turn, a context returns all errors or it has failed.
+/// Run with each request for memory refused in turn, a walk tells the same, or it answers a refusal and the context has
+/// failed; and a context returns all errors, or it has failed.
 #[test]
-fn a_refused_request_fails_a_context(rt: HostRuntime) {
+fn a_refused_request_changes_no_walk(rt: HostRuntime) {
     let alloc = rt.alloc();
-    if let (Ok(schema), Ok(more)) = (sample_schema(alloc), two_more(alloc)) {
-        assert!(rt; keeps_all_or_refuses(alloc, &schema, more));
+    if let Ok(schema) = sample_schema(alloc) {
+        if let Ok(document) = read_document(alloc, DOCUMENT) {
+            tells(&rt, alloc, &schema, document.as_slice());
+        }
+        if let Ok(more) = two_more(alloc) {
+            assert!(rt; keeps_all_or_refuses(alloc, &schema, more));
+        }
     }
 }

@@ -1,8 +1,9 @@
-//! Runs in which an allocation, a read or a write fails.
+//! Runs of the program `check` in which an allocation, a read or a write fails.
 use crate::runs::{Run, Source, outcome};
 use check_app::program::{tell, words_failure};
+use std::alloc::Global;
 use std::io;
-use std::test::Fail;
+use std::process::Abort;
 
 const FAILED: &str = "check: input or output failed\n";
 
@@ -43,9 +44,15 @@ fn on(text: &'static [u8], failure: Option<io::ErrorKind>) -> Run {
     }
 }
 
+/// The run ends so.
+fn ends(rt: &impl Abort, alloc: Global, run: &Run, status: u8, output: &str, faults: &str) {
+    let ended = outcome(alloc, run).expect(rt, "memory");
+    assert!(rt; ended.is(status, output, faults));
+}
+
 /// Each read fails in turn.
 #[test]
-fn a_failed_read_is_told(rt: HostRuntime) -> Result<(), Fail> {
+fn a_failed_read_is_told(rt: HostRuntime) {
     let kinds = [
         (io::ErrorKind::BrokenPipe, 5, FAILED),
         (io::ErrorKind::OutOfMemory, 3, NO_MEMORY),
@@ -53,28 +60,25 @@ fn a_failed_read_is_told(rt: HostRuntime) -> Result<(), Fail> {
     for (kind, wanted, line) in kinds {
         for left in 0..=TEXT.len() {
             let text = TEXT.get(..left).unwrap_or(TEXT);
-            let ended = outcome(rt.alloc(), &on(text, Some(kind)))?;
-            assert!(rt; ended.is(wanted, "", line));
+            ends(&rt, rt.alloc(), &on(text, Some(kind)), wanted, "", line);
         }
     }
-    Ok(())
 }
 
 /// Each write of the report fails in turn, and last the flush: what was taken is a beginning of the report.
 #[test]
-fn a_failed_write_is_told(rt: HostRuntime) -> Result<(), Fail> {
+fn a_failed_write_is_told(rt: HostRuntime) {
     for left in 0..=TOLD.len() {
         let mut run = on(TEXT, None);
         run.output = left;
-        let ended = outcome(rt.alloc(), &run)?;
-        assert!(rt; ended.is(5, TOLD.get(..left).unwrap_or("none"), FAILED));
+        let told = TOLD.get(..left).unwrap_or("none");
+        ends(&rt, rt.alloc(), &run, 5, told, FAILED);
     }
-    Ok(())
 }
 
 /// Each write of a line of faults fails in turn, and last the flush.
 #[test]
-fn a_failed_line_of_faults_ends_with_5(rt: HostRuntime) -> Result<(), Fail> {
+fn a_failed_line_of_faults_ends_with_5(rt: HostRuntime) {
     for (word, text, line) in [
         ("nope", b"".as_slice(), USAGE),
         ("pets", b"}", "check: syntax at 0:0\n"),
@@ -83,11 +87,10 @@ fn a_failed_line_of_faults_ends_with_5(rt: HostRuntime) -> Result<(), Fail> {
             let mut run = on(text, None);
             run.word = word;
             run.faults = left;
-            let ended = outcome(rt.alloc(), &run)?;
-            assert!(rt; ended.is(5, "", line.get(..left).unwrap_or("none")));
+            let told = line.get(..left).unwrap_or("none");
+            ends(&rt, rt.alloc(), &run, 5, "", told);
         }
     }
-    Ok(())
 }
 
 /// Documents with errors of several kinds, and their reports.
