@@ -42,25 +42,30 @@ fn custom(alloc: Global, name: &str, check: DefaultCheck) -> Result<MetaType, Ou
     )
 }
 
-fn types(alloc: Global) -> Result<Vec<MetaType>, OutOfMemory> {
-    let string = DefaultCheck::with_token(check_string, refuse_token);
-    let boolean = DefaultCheck::with_token(check_boolean, refuse_token);
-    let int = DefaultCheck::with_token(check_int, refuse_token);
-    let mut types = with_int(alloc, string, boolean, int)?;
-    let any = DefaultCheck::with_token(check_any, refuse_token);
-    types.push(custom(alloc, "JSON", any)?)?;
-    let map = DefaultCheck::with_token(check_complex_input, refuse_token);
-    types.push(custom(alloc, "Map", map)?)?;
-    let object = DefaultCheck::new(check_complex_input);
-    types.push(input_object(alloc, "O", &O, object)?)?;
+// The checks of the types. Who makes a schema makes them, too: a function can't hand out its own pointers to functions.
+#[derive(Drop)]
+struct Checks {
+    string: DefaultCheck,
+    boolean: DefaultCheck,
+    int: DefaultCheck,
+    any: DefaultCheck,
+    map: DefaultCheck,
+    object: DefaultCheck,
+}
+
+fn types(alloc: Global, checks: Checks) -> Result<Vec<MetaType>, OutOfMemory> {
+    let mut types = with_int(alloc, checks.string, checks.boolean, checks.int)?;
+    types.push(custom(alloc, "JSON", checks.any)?)?;
+    types.push(custom(alloc, "Map", checks.map)?)?;
+    types.push(input_object(alloc, "O", &O, checks.object)?)?;
     add_objects(alloc, &mut types, &ROOT)?;
     Ok(types)
 }
 
-fn schema(alloc: Global) -> Result<SchemaType<DefaultScalarValue>, SchemaError> {
+fn schema(alloc: Global, checks: Checks) -> Result<SchemaType<DefaultScalarValue>, SchemaError> {
     SchemaType::<DefaultScalarValue>::new(
         alloc,
-        types(alloc)?,
+        types(alloc, checks)?,
         "QueryRoot",
         "_EmptyMutation",
         "_EmptySubscription",
@@ -83,8 +88,16 @@ pub fn errors_by_customs(
         "juniper" => Dialect::Juniper,
         _ => return Ok(None),
     };
+    let checks = Checks {
+        string: DefaultCheck::with_token(check_string, refuse_token),
+        boolean: DefaultCheck::with_token(check_boolean, refuse_token),
+        int: DefaultCheck::with_token(check_int, refuse_token),
+        any: DefaultCheck::with_token(check_any, refuse_token),
+        map: DefaultCheck::with_token(check_complex_input, refuse_token),
+        object: DefaultCheck::new(check_complex_input),
+    };
     // The types are accepted, so only out of memory refuses them.
-    let Ok(mut schema) = schema(alloc) else {
+    let Ok(mut schema) = schema(alloc, checks) else {
         return Err(ReadError::OutOfMemory);
     };
     schema.set_dialect(dialect);
