@@ -3,7 +3,6 @@ ghost use Rattle.std.specs.Prelude.{◌≡◌, IfOk, string_bytes};
 ghost use Rattle.conformance.specs.Told.{TellsConflicts, TellsErrors, error_lines};
 
 use crate::asked::told_of_text;
-use crate::customs::errors_by_customs;
 use crate::variables::errors_of_values;
 use sample_reader::{ReadError, read_document};
 use samples::build::Checks;
@@ -48,7 +47,6 @@ fn errors_of_kind(
     let types = match sample {
         "pets" => pets::types(alloc, checks)?,
         "boxes" => boxes::types(alloc, checks)?,
-        "customs" => return errors_by_customs(alloc, mode, text),
         _ => return Ok(None),
     };
     match SchemaType::<DefaultScalarValue>::new(

@@ -5,7 +5,6 @@
 
 mod alone;
 mod asked;
-mod customs;
 mod dialects;
 mod found;
 mod judge;
@@ -39,7 +38,6 @@ const FILES: &[&str] = &[
     "dialects.txt",
     "asked.txt",
     "graphs.txt",
-    "customs.txt",
     "alone.txt",
     "usages.txt",
 ];
