@@ -61,7 +61,7 @@ def reopened(count):
 def chained(count):
     """A chain of fragments, each with a field that has an argument."""
     chain = "".join(f"fragment F{n} on Dog {{ {WITH_ARGUMENT} ...F{n + 1} }} " for n in numbers(count))
-    return f"{{ dog {{ ...F{FIRST} }} }} {chain}fragment F{FIRST + count} on Dog {{ name }}"
+    return f"{{ dog {{ ...F{FIRST} }} }} {chain}fragment F{FIRST + count} on Dog {{ {WITH_ARGUMENT} }}"
 
 
 def each_later(count):
