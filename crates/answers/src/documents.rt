@@ -1,0 +1,80 @@
+//! Whether a document is valid.
+ghost use Rattle.std.specs.Prelude.{IfOk};
+ghost use Rattle.answers.specs.Answers.{Answers, IsRefused, OfBytes, TellsErrors};
+ghost use Rattle.answers.specs.declared.reports.Verdict.TheVariants.{Unreadable};
+
+use crate::bytes::not_utf8;
+use crate::errors::errors_of;
+use crate::reports::{Answer, Verdict, answer_of_errors, refusal};
+use crate::rules::AnswerRules;
+use graphql_reader::{ReadError, SourceScalar, SyntaxError, read_document};
+use language::error::OutOfMemory;
+use schema::model::SchemaType;
+use std::alloc::Global;
+use std::str;
+use validation::Definition;
+
+/// Validates the document of a text. Where `is_closed` says so, fields that ask for the schema are errors.
+///
+/// # Errors
+///
+/// Out of memory.
+pub fn answer(
+    alloc: Global,
+    schema: &SchemaType<SourceScalar>,
+    query: &[u8],
+    is_closed: bool,
+) -> Result<Answer, OutOfMemory>
+    ensures { IfOk result
+        (OfBytes (Answers ⟦<SourceScalar as AnswerRules>⟧.rules is_closed schema.now query.now) query.now) }
+{
+    match str::from_utf8(query) {
+        Ok(text) => answer_of_text(alloc, schema, text, is_closed),
+        Err(error) => not_utf8(alloc, query, error),
+    }
+}
+
+fn answer_of_text(
+    alloc: Global,
+    schema: &SchemaType<SourceScalar>,
+    text: &str,
+    is_closed: bool,
+) -> Result<Answer, OutOfMemory>
+    ensures { IfOk result (Answers ⟦<SourceScalar as AnswerRules>⟧.rules is_closed schema.now text.now) }
+{
+    match read_document(alloc, text) {
+        Ok(document) => answer_of_document(alloc, schema, text, document.as_slice(), is_closed),
+        Err(ReadError::Syntax(error)) => unreadable(alloc, text, error),
+        Err(ReadError::OutOfMemory) => Err(OutOfMemory),
+    }
+}
+
+/// The answer to a text that is not a document.
+///
+/// # Errors
+///
+/// Out of memory.
+pub fn unreadable(alloc: Global, text: &str, error: SyntaxError<'_>) -> Result<Answer, OutOfMemory>
+    ensures { IfOk result (IsRefused Unreadable text.now) }
+{
+    let report = refusal(alloc, text, error.position, &error)?;
+    Ok(Answer {
+        verdict: Verdict::Unreadable,
+        report,
+    })
+}
+
+// Validates a document that was read.
+fn answer_of_document(
+    alloc: Global,
+    schema: &SchemaType<SourceScalar>,
+    text: &str,
+    document: &[Definition<'_, SourceScalar>],
+    is_closed: bool,
+) -> Result<Answer, OutOfMemory>
+    ensures { IfOk result
+        (TellsErrors ⟦<SourceScalar as AnswerRules>⟧.rules is_closed schema.now text.now document.now) }
+{
+    let errors = errors_of(alloc, schema, document, is_closed)?;
+    answer_of_errors(alloc, text, errors.as_slice())
+}

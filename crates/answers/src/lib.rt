@@ -1,0 +1,20 @@
+//! What a caller in another language is told of a document: whether it is valid ([`answer`]), and whether the values of
+//! its variables are, too ([`answer_with_values`]), each with a report as JSON.
+//!
+//! Proved: a document that was read is answered with `Valid` exactly where it is valid by the rules of the schema's
+//! dialect, and the report's bytes are those of its errors. Bytes that are not UTF-8 are answered with the place of the
+//! first that is not. That a document is that of its text is only tested.
+#![tactic(auto)]
+
+mod bytes;
+mod documents;
+mod errors;
+mod reports;
+mod rules;
+mod values;
+
+pub use bytes::not_utf8_report;
+pub use documents::answer;
+pub use reports::{Answer, Verdict};
+pub use rules::AnswerRules;
+pub use values::answer_with_values;
