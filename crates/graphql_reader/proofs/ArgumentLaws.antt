@@ -1,19 +1,22 @@
 -- An argument, and the arguments between parentheses.
-use Rattle.std.proofs.Common.{◌≡◌, ℕ, List, [], ◌∷◌, ◌++◌, map, append_assoc, append-nil, refl, sym, ap, subst, ◌∙◌}
+use Rattle.std.proofs.Common.{◌≡◌, ℕ, List, [], ◌∷◌, ◌++◌, map, append_assoc, append-nil, Option, Some, None, option_map, refl, sym, ap, subst, ◌∙◌}
 use Rattle.std.proofs.lemmas.List.{map_push}
 use Rattle.language.specs.declared.position.SourcePosition.{SourcePosition}
 use Rattle.language.specs.declared.position.Span.{Span}
+use Rattle.language.specs.declared.position.Spanning.{Spanning}
+use Rattle.language.specs.declared.tree.Arguments.{Arguments}
+use Rattle.sdl_scalars.specs.declared.scalar.SourceScalar.{SourceScalar}
 use Rattle.graphql_lexer.specs.Ahead.{ahead_of, behind, left, last_end_of, IsTaken, IsLeft, IsSpanOf}
 use Rattle.graphql_lexer.specs.Lexemes.{Lexeme}
 use Rattle.graphql_lexer.specs.Lexical as token
 use Rattle.graphql_lexer.specs.declared.error.ReadError.{ReadError}
 use Rattle.graphql_lexer.specs.declared.error.ReadError.TheVariants.{Syntax, OutOfMemory}
-use Rattle.graphql_lexer.specs.declared.lexer.Punctuator.TheVariants.{Colon, ParenOpen, ParenClose}
+use Rattle.graphql_lexer.specs.declared.lexer.Punctuator.TheVariants.{At, Colon, ParenOpen, ParenClose}
 use Rattle.graphql_lexer.specs.declared.tokens.Tokens.{Tokens}
 use Rattle.value_reader.specs.Faults.{IsFirstFault}
 use Rattle.value_reader.specs.Grammar.{Rules, lexeme, sign, null_name, Spells, Begins}
 use Rattle.value_reader.specs.Values.{Key, Value, plain, null}
-use Rattle.graphql_reader.specs.Arguments.{Argument, Given, argument_seen, SpellsArgument, SpellsEach, BeginsArgument, BeginsArguments, GoesOnArgument, IsArgumentFault}
+use Rattle.graphql_reader.specs.Arguments.{Argument, Directive, parens_seen, SpellsArgument, SpellsEach, BeginsArgument, BeginsArguments, BeginsDirective, IsArguments, GoesOnArgument, IsArgumentFault}
 use Rattle.graphql_reader.proofs.PartLaws.{taken, tail_same, Only}
 
 abbrev pub argument : Key → Value → Argument
@@ -128,36 +131,40 @@ value_fault rules k old mid new at (Syntax e) t s c (before, x, more, l, f, ((v,
   λ (a, tail, (p, q, inner, g, w)). none (a.value, tail, subst (λ xs. Spells rules 0 a.value xs) (sym (tail_same _ _ _ _ (tail_same _ _ _ _ g))) w),
 )
 
--- ---- one argument after the other
-pub each_more : (rules : Rules) (given : List Argument) (a : Argument) (front one : List Lexeme) → SpellsEach rules given front → SpellsArgument rules a one → SpellsEach rules (given ++ a ∷ []) (front ++ one)
-each_more rules [] a front one e h = (one, [], ap (λ ts. ts ++ one) e ∙ sym (append-nil one), h, refl)
-each_more rules (b ∷ given) a front one (x, y, e, hb, hs) h =
-    (x, y ++ one, ap (λ ts. ts ++ one) e ∙ append_assoc x y one, hb, each_more rules given a y one hs h)
+-- ---- one after the other
+pub each_more : {T : Type 0} (S : T → List Lexeme → Type 0) (xs : List T) (x : T) (front one : List Lexeme) → SpellsEach S xs front → S x one → SpellsEach S (xs ++ x ∷ []) (front ++ one)
+each_more S [] x front one e h = (one, [], ap (λ ts. ts ++ one) e ∙ sym (append-nil one), h, refl)
+each_more S (w ∷ ws) x front one (a, b, e, hw, hs) h =
+    (a, b ++ one, ap (λ ts. ts ++ one) e ∙ append_assoc a b one, hw, each_more S ws x b one hs h)
 
--- the tokens up to here spell these arguments
-abbrev pub Reached : Rules → List Lexeme → List Argument → List Lexeme → Type 0
-Reached rules ts given rest = (front : List Lexeme) × (ts ≡ front ++ rest) × SpellsEach rules given front
+-- the tokens up to here spell these
+abbrev pub Reached : {T : Type 0} → (T → List Lexeme → Type 0) → List Lexeme → List T → List Lexeme → Type 0
+Reached S ts xs rest = (front : List Lexeme) × (ts ≡ front ++ rest) × SpellsEach S xs front
 
-pub reached_more : (rules : Rules) (ts : List Lexeme) (given : List Argument) (a : Argument) (mid rest : List Lexeme) → Reached rules ts given mid → BeginsArgument rules mid a rest → Reached rules ts (given ++ a ∷ []) rest
-reached_more rules ts given a mid rest (front, e, h) (one, f, s) =
-    (front ++ one, e ∙ ap (λ xs. front ++ xs) f ∙ sym (append_assoc front one rest), each_more rules given a front one h s)
+-- the next tokens spell one
+abbrev pub Next : {T : Type 0} → (T → List Lexeme → Type 0) → List Lexeme → T → List Lexeme → Type 0
+Next S ts x rest = (front : List Lexeme) × (ts ≡ front ++ rest) × S x front
 
-pub reached_new : (rules : Rules) (ts : List Lexeme) (items : List Given) → items ≡ [] → Reached rules ts (map argument_seen items) ts
-reached_new rules ts items e = subst (λ xs. Reached rules ts (map argument_seen xs) ts) (sym e) ([], refl, refl)
+reached_more : {T : Type 0} (S : T → List Lexeme → Type 0) (ts : List Lexeme) (xs : List T) (x : T) (mid rest : List Lexeme) → Reached S ts xs mid → Next S mid x rest → Reached S ts (xs ++ x ∷ []) rest
+reached_more S ts xs x mid rest (front, e, h) (one, f, s) =
+    (front ++ one, e ∙ ap (λ ys. front ++ ys) f ∙ sym (append_assoc front one rest), each_more S xs x front one h s)
 
-seen_more : (items new : List Given) (x : Given) → new ≡ items ++ x ∷ [] → map argument_seen new ≡ map argument_seen items ++ argument_seen x ∷ []
-seen_more items new x e = ap (λ xs. map argument_seen xs) e ∙ map_push argument_seen items x
+pub reached_new : {T U : Type 0} (S : T → List Lexeme → Type 0) (f : U → T) (ts : List Lexeme) (items : List U) → items ≡ [] → Reached S ts (map f items) ts
+reached_new S f ts items e = subst (λ xs. Reached S ts (map f xs) ts) (sym e) ([], refl, refl)
 
-pub reached_push : (rules : Rules) (ts : List Lexeme) (items new : List Given) (x : Given) (mid rest : List Lexeme) → Reached rules ts (map argument_seen items) mid → BeginsArgument rules mid (argument_seen x) rest → new ≡ items ++ x ∷ [] → Reached rules ts (map argument_seen new) rest
-reached_push rules ts items new x mid rest h b e =
-    subst (λ xs. Reached rules ts xs rest) (sym (seen_more items new x e)) (reached_more rules ts (map argument_seen items) (argument_seen x) mid rest h b)
+seen_more : {T U : Type 0} (f : U → T) (items new : List U) (x : U) → new ≡ items ++ x ∷ [] → map f new ≡ map f items ++ f x ∷ []
+seen_more f items new x e = ap (λ xs. map f xs) e ∙ map_push f items x
 
-not_none : (given : List Argument) (a : Argument) → given ++ a ∷ [] ≡ [] → ⊥
-not_none [] a e = cc
-not_none (b ∷ given) a e = cc
+pub reached_push : {T U : Type 0} (S : T → List Lexeme → Type 0) (f : U → T) (ts : List Lexeme) (items new : List U) (x : U) (mid rest : List Lexeme) → Reached S ts (map f items) mid → Next S mid (f x) rest → new ≡ items ++ x ∷ [] → Reached S ts (map f new) rest
+reached_push S f ts items new x mid rest h b e =
+    subst (λ xs. Reached S ts xs rest) (sym (seen_more f items new x e)) (reached_more S ts (map f items) (f x) mid rest h b)
 
-pub pushed_some : (items new : List Given) (x : Given) → new ≡ items ++ x ∷ [] → map argument_seen new ≡ [] → ⊥
-pushed_some items new x e h = not_none (map argument_seen items) (argument_seen x) (sym (seen_more items new x e) ∙ h)
+not_none : {T : Type 0} (xs : List T) (x : T) → xs ++ x ∷ [] ≡ [] → ⊥
+not_none [] x e = cc
+not_none (w ∷ ws) x e = cc
+
+pub pushed_some : {T U : Type 0} (f : U → T) (items new : List U) (x : U) → new ≡ items ++ x ∷ [] → map f new ≡ [] → ⊥
+pushed_some f items new x e h = not_none (map f items) (f x) (sym (seen_more f items new x e) ∙ h)
 
 paren_open : (span : Span) (old first : Tokens) → IsTaken (token.punctuator ParenOpen) old first → span.start ≡ (ahead_of old).start → left old ≡ sign ParenOpen span.start (ahead_of old).stop ∷ left first
 paren_open span old first o s = taken (token.punctuator ParenOpen) old first o ∙ ap (λ p. sign ParenOpen p (ahead_of old).stop ∷ left first) (sym s)
@@ -166,10 +173,31 @@ paren_close : (span : Span) (mid new : Tokens) → IsTaken (token.punctuator Par
 paren_close span mid new c t =
     taken (token.punctuator ParenClose) mid new c ∙ ap (λ p. sign ParenClose (ahead_of mid).start p ∷ left new) (sym (t ∙ c.2))
 
-pub arguments_read : (rules : Rules) (given : List Argument) (span : Span) (old first mid new : Tokens) → IsTaken (token.punctuator ParenOpen) old first → Reached rules (left first) given (left mid) → (given ≡ [] → ⊥) → IsTaken (token.punctuator ParenClose) mid new → span.start ≡ (ahead_of old).start → span.end ≡ last_end_of new → BeginsArguments rules (left old) given span (left new)
+pub arguments_read : (rules : Rules) (given : List Argument) (span : Span) (old first mid new : Tokens) → IsTaken (token.punctuator ParenOpen) old first → Reached (SpellsArgument rules) (left first) given (left mid) → (given ≡ [] → ⊥) → IsTaken (token.punctuator ParenClose) mid new → span.start ≡ (ahead_of old).start → span.end ≡ last_end_of new → BeginsArguments rules (left old) given span (left new)
 arguments_read rules given span old first mid new o (inner, e, h) some c s t = (
   sign ParenOpen span.start (ahead_of old).stop ∷ (inner ++ sign ParenClose (ahead_of mid).start span.end ∷ []),
   paren_open span old first o s
       ∙ ap (λ xs. sign ParenOpen span.start (ahead_of old).stop ∷ xs) (e ∙ ap (λ xs. inner ++ xs) (paren_close span mid new c t) ∙ sym (append_assoc inner (sign ParenClose (ahead_of mid).start span.end ∷ []) (left new))),
   (some, inner, (ahead_of old).stop, (ahead_of mid).start, refl, h),
+)
+
+-- ---- a directive
+at_name : (k : Key) (span : Span) (old mid after : Tokens) → IsTaken (token.punctuator At) old mid → IsTaken (token.name k.name) mid after → IsSpanOf (ahead_of mid) k.span → span.start ≡ (ahead_of old).start → left old ≡ sign At span.start (ahead_of old).stop ∷ key_sign k ∷ left after
+at_name k span old mid after t n s e =
+    taken (token.punctuator At) old mid t
+    ∙ ap (λ p. sign At p (ahead_of old).stop ∷ left mid) (sym e) ∙ ap (λ xs. sign At span.start (ahead_of old).stop ∷ xs) (named k mid after n s)
+
+abbrev pub directive : Key → Option (Spanning (Arguments SourceScalar) Span) → Span → Directive
+directive k given span = record { name = k; arguments = option_map parens_seen given; span = span }
+
+pub directive_read : (rules : Rules) (k : Key) (given : Option (Spanning (Arguments SourceScalar) Span)) (span : Span) (old mid after new : Tokens) → IsTaken (token.punctuator At) old mid → IsTaken (token.name k.name) mid after → IsSpanOf (ahead_of mid) k.span → IsArguments rules after new given → span.start ≡ (ahead_of old).start → span.end ≡ last_end_of new → BeginsDirective rules (left old) (directive k given span) (left new)
+directive_read rules k None span old mid after new t n s (other, same) e f = (
+  sign At span.start (ahead_of old).stop ∷ key_sign k ∷ [],
+  at_name k span old mid after t n s e ∙ ap (λ u. sign At span.start (ahead_of old).stop ∷ key_sign k ∷ left u) (sym same),
+  ((ahead_of old).stop, [], refl, (refl, f ∙ ap last_end_of same ∙ n.2 ∙ sym s.1)),
+)
+directive_read rules k (Some p) span old mid after new t n s ((front, g, h), stop) e f = (
+  sign At span.start (ahead_of old).stop ∷ key_sign k ∷ front,
+  at_name k span old mid after t n s e ∙ ap (λ xs. sign At span.start (ahead_of old).stop ∷ key_sign k ∷ xs) g,
+  ((ahead_of old).stop, front, refl, (h, f ∙ sym stop)),
 )

@@ -1,18 +1,20 @@
--- The tokens that arguments are written with (GraphQL, October 2021, section 2.6).
-use Rattle.std.specs.Prelude.{◌≡◌, ℕ, List, [], ◌∷◌, ◌++◌, map, Option, Some, None}
+-- The tokens that arguments and directives are written with (GraphQL, October 2021, sections 2.6 and 2.12).
+use Rattle.std.specs.Prelude.{◌≡◌, ℕ, List, [], ◌∷◌, ◌++◌, map, Option, Some, None, option_map, Vec}
 use denote.Ref.{Bor}
+use Rattle.std.specs.declared.alloc.Global.{Global}
 use Rattle.language.specs.declared.position.SourcePosition.{SourcePosition}
 use Rattle.language.specs.declared.position.Span.{Span}
 use Rattle.language.specs.declared.position.Spanning.{Spanning}
 use Rattle.language.specs.declared.tree.Arguments.{Arguments}
+use Rattle.language.specs.declared.tree.Directive.{Directive as GivenDirective}
 use Rattle.language.specs.declared.value.InputValue.{InputValue}
 use Rattle.sdl_scalars.specs.declared.scalar.SourceScalar.{SourceScalar}
-use Rattle.graphql_lexer.specs.Ahead.{left, IsLeft}
+use Rattle.graphql_lexer.specs.Ahead.{ahead_of, left, last_end_of, IsLeft}
 use Rattle.graphql_lexer.specs.Lexemes.{Lexeme}
 use Rattle.graphql_lexer.specs.Lexical as token
 use Rattle.graphql_lexer.specs.declared.error.ReadError.{ReadError}
 use Rattle.graphql_lexer.specs.declared.error.ReadError.TheVariants.{Syntax, OutOfMemory}
-use Rattle.graphql_lexer.specs.declared.lexer.Punctuator.TheVariants.{Colon, ParenOpen, ParenClose}
+use Rattle.graphql_lexer.specs.declared.lexer.Punctuator.TheVariants.{At, Colon, ParenOpen, ParenClose}
 use Rattle.graphql_lexer.specs.declared.tokens.Tokens.{Tokens}
 use Rattle.value_reader.specs.Grammar.{Rules, lexeme, sign, Spells}
 use Rattle.value_reader.specs.Seen.{value_seen}
@@ -28,16 +30,16 @@ SpellsArgument rules a ts =
     (p : SourcePosition) × (q : SourcePosition) × (more : List Lexeme)
     × (ts ≡ lexeme (token.name a.name.name) a.name.span.start a.name.span.end ∷ sign Colon p q ∷ more) × Spells rules 0 a.value more
 
-abbrev pub SpellsEach : Rules → List Argument → List Lexeme → Type 0
-SpellsEach rules [] ts = ts ≡ []
-SpellsEach rules (a ∷ given) ts =
-    (one : List Lexeme) × (more : List Lexeme) × (ts ≡ one ++ more) × SpellsArgument rules a one × SpellsEach rules given more
+-- one after the other, each by S
+abbrev pub SpellsEach : {T : Type 0} → (T → List Lexeme → Type 0) → List T → List Lexeme → Type 0
+SpellsEach S [] ts = ts ≡ []
+SpellsEach S (x ∷ xs) ts = (one : List Lexeme) × (more : List Lexeme) × (ts ≡ one ++ more) × S x one × SpellsEach S xs more
 
 -- Arguments[Const]: `(` Argument[Const]+ `)`
 abbrev pub SpellsArguments : Rules → List Argument → Span → List Lexeme → Type 0
 SpellsArguments rules given span ts =
     (given ≡ [] → ⊥) × (inner : List Lexeme) × (a : SourcePosition) × (b : SourcePosition)
-    × (ts ≡ sign ParenOpen span.start a ∷ (inner ++ sign ParenClose b span.end ∷ [])) × SpellsEach rules given inner
+    × (ts ≡ sign ParenOpen span.start a ∷ (inner ++ sign ParenClose b span.end ∷ [])) × SpellsEach (SpellsArgument rules) given inner
 
 -- the first tokens are those of this argument, or of these, and the rest stands behind them
 abbrev pub BeginsArgument : Rules → List Lexeme → Argument → List Lexeme → Type 0
@@ -45,6 +47,36 @@ BeginsArgument rules ts a rest = (front : List Lexeme) × (ts ≡ front ++ rest)
 
 abbrev pub BeginsArguments : Rules → List Lexeme → List Argument → Span → List Lexeme → Type 0
 BeginsArguments rules ts given span rest = (front : List Lexeme) × (ts ≡ front ++ rest) × SpellsArguments rules given span front
+
+-- arguments, from the parenthesis on that begins them to the one that ends them
+pub record Parens : Type 0 where
+  pub given : List Argument
+  pub span : Span
+
+pub record Directive : Type 0 where
+  pub name : Key
+  pub arguments : Option Parens
+  pub span : Span
+
+-- what may follow the name of a directive, which ends there or with it
+abbrev pub SpellsParens : Rules → Option Parens → SourcePosition → SourcePosition → List Lexeme → Type 0
+SpellsParens rules None name_end stop ts = (ts ≡ []) × (stop ≡ name_end)
+SpellsParens rules (Some p) name_end stop ts = SpellsArguments rules p.given p.span ts × (stop ≡ p.span.end)
+
+-- Directive[Const]: `@` Name Arguments[Const]?
+abbrev pub SpellsDirective : Rules → Directive → List Lexeme → Type 0
+SpellsDirective rules d ts =
+    (a : SourcePosition) × (more : List Lexeme)
+    × (ts ≡ sign At d.span.start a ∷ lexeme (token.name d.name.name) d.name.span.start d.name.span.end ∷ more)
+    × SpellsParens rules d.arguments d.name.span.end d.span.end more
+
+abbrev pub BeginsDirective : Rules → List Lexeme → Directive → List Lexeme → Type 0
+BeginsDirective rules ts d rest = (front : List Lexeme) × (ts ≡ front ++ rest) × SpellsDirective rules d front
+
+-- Directives[Const]: Directive[Const]+
+abbrev pub BeginsDirectives : Rules → List Lexeme → List Directive → List Lexeme → Type 0
+BeginsDirectives rules ts ds rest =
+    (ds ≡ [] → ⊥) × (front : List Lexeme) × (ts ≡ front ++ rest) × SpellsEach (SpellsDirective rules) ds front
 
 -- some argument begins with these tokens
 abbrev pub GoesOnArgument : Rules → List Lexeme → Type 0
@@ -67,7 +99,20 @@ name_seen n = record { name = n.item.now; span = n.span }
 abbrev pub argument_seen : Given → Argument
 argument_seen a = record { name = name_seen a.0; value = value_seen a.1 }
 
+abbrev pub parens_seen : Spanning (Arguments SourceScalar) Span → Parens
+parens_seen p = record { given = map argument_seen p.item.items.items; span = p.span }
+
+abbrev pub directive_seen : Spanning (GivenDirective SourceScalar) Span → Directive
+directive_seen d = record { name = name_seen d.item.name; arguments = option_map parens_seen d.item.arguments; span = d.span }
+
 -- the arguments are those that the tokens begin with, or none where no parenthesis does
 abbrev pub IsArguments : Rules → Tokens → Tokens → Option (Spanning (Arguments SourceScalar) Span) → Type 0
 IsArguments rules old new None = IsLeft (token.punctuator ParenOpen) old new
-IsArguments rules old new (Some given) = BeginsArguments rules (left old) (map argument_seen given.item.items.items) given.span (left new)
+IsArguments rules old new (Some given) =
+    BeginsArguments rules (left old) (map argument_seen given.item.items.items) given.span (left new) × (given.span.end ≡ last_end_of new)
+
+-- the directives are all that the tokens begin with, or none where no `@` does
+abbrev pub IsDirectives : Rules → Tokens → Tokens → Option (Vec (Spanning (GivenDirective SourceScalar) Span) Global) → Type 0
+IsDirectives rules old new None = IsLeft (token.punctuator At) old new
+IsDirectives rules old new (Some ds) =
+    BeginsDirectives rules (left old) (map directive_seen ds.items) (left new) × ((ahead_of new).token ≡ token.punctuator At → ⊥)

@@ -3,7 +3,8 @@ ghost use Rattle.std.specs.Prelude.{◌≡◌, IfOk, IfErr, List};
 ghost use Rattle.graphql_lexer.specs.Ahead.{left};
 ghost use Rattle.graphql_lexer.specs.Lexemes.{Lexeme};
 ghost use Rattle.graphql_reader.specs.Arguments as g;
-ghost use Rattle.graphql_reader.specs.Arguments.{argument_seen, BeginsArgument, IsArgumentFault, IsArguments};
+ghost use Rattle.graphql_reader.specs.Arguments.{argument_seen, directive_seen, BeginsArgument, BeginsDirective};
+ghost use Rattle.graphql_reader.specs.Arguments.{IsArgumentFault, IsArguments, IsDirectives};
 ghost use Rattle.value_reader.specs.Seen.{rules_of};
 
 use graphql_lexer::error::ReadError;
@@ -80,7 +81,9 @@ pub fn read_directives<'a>(
     tokens: &mut Tokens<'a>,
     variables: Variables,
     max_depth: Option<usize>,
-) -> Result<Directives<'a>, ReadError<'a>> {
+) -> Result<Directives<'a>, ReadError<'a>>
+    ensures { IfOk result (IsDirectives (rules_of variables max_depth) tokens.old tokens.new) }
+{
     if !tokens.is(Punctuator::At) {
         return Ok(None);
     }
@@ -90,7 +93,8 @@ pub fn read_directives<'a>(
             directives.shrink_to_fit();
             return Ok(Some(directives));
         }
-        directives.push(read_directive(tokens, variables, max_depth)?)?;
+        let directive = read_directive(tokens, variables, max_depth)?;
+        directives.push(directive)?;
     }
     Err(tokens.fault("a directive"))
 }
@@ -99,13 +103,15 @@ fn read_directive<'a>(
     tokens: &mut Tokens<'a>,
     variables: Variables,
     max_depth: Option<usize>,
-) -> Result<Spanning<Directive<'a, SourceScalar>>, ReadError<'a>> {
+) -> Result<Spanning<Directive<'a, SourceScalar>>, ReadError<'a>>
+    ensures { IfOk result (λ d.
+        BeginsDirective (rules_of variables max_depth) (left tokens.old) (directive_seen d) (left tokens.new)) }
+{
     let start = tokens.start();
-    tokens.advance();
+    tokens.expect(Punctuator::At, "@")?;
     let name = tokens.name("a directive's name")?;
     let arguments = read_arguments(tokens, variables, max_depth)?;
-    Ok(Spanning {
-        item: Directive { name, arguments },
-        span: tokens.span_from(start),
-    })
+    let span = tokens.span_from(start);
+    let item = Directive { name, arguments };
+    Ok(Spanning { item, span })
 }

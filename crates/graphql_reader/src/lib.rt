@@ -6,8 +6,8 @@
 //! set a limit, as [`NESTING_LIMIT`]: [`read_document_within`], [`read_type_system_within`].
 //!
 //! Proved of every call: it is safe and returns, whatever the text. Values are read by `value_reader`, which is proved
-//! exact; proved here too: arguments, default values and descriptions that were read are those that the tokens spell.
-//! That the rest of the tree is that of the text is only tested.
+//! exact. Arguments, directives, default values and descriptions that were read are those that the tokens spell, and
+//! [`read_constant`] is exact. That the rest of the tree is that of the text is only tested.
 #![tactic(auto)]
 
 mod arguments;

@@ -1,5 +1,5 @@
 -- What is spelled is read, whatever follows it.
-use Rattle.std.proofs.Common.{◌≡◌, ℕ, suc, Bool, true, false, List, [], ◌∷◌, ◌++◌, Option, Some, Result, Ok, Err, append_assoc, append-nil, refl, sym, ap, subst, ◌∙◌}
+use Rattle.std.proofs.Common.{◌≡◌, ℕ, suc, true, List, [], ◌∷◌, ◌++◌, Some, Ok, append_assoc, append-nil, refl, sym, ap, ◌∙◌}
 use Rattle.language.specs.declared.position.SourcePosition.{SourcePosition}
 use Rattle.language.specs.declared.position.Span.{Span}
 use Rattle.graphql_lexer.specs.Lexemes.{Lexeme}
@@ -7,7 +7,7 @@ use Rattle.graphql_lexer.specs.Lexical as token
 use Rattle.graphql_lexer.specs.declared.lexer.Punctuator.TheVariants.{Dollar, Colon, BracketOpen, BracketClose, BraceOpen, BraceClose}
 use Rattle.value_reader.specs.Grammar.{Rules, may_nest, lexeme, sign, boolean_name, null_name, SpellsPlain, Spells, SpellsItems, SpellsFields, Begins}
 use Rattle.value_reader.specs.Values.{Plain, int, float, string, boolean, null, enum, variable, Key, Value, plain, list, object, Items, no_items, item, Fields, no_fields, field}
-use Rattle.value_reader.specs.Machine.{Entry, Frame, in_list, at_key, at_colon, at_value, at_name, Turn, going, done, refused, items_of, fields_of, span_of, depth_of, attach, push, step, takes_value}
+use Rattle.value_reader.specs.Machine.{Entry, Frame, in_list, at_key, at_colon, at_value, at_name, items_of, fields_of, span_of, depth_of, attach, push, takes_value}
 use Rattle.value_reader.proofs.Runs.{Read, run, after, run_attached, run_going, run_plain, step_value, named_enum, named_boolean, named_null, text_token}
 
 abbrev pub list_of : Items → List Value

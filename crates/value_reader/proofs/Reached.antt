@@ -1,16 +1,16 @@
 -- What holds while a value is read: the tokens so far lead to what is begun, and spell it.
-use Rattle.std.proofs.Common.{◌≡◌, ℕ, suc, Bool, true, false, List, [], ◌∷◌, ◌++◌, Option, Some, None, Result, Ok, Err, append_assoc, append-nil, refl, sym, ap, subst, ◌∙◌}
+use Rattle.std.proofs.Common.{◌≡◌, suc, true, false, List, [], ◌∷◌, ◌++◌, Ok, Err, append_assoc, append-nil, refl, sym, ap, subst, ◌∙◌}
 use Rattle.language.specs.declared.position.SourcePosition.{SourcePosition}
 use Rattle.graphql_lexer.specs.Lexemes.{Lexeme}
 use Rattle.graphql_lexer.specs.Lexical as token
 use Rattle.graphql_lexer.specs.StringValues.{nothing}
 use Rattle.graphql_lexer.specs.declared.lexer.Punctuator.TheVariants.{Dollar, Colon, BracketOpen, BracketClose, BraceOpen, BraceClose}
-use Rattle.value_reader.specs.Grammar.{Rules, may_nest, lexeme, sign, null_name, Spells, Begins, GoesOn}
+use Rattle.value_reader.specs.Grammar.{Rules, lexeme, sign, null_name, Spells, Begins, GoesOn}
 use Rattle.value_reader.specs.Faults.{IsPlaceOf, IsFaultAt}
-use Rattle.value_reader.specs.Values.{Plain, string, null, variable, Value, plain, list, object}
-use Rattle.value_reader.specs.Machine.{Entry, Frame, in_list, at_key, at_colon, at_value, at_name, Turn, going, done, refused, items_of, fields_of, span_of, depth_of, step, step_by, takes_value}
+use Rattle.value_reader.specs.Values.{string, null, variable, Value, plain, list, object}
+use Rattle.value_reader.specs.Machine.{Frame, in_list, at_key, at_colon, at_value, at_name, going, done, refused, items_of, fields_of, span_of, depth_of, step, takes_value}
 use Rattle.value_reader.proofs.Runs.{Read, run, run_going, run_refused}
-use Rattle.value_reader.proofs.Complete.{entry, completes, begins_read}
+use Rattle.value_reader.proofs.Complete.{entry, begins_read}
 use Rattle.value_reader.proofs.Stacks.{SpellsEntries, SpellsStack, SpellsTurn, items_more, fields_more, regroup, step_spells}
 
 goes_less : (rules : Rules) (before more : List Lexeme) → GoesOn rules (before ++ more) → GoesOn rules before

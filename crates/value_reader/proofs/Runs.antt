@@ -1,13 +1,13 @@
 -- Reading on from the parts that are begun, over all tokens.
-use Rattle.std.proofs.Common.{◌≡◌, ◌⊎◌, ℕ, Bool, true, false, if◌then◌else◌, List, [], ◌∷◌, Option, Some, None, option_map, Result, Ok, Err, bytes_eq, refl, sym, ap, subst, ◌∙◌}
+use Rattle.std.proofs.Common.{◌≡◌, ℕ, Bool, true, false, if◌then◌else◌, List, [], ◌∷◌, Some, option_map, Result, Ok, Err, bytes_eq, refl, sym, ap, ◌∙◌}
 use Rattle.std.proofs.lemmas.Slice.Eq.{bytes_eq-Decides}
 use Rattle.language.specs.declared.position.SourcePosition.{SourcePosition}
 use Rattle.graphql_lexer.specs.Lexemes.{Lexeme}
 use Rattle.graphql_lexer.specs.Lexical as token
-use Rattle.graphql_lexer.specs.declared.lexer.Punctuator.TheVariants.{Dollar, Colon, BracketOpen, BracketClose, BraceOpen, BraceClose}
-use Rattle.value_reader.specs.Grammar.{Rules, may_nest, lexeme, sign, boolean_name, null_name, IsEnumName, IsTextOf, SpellsPlain}
-use Rattle.value_reader.specs.Values.{Plain, int, float, string, boolean, null, enum, variable, Key, Value, plain, list, object}
-use Rattle.value_reader.specs.Machine.{Entry, Frame, in_list, at_key, at_colon, at_value, at_name, Turn, going, done, refused, items_of, fields_of, span_of, depth_of, attach, push, named, plain_of, string_text, attach_plain, value_turn, item_turn, step, step_by, takes_value}
+use Rattle.graphql_lexer.specs.declared.lexer.Punctuator.TheVariants.{BracketClose}
+use Rattle.value_reader.specs.Grammar.{Rules, lexeme, boolean_name, null_name, IsEnumName, IsTextOf}
+use Rattle.value_reader.specs.Values.{Plain, string, boolean, null, enum, Value, plain}
+use Rattle.value_reader.specs.Machine.{Frame, in_list, at_key, at_colon, at_value, at_name, Turn, going, done, refused, span_of, attach, named, plain_of, attach_plain, value_turn, item_turn, step, step_by, takes_value}
 use Rattle.value_reader.proofs.Texts.{string_read}
 
 -- a value and the tokens behind it, or the tokens from the first one at fault on

@@ -7,8 +7,8 @@ use Rattle.graphql_lexer.specs.Lexemes.{Lexeme}
 use Rattle.graphql_lexer.specs.Lexical as token
 use Rattle.graphql_lexer.specs.declared.lexer.Punctuator.TheVariants.{Dollar, Colon, BracketOpen, BracketClose, BraceOpen, BraceClose}
 use Rattle.value_reader.specs.Grammar.{Rules, may_nest, lexeme, sign, boolean_name, null_name, SpellsPlain, Spells, SpellsItems, SpellsFields}
-use Rattle.value_reader.specs.Values.{Plain, int, float, string, boolean, null, enum, variable, Key, Value, plain, list, object, Items, no_items, item, Fields, no_fields, field}
-use Rattle.value_reader.specs.Machine.{Entry, Frame, in_list, at_key, at_colon, at_value, at_name, Turn, going, done, refused, items_of, fields_of, span_of, depth_of, attach, push, named, plain_of, string_text, attach_plain, value_turn, item_turn, key_turn, colon_turn, name_turn, step, step_by, takes_value}
+use Rattle.value_reader.specs.Values.{Plain, int, float, string, boolean, null, enum, variable, Key, Value, plain, list, object}
+use Rattle.value_reader.specs.Machine.{Entry, Frame, in_list, at_key, at_colon, at_value, at_name, Turn, going, done, refused, items_of, fields_of, span_of, depth_of, attach, push, named, plain_of, string_text, attach_plain, value_turn, item_turn, key_turn, colon_turn, name_turn, step_by, takes_value}
 use Rattle.value_reader.proofs.Texts.{string_reads}
 use Rattle.value_reader.proofs.Complete.{entry}
 

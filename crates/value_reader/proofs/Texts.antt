@@ -1,12 +1,12 @@
 -- The text of a string, by its escapes, is the one that it stands for.
-use Rattle.std.proofs.Common.{◌≡◌, ◌<◌, ◌≤◌, ◌+◌, ℕ, zero, suc, Bool, true, false, if◌then◌else◌, List, [], ◌∷◌, ◌++◌, length, take, drop, Option, Some, None, option_map, Result, Ok, Err, refl, sym, ap, subst, ◌∙◌, arith, length-append}
+use Rattle.std.proofs.Common.{◌≡◌, ◌<◌, ℕ, zero, suc, Bool, true, false, if◌then◌else◌, List, [], ◌∷◌, ◌++◌, length, take, drop, Option, Some, None, option_map, Result, Ok, Err, refl, sym, ap, subst, ◌∙◌, arith, length-append}
 use Rattle.std.proofs.lemmas.Bool.Decides.{nat_tests}
 use Rattle.std.proofs.lemmas.List.{take-append-drop}
 use Rattle.std.proofs.Math.Seq.{drop-append_seam}
 use Rattle.std.specs.Char.{encode_utf8}
 use Rattle.graphql_lexer.specs.StringValues.{is_plain, IsEscape, IsStringValue, nothing, plain, escape}
 use Rattle.graphql_lexer.specs.Unescaping.{escape_at}
-use Rattle.graphql_lexer.proofs.EscapeLaws.{escape_front, escape_read, ends_ascii}
+use Rattle.graphql_lexer.proofs.EscapeLaws.{escape_front, escape_read}
 use Rattle.value_reader.specs.Machine.{text_behind, text_from, string_text}
 
 mapped_some : {A B : Type 0} (f : A → B) (o : Option A) (y : B) → option_map f o ≡ Some y → (x : A) × (o ≡ Some x) × (f x ≡ y)

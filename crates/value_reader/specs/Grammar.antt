@@ -9,7 +9,7 @@ use Rattle.graphql_lexer.specs.Lexical as token
 use Rattle.graphql_lexer.specs.StringValues.{IsStringValue}
 use Rattle.graphql_lexer.specs.declared.lexer.Punctuator.{Punctuator}
 use Rattle.graphql_lexer.specs.declared.lexer.Punctuator.TheVariants.{Dollar, Colon, BracketOpen, BracketClose, BraceOpen, BraceClose}
-use Rattle.value_reader.specs.Values.{Plain, variable, int, float, string, boolean, null, enum, Key, Value, plain, list, object, Items, no_items, item, Fields, no_fields, field}
+use Rattle.value_reader.specs.Values.{Plain, variable, int, float, string, boolean, null, enum, Value, plain, list, object, Items, no_items, item, Fields, no_fields, field}
 
 -- whether a value may be or hold variables, which a constant may not, and how deep lists and objects may nest, where a caller sets that
 pub record Rules : Type 0 where
