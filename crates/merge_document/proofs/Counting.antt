@@ -14,7 +14,7 @@ use Rattle.fragment_graph.proofs.Lists.{same_some, none_some, contains_at}
 use Rattle.merge_search.specs.World.{World, spreads_of}
 use Rattle.merge_search.specs.Tops.{SamePair, SpreadTogether, Together}
 use Rattle.merge_set_table.specs.Table.{Numbered}
-use Rattle.merge_set_table.specs.Represents.{IsSetOf}
+use Rattle.merge_set_table.specs.Parts.{IsPartAt}
 use Rattle.merge_graph.specs.SetsIn.{IsSetIn}
 use Rattle.merge_document.specs.Found.{SameNames, AreSpreadTogether, AreTogether}
 use Rattle.merge_document.proofs.Sets.{IsWorldOf, number_of}
@@ -36,7 +36,7 @@ mapped_get : {X Y : Type 0} (f : X → Y) (xs : List X) (k : ℕ) (y : Y) → sl
 mapped_get f xs k y h = mapped_some f (slice_get xs k) y (sym (slice_get-map f xs k) ∙ h)
 
 module _ {S C : Type 0} (E : S → S → Bool) (schema : Catalog S C) (document : List (Definition S)) (numbers : List ℕ → Option ℕ) (m : Numbered S C) (w : World) (is : IsWorldOf E schema document numbers m w)
-    (order : List ℕ) (sets : (p : Option (MetaTypeOf S C)) (set : List (Selection S)) → IsSetIn schema document p set → (s : ℕ) × Contains order s × IsSetOf schema numbers m s p set) where
+    (order : List ℕ) (sets : (p : Option (MetaTypeOf S C)) (set : List (Selection S)) → IsSetIn schema document p set → (s : ℕ) × Contains order s × IsPartAt schema numbers m s p set) where
   abbrev pub number : List ℕ → ℕ
   number name = option_map_or (λ k. k) (numbers name) 0
 
@@ -58,8 +58,8 @@ module _ {S C : Type 0} (E : S → S → Bool) (schema : Catalog S C) (document 
         (
           s.0,
           s.1,
-          subst (λ (k : ℕ). Contains (spreads_of w s.0) k) (sym (number_is p.0 f.0 f.1)) (number_of E schema document numbers m w is s.2 h.spreads_first f.1),
-          subst (λ (k : ℕ). Contains (spreads_of w s.0) k) (sym (number_is p.1 g.0 g.1)) (number_of E schema document numbers m w is s.2 h.spreads_second g.1),
+          subst (λ (k : ℕ). Contains (spreads_of w s.0) k) (sym (number_is p.0 f.0 f.1)) (number_of E schema document numbers m w is (s.2).is ((s.2).part.names p.0 h.spreads_first) f.1),
+          subst (λ (k : ℕ). Contains (spreads_of w s.0) k) (sym (number_is p.1 g.0 g.1)) (number_of E schema document numbers m w is (s.2).is ((s.2).part.names p.1 h.spreads_second) g.1),
         ),
       )
 

@@ -19,21 +19,21 @@ use Rattle.merge_search.specs.Merging as graph
 use Rattle.merge_search.specs.Reports.{Root, AtSearched, Real, Complete}
 use Rattle.merge_search.specs.Graph.{IsWhole}
 use Rattle.merge_set_table.specs.Table.{Numbered}
-use Rattle.merge_set_table.specs.Represents.{IsSetOf}
+use Rattle.merge_set_table.specs.Parts.{IsPartAt}
 use Rattle.merge_graph.specs.DocumentGraph.{AreOrigins}
 use Rattle.merge_graph.specs.SetsIn.{IsSetIn, HasKnownConditions}
 use Rattle.merge_conflicts.specs.Reports.{Reports, none, roots, postfix, IsFieldAt, AreReportsOf}
 use Rattle.merge_document.specs.WrittenOut.{Apart}
-use Rattle.merge_document.specs.Merging.{Same, below, DocumentMerges, Way, here, down}
+use Rattle.merge_document.specs.Merging.{Same, DocumentMerges, Way, here, down}
 use Rattle.merge_document.specs.Conflicts.{Tells, TellsEither, AreInOneSet, AreReal, IsPassed, AreTold, AreAll, IsTidyDocument}
 use Rattle.merge_document.proofs.Fields.{own_field, one_field}
 use Rattle.merge_document.proofs.Sets.{IsWorldOf, member_in}
-use Rattle.merge_document.proofs.Transfer.{Of, stands_in, apart_out, apart_stand, conflict_at, exclusive_at, same_out, same_in, below_in, merges_in, merges_out}
+use Rattle.merge_document.proofs.Transfer.{Of, stands_in, stands_whole, apart_out, apart_stand, conflict_at, exclusive_at, same_out, same_in, below_in, merges_in, merges_out}
 use Rattle.merge_document.proofs.Trees.{Tree, tree, AreBoth, told, root_in, root_out, found_some}
 
 module _ {S C : Type 0} (E : S → S → Bool) (schema : Catalog S C) (document : List (Definition S)) (numbers : List ℕ → Option ℕ) (m : Numbered S C) (w : World) (is : IsWorldOf E schema document numbers m w)
     (order : List ℕ) (origins : AreOrigins schema document numbers m w.fragments order)
-    (sets : (p : Option (MetaTypeOf S C)) (set : List (Selection S)) → IsSetIn schema document p set → (s : ℕ) × Contains order s × IsSetOf schema numbers m s p set) where
+    (sets : (p : Option (MetaTypeOf S C)) (set : List (Selection S)) → IsSetIn schema document p set → (s : ℕ) × Contains order s × IsPartAt schema numbers m s p set) where
   abbrev OfField : PlainEntry S C → Entry → Type 0
   OfField x a = Of E schema document numbers m w is x a
 
@@ -110,7 +110,8 @@ module _ {S C : Type 0} (E : S → S → Bool) (schema : Catalog S C) (document 
       merging : HasKnownConditions schema document → made.reports ≡ none → DocumentMerges E schema document
       merging known silent p set i x y h same =
           let s = sets p set i in let t = apart_stand E schema document numbers m w is h in
-          let a = stands_in E schema document numbers m w is t.0 s.2 in let b = stands_in E schema document numbers m w is t.1 s.2 in
+          let a = stands_in E schema document numbers m w is (stands_whole E schema document numbers m w is (s.2).part t.0) (s.2).is in
+          let b = stands_in E schema document numbers m w is (stands_whole E schema document numbers m w is (s.2).part t.1) (s.2).is in
           merges_out E schema document numbers m w is (complete.exact (whole known) (nothing_found silent) s.0 a.0 b.0 a.1 b.1 (same_in E schema document numbers m w is a.2 b.2 same)) refl a.2 b.2
 
       refuses : DocumentMerges E schema document → made.reports ≡ none
@@ -126,14 +127,16 @@ module _ {S C : Type 0} (E : S → S → Bool) (schema : Catalog S C) (document 
         silent = refuses;
         failing = λ x y h fails.
             let s = sets h.0 h.1 h.2 in
-            let a = stands_in E schema document numbers m w is h.3 s.2 in let b = stands_in E schema document numbers m w is h.4 s.2 in
+            let a = stands_in E schema document numbers m w is (stands_whole E schema document numbers m w is (s.2).part h.3) (s.2).is in
+            let b = stands_in E schema document numbers m w is (stands_whole E schema document numbers m w is (s.2).part h.4) (s.2).is in
             elim (complete.failing s.0 a.0 b.0 s.1 a.1 b.1 (same_in E schema document numbers m w is a.2 b.2 h.5) (conflict_at E schema document numbers m w is a.2 b.2 false ∙ fails)) [
               | inl t ↦ inl (tells a.0 b.0 false x y a.2 b.2 t.1)
               | inr t ↦ inr (tells b.0 a.0 false y x b.2 a.2 t.1)
             ];
         at_the_top = λ p set x y i c h same fails.
             let s = sets p set i in
-            let a = member_in E schema document numbers m w is s.2 c in let b = stands_in E schema document numbers m w is h s.2 in
+            let a = member_in E schema document numbers m w is (s.2).is ((s.2).part.fields x c) in
+            let b = stands_in E schema document numbers m w is (stands_whole E schema document numbers m w is (s.2).part h) (s.2).is in
             let at = (own_field schema numbers m a.2).field in let bt = (own_field schema numbers m b.2).field in
             elim (complete.at_the_top s.0 a.0 b.0 s.1 a.1 b.1 (same_in E schema document numbers m w is a.2 b.2 same) (conflict_at E schema document numbers m w is a.2 b.2 false ∙ fails)) [
               | inl r ↦ inl (root_in m.fields made.are a.0 b.0 x y at bt (made.to (record { left = a.0; right = b.0 }) r))
@@ -148,7 +151,8 @@ module _ {S C : Type 0} (E : S → S → Bool) (schema : Catalog S C) (document 
         at_the_top = is_told.at_the_top;
         ways = λ x y h way.
             let s = sets h.0 h.1 h.2 in
-            let a = stands_in E schema document numbers m w is h.3 s.2 in let b = stands_in E schema document numbers m w is h.4 s.2 in
+            let a = stands_in E schema document numbers m w is (stands_whole E schema document numbers m w is (s.2).part h.3) (s.2).is in
+            let b = stands_in E schema document numbers m w is (stands_whole E schema document numbers m w is (s.2).part h.4) (s.2).is in
             let v = way_in refl a.2 b.2 way in
             v.1 (complete.ways (whole known) s.0 a.0 b.0 a.1 b.1 (same_in E schema document numbers m w is a.2 b.2 h.5) v.0);
       }

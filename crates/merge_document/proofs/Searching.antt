@@ -17,7 +17,7 @@ use Rattle.merge_graph.specs.Building.{IsFragment}
 use Rattle.merge_graph.specs.Definitions.{fragment_count}
 use Rattle.merge_graph.specs.DocumentGraph.{IsGraphOf, AreOrigins}
 use Rattle.merge_graph.specs.SetsIn.{IsSetIn}
-use Rattle.merge_set_table.specs.Represents.{IsSetOf}
+use Rattle.merge_set_table.specs.Parts.{IsPartAt}
 use Rattle.merge_graph.specs.Judging.{judgement_by, judgement_of}
 use Rattle.merge_graph.proofs.SetLaws.{equally_many, own_same, spreads_same}
 use Rattle.merge_conflicts.specs.Reports.{AreReportsOf}
@@ -52,7 +52,7 @@ module _ {S C : Type 0} (E : S → S → Bool) (schema : Catalog S C) (document 
       subst (λ (z : List ℕ). AreOrigins schema document is.numbers is.table z g.order.items) (sym (is.is).fragments_are)
       (subst (λ (z : List ℕ). AreOrigins schema document is.numbers is.table is.fragment_sets z) (sym (is.is).order_is) is.origins)
 
-  sets : (p : Option (MetaTypeOf S C)) (set : List (Selection S)) → IsSetIn schema document p set → (s : ℕ) × Contains g.order.items s × IsSetOf schema is.numbers is.table s p set
+  sets : (p : Option (MetaTypeOf S C)) (set : List (Selection S)) → IsSetIn schema document p set → (s : ℕ) × Contains g.order.items s × IsPartAt schema is.numbers is.table s p set
   sets p set i = let h = is.sets p set i in (h.0, subst (λ (z : List ℕ). Contains z h.0) (sym (is.is).order_is) h.1, h.2)
 
   pub judged : (f : FoundConflicts S C) → f.fields ≡ g.judge.fields → Judged its_world g.order.items f.found.items → (AreTidy (map plain g.judge.fields.items) → Lawful (judgement_of E g.judge)) → IsJudged E schema document f

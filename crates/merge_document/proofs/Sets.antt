@@ -8,7 +8,7 @@ use Rattle.language.specs.declared.tree.Definition.{Definition}
 use Rattle.meta.specs.declared.kinds.MetaTypeOf.{MetaTypeOf}
 use Rattle.schema.specs.Catalog.{Catalog}
 use Rattle.fragment_graph.specs.Numbers.{Defines}
-use Rattle.fragment_graph.proofs.Lists.{same_some, none_some, same_item, contains_at, contains_get}
+use Rattle.fragment_graph.proofs.Lists.{same_item, contains_at, contains_get}
 use Rattle.merge_field_pairs.specs.Entries.{PlainEntry}
 use Rattle.merge_field_pairs.specs.OwnFields.{own_fields, own_spreads}
 use Rattle.merge_search.specs.World.{World, own_of, spreads_of, set_of}

@@ -14,6 +14,7 @@ use Rattle.merge_search.specs.World as graph_world
 use Rattle.merge_search.specs.World.{World, spreads_of, set_of, conflict_of}
 use Rattle.merge_search.specs.Merging as graph
 use Rattle.merge_set_table.specs.Table.{Numbered}
+use Rattle.merge_set_table.specs.Parts.{IsPartOf}
 use Rattle.merge_document.specs.WrittenOut.{Stands, own, spread, StandsIn, Apart, own_own, own_spread, spread_own, two_spreads, one_spread}
 use Rattle.merge_document.specs.Merging.{Below, below, Merges, merges}
 use Rattle.merge_document.proofs.Fields.{IsEntryOf, set_below, number_below, same_name, same_number, conflict_is, exclusive_is}
@@ -47,6 +48,11 @@ module _ {S C : Type 0} (E : S → S → Bool) (schema : Catalog S C) (document 
   stands_in (spread c i h) at =
       let n = fragment_in E schema document numbers m w is i in
       let r = stands_in h n.2 in (r.0, graph.spread (number_of E schema document numbers m w is at c n.1) r.1, r.2)
+
+  -- what stands in a part of a set stands in the set
+  pub stands_whole : {p q : Option (MetaTypeOf S C)} {set inner : List (Selection S)} {x : PlainEntry S C} → IsPartOf schema q inner p set → Stands schema document q inner x → Stands schema document p set x
+  stands_whole {x = x} h (own c) = own (h.fields x c)
+  stands_whole h (spread {name = name} c i s) = spread (h.names name c) i s
 
   -- what stands in a fragment
   written_out : {f : ℕ} {name : List ℕ} {a : Entry} → numbers name ≡ Some f → graph.Stands w (set_of w f) a → (x : PlainEntry S C) × StandsIn schema document name x × Of x a

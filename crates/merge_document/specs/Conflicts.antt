@@ -1,5 +1,5 @@
 -- What the conflicts that are reported of a document are: true, and none is missed (section 5.3.2).
-use Rattle.std.specs.Prelude.{◌≡◌, ◌↔◌, ◌⊎◌, List, Bool, true, false, Option}
+use Rattle.std.specs.Prelude.{◌≡◌, ◌↔◌, ◌⊎◌, List, Bool, false, Option}
 use Rattle.std.specs.List.{All, Contains}
 use Rattle.language.specs.declared.tree.Selection.{Selection}
 use Rattle.language.specs.declared.tree.Definition.{Definition}

@@ -17,6 +17,7 @@ use Rattle.fragment_graph.specs.Spreads.{PlacedSpread, PlacedSpreads, placed_spr
 use Rattle.fragment_graph.proofs.Lists.{same_some, none_some, contains_get, get_some, set_other}
 use Rattle.merge_search.specs.declared.graph.Graph.{Graph}
 use Rattle.merge_set_table.specs.Once.{is_among}
+use Rattle.merge_set_table.specs.Sizes.{table_size}
 use Rattle.merge_set_table.specs.Table.{numbered, height, IsWithin, Falling}
 use Rattle.merge_set_table.proofs.Lists.{among_from_get}
 use Rattle.merge_set_table.proofs.Representing.{extends_self}
@@ -27,9 +28,11 @@ use Rattle.merge_graph.specs.Building.{rank_in, stretch_of, order_at, AreSetsAt,
 use Rattle.merge_graph.specs.TableGraph.{AreListed, IsGraphOfTable}
 use Rattle.merge_graph.specs.DocumentGraph.{IsGraphOf}
 use Rattle.merge_graph.specs.Assembly.{AreRanked, KnowsAll, AreInPlaces, joined_order, AreFree, HasSetAt, AddsMissing, AddsOthers, IsComplete}
-use Rattle.merge_graph.proofs.Renumbering.{AgreeOn, in_flat, set_more}
+use Rattle.merge_graph.proofs.Renumbering.{AgreeOn, in_flat, part_more}
 use Rattle.merge_graph.proofs.Growing.{built_definition, extends, kept_order, new_sets}
 use Rattle.merge_graph.proofs.Stretches.{among_all, among_some}
+use Rattle.merge_graph.specs.Sizes.{graph_size}
+use Rattle.merge_graph.proofs.Shares.{nothing_joined, taken_few}
 use Rattle.merge_graph.proofs.Few.{few_numbers}
 use Rattle.merge_graph.proofs.Lasts.{last_inside}
 use Rattle.merge_graph.proofs.Naming.{built_fragment}
@@ -103,6 +106,7 @@ module _ {S C : Type 0} where
         named = λ g l. absurd (no_fragment g l);
         sets_from = λ k p among. absurd (nothing_at b.order.items (slice_get b.stretches.items p) (h.free p) k among);
         fields_from = λ k a at. absurd (none_some a (subst (λ fs. slice_get (map plain fs) k ≡ Some a) h.fields at));
+        size = λ known. let none = h.size in omega (arith, none, ap length (nothing_joined b.order.items b.stretches.items h.free));
       }
 
   -- at first each place is free
@@ -181,7 +185,7 @@ module _ {S C : Type 0} where
           has = λ p l. elim (cases_order p place) [
             | inl eq ↦ subst (λ (q : ℕ). HasSetAt schema document numbers q b'') (sym eq) new.has
             | inr o ↦ elim o [
-              | inl lt ↦ (λ d there q inner i. let s = had.has p lt d there q inner i in (s.0, new.kept p s.0 s.1, set_more schema numbers (numbered b'.table) (numbered b''.table) s.0 q inner new.extends s.2))
+              | inl lt ↦ (λ d there q inner i. let s = had.has p lt d there q inner i in (s.0, new.kept p s.0 s.1, part_more schema numbers (numbered b'.table) (numbered b''.table) s.0 q inner new.extends s.2))
               | inr gt ↦ absurd (omega (arith, l, gt))
             ]
           ];
@@ -198,8 +202,9 @@ module _ {S C : Type 0} where
     }
 
   pub graph_is : (schema : Catalog S C) (document : List (Definition S)) (c : DocumentCycles) (b : Building S C) (g : Graph (FieldJudge S C))
-      → AreRanked document c → IsComplete schema document (rank_in c) b → IsGraphOfTable schema (numbered b.table) b.fragments.items (joined_order b) g → IsGraphOf schema document g
-  graph_is schema document c b g ranked done is = record {
+      → AreRanked document c → IsComplete schema document (rank_in c) b → IsGraphOfTable schema (numbered b.table) b.fragments.items (joined_order b) g
+      → graph_size g + length b.table.order.items ≡ table_size b.table + length (joined_order b) → IsGraphOf schema document g
+  graph_is schema document c b g ranked done is size = record {
     table = numbered b.table;
     numbers = rank_in c;
     fragment_sets = b.fragments.items;
@@ -216,4 +221,5 @@ module _ {S C : Type 0} where
       few = few_numbers document c ranked.searched b.fragments.items done.built.named;
       whole = λ known k l. let at = done.built.whole known k l in joined_contains b at.0 k at.1;
     };
+    size = λ known. let taken = done.built.size known in omega (arith, taken, size, taken_few b.stretches.items document);
   }

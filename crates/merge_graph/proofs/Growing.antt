@@ -1,6 +1,6 @@
 -- What was built stays right where a definition's set is added.
-use Rattle.std.proofs.Common.{◌≡◌, ◌<◌, ◌≤◌, ℕ, List, ◌++◌, length, map, get_or, Option, Some, true, slice_get, slice_set, length-set, sym, ap, subst, ◌∙◌, inl, inr, ◌⊎◌, arith}
-use Rattle.std.specs.List.{Contains}
+use Rattle.std.proofs.Common.{◌≡◌, ◌<◌, ◌≤◌, ◌+◌, ℕ, List, ◌++◌, length, map, get_or, Option, Some, true, slice_get, slice_set, length-set, sym, ap, subst, ◌∙◌, inl, inr, ◌⊎◌, arith}
+use Rattle.std.specs.List.{Contains, flat_map}
 use Rattle.std.proofs.lemmas.Option.{slice_get_within}
 use Rattle.std.proofs.lemmas.Bool.{cases_order, cases_eq}
 use Rattle.language.specs.declared.tree.Definition.{Definition}
@@ -16,10 +16,12 @@ use Rattle.merge_set_table.specs.Adding.{AreWithin}
 use Rattle.merge_set_table.proofs.Origins.{kept_field}
 use Rattle.merge_graph.specs.declared.building.Building.{Building}
 use Rattle.merge_graph.specs.Definitions.{type_round, selections_of}
+use Rattle.merge_graph.specs.Sizes.{share_of, share_taken}
 use Rattle.merge_graph.specs.SetsIn.{IsNodeIn, HasKnownConditions}
-use Rattle.merge_graph.specs.Building.{order_at, AreStretches, AreSetsAt, IsSetOfDefinition, IsFragment, HasOrigin, AreKnown, AddsDefinition, Built}
+use Rattle.merge_graph.specs.Building.{stretch_of, order_at, AreStretches, AreSetsAt, IsSetOfDefinition, IsFragment, HasOrigin, AreKnown, AddsDefinition, Built}
 use Rattle.merge_graph.proofs.Stretches.{stretch_at, new_stretch, same_stretch, stays, still_within}
-use Rattle.merge_graph.proofs.Renumbering.{AgreeOn, set_renumbered, set_more, spreads_inside}
+use Rattle.merge_graph.proofs.Shares.{joined_more, taken_more}
+use Rattle.merge_graph.proofs.Renumbering.{AgreeOn, set_renumbered, set_more, part_more, spreads_inside}
 
 less_or : (m n : ℕ) → (m < n) ⊎ (n ≤ m)
 less_or m n = elim (cases_order m n) [
@@ -98,16 +100,21 @@ module _ {S C : Type 0} (schema : Catalog S C) (document : List (Definition S)) 
 
     pub new_sets : AgreeOn names numbers (placed_spreads_of_all (selections_of d)) → AreSetsAt schema numbers place d b'
     new_sets agree q inner i =
-        let (k, among, is) = a.adds.found q inner i in (
-          k,
-          new_order k among,
-          subst (λ m. IsSetOf schema numbers m k q inner) (sym a.notes.same)
-              (set_renumbered schema names numbers (numbered a.grown) k q inner is (λ x c. agree x (spreads_inside schema i x c))),
+        let h = a.adds.found q inner i in (
+          h.number,
+          new_order h.number h.among,
+          record {
+            type = h.type;
+            set = h.set;
+            is = subst (λ m. IsSetOf schema numbers m h.number h.type h.set) (sym a.notes.same)
+                (set_renumbered schema names numbers (numbered a.grown) h.number h.type h.set h.is (λ x c. agree x (spreads_inside schema h.stands x c)));
+            part = h.part;
+          },
         )
 
     pub kept_sets : (p : ℕ) (x : Definition S) → AreSetsAt schema numbers p x b → AreSetsAt schema numbers p x b'
     kept_sets p x h q inner i =
-        let (k, among, is) = h q inner i in (k, kept_order p k among, set_more schema numbers (numbered b.table) (numbered b'.table) k q inner extends is)
+        let (k, among, is) = h q inner i in (k, kept_order p k among, part_more schema numbers (numbered b.table) (numbered b'.table) k q inner extends is)
 
     abbrev Stands : ℕ → Type 0
     Stands k = (p : ℕ) × (is_among (order_at b' p) k ≡ true)
@@ -178,4 +185,14 @@ module _ {S C : Type 0} (schema : Catalog S C) (document : List (Definition S)) 
         named = λ g l. built.named g (subst (λ (fs : List ℕ). g < length fs) fragments_are l);
         sets_from = sets_from;
         fields_from = fields_from;
+        size = λ known.
+            let had = built.size known in
+            let grown = a.adds.size (known d stands) in
+            let noted = a.notes.size in
+            let joined : length (flat_map (stretch_of b'.order.items) b'.stretches.items) ≡ length (flat_map (stretch_of b.order.items) b.stretches.items) + length a.grown.order.items =
+            by_order (λ xs os. length (flat_map (stretch_of xs) os) ≡ length (flat_map (stretch_of b.order.items) b.stretches.items) + length a.grown.order.items)
+            (joined_more b.order.items a.grown.order.items b.stretches.items place a.notes.free built.within) in
+            let taken : share_taken b'.stretches.items document ≡ share_taken b.stretches.items document + share_of d =
+            ap (λ os. share_taken os document) a.notes.stretches ∙ taken_more b.stretches.items document place (length b.order.items, length b'.order.items) d a.notes.free at in
+            omega (arith, had, grown, noted, joined, taken);
       }

@@ -3,6 +3,7 @@ pub mod SetLaws
 pub mod Lasts
 pub mod Renumbering
 pub mod Stretches
+pub mod Shares
 pub mod Growing
 pub mod Ranks
 pub mod Few

@@ -119,6 +119,7 @@ module _ {S C : Type 0} (schema : Catalog S C) (document : List (Definition S)) 
     named = subst (λ (fs : List ℕ). (g : ℕ) → g < length fs → (q : List ℕ) × (numbers q ≡ Some g)) (sym a.pushed) named_then;
     sets_from = middle_built.sets_from;
     fields_from = middle_built.fields_from;
+    size = middle_built.size;
   }
 
   pub built_fragment : Built schema document numbers b'

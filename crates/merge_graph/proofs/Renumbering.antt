@@ -16,6 +16,7 @@ use Rattle.merge_search.specs.declared.node.Entry.{Entry as OwnField}
 use Rattle.merge_set_table.specs.Table.{Numbered, Extends}
 use Rattle.merge_set_table.specs.Represents.{Represents, nothing, join, leaf, field, spread, unknown, inline, IsSetOf}
 use Rattle.merge_set_table.specs.Inside.{IsInside, itself, below_field, of_inline}
+use Rattle.merge_set_table.specs.Parts.{IsPartAt}
 use Rattle.merge_set_table.proofs.Representing.{represents_more}
 
 pub in_flat : {X Y : Type 0} (f : X → List Y) (xs : List X) (k : ℕ) (x : X) (y : Y) → slice_get xs k ≡ Some x → Contains (f x) y → Contains (flat_map f xs) y
@@ -62,6 +63,9 @@ module _ {S C : Type 0} (schema : Catalog S C) (old new : List ℕ → Option �
 module _ {S C : Type 0} (schema : Catalog S C) (numbers : List ℕ → Option ℕ) where
   pub set_more : (m m' : Numbered S C) (n : ℕ) (p : Option (MetaTypeOf S C)) (set : List (Selection S)) → Extends m m' → IsSetOf schema numbers m n p set → IsSetOf schema numbers m' n p set
   set_more m m' n p set e is = record { row = is.row; to = is.to; stored = e.sets n is.row is.stored; once = is.once; represents = represents_more schema numbers e is.represents }
+
+  pub part_more : (m m' : Numbered S C) (n : ℕ) (p : Option (MetaTypeOf S C)) (set : List (Selection S)) → Extends m m' → IsPartAt schema numbers m n p set → IsPartAt schema numbers m' n p set
+  part_more m m' n p set e h = record { type = h.type; set = h.set; is = set_more m m' n h.type h.set e h.is; part = h.part }
 
 -- what a set inside spreads is spread at some depth
 pub spreads_inside : {S C : Type 0} (schema : Catalog S C) {p : Option (MetaTypeOf S C)} {set : List (Selection S)} {q : Option (MetaTypeOf S C)} {inner : List (Selection S)}

@@ -13,13 +13,13 @@ abbrev Ends : Type 0
 Ends = ℕ × ℕ
 
 -- what stands in an order that grew
-range_kept : (xs ys : List ℕ) (start end : ℕ) → start ≤ end → end ≤ length xs → slice_range (xs ++ ys) start end ≡ slice_range xs start end
+pub range_kept : (xs ys : List ℕ) (start end : ℕ) → start ≤ end → end ≤ length xs → slice_range (xs ++ ys) start end ≡ slice_range xs start end
 range_kept xs ys start end low high =
     let long = length-drop start xs in
     ap (take (end - start)) (drop-append-le start xs ys (omega (arith, low, high)))
     ∙ take-append-le (end - start) (drop start xs) ys (omega (arith, low, high, long))
 
-range_new : (xs ys : List ℕ) → slice_range (xs ++ ys) (length xs) (length (xs ++ ys)) ≡ ys
+pub range_new : (xs ys : List ℕ) → slice_range (xs ++ ys) (length xs) (length (xs ++ ys)) ≡ ys
 range_new xs ys =
     let long = length-append xs ys in
     ap (take (length (xs ++ ys) - length xs)) (drop-append_seam xs ys) ∙ take_all (length (xs ++ ys) - length xs) ys (omega (arith, long))

@@ -1,5 +1,6 @@
 -- How the sets of a document are added, definition by definition.
-use Rattle.std.specs.Prelude.{◌≡◌, ◌<◌, ◌≤◌, ℕ, List, [], ◌∷◌, ◌++◌, map, Option, Some, None, length, get_or, slice_get, slice_set, slice_range, true, option_and_then}
+use Rattle.std.specs.Prelude.{◌≡◌, ◌<◌, ◌≤◌, ◌+◌, ℕ, List, [], ◌∷◌, ◌++◌, map, Option, Some, None, length, get_or, slice_get, slice_set, slice_range, true, option_and_then}
+use Rattle.std.specs.List.{flat_map}
 use Rattle.std.specs.declared.vec.Vec.{Vec}
 use Rattle.std.specs.declared.alloc.Global.{Global}
 use Rattle.language.specs.declared.tree.Definition.{Definition}
@@ -15,8 +16,11 @@ use Rattle.merge_set_table.specs.Once.{is_among}
 use Rattle.merge_set_table.specs.Table.{Numbered, numbered, Falling}
 use Rattle.merge_set_table.specs.Represents.{IsSetOf}
 use Rattle.merge_set_table.specs.Inside.{IsInside}
+use Rattle.merge_set_table.specs.Parts.{IsPartAt}
+use Rattle.merge_set_table.specs.Sizes.{table_size}
 use Rattle.merge_set_table.specs.Adding.{AddsSet}
 use Rattle.merge_graph.specs.declared.building.Building.{Building}
+use Rattle.merge_graph.specs.Sizes.{share_taken}
 use Rattle.merge_graph.specs.SetsIn.{IsSetIn, IsNodeIn, HasKnownConditions}
 use Rattle.merge_graph.specs.Definitions.{type_round, selections_of, IsLast}
 
@@ -51,11 +55,11 @@ module _ {S C : Type 0} where
   abbrev pub IsSetOfDefinition : Catalog S C → (List ℕ → Option ℕ) → Numbered S C → ℕ → Definition S → Type 0
   IsSetOfDefinition schema numbers m s d = IsSetOf schema numbers m s (type_round schema d) (selections_of d)
 
-  -- Each set inside the definition has a number in the order of the place.
+  -- Each set inside the definition is a part of one that has a number in the order of the place, or the very set.
   abbrev pub AreSetsAt : Catalog S C → (List ℕ → Option ℕ) → ℕ → Definition S → Building S C → Type 0
   AreSetsAt schema numbers place d b =
       (q : Option (MetaTypeOf S C)) (inner : List (Selection S)) → IsInside schema (type_round schema d) (selections_of d) q inner
-      → (k : ℕ) × (is_among (order_at b place) k ≡ true) × IsSetOf schema numbers (numbered b.table) k q inner
+      → (k : ℕ) × (is_among (order_at b place) k ≡ true) × IsPartAt schema numbers (numbered b.table) k q inner
 
   -- The fragment of the number has the set of its last definition.
   pub record IsFragment (schema : Catalog S C) (document : List (Definition S)) (numbers : List ℕ → Option ℕ) (m : Numbered S C) (fragments : List ℕ) (name : List ℕ) (g : ℕ) : Type 0 where
@@ -73,6 +77,7 @@ module _ {S C : Type 0} where
     pub same : numbered b'.table ≡ numbered b.table
     pub empty : b'.table.order.items ≡ []
     pub fragments : b'.fragments ≡ b.fragments
+    pub size : table_size b'.table + length b.table.order.items ≡ table_size b.table
 
   -- The set of a definition was added, with all sets in it.
   pub record AddsDefinition (schema : Catalog S C) (names : List ℕ → Option ℕ) (d : Definition S) (place n : ℕ) (b b' : Building S C) : Type 0 where
@@ -98,6 +103,7 @@ module _ {S C : Type 0} where
     pub fragments : b.fragments.items ≡ []
     pub sized : length b.stretches.items ≡ count
     pub free : (p : ℕ) (o : Option (ℕ × ℕ)) → slice_get b.stretches.items p ≡ Some o → o ≡ None
+    pub size : table_size b.table ≡ 0
 
   -- The set of the number is that of one of the document, under the type around it.
   abbrev pub HasOrigin : Catalog S C → List (Definition S) → (List ℕ → Option ℕ) → Numbered S C → ℕ → Type 0
@@ -122,3 +128,5 @@ module _ {S C : Type 0} where
     -- where the sets of the places and the fields come from
     pub sets_from : (k p : ℕ) → is_among (order_at b p) k ≡ true → HasOrigin schema document numbers (numbered b.table) k
     pub fields_from : (k : ℕ) (a : PlainEntry S C) → slice_get (map plain b.table.fields.items) k ≡ Some a → IsNodeIn schema document a
+    -- where conditions are known, they take no more than their share
+    pub size : HasKnownConditions schema document → table_size b.table + length (flat_map (stretch_of b.order.items) b.stretches.items) ≤ share_taken b.stretches.items document

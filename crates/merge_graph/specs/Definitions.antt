@@ -2,8 +2,6 @@
 use Rattle.std.specs.Prelude.{◌≡◌, ◌≤◌, ℕ, List, length, Bool, true, false, Option, Some, None, slice_get, slice_set, option_and_then}
 use Rattle.std.specs.List.{filter}
 use Rattle.language.specs.declared.tree.Selection.{Selection}
-use Rattle.language.specs.declared.tree.OperationType.{OperationType}
-use Rattle.language.specs.declared.tree.OperationType.TheVariants as kind
 use Rattle.language.specs.declared.tree.Definition.{Definition}
 use Rattle.language.specs.declared.tree.Definition.TheVariants as definition
 use Rattle.meta.specs.declared.kinds.MetaTypeOf.{MetaTypeOf}

@@ -10,11 +10,12 @@ use Rattle.merge_field_pairs.specs.Entries.{PlainEntry}
 use Rattle.merge_search.specs.declared.graph.Graph.{Graph}
 use Rattle.merge_set_table.specs.Names.{AreApart}
 use Rattle.merge_set_table.specs.Table.{Numbered}
-use Rattle.merge_set_table.specs.Represents.{IsSetOf}
+use Rattle.merge_set_table.specs.Parts.{IsPartAt}
 use Rattle.merge_graph.specs.Definitions.{fragment_count}
 use Rattle.merge_graph.specs.SetsIn.{IsSetIn, IsNodeIn, HasKnownConditions}
 use Rattle.merge_graph.specs.declared.judge.FieldJudge.{FieldJudge}
 use Rattle.merge_graph.specs.Building.{IsFragment, HasOrigin}
+use Rattle.merge_graph.specs.Sizes.{graph_size, document_share}
 use Rattle.merge_graph.specs.TableGraph.{IsGraphOfTable}
 
 -- Where sets and fields of the graph come from, and how many fragments it has.
@@ -28,7 +29,7 @@ pub record AreOrigins {S C : Type 0} (schema : Catalog S C) (document : List (De
   -- each set stands in the order where conditions are known
   pub whole : HasKnownConditions schema document → (k : ℕ) → k < length table.sets → Contains order k
 
--- Each fragment has a number of its own and the set of its last definition, and each set of the document stands in the order.
+-- Each fragment has a number of its own and the set of its last definition, and each set of the document stands in the order, or is a part of one there.
 pub record IsGraphOf {S C : Type 0} (schema : Catalog S C) (document : List (Definition S)) (g : Graph (FieldJudge S C)) : Type 0 where
   pub table : Numbered S C
   pub numbers : List ℕ → Option ℕ
@@ -39,5 +40,7 @@ pub record IsGraphOf {S C : Type 0} (schema : Catalog S C) (document : List (Def
   pub defined : (name : List ℕ) → ((f : ℕ) × (numbers name ≡ Some f)) ↔ Defines document name
   pub single : (name other : List ℕ) (f : ℕ) → numbers name ≡ Some f → numbers other ≡ Some f → name ≡ other
   pub fragments : (name : List ℕ) (f : ℕ) → numbers name ≡ Some f → IsFragment schema document numbers table fragment_sets name f
-  pub sets : (p : Option (MetaTypeOf S C)) (set : List (Selection S)) → IsSetIn schema document p set → (s : ℕ) × Contains order s × IsSetOf schema numbers table s p set
+  pub sets : (p : Option (MetaTypeOf S C)) (set : List (Selection S)) → IsSetIn schema document p set → (s : ℕ) × Contains order s × IsPartAt schema numbers table s p set
   pub origins : AreOrigins schema document numbers table fragment_sets order
+  -- where conditions are known it is linear in the document
+  pub size : HasKnownConditions schema document → graph_size g ≤ document_share document

@@ -4,6 +4,7 @@ pub mod Sets
 pub mod TableGraph
 pub mod Definitions
 pub mod SetsIn
+pub mod Sizes
 pub mod Building
 pub mod DocumentGraph
 pub mod Assembly

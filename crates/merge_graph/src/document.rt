@@ -7,6 +7,8 @@ ghost use Rattle.merge_field_pairs.specs.Numbered.{AreTidy};
 ghost use Rattle.merge_search.specs.Judgement.{Lawful};
 ghost use Rattle.merge_set_table.specs.Known.{known_rank};
 ghost use Rattle.merge_set_table.specs.Table.{Falling, numbered};
+ghost use Rattle.merge_set_table.specs.Sizes.{table_size};
+ghost use Rattle.merge_graph.specs.Sizes.{graph_size};
 ghost use Rattle.merge_graph.specs.Definitions.{AreLast, last_place};
 ghost use Rattle.merge_graph.specs.Building.{rank_in, AreKnown, AreStretches, stretch_of, Built};
 ghost use Rattle.merge_graph.specs.TableGraph.{IsGraphOfTable};
@@ -190,8 +192,10 @@ fn graph_of_building<'a, S: ScalarValue, C>(
     requires falling { Falling building.table.sets.items building.fragments.items }
     requires within { AreStretches building.order.items building.stretches.items }
     requires listed { AreInPlaces building }
-    ensures { IfOk result (IsGraphOfTable schema.now (numbered building.entry.table) building.entry.fragments.items
+    ensures is { IfOk result (IsGraphOfTable schema.now (numbered building.entry.table) building.entry.fragments.items
         (joined_order building.entry)) }
+    ensures size { IfOk result (λ g. graph_size g + length building.entry.table.order.items
+        ≡ table_size building.entry.table + length (joined_order building.entry)) }
 {
     let order = joined_orders(
         alloc,

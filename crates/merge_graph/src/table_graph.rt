@@ -1,6 +1,8 @@
 //! The graph of a table of sets.
-ghost use Rattle.std.specs.Prelude.{◌≡◌, IfOk, map};
+ghost use Rattle.std.specs.Prelude.{◌≡◌, ◌+◌, IfOk, length, map};
 ghost use Rattle.merge_set_table.specs.Table.{Falling, numbered};
+ghost use Rattle.merge_set_table.specs.Sizes.{table_size};
+ghost use Rattle.merge_graph.specs.Sizes.{graph_size};
 ghost use Rattle.merge_graph.specs.Sets.{plain_row, plain_node};
 ghost use Rattle.merge_graph.specs.TableGraph.{AreListed, IsGraphOfTable};
 
@@ -17,7 +19,8 @@ use std::alloc::{AllocError, Global};
 fn searched_set(alloc: Global, set: NumberedSet) -> Result<SetNode, AllocError>
     ensures { IfOk result (λ node. plain_node node ≡ plain_row set) }
 {
-    make_set(alloc, set.own, set.spreads)
+    let NumberedSet { own, spreads, .. } = set;
+    make_set(alloc, own, spreads)
 }
 
 // The sets for the search. Each of the table's is let go as soon as it isn't needed, so that few stand there twice.
@@ -45,7 +48,9 @@ pub fn graph_of_table<'a, S: ScalarValue, C>(
 ) -> Result<Graph<FieldJudge<'a, S, C>>, AllocError>
     requires falling { Falling table.sets.items fragments.items }
     requires listed { AreListed fragments.items order.items }
-    ensures { IfOk result (IsGraphOfTable schema.now (numbered table.entry) fragments.items order.items) }
+    ensures is { IfOk result (IsGraphOfTable schema.now (numbered table.entry) fragments.items order.items) }
+    ensures size { IfOk result (λ g. graph_size g + length table.entry.order.items ≡ table_size table.entry
+        + length order.items) }
 {
     let sets = searched_sets(alloc, table.sets)?;
     Ok(Graph {
@@ -53,5 +58,7 @@ pub fn graph_of_table<'a, S: ScalarValue, C>(
         sets,
         fragments,
         order,
+        inner: table.inner,
+        written: table.written,
     })
 }

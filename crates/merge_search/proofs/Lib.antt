@@ -1,4 +1,5 @@
 pub mod Adding
+pub mod Again
 pub mod Clear
 pub mod Harmless
 pub mod NamesSeen

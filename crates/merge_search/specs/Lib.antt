@@ -16,3 +16,4 @@ pub mod State
 pub mod Tasks
 pub mod Sound
 pub mod Tops
+pub mod Inner

@@ -1,7 +1,7 @@
 //! The sets of a document by number.
 ghost use Rattle.merge_search.specs.Graph.{Falling, AreListed};
 
-use crate::node::SetNode;
+use crate::node::{InnerSet, SetNode};
 
 /// The sets of a document by number, the set of each fragment, and an order of the sets that are searched.
 ///
@@ -12,6 +12,10 @@ pub struct Graph<J> {
     pub sets: Vec<SetNode>,
     pub fragments: Vec<usize>,
     pub order: Vec<usize>,
+    /// The sets of inline fragments, by the sets that they stand in, and in the order of a walk.
+    pub inner: Vec<InnerSet>,
+    /// The spreads of sets with inner ones, as they are written.
+    pub written: Vec<usize>,
     ghost falling: { Falling sets.items fragments.items },
     ghost listed: { AreListed fragments.items order.items },
 }

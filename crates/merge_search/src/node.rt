@@ -10,6 +10,22 @@ pub struct Entry {
     pub below: Option<usize>,
 }
 
+/// Where the set of an inline fragment stands in the set round it: which of the own fields there are its own, and which
+/// spreads, of those as they are written. An end is the place after the last.
+///
+/// It only says what is compared once more where the set round it has a conflict.
+#[derive(Clone, Copy, Debug)]
+pub struct InnerSet {
+    /// The number of the set round it.
+    pub outer: usize,
+    pub first_field: usize,
+    pub fields_end: usize,
+    pub first_spread: usize,
+    pub spreads_end: usize,
+    /// The next set that doesn't stand in this one, by its place among the inner sets of the one round it.
+    pub next: usize,
+}
+
 /// The own fields of a set by their response names.
 #[derive(Drop)]
 pub struct NameIndex {

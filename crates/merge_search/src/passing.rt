@@ -37,8 +37,12 @@ pub(crate) fn pass_over<J: Judge>(
     note_pair(search, f, g, false)
 }
 
-// Some numbers as a set.
-fn set_of_numbers(alloc: Global, list: &[usize]) -> Result<BitSet, AllocError>
+/// Some numbers as a set.
+///
+/// # Errors
+///
+/// Out of memory.
+pub(crate) fn set_of_numbers(alloc: Global, list: &[usize]) -> Result<BitSet, AllocError>
     ensures all { IfOk result (λ set. All (λ g. has set g ≡ true) list.now) }
     ensures only { IfOk result (λ set. (g : ℕ) → has set g ≡ true → Contains list.now g) }
 {

@@ -3,62 +3,25 @@ ghost use Rattle.std.specs.Prelude.{◌≡◌, ◌<◌, ◌≤◌, ◌*◌, ◌-
 ghost use Rattle.std.specs.List.{All};
 ghost use Rattle.merge_search.specs.World.{world, set_of, spreads_of};
 ghost use Rattle.merge_search.specs.Opening.{Opens};
-ghost use Rattle.merge_search.specs.Work.{Did, Done, OwnPairs, Pair};
+ghost use Rattle.merge_search.specs.Work.{Did, OwnPairs, Pair};
 ghost use Rattle.merge_search.specs.Merging.{Top, OwnWithin, OwnWritten};
 ghost use Rattle.merge_search.specs.Reports.{Finds, FindsAll, AtFragments, AtPlaces, Judged};
 ghost use Rattle.merge_search.specs.Plain.{ArePlain};
-ghost use Rattle.merge_search.specs.Tops.{AddsUnmarked, AllBefore, AreAllBut, AtBefore, AtListed, AtRest, AtSpread, AtSpreads, AtTop, AtTwo, AtWithin, MarkedDone, SpreadDone, Together};
+ghost use Rattle.merge_search.specs.Tops.{AddsUnmarked, AllBefore, AreAllBut, AtListed, AtSpread, AtSpreads, AtTop, AtTwo, AtWithin, MarkedDone, SpreadDone, Together};
 
 use crate::graph::Graph;
+use crate::inner::search_inner;
 use crate::judge::Judge;
-use crate::node::Entry;
 use crate::opening::opened;
+use crate::pairs::compare_each;
 use crate::passing::{note_plain, pass_over};
 use crate::plain::{is_plain, passed_over};
 use crate::repeats::Seeker;
-use crate::search::{compare_fields, compare_fragments, compare_own};
+use crate::search::{compare_fragments, compare_own};
 use crate::state::{Search, no_search, put_opening};
-use crate::view::{are_plainly_alike, firsts, group, order, set, spreads};
+use crate::view::{firsts, group, order, set, spreads};
 use bit_matrix::set::BitSet;
 use std::alloc::{AllocError, Global};
-
-// Compares a field with those after it.
-fn compare_rest<J: Judge>(
-    graph: &Graph<J>,
-    a: Entry,
-    rest: &[Entry],
-    search: &mut Search,
-) -> Result<(), AllocError>
-    ensures done { let w = world J.judgement graph.now in
-        OnOk result (Did w (λ M. All (λ b. Done w M false a b) rest.now) search.old search.new) }
-    ensures real { let w = world J.judgement graph.now in
-        OnOk result (FindsAll w false (AtRest a rest.now) (AtRest a rest.now) search.old search.new) }
-{
-    for b in rest {
-        compare_fields(graph, a, *b, false, search)?;
-    }
-    Ok(())
-}
-
-// Compares each field with those after it. Many that are alike are passed at once, since there is nothing to find.
-fn compare_each<J: Judge>(
-    graph: &Graph<J>,
-    fields: &[Entry],
-    search: &mut Search,
-) -> Result<(), AllocError>
-    ensures done { let w = world J.judgement graph.now in
-        OnOk result (Did w (λ M. AllBefore (Done w M false) fields.now) search.old search.new) }
-    ensures real { let w = world J.judgement graph.now in
-        OnOk result (FindsAll w false (AtBefore fields.now) (AtBefore fields.now) search.old search.new) }
-{
-    if fields.len() > 2 && are_plainly_alike(graph, fields, fields) {
-        return Ok(());
-    }
-    for k in 0..fields.len() {
-        compare_rest(graph, fields[k], &fields[k + 1..], search)?;
-    }
-    Ok(())
-}
 
 // Compares the own fields of a set, by response names.
 fn compare_within<J: Judge>(
@@ -279,6 +242,28 @@ fn compare_set<J: Judge>(
     compare_spreads(graph, s, plain, search)
 }
 
+// Compares all that stands in one set, and where that finds something, once more what stands in its inline fragments:
+// a conflict there is one of each set round it.
+fn search_set<J: Judge>(
+    graph: &Graph<J>,
+    s: usize,
+    plain: &BitSet,
+    search: &mut Search,
+) -> Result<(), AllocError>
+    requires { ArePlain (world J.judgement graph.now) plain.now }
+    ensures done { let w = world J.judgement graph.now in
+        OnOk result (Did w (λ M. Top w M s) search.old search.new) }
+    ensures real { let w = world J.judgement graph.now in
+        OnOk result (FindsAll w false (AtPlaces w s) (AtTop w s) search.old search.new) }
+{
+    let start = search.found.len();
+    compare_set(graph, s, plain, search)?;
+    if search.found.len() == start {
+        return Ok(());
+    }
+    search_inner(graph, s, plain, search)
+}
+
 /// Searches the sets of the graph's order, one after the other.
 ///
 /// What is found is true, and nothing is missed; but where some set isn't in the order, what stands below one field
@@ -298,7 +283,7 @@ pub fn search_all<J: Judge>(alloc: Global, graph: &Graph<J>) -> Result<Search, A
     let plain = passed_over(alloc, graph)?;
     let mut search = no_search(alloc);
     for s in order(graph) {
-        compare_set(graph, *s, &plain, &mut search)?;
+        search_set(graph, *s, &plain, &mut search)?;
     }
     Ok(search)
 }

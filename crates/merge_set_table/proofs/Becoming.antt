@@ -1,5 +1,7 @@
 -- Tasks that, once they are done, have done what was to be done.
-use Rattle.std.proofs.Common.{◌≡◌, ℕ, List, [], ◌∷◌, ◌++◌, reverse, Option, Some, None, option_copied, refl, sym, ap, subst, ◌∙◌}
+use Rattle.std.proofs.Common.{◌≡◌, ◌&&◌, ℕ, List, [], ◌∷◌, ◌++◌, reverse, Option, Some, None, not, true, false, option_copied, refl, sym, ap, subst, ◌∙◌}
+use Rattle.std.specs.Option.{is_some}
+use denote.Ref.{Bor}
 use Rattle.std.specs.declared.vec.Vec.{Vec}
 use Rattle.std.specs.declared.alloc.Global.{Global}
 use Rattle.std.proofs.lemmas.List.{reverse-append}
@@ -22,8 +24,8 @@ use Rattle.merge_set_table.specs.declared.tasks.BegunInline.{BegunInline}
 use Rattle.merge_set_table.specs.declared.tasks.Task.{Task}
 use Rattle.merge_set_table.specs.declared.tasks.Task.TheVariants as task
 use Rattle.merge_set_table.specs.Inside.{type_entered}
-use Rattle.merge_set_table.specs.Adding.{IsEmptySet, AddsSpread, PushesField, OpensSet, Adds, AddsFor, AddsSet}
-use Rattle.merge_set_table.specs.Tasks.{IsPlaced, StoresAt, EndsField, IsTakenOver, EndsInline, AddsAs, AddsAgain, AddsInline, Meets, MeetsAll, Becomes}
+use Rattle.merge_set_table.specs.Adding.{IsEmptySet, AddsSpread, HasSame, PushesField, OpensSet, Adds, AddsFor}
+use Rattle.merge_set_table.specs.Tasks.{IsPlaced, StoresAt, EndsField, EndsInline, AddsAs, Meets, MeetsAll, Becomes}
 use Rattle.merge_set_table.proofs.Building.{adds_none, adds_then, adds_leaf, adds_field, adds_spread, adds_inline, adds_lost, for_none, for_then, for_leaf, for_field, for_spread, for_inline}
 use Rattle.merge_set_table.proofs.Closing.{adds_set, adds_set_for}
 use Rattle.merge_set_table.proofs.Entering.{same_type, type_around, unknown_condition}
@@ -33,6 +35,9 @@ pushed xs ys x e = ap reverse e ∙ reverse-append xs (x ∷ [])
 
 pub pushed_first : {X : Type 0} (xs ys : List X) (x : X) → ys ≡ xs ++ x ∷ [] → xs ≡ [] → ys ≡ x ∷ []
 pushed_first xs ys x e none = e ∙ ap (λ zs. zs ++ x ∷ []) none
+
+pub three_pushed : {X : Type 0} (xs ys zs us : List X) (x y z : X) → ys ≡ xs ++ x ∷ [] → zs ≡ ys ++ y ∷ [] → us ≡ zs ++ z ∷ [] → reverse us ≡ z ∷ y ∷ x ∷ reverse xs
+three_pushed xs ys zs us x y z e h k = pushed zs us z k ∙ ap (λ vs. z ∷ vs) (pushed ys zs y h ∙ ap (λ vs. y ∷ vs) (pushed xs ys x e))
 
 pub two_pushed : {X : Type 0} (xs ys zs : List X) (x y : X) → ys ≡ xs ++ x ∷ [] → zs ≡ ys ++ y ∷ [] → reverse zs ≡ y ∷ x ∷ reverse xs
 two_pushed xs ys zs x y e h = pushed ys zs y h ∙ ap (λ us. y ∷ us) (pushed xs ys x e)
@@ -130,65 +135,50 @@ module _ {S C : Type 0} (schema : Catalog S C) (numbers : List ℕ → Option �
       )
 
   -- An inline fragment whose set is begun.
-  module _ (i : Placed (InlineFragment S)) (begun : BegunInline S C)
-      (type : option_copied begun.entered ≡ type_entered schema (option_copied begun.parent) i.item.type_condition) (all : begun.set.now ≡ i.item.selection_set.items) where
-    inline_ends : (n : ℕ) (again : Option (Members S C)) (c b : NumberedSet) (s u v : Table S C)
-        → AddsSet schema numbers (option_copied begun.entered) begun.set.now n s u → IsTakenOver begun n again c u → AddsAgain schema numbers again c b u v
-        → Adds schema numbers (option_copied begun.parent) (selection.InlineFragment i ∷ []) begun.outer b s v
-    inline_ends n None c b s u v added (kept, over) (same, still) =
-        subst (λ x. Adds schema numbers (option_copied begun.parent) (selection.InlineFragment i ∷ []) begun.outer b s x) still
-        (subst (λ x. Adds schema numbers (option_copied begun.parent) (selection.InlineFragment i ∷ []) begun.outer x s u) same
-        (adds_inline schema numbers (option_copied begun.parent) (option_copied begun.entered) i begun.set.now n s u type all added u.sets.items begun.outer c
-        (same_type schema begun.entered begun.parent i.item.type_condition type kept) refl over))
-    inline_ends n (Some m) c b s u v added (lost, outer, role, parent, set) more =
-        adds_lost schema numbers (option_copied begun.parent) (option_copied begun.entered) i begun.set.now n s u type all added begun.outer b v
-        (type_around schema begun.entered begun.parent i.item.type_condition type lost)
-        (unknown_condition schema begun.entered begun.parent i.item.type_condition type lost)
-        (subst (λ x. AddsFor schema numbers (option_copied begun.parent) begun.set.now x b u v) outer
-        (subst (λ x. AddsFor schema numbers (option_copied begun.parent) x c b u v) set
-        (subst (λ x. AddsFor schema numbers x m.set.now c b u v) parent
-        (subst (λ r. AddsAs schema numbers r (option_copied m.parent) m.set.now c b u v) role more))))
-
-    pub inline_begun : (m : Members S C) (us ts : List (Task S C)) (a empty : NumberedSet) (s t : Table S C)
-        → begun.outer ≡ a → m.role ≡ Searched → option_copied m.parent ≡ option_copied begun.entered → m.set.now ≡ begun.set.now
-        → OpensSet begun.place s t → IsEmptySet empty → us ≡ task.Members m ∷ task.Inline begun ∷ ts
-        → Becomes schema numbers us empty t ts (λ b v. Adds schema numbers (option_copied begun.parent) (selection.InlineFragment i ∷ []) a b s v)
-    inline_begun m us ts a empty s t outer role parent set opened none waits part' t' meets =
-        let h : MeetsAll schema numbers (task.Members m ∷ task.Inline begun ∷ ts) empty part' t t' = subst (λ xs. MeetsAll schema numbers xs empty part' t t') waits meets in
-        let ends : AddsInline schema numbers begun h.0 h.3.0 h.1 h.3.1 = h.3.2 in
-        let inside : Adds schema numbers (option_copied begun.entered) begun.set.now empty h.0 t h.1 =
-        subst (λ x. Adds schema numbers (option_copied begun.entered) x empty h.0 t h.1) set
-        (subst (λ x. Adds schema numbers x m.set.now empty h.0 t h.1) parent
-        (subst (λ r. AddsAs schema numbers r (option_copied m.parent) m.set.now empty h.0 t h.1) role h.2)) in (
+  module _ (i : Placed (InlineFragment S)) (e p : Option (Bor (MetaTypeOf S C))) (type : option_copied e ≡ type_entered schema (option_copied p) i.item.type_condition) where
+    -- as a part of the set round it
+    pub part_begun : (m : Members S C) (place : ℕ) (us ts : List (Task S C)) (a b : NumberedSet) (s : Table S C)
+        → (not (is_some e) && is_some p) ≡ false → m.role ≡ Searched → option_copied m.parent ≡ option_copied e → m.set.now ≡ i.item.selection_set.items
+        → HasSame 1 a b → us ≡ task.Members m ∷ task.Part place ∷ ts
+        → Becomes schema numbers us b s ts (λ c v. Adds schema numbers (option_copied p) (selection.InlineFragment i ∷ []) a c s v)
+    part_begun m place us ts a b s kept role parent all same waits part' t' meets =
+        let h : MeetsAll schema numbers (task.Members m ∷ task.Part place ∷ ts) b part' s t' = subst (λ xs. MeetsAll schema numbers xs b part' s t') waits meets in
+        let ends : HasSame 0 h.0 h.3.0 × (h.1 ≡ h.3.1) = h.3.2 in
+        let inside : Adds schema numbers (option_copied e) m.set.now b h.0 s h.1 =
+        subst (λ x. Adds schema numbers x m.set.now b h.0 s h.1) parent
+        (subst (λ r. AddsAs schema numbers r (option_copied m.parent) m.set.now b h.0 s h.1) role h.2) in (
           h.3.0,
           h.3.1,
-          subst (λ x. Adds schema numbers (option_copied begun.parent) (selection.InlineFragment i ∷ []) x h.3.0 s h.3.1) outer
-              (inline_ends ends.ends.number ends.again ends.between h.3.0 s ends.middle h.3.1
-              (adds_set schema numbers (option_copied begun.entered) begun.set.now begun.place ends.ends.number empty h.0 s t h.1 ends.middle opened none inside ends.ends.stores)
-              ends.ends.taken ends.rest),
+          subst (λ x. Adds schema numbers (option_copied p) (selection.InlineFragment i ∷ []) a h.3.0 s x) ends.1
+              (adds_inline schema numbers (option_copied p) (option_copied e) i m.set.now type all s h.1 a b h.0 h.3.0 same ends.0 (same_type schema e p i.item.type_condition type kept) inside),
           h.3.3,
         )
 
-  -- Where such a set ends, its selections may have to be added once more.
-  inline_again : (begun : BegunInline S C) (m : Members S C) (us ts : List (Task S C)) (part c : NumberedSet) (s t : Table S C)
-      → EndsInline begun (Some m) part c s t → us ≡ task.Members m ∷ ts → Becomes schema numbers us c t ts (λ b v. AddsInline schema numbers begun part b s v)
-  inline_again begun m us ts part c s t ends waits part' t' meets =
-      let h : MeetsAll schema numbers (task.Members m ∷ ts) c part' t t' = subst (λ xs. MeetsAll schema numbers xs c part' t t') waits meets in
-      (h.0, h.1, record { again = Some m; between = c; middle = t; ends = ends; rest = h.2 }, h.3)
-
-  pub inline_again_as : (x : Task S C) (begun : BegunInline S C) (o : Option (Members S C)) (m : Members S C) (us ts : List (Task S C)) (part c : NumberedSet) (s t : Table S C)
-      → x ≡ task.Inline begun → o ≡ Some m → EndsInline begun o part c s t → us ≡ task.Members m ∷ ts
-      → Becomes schema numbers us c t ts (λ b v. Meets schema numbers x part b s v)
-  inline_again_as x begun o m us ts part c s t is again ends waits =
-      subst (λ z. Becomes schema numbers us c t ts (λ b v. Meets schema numbers z part b s v)) (sym is)
-      (inline_again begun m us ts part c s t (subst (λ z. EndsInline begun z part c s t) again ends) waits)
-
-  pub inline_taken_as : (x : Task S C) (begun : BegunInline S C) (o : Option (Members S C)) (ts : List (Task S C)) (part c : NumberedSet) (s t : Table S C)
-      → x ≡ task.Inline begun → o ≡ None → EndsInline begun o part c s t → Becomes schema numbers ts c t ts (λ b v. Meets schema numbers x part b s v)
-  inline_taken_as x begun o ts part c s t is none ends =
-      at_once ts c t (λ b v. Meets schema numbers x part b s v)
-      (subst (λ z. Meets schema numbers z part c s t) (sym is)
-      (record { again = None; between = c; middle = t; ends = subst (λ z. EndsInline begun z part c s t) none ends; rest = (refl, refl) }))
+    -- as a set of its own, whose fields are added once more
+    pub lost_begun : (m again : Members S C) (begun : BegunInline) (us ts : List (Task S C)) (a empty : NumberedSet) (s t : Table S C)
+        → (not (is_some e) && is_some p) ≡ true → m.role ≡ Searched → option_copied m.parent ≡ option_copied e → m.set.now ≡ i.item.selection_set.items
+        → again.role ≡ Compared → option_copied again.parent ≡ option_copied p → again.set.now ≡ i.item.selection_set.items
+        → begun.outer ≡ a → OpensSet begun.place s t → IsEmptySet empty → us ≡ task.Members m ∷ task.Inline begun ∷ task.Members again ∷ ts
+        → Becomes schema numbers us empty t ts (λ c v. Adds schema numbers (option_copied p) (selection.InlineFragment i ∷ []) a c s v)
+    lost_begun m again begun us ts a empty s t lost role parent all role' parent' all' outer opened none waits part' t' meets =
+        let h : MeetsAll schema numbers (task.Members m ∷ task.Inline begun ∷ task.Members again ∷ ts) empty part' t t' = subst (λ xs. MeetsAll schema numbers xs empty part' t t') waits meets in
+        let ends : EndsInline begun h.0 h.3.0 h.1 h.3.1 = h.3.2 in
+        let rest : MeetsAll schema numbers (task.Members again ∷ ts) h.3.0 part' h.3.1 t' = h.3.3 in
+        let inside : Adds schema numbers (option_copied e) m.set.now empty h.0 t h.1 =
+        subst (λ x. Adds schema numbers x m.set.now empty h.0 t h.1) parent
+        (subst (λ r. AddsAs schema numbers r (option_copied m.parent) m.set.now empty h.0 t h.1) role h.2) in
+        let more : AddsFor schema numbers (option_copied p) m.set.now a rest.0 h.3.1 rest.1 =
+        subst (λ x. AddsFor schema numbers (option_copied p) m.set.now x rest.0 h.3.1 rest.1) (ends.outer ∙ outer)
+        (subst (λ x. AddsFor schema numbers (option_copied p) x h.3.0 rest.0 h.3.1 rest.1) (all' ∙ sym all)
+        (subst (λ x. AddsFor schema numbers x again.set.now h.3.0 rest.0 h.3.1 rest.1) parent'
+        (subst (λ r. AddsAs schema numbers r (option_copied again.parent) again.set.now h.3.0 rest.0 h.3.1 rest.1) role' rest.2))) in (
+          rest.0,
+          rest.1,
+          adds_lost schema numbers (option_copied p) (option_copied e) i m.set.now type all ends.number s h.3.1 a rest.0 rest.1
+              (adds_set schema numbers (option_copied e) m.set.now begun.place ends.number empty h.0 s t h.1 h.3.1 opened none inside ends.stores)
+              (type_around schema e p i.item.type_condition type lost) (unknown_condition schema e p i.item.type_condition type lost) more,
+          rest.3,
+        )
 
   -- Whoever does these tasks from here has added the selections.
   module _ (r : Role) (p : Option (MetaTypeOf S C)) (set : List (Selection S)) (a : NumberedSet) (s : Table S C) where

@@ -1,5 +1,5 @@
 -- What each step adds, put together.
-use Rattle.std.proofs.Common.{◌≡◌, ℕ, suc, ◌<◌, ◌≤◌, List, [], ◌∷◌, ◌++◌, length, Option, Some, None, slice_get, true, refl, sym, ap, subst, ◌∙◌, arith, inl, inr, ◌==◌, append_assoc, append-nil, length-append}
+use Rattle.std.proofs.Common.{◌≡◌, ◌⊎◌, ℕ, suc, ◌<◌, ◌≤◌, List, [], ◌∷◌, ◌++◌, length, Option, Some, None, slice_get, refl, sym, ap, subst, ◌∙◌, arith, inl, inr, ◌==◌, append_assoc, append-nil, length-append}
 use Rattle.std.specs.List.{All, Contains}
 use Rattle.std.specs.Option.{option_map_or}
 use Rattle.std.specs.declared.vec.Vec.{Vec}
@@ -9,6 +9,7 @@ use Rattle.std.proofs.lemmas.List.Folds.{list_any-append}
 use Rattle.std.proofs.lemmas.Option.{slice_get_past, slice_get_within}
 use Rattle.std.proofs.lemmas.Bool.{cases_order, or_left, or_right}
 use Rattle.language.specs.declared.tree.Selection.{Selection}
+use Rattle.language.specs.SelectionsInside.{all_inside}
 use Rattle.language.specs.declared.tree.Selection.TheVariants as selection
 use Rattle.language.specs.declared.tree.Field.{Field}
 use Rattle.language.specs.declared.tree.FragmentSpread.{FragmentSpread}
@@ -21,13 +22,16 @@ use Rattle.merge_search.specs.declared.node.Entry.{Entry as OwnField}
 use Rattle.merge_set_table.specs.declared.table.NumberedSet.{NumberedSet}
 use Rattle.merge_set_table.specs.declared.table.Table.{Table}
 use Rattle.merge_set_table.specs.Once.{is_among}
-use Rattle.merge_set_table.specs.Table.{numbered, Extends, IsOwnField, IsWithin, Falling, height}
-use Rattle.merge_set_table.specs.Represents.{Represents, nothing, join, leaf, field, spread, unknown, inline, IsSetOf}
-use Rattle.merge_set_table.specs.Adding.{AreWithin, AddsSpread, TakesOver, PushesField, ComesFrom, Keeps, AddsParts, HasSet, AddsFor, AddsSetFor, Adds, AddsSet}
+use Rattle.merge_set_table.specs.Table.{numbered, IsOwnField, IsWithin, Falling, height}
+use Rattle.merge_set_table.specs.Represents.{Represents, nothing, join, leaf, field, spread, unknown, inline}
+use Rattle.merge_set_table.specs.Adding.{AreWithin, AddsSpread, HasSame, PushesField, ComesFrom, Keeps, AddsParts, HasSet, AddsFor, AddsSetFor, IsHeld, Adds, AddsSet}
+use Rattle.merge_set_table.proofs.Counts.{count_leaf, count_field, count_spread, count_inline, count_append, one_more}
 use Rattle.merge_set_table.proofs.Lists.{get_front, get_last, same_some}
 use Rattle.merge_set_table.specs.Inside.{IsInside, below_field, of_inline, type_entered, IsDeeper, of_field, of_fragment, IsConditionKnown}
+use Rattle.merge_set_table.specs.Parts.{IsPartOf}
+use Rattle.merge_set_table.proofs.Partial.{part_itself, part_first, part_last, part_inline}
 use Rattle.merge_set_table.proofs.Representing.{extends_self, extends_then, represents_more, set_more}
-use Rattle.merge_set_table.proofs.Origins.{fields_inside, fields_none, fields_then, fields_pushed, comes_none, comes_then, comes_inside}
+use Rattle.merge_set_table.proofs.Origins.{deeper_in, deeper_inside, known_inside, front, Front, here, there, fields_inside, fields_none, fields_then, fields_pushed, comes_none, comes_then, comes_inside}
 use Rattle.merge_set_table.proofs.Nodes.{only_field, only_inline, no_field, no_inline, spread_no_field, spread_no_inline}
 
 abbrev pub Low : ℕ → OwnField → Type 0
@@ -151,26 +155,7 @@ module _ {S C : Type 0} (schema : Catalog S C) (numbers : List ℕ → Option �
     keeps = keeps_self t;
   }
 
-  -- an inline fragment whose set was stored under the type that its fields have
-  parts_inline : (p q : Option (MetaTypeOf S C)) (i : Placed (InlineFragment S)) (set' : List (Selection S)) (n : ℕ) (sets : List NumberedSet) (a b : NumberedSet) (s t : Table S C)
-      → q ≡ type_inside schema p i.item.type_condition → set' ≡ i.item.selection_set.items → sets ≡ t.sets.items
-      → HasSet schema numbers q set' n s t → TakesOver sets n a b → AddsParts schema numbers p (selection.InlineFragment i ∷ []) a b s t
-  parts_inline p q i set' n sets a b s t type all listed added over =
-      let same : over.row ≡ added.is.row = same_some over.row added.is.row (sym over.stored ∙ ap (λ z. slice_get z n) listed ∙ added.is.stored) in
-      record {
-        own_more = added.is.row.own.items;
-        to_more = added.is.row.spreads.items;
-        own = over.own ∙ ap (λ r. a.own.items ++ r.own.items) same;
-        spreads = over.spreads ∙ ap (λ r. a.spreads.items ++ r.spreads.items) same;
-        represents = inline i added.is.row.own.items added.is.to added.is.row.spreads.items added.is.once.same
-            (subst (λ z. Represents schema numbers (numbered t) z i.item.selection_set.items added.is.row.own.items added.is.to) type
-            (subst (λ z. Represents schema numbers (numbered t) q z added.is.row.own.items added.is.to) all added.is.represents));
-        below = added.own;
-        within = added.within;
-        keeps = added.keeps;
-      }
-
-  -- or whose fields were added one by one, after something else
+  -- an inline fragment whose fields were added one by one, after something else
   parts_opened : (p q : Option (MetaTypeOf S C)) (i : Placed (InlineFragment S)) (set' : List (Selection S)) (a b : NumberedSet) (s t u : Table S C)
       → q ≡ type_inside schema p i.item.type_condition → set' ≡ i.item.selection_set.items → Keeps numbers s t
       → AddsParts schema numbers q set' a b t u → AddsParts schema numbers p (selection.InlineFragment i ∷ []) a b s u
@@ -185,6 +170,19 @@ module _ {S C : Type 0} (schema : Catalog S C) (numbers : List ℕ → Option �
     below = added.below;
     within = added.within;
     keeps = keeps_then s t u kept added.keeps;
+  }
+
+  -- what is filled may be another that has the same
+  parts_as : (p : Option (MetaTypeOf S C)) (xs : List (Selection S)) (m n : ℕ) (a b c d : NumberedSet) (s t : Table S C) → HasSame m a b → HasSame n c d → AddsParts schema numbers p xs b c s t → AddsParts schema numbers p xs a d s t
+  parts_as p xs m n a b c d s t first last h = record {
+    own_more = h.own_more;
+    to_more = h.to_more;
+    own = last.own ∙ h.own ∙ ap (λ z. z ++ h.own_more) first.own;
+    spreads = last.spreads ∙ h.spreads ∙ ap (λ z. z ++ h.to_more) first.spreads;
+    represents = h.represents;
+    below = h.below;
+    within = h.within;
+    keeps = h.keeps;
   }
 
   -- Fields that are added to a set under whatever type.
@@ -246,9 +244,10 @@ module _ {S C : Type 0} (schema : Catalog S C) (numbers : List ℕ → Option �
     order = sym (append-nil t.order.items);
     found = nothing_deeper;
     from = λ p0 set0 whole i sub. comes_none schema numbers p0 set0 t t refl (fields_none schema p0 set0 t t refl);
+    size = λ p0 set0 whole i sub known. omega arith;
   }
     where
-      nothing_deeper : (q : Option (MetaTypeOf S C)) (inner : List (Selection S)) → IsDeeper schema p [] q inner → (n : ℕ) × (is_among [] n ≡ true) × IsSetOf schema numbers (numbered t) n q inner
+      nothing_deeper : (q : Option (MetaTypeOf S C)) (inner : List (Selection S)) → IsDeeper schema p [] q inner → IsHeld schema numbers t [] (IsDeeper schema p []) q inner ⊎ IsPartOf schema q inner p []
       nothing_deeper q inner (of_field f w c e i) = let l = c.1 in absurd (omega (arith, l))
       nothing_deeper q inner (of_fragment f c i) = let l = c.1 in absurd (omega (arith, l))
 
@@ -260,18 +259,42 @@ module _ {S C : Type 0} (schema : Catalog S C) (numbers : List ℕ → Option �
     found = either;
     from = λ p0 set0 whole i sub. comes_then schema numbers p0 set0 d.more e.more s t u e.parts.keeps.extends
         (d.from p0 set0 whole i (λ x c. sub x (Contains-append_left xs ys x c))) (e.from p0 set0 whole i (λ x c. sub x (Contains-append_right xs ys x c)));
+    size = λ p0 set0 whole i sub known.
+        let first = d.size p0 set0 whole i (λ x c. sub x (Contains-append_left xs ys x c)) known in
+        let second = e.size p0 set0 whole i (λ x c. sub x (Contains-append_right xs ys x c)) known in
+        omega (arith, first, second, count_append xs ys);
   }
     where
       Found : Option (MetaTypeOf S C) → List (Selection S) → Type 0
-      Found q inner = (n : ℕ) × (is_among (d.more ++ e.more) n ≡ true) × IsSetOf schema numbers (numbered u) n q inner
+      Found q inner = IsHeld schema numbers u (d.more ++ e.more) (IsDeeper schema p (xs ++ ys)) q inner ⊎ IsPartOf schema q inner p (xs ++ ys)
 
       first : (q : Option (MetaTypeOf S C)) (inner : List (Selection S)) → IsDeeper schema p xs q inner → Found q inner
-      first q inner i = let h = d.found q inner i in
-          (h.0, list_any-append (λ y. y == h.0) d.more e.more ∙ or_left (is_among d.more h.0) (is_among e.more h.0) h.1, set_more schema numbers e.parts.keeps.extends h.2)
+      first q inner i = elim (d.found q inner i) [
+        | inl h ↦ inl record {
+          number = h.number;
+          among = list_any-append (λ y. y == h.number) d.more e.more ∙ or_left (is_among d.more h.number) (is_among e.more h.number) h.among;
+          type = h.type;
+          set = h.set;
+          is = set_more schema numbers e.parts.keeps.extends h.is;
+          stands = deeper_in schema xs (xs ++ ys) (λ x c. Contains-append_left xs ys x c) h.stands;
+          part = h.part;
+        }
+        | inr h ↦ inr (part_first schema q p inner xs ys h)
+      ]
 
       second : (q : Option (MetaTypeOf S C)) (inner : List (Selection S)) → IsDeeper schema p ys q inner → Found q inner
-      second q inner i = let h = e.found q inner i in
-          (h.0, list_any-append (λ y. y == h.0) d.more e.more ∙ or_right (is_among d.more h.0) (is_among e.more h.0) h.1, h.2)
+      second q inner i = elim (e.found q inner i) [
+        | inl h ↦ inl record {
+          number = h.number;
+          among = list_any-append (λ y. y == h.number) d.more e.more ∙ or_right (is_among d.more h.number) (is_among e.more h.number) h.among;
+          type = h.type;
+          set = h.set;
+          is = h.is;
+          stands = deeper_in schema ys (xs ++ ys) (λ x c. Contains-append_right xs ys x c) h.stands;
+          part = h.part;
+        }
+        | inr h ↦ inr (part_last schema q p inner xs ys h)
+      ]
 
       either : (q : Option (MetaTypeOf S C)) (inner : List (Selection S)) → IsDeeper schema p (xs ++ ys) q inner → Found q inner
       either q inner (of_field f w k some i) = elim (Contains-append_cases xs ys (selection.Field f) k) [
@@ -292,9 +315,10 @@ module _ {S C : Type 0} (schema : Catalog S C) (numbers : List ℕ → Option �
     found = nothing_deeper;
     from = λ p0 set0 whole i sub. comes_none schema numbers p0 set0 s t pushed.sets
         (fields_pushed schema p0 set0 p whole f o None a b s t i (sub (selection.Field f) (Contains-push [] (selection.Field f))) (ap (λ z. z.field) is) pushed);
+    size = λ p0 set0 whole i sub known. omega (arith, pushed.size, count_leaf f none);
   }
     where
-      nothing_deeper : (q : Option (MetaTypeOf S C)) (inner : List (Selection S)) → IsDeeper schema p (selection.Field f ∷ []) q inner → (n : ℕ) × (is_among [] n ≡ true) × IsSetOf schema numbers (numbered t) n q inner
+      nothing_deeper : (q : Option (MetaTypeOf S C)) (inner : List (Selection S)) → IsDeeper schema p (selection.Field f ∷ []) q inner → IsHeld schema numbers t [] (IsDeeper schema p (selection.Field f ∷ [])) q inner ⊎ IsPartOf schema q inner p (selection.Field f ∷ [])
       nothing_deeper q inner (of_field g w c e i) = absurd (none_there w (sym none ∙ ap (λ (h : Placed (Field S)). h.item.selection_set) (only_field f g c) ∙ e))
         where
           none_there : (w : Vec (Selection S) Global) → None ≡ Some w → ⊥
@@ -311,24 +335,40 @@ module _ {S C : Type 0} (schema : Catalog S C) (numbers : List ℕ → Option �
     found = deeper;
     from = λ p0 set0 whole i sub.
         let stands : Contains whole (selection.Field f) = sub (selection.Field f) (Contains-push [] (selection.Field f)) in
-        let below : IsInside schema p0 set0 q set' =
-        subst (λ z. IsInside schema p0 set0 z set') (sym (type ∙ ap (type_below schema) is))
-        (subst (λ z. IsInside schema p0 set0 (type_below schema (entry_under p f)) z) (sym all) (below_field f w i stands some)) in
         subst (λ z. ComesFrom schema numbers p0 set0 z s u) (append-nil added.more)
-        (comes_then schema numbers p0 set0 added.more [] s t u pushed.extends (comes_inside schema numbers s t below added.from)
+        (comes_then schema numbers p0 set0 added.more [] s t u pushed.extends (comes_inside schema numbers s t (inside_below i stands) added.from)
         (comes_none schema numbers p0 set0 t u pushed.sets (fields_pushed schema p0 set0 p whole f o (Some n) a b t u i stands (ap (λ z. z.field) is) pushed)));
+    size = λ p0 set0 whole i sub known.
+        let inside = inside_below i (sub (selection.Field f) (Contains-push [] (selection.Field f))) in
+        let below = added.size (known_inside schema inside known) in
+        omega (arith, below, pushed.size, count_field f w some, ap all_inside all);
   }
     where
-      deeper : (r : Option (MetaTypeOf S C)) (inner : List (Selection S)) → IsDeeper schema p (selection.Field f ∷ []) r inner → (k : ℕ) × (is_among added.more k ≡ true) × IsSetOf schema numbers (numbered u) k r inner
+      inside_below : {p0 : Option (MetaTypeOf S C)} {set0 whole : List (Selection S)} → IsInside schema p0 set0 p whole → Contains whole (selection.Field f) → IsInside schema p0 set0 q set'
+      inside_below {p0} {set0} i stands =
+          subst (λ z. IsInside schema p0 set0 z set') (sym (type ∙ ap (type_below schema) is))
+          (subst (λ z. IsInside schema p0 set0 (type_below schema (entry_under p f)) z) (sym all) (below_field f w i stands some))
+
+      deeper : (r : Option (MetaTypeOf S C)) (inner : List (Selection S)) → IsDeeper schema p (selection.Field f ∷ []) r inner → IsHeld schema numbers u added.more (IsDeeper schema p (selection.Field f ∷ [])) r inner ⊎ IsPartOf schema r inner p (selection.Field f ∷ [])
       deeper r inner (of_field g v c e i) =
           let same : f ≡ g = only_field f g c in
           let one : v ≡ w = same_some v w (sym e ∙ ap (λ (h : Placed (Field S)). h.item.selection_set) (sym same) ∙ some) in
-          let here : IsInside schema q set' r inner =
+          let within : IsInside schema q set' r inner =
           subst (λ z. IsInside schema z set' r inner) (sym (type ∙ ap (type_below schema) is))
           (subst (λ z. IsInside schema (type_below schema (entry_under p f)) z r inner) (sym all)
           (subst (λ (z : Vec (Selection S) Global). IsInside schema (type_below schema (entry_under p f)) z.items r inner) one
           (subst (λ z. IsInside schema (type_below schema (entry_under p z)) v.items r inner) (sym same) i))) in
-          let h = added.found r inner here in (h.0, h.1, set_more schema numbers pushed.extends h.2)
+          let h = added.found r inner within in
+          inl record {
+            number = h.number;
+            among = h.among;
+            type = h.type;
+            set = h.set;
+            is = set_more schema numbers pushed.extends h.is;
+            stands = of_field f w (Contains-push [] (selection.Field f)) some
+                (subst (λ z. IsInside schema z w.items h.type h.set) (type ∙ ap (type_below schema) is) (subst (λ z. IsInside schema q z h.type h.set) all h.stands));
+            part = h.part;
+          }
       deeper r inner (of_fragment g c i) = absurd (no_inline f g c)
 
   pub adds_spread : (p : Option (MetaTypeOf S C)) (f : Placed (FragmentSpread S)) (number : Option ℕ) (a b : NumberedSet) (t : Table S C) → number ≡ numbers f.item.name.item.now → AddsSpread number a b → Adds schema numbers p (selection.FragmentSpread f ∷ []) a b t t
@@ -338,48 +378,95 @@ module _ {S C : Type 0} (schema : Catalog S C) (numbers : List ℕ → Option �
     order = sym (append-nil t.order.items);
     found = nothing_deeper;
     from = λ p0 set0 whole i sub. comes_none schema numbers p0 set0 t t refl (fields_none schema p0 set0 t t refl);
+    size = λ p0 set0 whole i sub known. omega (arith, ap length added.own, ap length added.spreads, one_more number a.spreads.items, ap length added.inner, count_spread f);
   }
     where
-      nothing_deeper : (q : Option (MetaTypeOf S C)) (inner : List (Selection S)) → IsDeeper schema p (selection.FragmentSpread f ∷ []) q inner → (n : ℕ) × (is_among [] n ≡ true) × IsSetOf schema numbers (numbered t) n q inner
+      nothing_deeper : (q : Option (MetaTypeOf S C)) (inner : List (Selection S)) → IsDeeper schema p (selection.FragmentSpread f ∷ []) q inner → IsHeld schema numbers t [] (IsDeeper schema p (selection.FragmentSpread f ∷ [])) q inner ⊎ IsPartOf schema q inner p (selection.FragmentSpread f ∷ [])
       nothing_deeper q inner (of_field g w c e i) = absurd (spread_no_field f g c)
       nothing_deeper q inner (of_fragment g c i) = absurd (spread_no_inline f g c)
 
   -- the sets in an inline fragment are those of its set
-  module _ (p q : Option (MetaTypeOf S C)) (i : Placed (InlineFragment S)) (set' : List (Selection S)) (n : ℕ) (s t : Table S C)
-      (type : q ≡ type_entered schema p i.item.type_condition) (all : set' ≡ i.item.selection_set.items) (added : AddsSet schema numbers q set' n s t) where
-    in_fragment : (u : Table S C) → Extends (numbered t) (numbered u)
-        → (r : Option (MetaTypeOf S C)) (inner : List (Selection S)) → IsDeeper schema p (selection.InlineFragment i ∷ []) r inner → (k : ℕ) × (is_among added.more k ≡ true) × IsSetOf schema numbers (numbered u) k r inner
-    in_fragment u e r inner (of_field g v c some j) = absurd (no_field i g c)
-    in_fragment u e r inner (of_fragment g c j) =
+  module _ (p q : Option (MetaTypeOf S C)) (i : Placed (InlineFragment S)) (set' : List (Selection S))
+      (type : q ≡ type_entered schema p i.item.type_condition) (all : set' ≡ i.item.selection_set.items) where
+    inside_fragment : (r : Option (MetaTypeOf S C)) (inner : List (Selection S)) → IsDeeper schema p (selection.InlineFragment i ∷ []) r inner → IsInside schema q set' r inner
+    inside_fragment r inner (of_field g v c some j) = absurd (no_field i g c)
+    inside_fragment r inner (of_fragment g c j) =
         let same : i ≡ g = only_inline i g c in
-        let here : IsInside schema q set' r inner =
         subst (λ z. IsInside schema z set' r inner) (sym type)
         (subst (λ z. IsInside schema (type_entered schema p i.item.type_condition) z r inner) (sym all)
-        (subst (λ (z : Placed (InlineFragment S)). IsInside schema (type_entered schema p z.item.type_condition) z.item.selection_set.items r inner) (sym same) j)) in
-        let h = added.found r inner here in (h.0, h.1, set_more schema numbers e h.2)
+        (subst (λ (z : Placed (InlineFragment S)). IsInside schema (type_entered schema p z.item.type_condition) z.item.selection_set.items r inner) (sym same) j))
+
+    -- and the other way round
+    fragment_inside : (r : Option (MetaTypeOf S C)) (inner : List (Selection S)) → IsInside schema q set' r inner → IsDeeper schema p (selection.InlineFragment i ∷ []) r inner
+    fragment_inside r inner j = of_fragment i (Contains-push [] (selection.InlineFragment i))
+        (subst (λ z. IsInside schema z i.item.selection_set.items r inner) type (subst (λ z. IsInside schema q z r inner) all j))
 
     entered_inside : {p0 : Option (MetaTypeOf S C)} {set0 whole : List (Selection S)} → IsInside schema p0 set0 p whole → Contains whole (selection.InlineFragment i) → IsInside schema p0 set0 q set'
     entered_inside {p0} {set0} j stands =
         subst (λ z. IsInside schema p0 set0 z set') (sym type)
         (subst (λ z. IsInside schema p0 set0 (type_entered schema p i.item.type_condition) z) (sym all) (of_inline i j stands))
 
-    pub adds_inline : (sets : List NumberedSet) (a b : NumberedSet) → type_entered schema p i.item.type_condition ≡ type_inside schema p i.item.type_condition → sets ≡ t.sets.items
-        → TakesOver sets n a b → Adds schema numbers p (selection.InlineFragment i ∷ []) a b s t
-    adds_inline sets a b agree listed over = record {
-      parts = parts_inline p q i set' n sets a b s t (type ∙ agree) all listed added.has over;
-      more = added.more;
-      order = added.order;
-      found = in_fragment t (extends_self (numbered t));
-      from = λ p0 set0 whole j sub. comes_inside schema numbers s t (entered_inside j (sub (selection.InlineFragment i) (Contains-push [] (selection.InlineFragment i)))) added.from;
-    }
+    -- its set is a part of the set round it
+    module _ (s t : Table S C) (a b c d : NumberedSet) (first : HasSame 1 a b) (last : HasSame 0 c d) (agree : type_entered schema p i.item.type_condition ≡ type_inside schema p i.item.type_condition)
+        (added : Adds schema numbers q set' b c s t) where
+      as_part : (r : Option (MetaTypeOf S C)) (inner : List (Selection S)) → IsPartOf schema r inner q set' → IsPartOf schema r inner p (selection.InlineFragment i ∷ [])
+      as_part r inner h = part_inline schema r p inner i
+          (subst (λ z. IsPartOf schema r inner z i.item.selection_set.items) (type ∙ agree) (subst (λ z. IsPartOf schema r inner q z) all h))
 
-    pub adds_lost : (a b : NumberedSet) (u : Table S C) → p ≡ type_inside schema p i.item.type_condition → (IsConditionKnown schema i.item.type_condition → ⊥)
+      in_part : (r : Option (MetaTypeOf S C)) (inner : List (Selection S)) → Front schema q set' r inner → IsHeld schema numbers t added.more (IsDeeper schema p (selection.InlineFragment i ∷ [])) r inner ⊎ IsPartOf schema r inner p (selection.InlineFragment i ∷ [])
+      in_part r inner here = inr (as_part q set' (part_itself schema q set'))
+      in_part r inner (there d) = elim (added.found r inner d) [
+        | inl h ↦ inl record {
+          number = h.number;
+          among = h.among;
+          type = h.type;
+          set = h.set;
+          is = h.is;
+          stands = fragment_inside h.type h.set (deeper_inside schema h.stands);
+          part = h.part;
+        }
+        | inr h ↦ inr (as_part r inner h)
+      ]
+
+      pub adds_inline : Adds schema numbers p (selection.InlineFragment i ∷ []) a d s t
+      adds_inline = record {
+        parts = parts_as p (selection.InlineFragment i ∷ []) 1 0 a b c d s t first last (parts_opened p q i set' b c s s t (type ∙ agree) all (keeps_self s) added.parts);
+        more = added.more;
+        order = added.order;
+        found = λ r inner d. in_part r inner (front schema (inside_fragment r inner d));
+        from = λ p0 set0 whole j sub. added.from p0 set0 set' (entered_inside j (sub (selection.InlineFragment i) (Contains-push [] (selection.InlineFragment i)))) (λ x c. c);
+        size = λ p0 set0 whole j sub known.
+            let inside = added.size p0 set0 set' (entered_inside j (sub (selection.InlineFragment i) (Contains-push [] (selection.InlineFragment i)))) (λ x c. c) known in
+            omega (
+              arith,
+              inside,
+              ap length first.own,
+              ap length first.spreads,
+              first.inner,
+              ap length last.own,
+              ap length last.spreads,
+              last.inner,
+              count_inline i,
+              ap all_inside all,
+            );
+      }
+
+    -- its set was stored, and its fields added once more
+    pub adds_lost : (n : ℕ) (s t : Table S C) (a b : NumberedSet) (u : Table S C) → AddsSet schema numbers q set' n s t → p ≡ type_inside schema p i.item.type_condition → (IsConditionKnown schema i.item.type_condition → ⊥)
         → AddsFor schema numbers p set' a b t u → Adds schema numbers p (selection.InlineFragment i ∷ []) a b s u
-    adds_lost a b u agree lost merged = record {
+    adds_lost n s t a b u added agree lost merged = record {
       parts = parts_opened p p i set' a b s t u agree all added.has.keeps merged.parts;
       more = added.more;
       order = merged.order ∙ added.order;
-      found = in_fragment u merged.parts.keeps.extends;
+      found = λ r inner d. let h = added.found r inner (inside_fragment r inner d) in inl record {
+        number = h.number;
+        among = h.among;
+        type = h.type;
+        set = h.set;
+        is = set_more schema numbers merged.parts.keeps.extends h.is;
+        stands = fragment_inside h.type h.set h.stands;
+        part = h.part;
+      };
       from = λ p0 set0 whole j sub.
           let stands : Contains whole (selection.InlineFragment i) = sub (selection.InlineFragment i) (Contains-push [] (selection.InlineFragment i)) in
           let inside = entered_inside j stands in
@@ -389,4 +476,5 @@ module _ {S C : Type 0} (schema : Catalog S C) (numbers : List ℕ → Option �
             fields = fields_then schema p0 set0 s t u merged.parts.keeps.extends first.fields (merged.from p0 q set0 set' inside (λ x c. c));
             whole = λ known. absurd (lost (known p whole j i stands));
           };
+      size = λ p0 set0 whole j sub known. absurd (lost (known p whole j i (sub (selection.InlineFragment i) (Contains-push [] (selection.InlineFragment i)))));
     }

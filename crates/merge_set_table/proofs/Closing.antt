@@ -15,12 +15,14 @@ use Rattle.merge_set_table.specs.Names.{KeepsNames, AreApart}
 use Rattle.merge_set_table.specs.Once.{is_among}
 use Rattle.merge_set_table.specs.Table.{numbered, Numbered, Extends, IsWithin, Falling}
 use Rattle.merge_set_table.specs.Represents.{Represents, IsSetOf}
-use Rattle.merge_set_table.specs.Inside.{itself}
-use Rattle.merge_set_table.specs.Adding.{AreWithin, IsEmptySet, OpensSet, StoresSet, ClosesSet, FieldsFrom, ComesFrom, Keeps, AddsParts, HasSet, AddsFor, AddsSetFor, Adds, AddsSet}
+use Rattle.merge_set_table.specs.Inside.{IsInside, itself}
+use Rattle.merge_set_table.specs.Adding.{AreWithin, IsEmptySet, OpensSet, StoresSet, ClosesSet, FieldsFrom, ComesFrom, Keeps, AddsParts, HasSet, AddsFor, AddsSetFor, IsHeld, Adds, AddsSet}
 use Rattle.merge_set_table.proofs.Lists.{get_more, get_last, All-among}
 use Rattle.merge_set_table.proofs.Representing.{extends_self, extends_then, represents_more, set_more}
+use Rattle.merge_set_table.specs.Parts.{IsPartOf}
+use Rattle.merge_set_table.proofs.Partial.{part_itself}
 use Rattle.merge_set_table.proofs.Building.{Low, low_more, within_more, falling_push, keeps_then}
-use Rattle.merge_set_table.proofs.Origins.{front, Front, here, there}
+use Rattle.merge_set_table.proofs.Origins.{deeper_inside, front, Front, here, there}
 
 module _ {S C : Type 0} where
   stored_extends : (part : NumberedSet) (n : ℕ) (t u : Table S C) → StoresSet part n t u → Extends (numbered t) (numbered u)
@@ -137,13 +139,24 @@ module _ {S C : Type 0} where
       listed : is_among more n ≡ true
       listed = or_left _ (is_among added.more n) (eq-eqb n n refl)
 
-      abbrev Found : Option (MetaTypeOf S C) → List (Selection S) → Type 0
-      Found q inner = (k : ℕ) × (is_among more k ≡ true) × IsSetOf schema numbers (numbered t3) k q inner
+      -- a part of the set itself
+      held : (q : Option (MetaTypeOf S C)) (inner : List (Selection S)) → IsPartOf schema q inner p selections → IsHeld schema numbers t3 more (IsInside schema p selections) q inner
+      held q inner h = record { number = n; among = listed; type = p; set = selections; is = has.is; stands = itself; part = h }
 
-      found : (q : Option (MetaTypeOf S C)) (inner : List (Selection S)) → Front schema p selections q inner → Found q inner
-      found q inner here = (n, listed, has.is)
-      found q inner (there d) = let h = added.found q inner d in
-          (h.0, or_right _ (is_among added.more h.0) h.1, set_more schema numbers extends_end h.2)
+      found : (q : Option (MetaTypeOf S C)) (inner : List (Selection S)) → Front schema p selections q inner → IsHeld schema numbers t3 more (IsInside schema p selections) q inner
+      found q inner here = held p selections (part_itself schema p selections)
+      found q inner (there d) = elim (added.found q inner d) [
+        | inl h ↦ record {
+          number = h.number;
+          among = or_right _ (is_among added.more h.number) h.among;
+          type = h.type;
+          set = h.set;
+          is = set_more schema numbers extends_end h.is;
+          stands = deeper_inside schema h.stands;
+          part = h.part;
+        }
+        | inr h ↦ held q inner h
+      ]
 
       -- from the set itself, and from what was added in it
       inner_from : ComesFrom schema numbers p selections added.more t1 t2
@@ -182,4 +195,7 @@ module _ {S C : Type 0} where
         listed = listed;
         found = λ q inner i. found q inner (front schema i);
         from = from;
+        size = λ known.
+            let inside = added.size p selections selections itself (λ x c. c) known in
+            omega (arith, opened.size, inside, closed.size, ap length none.own, ap length none.spreads, ap length none.inner);
       }

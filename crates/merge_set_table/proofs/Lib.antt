@@ -5,6 +5,8 @@ pub mod Naming
 pub mod Pushing
 pub mod Representing
 pub mod Origins
+pub mod Partial
+pub mod Counts
 pub mod Building
 pub mod Entering
 pub mod Closing

@@ -1,5 +1,5 @@
 -- Numbers without repeats, one more at a time.
-use Rattle.std.proofs.Common.{◌≡◌, ℕ, ◌+◌, ◌<◌, List, [], ◌∷◌, ◌++◌, length, take, get_or, Some, slice_get, refl, sym, ap, subst, ◌∙◌, inl, inr, true, false, Bool, ◌||◌, ◌==◌}
+use Rattle.std.proofs.Common.{◌≡◌, ℕ, ◌+◌, ◌<◌, List, [], ◌∷◌, ◌++◌, length, length-append, arith, take, get_or, Some, slice_get, refl, sym, ap, subst, ◌∙◌, inl, inr, true, false, Bool, ◌||◌, ◌==◌}
 use Rattle.std.proofs.lemmas.List.{take_more}
 use Rattle.std.proofs.lemmas.List.Folds.{list_any-append}
 use Rattle.std.proofs.Common.{eq-eqb, ne_eqb}
@@ -10,7 +10,7 @@ use Rattle.merge_set_table.specs.Once.{is_among, IsEachOnce}
 use Rattle.merge_set_table.proofs.Lists.{get_snoc, among_from_get}
 
 pub once_none : IsEachOnce [] []
-once_none = record { same = λ x. refl; distinct = λ i j x h k. cc }
+once_none = record { same = λ x. refl; distinct = λ i j x h k. cc; few = omega arith }
 
 among_more : (xs : List ℕ) (x y : ℕ) → is_among (xs ++ x ∷ []) y ≡ (is_among xs y || ((x == y) || false))
 among_more xs x y = list_any-append (λ z. z == y) xs (x ∷ [])
@@ -24,6 +24,7 @@ once_more xs once x new h = record {
         | inl p ↦ elim (get_snoc once x j y b) [ inl q ↦ h.distinct i j y p q | inr q ↦ absurd (absent i p q.1) ]
         | inr p ↦ elim (get_snoc once x j y b) [ inl q ↦ absurd (absent j q p.1) | inr q ↦ p.0 ∙ sym q.0 ]
       ];
+  few = let few = h.few in omega (arith, few, length-append xs (x ∷ []), length-append once (x ∷ []));
 }
   where
     clash : (b : Bool) → b ≡ false → b ≡ true → ⊥
@@ -33,6 +34,7 @@ pub once_again : (xs once : List ℕ) (x : ℕ) → is_among once x ≡ true →
 once_again xs once x there h = record {
   same = λ y. either y (x == y) refl ∙ sym (among_more xs x y);
   distinct = h.distinct;
+  few = let few = h.few in omega (arith, few, length-append xs (x ∷ []));
 }
   where
     both : (b : Bool) → (b || true) ≡ true

@@ -38,6 +38,14 @@ module _ {S C : Type 0} (schema : Catalog S C) where
   inside_then i (below_field f w j c e) = below_field f w (inside_then i j) c e
   inside_then i (of_inline f j c) = of_inline f (inside_then i j) c
 
+  pub deeper_inside : {p : Option (MetaTypeOf S C)} {set : List (Selection S)} {q : Option (MetaTypeOf S C)} {inner : List (Selection S)} → IsDeeper schema p set q inner → IsInside schema p set q inner
+  deeper_inside (of_field f w c e i) = inside_then (below_field f w itself c e) i
+  deeper_inside (of_fragment f c i) = inside_then (of_inline f itself c) i
+
+  pub deeper_in : {p q : Option (MetaTypeOf S C)} {inner : List (Selection S)} (xs ys : List (Selection S)) → ((x : Selection S) → Contains xs x → Contains ys x) → IsDeeper schema p xs q inner → IsDeeper schema p ys q inner
+  deeper_in xs ys sub (of_field f w c e i) = of_field f w (sub (selection.Field f) c) e i
+  deeper_in xs ys sub (of_fragment f c i) = of_fragment f (sub (selection.InlineFragment f) c) i
+
   -- a set inside is the set itself, or stands deeper
   pub data Front (p : Option (MetaTypeOf S C)) (set : List (Selection S)) : Option (MetaTypeOf S C) → List (Selection S) → Type 0 where
     here : Front p set p set

@@ -1,7 +1,8 @@
 -- What each step adds to a table.
-use Rattle.std.specs.Prelude.{◌≡◌, ◌<◌, ◌≤◌, ℕ, List, [], ◌∷◌, ◌++◌, map, Option, Some, length, slice_get, slice_set, true, option_to_list}
+use Rattle.std.specs.Prelude.{◌≡◌, ◌⊎◌, ◌<◌, ◌≤◌, ◌+◌, ◌*◌, ℕ, List, [], ◌∷◌, ◌++◌, map, Option, Some, length, slice_get, slice_set, true, option_to_list}
 use Rattle.std.specs.List.{All, Contains}
 use Rattle.language.specs.declared.tree.Selection.{Selection}
+use Rattle.language.specs.SelectionsInside.{all_inside}
 use Rattle.meta.specs.declared.kinds.MetaTypeOf.{MetaTypeOf}
 use Rattle.schema.specs.Catalog.{Catalog}
 use Rattle.merge_field_pairs.specs.Entries.{PlainEntry, plain}
@@ -13,6 +14,8 @@ use Rattle.merge_set_table.specs.Once.{IsEachOnce, is_among}
 use Rattle.merge_set_table.specs.Table.{numbered, Extends, IsOwnField, IsWithin, Falling, height}
 use Rattle.merge_set_table.specs.Represents.{Represents, IsSetOf}
 use Rattle.merge_set_table.specs.Inside.{IsInside, IsFieldInside, AreConditionsKnown, IsDeeper}
+use Rattle.merge_set_table.specs.Parts.{IsPartOf}
+use Rattle.merge_set_table.specs.Sizes.{part_size, table_size}
 
 -- Every fragment that has a number is there, and its set has a number below the bound.
 abbrev pub AreWithin : (List ℕ → Option ℕ) → List ℕ → ℕ → Type 0
@@ -21,18 +24,19 @@ AreWithin numbers fragments bound = (name : List ℕ) (g : ℕ) → numbers name
 pub record IsEmptySet (part : NumberedSet) : Type 0 where
   pub own : part.own.items ≡ []
   pub spreads : part.spreads.items ≡ []
+  pub inner : part.inner.items ≡ []
 
 -- The number was added, if there is one.
 pub record AddsSpread (number : Option ℕ) (old new : NumberedSet) : Type 0 where
   pub own : new.own.items ≡ old.own.items
   pub spreads : new.spreads.items ≡ old.spreads.items ++ option_to_list number
+  pub inner : new.inner.items ≡ old.inner.items
 
--- What the set of the number has of its own was added.
-pub record TakesOver (sets : List NumberedSet) (n : ℕ) (old new : NumberedSet) : Type 0 where
-  pub row : NumberedSet
-  pub stored : slice_get sets n ≡ Some row
-  pub own : new.own.items ≡ old.own.items ++ row.own.items
-  pub spreads : new.spreads.items ≡ old.spreads.items ++ row.spreads.items
+-- Its own fields and its spreads stayed the same, and it has so many inner sets more.
+pub record HasSame (more : ℕ) (old new : NumberedSet) : Type 0 where
+  pub own : new.own.items ≡ old.own.items
+  pub spreads : new.spreads.items ≡ old.spreads.items
+  pub inner : length new.inner.items ≡ length old.inner.items + more
 
 module _ {S C : Type 0} where
   pub record IsEmptyTable (t : Table S C) : Type 0 where
@@ -53,12 +57,22 @@ module _ {S C : Type 0} where
     pub sets : t'.sets.items ≡ t.sets.items
     pub order : t'.order.items ≡ t.order.items
     pub apart : AreApart t.responses → AreApart t'.responses
+    pub size : table_size t' + part_size part' ≡ table_size t + part_size part + 2
+
+  -- Its fields, names, sets and order stayed the same, and it keeps at most so many inner sets and spreads more.
+  pub record IsSameTable (more : ℕ) (t t' : Table S C) : Type 0 where
+    pub fields : t'.fields.items ≡ t.fields.items
+    pub responses : t'.responses ≡ t.responses
+    pub sets : t'.sets.items ≡ t.sets.items
+    pub order : t'.order.items ≡ t.order.items
+    pub few : length t'.inner.items + length t'.written.items ≤ length t.inner.items + length t.written.items + more
 
   -- A place in the order was kept.
   pub record OpensSet (place : ℕ) (t t' : Table S C) : Type 0 where
     pub at : place ≡ length t.order.items
     pub same : numbered t' ≡ numbered t
     pub order : t'.order.items ≡ t.order.items ++ 0 ∷ []
+    pub size : table_size t' ≡ table_size t + 1
 
   -- The set was stored, each fragment once.
   pub record StoresSet (part : NumberedSet) (n : ℕ) (t t' : Table S C) : Type 0 where
@@ -70,6 +84,7 @@ module _ {S C : Type 0} where
     pub responses : t'.responses ≡ t.responses
     pub sets : t'.sets.items ≡ t.sets.items ++ row ∷ []
     pub order : t'.order.items ≡ t.order.items
+    pub size : table_size t' ≤ table_size t + part_size part + 1
 
   -- The set was stored, and its number put at its place.
   pub record ClosesSet (place : ℕ) (part : NumberedSet) (n : ℕ) (t t' : Table S C) : Type 0 where
@@ -77,6 +92,7 @@ module _ {S C : Type 0} where
     pub stores : StoresSet part n t middle
     pub same : numbered t' ≡ numbered middle
     pub order : t'.order.items ≡ slice_set t.order.items place n
+    pub size : table_size t' ≤ table_size t + part_size part + 1
 
   -- What holds whatever was added.
   pub record Keeps (numbers : List ℕ → Option ℕ) (t t' : Table S C) : Type 0 where
@@ -125,19 +141,33 @@ module _ {S C : Type 0} where
     pub order : t'.order.items ≡ t.order.items
     pub from : (q : Option (MetaTypeOf S C)) → FieldsFrom schema q set t t'
 
-  -- Own fields and spreads of the selections were added to a set, and the sets in them to the order.
+  -- The set is one that was added to the order, or a part of it.
+  pub record IsHeld (schema : Catalog S C) (numbers : List ℕ → Option ℕ) (t : Table S C) (more : List ℕ) (Stands : Option (MetaTypeOf S C) → List (Selection S) → Type 0) (q : Option (MetaTypeOf S C)) (inner : List (Selection S)) : Type 0 where
+    pub number : ℕ
+    pub among : is_among more number ≡ true
+    pub type : Option (MetaTypeOf S C)
+    pub set : List (Selection S)
+    pub is : IsSetOf schema numbers (numbered t) number type set
+    pub stands : Stands type set
+    pub part : IsPartOf schema q inner type set
+
+  -- Own fields and spreads of the selections were added to a set, and the sets in them to the order, but for those that are parts of the set itself.
   pub record Adds (schema : Catalog S C) (numbers : List ℕ → Option ℕ) (p : Option (MetaTypeOf S C)) (xs : List (Selection S)) (part part' : NumberedSet) (t t' : Table S C) : Type 0 where
     pub parts : AddsParts schema numbers p xs part part' t t'
     pub more : List ℕ
     pub order : t'.order.items ≡ t.order.items ++ more
-    pub found : (q : Option (MetaTypeOf S C)) (inner : List (Selection S)) → IsDeeper schema p xs q inner → (n : ℕ) × (is_among more n ≡ true) × IsSetOf schema numbers (numbered t') n q inner
+    pub found : (q : Option (MetaTypeOf S C)) (inner : List (Selection S)) → IsDeeper schema p xs q inner → IsHeld schema numbers t' more (IsDeeper schema p xs) q inner ⊎ IsPartOf schema q inner p xs
     pub from : (p0 : Option (MetaTypeOf S C)) (set0 whole : List (Selection S)) → IsInside schema p0 set0 p whole → ((x : Selection S) → Contains xs x → Contains whole x) → ComesFrom schema numbers p0 set0 more t t'
+    -- where conditions are known the table takes so much for each selection
+    pub size : (p0 : Option (MetaTypeOf S C)) (set0 whole : List (Selection S)) → IsInside schema p0 set0 p whole → ((x : Selection S) → Contains xs x → Contains whole x) → AreConditionsKnown schema p0 set0
+        → table_size t' + part_size part' ≤ table_size t + part_size part + 4 * all_inside xs
 
-  -- The set was added, and all sets in it, each with its place in the order.
+  -- The set was added, and all sets in it, each with its place in the order or as a part of one.
   pub record AddsSet (schema : Catalog S C) (numbers : List ℕ → Option ℕ) (p : Option (MetaTypeOf S C)) (set : List (Selection S)) (n : ℕ) (t t' : Table S C) : Type 0 where
     pub has : HasSet schema numbers p set n t t'
     pub more : List ℕ
     pub order : t'.order.items ≡ t.order.items ++ more
     pub listed : is_among more n ≡ true
-    pub found : (q : Option (MetaTypeOf S C)) (inner : List (Selection S)) → IsInside schema p set q inner → (k : ℕ) × (is_among more k ≡ true) × IsSetOf schema numbers (numbered t') k q inner
+    pub found : (q : Option (MetaTypeOf S C)) (inner : List (Selection S)) → IsInside schema p set q inner → IsHeld schema numbers t' more (IsInside schema p set) q inner
     pub from : ComesFrom schema numbers p set more t t'
+    pub size : AreConditionsKnown schema p set → table_size t' ≤ table_size t + 4 * all_inside set + 2

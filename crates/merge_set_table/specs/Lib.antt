@@ -6,6 +6,8 @@ pub mod Once
 pub mod Table
 pub mod Represents
 pub mod Inside
+pub mod Parts
+pub mod Sizes
 pub mod Adding
 pub mod OwnParts
 pub mod Tasks

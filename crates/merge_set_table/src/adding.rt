@@ -1,15 +1,16 @@
 //! Adds a selection set to a table, with all sets in it.
-ghost use Rattle.std.specs.Prelude.{◌≡◌, ◌∷◌, [], OnOk, IfOk, option_copied, reverse};
+ghost use Rattle.std.specs.Prelude.{◌≡◌, ◌∷◌, ◌&&◌, [], OnOk, IfOk, not, is_some, option_copied, reverse, true, false};
 ghost use Rattle.merge_set_table.specs.Known.{known_rank};
 ghost use Rattle.merge_set_table.specs.Adding.{Adds, AddsSet};
 ghost use Rattle.merge_set_table.specs.Inside.{type_entered};
+ghost use Rattle.merge_set_table.specs.declared.table.Table.{Table};
 ghost use Rattle.merge_set_table.specs.Tasks.{AddsAs, Meets, Becomes};
 
 use crate::known::KnownFragments;
-use crate::steps::{add_spread, close_set, no_fields, open_set, push_field};
+use crate::steps::{add_spread, begin_part, close_set, end_part, no_fields, open_set, push_field};
 use crate::table::{NumberedSet, Table};
 use crate::tasks::{
-    BegunField, BegunInline, Members, Role, Task, end_field, end_inline, place_for,
+    BegunField, BegunInline, Members, Role, Task, end_field, end_inline, is_lost, place_for,
 };
 use language::error::OutOfMemory;
 use language::position::Spanning;
@@ -92,10 +93,9 @@ fn step<'a, S, C>(
             add_next(alloc, schema, fragments, members, part, tasks, table)
         }
         Task::Field(begun) => end_field(alloc, begun, part, table),
-        Task::Inline(begun) => {
-            if let Some(again) = end_inline(alloc, begun, part, table)? {
-                tasks.push(Task::Members(again))?;
-            }
+        Task::Inline(begun) => end_inline(alloc, begun, part, table),
+        Task::Part(place) => {
+            end_part(place, part);
             Ok(())
         }
     }
@@ -241,18 +241,76 @@ fn begin_inline<'a, S, C>(
         (λ b t. AddsAs schema.now (known_rank fragments.now) Role.Searched (option_copied parent.entry)
         (Selection.InlineFragment inline.now ∷ []) part.old b table.old t)) }
 {
-    let set = inline.item.selection_set.as_slice();
     let entered = type_entered(schema, parent, &inline.item.type_condition);
+    if is_lost(entered, parent) {
+        begin_lost(
+            alloc, schema, fragments, parent, entered, inline, part, tasks, table,
+        )
+    } else {
+        begin_inner(schema, fragments, parent, entered, inline, part, tasks)
+    }
+}
+
+// Begins the set of an inline fragment as a part of the set round it.
+fn begin_inner<'a, S, C>(
+    schema: &'a SchemaTypeOf<S, C>,
+    fragments: &KnownFragments<'_, '_>,
+    parent: Option<&'a MetaTypeOf<S, C>>,
+    entered: Option<&'a MetaTypeOf<S, C>>,
+    inline: &'a Spanning<InlineFragment<'a, S>>,
+    part: &mut NumberedSet,
+    tasks: &mut Vec<Task<'a, S, C>>,
+) -> Result<(), OutOfMemory>
+    requires typed { option_copied entered
+        ≡ type_entered schema.now (option_copied parent) inline.now.item.type_condition }
+    requires lost { (not (is_some entered) && is_some parent) ≡ false }
+    ensures { OnOk result ((t : Table S C) → Becomes schema.now (known_rank fragments.now) (reverse tasks.new.items)
+        part.new t (reverse tasks.old.items)
+        (λ b u. AddsAs schema.now (known_rank fragments.now) Role.Searched (option_copied parent.entry)
+        (Selection.InlineFragment inline.now ∷ []) part.old b t u)) }
+{
+    let set = inline.item.selection_set.as_slice();
+    let place = begin_part(part)?;
+    tasks.push(Task::Part(place))?;
+    tasks.push(Task::Members(Members {
+        role: Role::Searched,
+        parent: entered,
+        set,
+    }))?;
+    Ok(())
+}
+
+// Begins the set of an inline fragment of an unknown type: it has no type, while its fields have that around the
+// fragment. So they are added once more, to the set round it.
+fn begin_lost<'a, S, C>(
+    alloc: Global,
+    schema: &'a SchemaTypeOf<S, C>,
+    fragments: &KnownFragments<'_, '_>,
+    parent: Option<&'a MetaTypeOf<S, C>>,
+    entered: Option<&'a MetaTypeOf<S, C>>,
+    inline: &'a Spanning<InlineFragment<'a, S>>,
+    part: &mut NumberedSet,
+    tasks: &mut Vec<Task<'a, S, C>>,
+    table: &mut Table<'a, S, C>,
+) -> Result<(), OutOfMemory>
+    requires typed { option_copied entered
+        ≡ type_entered schema.now (option_copied parent) inline.now.item.type_condition }
+    requires lost { (not (is_some entered) && is_some parent) ≡ true }
+    ensures { OnOk result (Becomes schema.now (known_rank fragments.now) (reverse tasks.new.items) part.new table.new
+        (reverse tasks.old.items)
+        (λ b t. AddsAs schema.now (known_rank fragments.now) Role.Searched (option_copied parent.entry)
+        (Selection.InlineFragment inline.now ∷ []) part.old b table.old t)) }
+{
+    let set = inline.item.selection_set.as_slice();
     let place = open_set(table)?;
     let inner = no_fields(alloc, set.len())?;
     let outer = mem::replace(part, inner);
-    tasks.push(Task::Inline(BegunInline {
-        place,
-        outer,
+    tasks.push(Task::Members(Members {
+        role: Role::Compared,
         parent,
-        entered,
         set,
     }))?;
+    tasks.push(Task::Inline(BegunInline { place, outer }))?;
     tasks.push(Task::Members(Members {
         role: Role::Searched,
         parent: entered,

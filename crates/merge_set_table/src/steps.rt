@@ -1,7 +1,7 @@
 //! The steps by which a table grows.
-ghost use Rattle.std.specs.Prelude.{◌<◌, OnOk, IfOk, length};
+ghost use Rattle.std.specs.Prelude.{◌≡◌, ◌+◌, OnOk, IfOk, length};
 ghost use Rattle.merge_field_pairs.specs.Entries.{plain};
-ghost use Rattle.merge_set_table.specs.Adding.{AddsSpread, PushesField, TakesOver, OpensSet, StoresSet, ClosesSet, IsEmptySet};
+ghost use Rattle.merge_set_table.specs.Adding.{AddsSpread, PushesField, OpensSet, StoresSet, ClosesSet, HasSame, IsEmptySet, IsSameTable};
 ghost use Rattle.merge_set_table.specs.Known.{known_rank};
 
 use crate::known::{KnownFragments, rank_of_name};
@@ -10,7 +10,7 @@ use crate::once::each_once;
 use crate::table::{NumberedSet, Table};
 use language::error::OutOfMemory;
 use merge_field_pairs::entry::Entry;
-use merge_search::node::Entry as OwnField;
+use merge_search::node::{Entry as OwnField, InnerSet};
 use std::alloc::Global;
 
 /// An empty set, with room for `room` fields, so that its list seldom grows.
@@ -24,6 +24,7 @@ pub fn no_fields(alloc: Global, room: usize) -> Result<NumberedSet, OutOfMemory>
     Ok(NumberedSet {
         own: Vec::with_capacity(alloc, room)?,
         spreads: Vec::new(alloc),
+        inner: Vec::new(alloc),
     })
 }
 
@@ -69,22 +70,81 @@ pub fn add_spread(
     Ok(())
 }
 
-/// Adds the own fields and spreads of an inner set.
+/// Begins the set of an inline fragment, which is a part of the set round it, and returns its place.
 ///
 /// # Errors
 ///
 /// Out of memory.
-pub fn take_over(
-    sets: &[NumberedSet],
-    number: usize,
-    part: &mut NumberedSet,
-) -> Result<(), OutOfMemory>
-    requires { number < length sets.now }
-    ensures { OnOk result (TakesOver sets.now number part.old part.new) }
+pub fn begin_part(part: &mut NumberedSet) -> Result<usize, OutOfMemory>
+    ensures { OnOk result (HasSame 1 part.old part.new) }
 {
-    let inner = &sets[number];
-    part.own.extend_from_slice(inner.own.as_slice())?;
-    part.spreads.extend_from_slice(inner.spreads.as_slice())?;
+    let place = part.inner.len();
+    part.inner.push(InnerSet {
+        outer: 0,
+        first_field: part.own.len(),
+        fields_end: 0,
+        first_spread: part.spreads.len(),
+        spreads_end: 0,
+        next: 0,
+    })?;
+    Ok(place)
+}
+
+/// Ends the set of an inline fragment at its place.
+pub fn end_part(place: usize, part: &mut NumberedSet)
+    ensures { HasSame 0 part.old part.new }
+{
+    if place >= part.inner.len() {
+        return;
+    }
+    let begun = part.inner[place];
+    part.inner[place] = InnerSet {
+        outer: 0,
+        first_field: begun.first_field,
+        fields_end: part.own.len(),
+        first_spread: begun.first_spread,
+        spreads_end: part.spreads.len(),
+        next: part.inner.len(),
+    };
+}
+
+// Adds the inner sets of the set of a number. Its spreads begin at a place among all that are written.
+fn add_parts(
+    inner: &[InnerSet],
+    number: usize,
+    start: usize,
+    all: &mut Vec<InnerSet>,
+) -> Result<(), OutOfMemory>
+    ensures { OnOk result (length all.new.items ≡ length all.old.items + length inner.now) }
+{
+    for part in inner {
+        all.push(InnerSet {
+            outer: number,
+            first_field: part.first_field,
+            fields_end: part.fields_end,
+            first_spread: start.saturating_add(part.first_spread),
+            spreads_end: start.saturating_add(part.spreads_end),
+            next: part.next,
+        })?;
+    }
+    Ok(())
+}
+
+// Keeps the inner sets of a set that gets a number, with its spreads as they are written.
+fn keep_parts<S, C>(
+    inner: &[InnerSet],
+    spreads: &[usize],
+    number: usize,
+    table: &mut Table<'_, S, C>,
+) -> Result<(), OutOfMemory>
+    ensures { OnOk result (IsSameTable (length inner.now + length spreads.now) table.old table.new) }
+{
+    if inner.is_empty() {
+        return Ok(());
+    }
+    let start = table.written.len();
+    table.written.extend_from_slice(spreads)?;
+    add_parts(inner, number, start, &mut table.inner)?;
     Ok(())
 }
 
@@ -113,11 +173,22 @@ pub fn store_set<S, C>(
 ) -> Result<usize, OutOfMemory>
     ensures { IfOk result (λ n. StoresSet part n table.old table.new) }
 {
-    let spreads = each_once(alloc, part.spreads)?;
-    let mut own = part.own;
-    own.shrink_to_fit();
+    let NumberedSet {
+        own,
+        spreads,
+        inner,
+    } = part;
     let number = table.sets.len();
-    table.sets.push(NumberedSet { own, spreads })?;
+    keep_parts(inner.as_slice(), spreads.as_slice(), number, table)?;
+    let once = each_once(alloc, spreads)?;
+    let mut own = own;
+    own.shrink_to_fit();
+    let none = Vec::new(alloc);
+    table.sets.push(NumberedSet {
+        own,
+        spreads: once,
+        inner: none,
+    })?;
     Ok(number)
 }
 

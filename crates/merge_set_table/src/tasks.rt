@@ -2,7 +2,7 @@
 ghost use Rattle.std.specs.Prelude.{◌≡◌, ◌&&◌, OnOk, IfOk, not, is_some};
 ghost use Rattle.merge_set_table.specs.Tasks.{IsPlaced, StoresAt, EndsField, EndsInline};
 
-use crate::steps::{close_set, open_set, push_field, store_set, take_over};
+use crate::steps::{close_set, open_set, push_field, store_set};
 use crate::table::{NumberedSet, Table};
 use language::error::OutOfMemory;
 use language::tree::Selection;
@@ -37,15 +37,12 @@ pub struct BegunField<'a, S, C> {
     pub entry: Entry<'a, S, C>,
 }
 
-/// An inline fragment whose set is begun: the place of that set in the order, the set that the fragment stands in, the
-/// types around it and inside it, and its selections.
+/// An inline fragment of an unknown type whose set is begun: the place of that set in the order, and the set that the
+/// fragment stands in.
 #[derive(Drop)]
-pub struct BegunInline<'a, S, C> {
+pub struct BegunInline {
     pub place: usize,
     pub outer: NumberedSet,
-    pub parent: Option<&'a MetaTypeOf<S, C>>,
-    pub entered: Option<&'a MetaTypeOf<S, C>>,
-    pub set: &'a [Selection<'a, S>],
 }
 
 /// What is left to do: selections to be added to the set that is being filled, or what follows where that set ends.
@@ -53,7 +50,9 @@ pub struct BegunInline<'a, S, C> {
 pub enum Task<'a, S, C> {
     Members(Members<'a, S, C>),
     Field(BegunField<'a, S, C>),
-    Inline(BegunInline<'a, S, C>),
+    Inline(BegunInline),
+    /// The end of an inline fragment whose set is a part of the one that is being filled.
+    Part(usize),
 }
 
 /// The place in the order for a set below a field, if it gets one.
@@ -111,44 +110,27 @@ pub fn end_field<'a, S, C>(
     push_field(table, part, entry, Some(number))
 }
 
-/// Stores the set of an inline fragment, and takes its fields over into the set around it, which is filled from then on.
-///
-/// Where the condition is unknown, the fields have the type around the fragment, while its own set has none. So they
-/// are added once more, and these selections are returned.
+/// Stores the set of an inline fragment of an unknown type. The set around it is filled from then on.
 ///
 /// # Errors
 ///
 /// Out of memory.
-pub fn end_inline<'a, S, C>(
+pub fn end_inline<S, C>(
     alloc: Global,
-    begun: BegunInline<'a, S, C>,
+    begun: BegunInline,
     part: &mut NumberedSet,
-    table: &mut Table<'a, S, C>,
-) -> Result<Option<Members<'a, S, C>>, OutOfMemory>
-    ensures { IfOk result (λ again. EndsInline begun.entry again part.old part.new table.old table.new) }
+    table: &mut Table<'_, S, C>,
+) -> Result<(), OutOfMemory>
+    ensures { OnOk result (EndsInline begun part.old part.new table.old table.new) }
 {
-    let BegunInline {
-        place,
-        outer,
-        parent,
-        entered,
-        set,
-    } = begun;
+    let BegunInline { place, outer } = begun;
     let inner = mem::replace(part, outer);
-    let number = close_set(alloc, place, inner, table)?;
-    if is_lost(entered, parent) {
-        return Ok(Some(Members {
-            role: Role::Compared,
-            parent,
-            set,
-        }));
-    }
-    take_over(table.sets.as_slice(), number, part)?;
-    Ok(None)
+    close_set(alloc, place, inner, table)?;
+    Ok(())
 }
 
-// Whether there is no type inside, though there is one around.
-fn is_lost<S, C>(entered: Option<&MetaTypeOf<S, C>>, parent: Option<&MetaTypeOf<S, C>>) -> bool
+/// Whether there is no type inside, though there is one around.
+pub fn is_lost<S, C>(entered: Option<&MetaTypeOf<S, C>>, parent: Option<&MetaTypeOf<S, C>>) -> bool
     ensures { result ≡ (not (is_some entered.entry) && is_some parent.entry) }
 {
     entered.is_none() && parent.is_some()

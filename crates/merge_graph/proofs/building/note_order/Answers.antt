@@ -1,4 +1,4 @@
-use Rattle.std.proofs.Common.{◌++◌, Some, slice_set, refl, ap, ap₂, ◌∙◌, arith}
+use Rattle.std.proofs.Common.{◌++◌, Some, length, slice_set, refl, ap, ap₂, ◌∙◌, arith}
 use Rattle.merge_graph.proofs.building.note_order.Goals as goal
 
 pub returns : goal.returns
@@ -11,4 +11,5 @@ returns g c = record {
   same = refl;
   empty = c.clear.ensures.items;
   fragments = refl;
+  size = let none = ap length c.clear.ensures.items in omega (arith, none);
 }

@@ -24,9 +24,9 @@ pub loop-s-preserved : goal.loop-s-preserved
 loop-s-preserved g c =
     let v = world g.J.Judge.judgement c.args.graph.now in (
       c.loop-s.invariant.0,
-      next_tops v c.order-s-items.result.now c.loop-s.s-index c.loop-s.invariant.1 c.in_ok-compare_set.ensures.done,
-      all_more v false _ _ (λ s. AtTop v s) c.order-s-items.result.now c.loop-s.s-index 0 (λ r z. (get_or c.order-s-items.result.now c.loop-s.s-index 0, Contains-get_or c.order-s-items.result.now c.loop-s.s-index 0 c.loop-s-test.true, z)) c.loop-s.invariant.2 c.in_ok-compare_set.ensures.real,
-      c.in_ok-compare_set.ensures.done.keeps c.loop-s.invariant.3,
+      next_tops v c.order-s-items.result.now c.loop-s.s-index c.loop-s.invariant.1 c.in_ok-search_set.ensures.done,
+      all_more v false _ _ (λ s. AtTop v s) c.order-s-items.result.now c.loop-s.s-index 0 (λ r z. (get_or c.order-s-items.result.now c.loop-s.s-index 0, Contains-get_or c.order-s-items.result.now c.loop-s.s-index 0 c.loop-s-test.true, z)) c.loop-s.invariant.2 c.in_ok-search_set.ensures.real,
+      c.in_ok-search_set.ensures.done.keeps c.loop-s.invariant.3,
     )
 
 pub returns : goal.returns

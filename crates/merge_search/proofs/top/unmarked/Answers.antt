@@ -1,4 +1,4 @@
-use Rattle.std.proofs.Common.{subst, sym, arith, length}
+use Rattle.std.proofs.Common.{subst, sym, arith}
 use Rattle.std.specs.List.{All, Contains}
 use Rattle.std.proofs.lemmas.List.{length-take, take_all}
 use Rattle.std.proofs.lemmas.List.Elements.{All-nil}

@@ -1,8 +1,8 @@
-use Rattle.std.proofs.Common.{reverse, sym, subst}
+use Rattle.std.proofs.Common.{reverse, refl, sym, subst}
 use Rattle.std.proofs.lemmas.Result.{on_ok_weaker}
 use Rattle.merge_set_table.specs.Known.{known_rank}
 use Rattle.merge_set_table.specs.Tasks.{Meets, Becomes}
-use Rattle.merge_set_table.proofs.Becoming.{pushed, at_once, inline_again_as, inline_taken_as}
+use Rattle.merge_set_table.proofs.Becoming.{at_once}
 use Rattle.merge_set_table.proofs.adding.step.Goals as goal
 
 pub returns-in-Members : goal.returns-in-Members
@@ -19,12 +19,14 @@ returns-in-Field g c =
     (subst (λ x. Meets c.args.schema.now (known_rank c.args.fragments.now) x c.args.part.now c.end_field.new.part c.args.table.now c.end_field.new.table) (sym c.in-Field.is) h))
     c.end_field.ensures
 
-pub returns-in_ok-push-in-Inline : goal.returns-in_ok-push-in-Inline
-returns-in_ok-push-in-Inline g c =
-    inline_again_as c.args.schema.now (known_rank c.args.fragments.now) c.args.task c.in-Inline.begun _ _ _ (reverse c.args.tasks.now.items) c.args.part.now c.end_inline.new.part c.args.table.now c.end_inline.new.table
-    c.in-Inline.is c.in-Some.is c.in_ok-again-in-Inline.ensures (pushed c.args.tasks.now.items _ _ c.in_ok-push-in-Inline.ensures.items)
+pub returns-in-Inline : goal.returns-in-Inline
+returns-in-Inline g c =
+    on_ok_weaker c.end_inline.result
+    (λ h. at_once c.args.schema.now (known_rank c.args.fragments.now) (reverse c.args.tasks.now.items) c.end_inline.new.part c.end_inline.new.table _
+    (subst (λ x. Meets c.args.schema.now (known_rank c.args.fragments.now) x c.args.part.now c.end_inline.new.part c.args.table.now c.end_inline.new.table) (sym c.in-Inline.is) h))
+    c.end_inline.ensures
 
-pub returns-in_default : goal.returns-in_default
-returns-in_default g c =
-    inline_taken_as c.args.schema.now (known_rank c.args.fragments.now) c.args.task c.in-Inline.begun _ (reverse c.args.tasks.now.items) c.args.part.now c.end_inline.new.part c.args.table.now c.end_inline.new.table
-    c.in-Inline.is c.in_default.is c.in_ok-again-in-Inline.ensures
+pub returns-in-Part : goal.returns-in-Part
+returns-in-Part g c =
+    at_once c.args.schema.now (known_rank c.args.fragments.now) (reverse c.args.tasks.now.items) c.end_part.new.part c.args.table.now _
+    (subst (λ x. Meets c.args.schema.now (known_rank c.args.fragments.now) x c.args.part.now c.end_part.new.part c.args.table.now c.args.table.now) (sym c.in-Part.is) (c.end_part.ensures, refl))

@@ -7,6 +7,11 @@ set_past [] k x l = refl
 set_past (y ∷ ys) zero x l = absurd (omega (arith, l))
 set_past (y ∷ ys) (suc k) x l = ap (λ zs. y ∷ zs) (set_past ys k x (omega (arith, l)))
 
+set_length : {X : Type 0} (xs : List X) (k : ℕ) (x : X) → length (slice_set xs k x) ≡ length xs
+set_length [] k x = refl
+set_length (y ∷ ys) zero x = refl
+set_length (y ∷ ys) (suc k) x = ap suc (set_length ys k x)
+
 pub returns-then-len-place : goal.returns-then-len-place
 returns-then-len-place g c = record {
   middle = c.store_set.new.table;
@@ -14,6 +19,7 @@ returns-then-len-place g c = record {
   same = refl;
   order = sym (set_past c.store_set.new.table.order.items c.args.place c.in_ok-number.number (omega (arith, c.store_set.new.table.order.ok.0)))
       ∙ ap (λ xs. slice_set xs c.args.place c.in_ok-number.number) c.in_ok-number.ensures.order;
+  size = c.in_ok-number.ensures.size;
 }
 
 pub returns : goal.returns
@@ -22,4 +28,5 @@ returns g c = record {
   stores = c.in_ok-number.ensures;
   same = refl;
   order = ap (λ xs. slice_set xs c.args.place c.in_ok-number.number) c.in_ok-number.ensures.order;
+  size = omega (arith, c.in_ok-number.ensures.size, set_length c.store_set.new.table.order.items c.args.place c.in_ok-number.number);
 }

@@ -7,4 +7,4 @@ pub returns : goal.returns
 returns g c =
     pushed c.args.entry c.args.below c.in_ok-response.response c.len-field.result _ _ _ _
     (subst (λ n. number_in c.number_name.new.names n ≡ Some c.in_ok-response.response) c.response_name.ensures c.in_ok-response.ensures.numbered)
-    c.in_ok-response.ensures.kept c.in_ok-response.ensures.apart (omega arith) c.in_ok-push.ensures.items refl refl c.in_ok-push-2.ensures.items refl
+    c.in_ok-response.ensures.kept c.in_ok-response.ensures.apart (omega arith) c.in_ok-push.ensures.items refl refl c.in_ok-push-2.ensures.items refl refl refl refl

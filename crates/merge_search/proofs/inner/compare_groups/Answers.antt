@@ -1,0 +1,34 @@
+use Rattle.std.proofs.Common.{get_or, sym, subst, false}
+use Rattle.std.specs.List.{Contains}
+use Rattle.std.proofs.lemmas.List.Elements.{Contains-get_or}
+use Rattle.merge_search.specs.World.{world}
+use Rattle.merge_search.specs.Tops.{AtRest}
+use Rattle.merge_search.specs.Inner.{AtLists}
+use Rattle.merge_search.proofs.Adding.{adds_none}
+use Rattle.merge_search.proofs.Again.{adds_next}
+use Rattle.merge_search.proofs.Work.{no_entry, did_none, did_then, did_map}
+use Rattle.merge_search.proofs.inner.compare_groups.Goals as goal
+
+pub loop-a-init : goal.loop-a-init
+loop-a-init g c =
+    let v = world g.J.Judge.judgement c.args.graph.now in
+    (did_none v _ c.args.search.now (λ M k. tt), adds_none v false (AtLists c.args.left.now c.args.right.now) _)
+
+pub loop-a-preserved : goal.loop-a-preserved
+loop-a-preserved g c =
+    let v = world g.J.Judge.judgement c.args.graph.now in
+    let a = get_or c.args.left.now c.loop-a.a-index no_entry in (
+      did_map v _ _ (λ M h. tt) (did_then v _ _ c.loop-a.invariant.0 c.in_ok-compare_rest.ensures.done),
+      adds_next v (AtLists c.args.left.now c.args.right.now) (AtRest a c.args.right.now)
+          (λ r z. (subst (λ x. Contains c.args.left.now x) (sym z.0) (Contains-get_or c.args.left.now c.loop-a.a-index no_entry c.loop-a-test.true), z.1))
+          c.loop-a.invariant.1 c.in_ok-compare_rest.ensures.real.adds,
+    )
+
+pub returns : goal.returns
+returns g c = record { done = c.loop-a.invariant.0; real = c.loop-a.invariant.1 }
+
+pub returns-then-are_plainly_alike-clause-done : goal.returns-then-are_plainly_alike-clause-done
+returns-then-are_plainly_alike-clause-done g c = did_none (world g.J.Judge.judgement c.args.graph.now) _ c.args.search.now (λ M k. tt)
+
+pub returns-then-are_plainly_alike-clause-real : goal.returns-then-are_plainly_alike-clause-real
+returns-then-are_plainly_alike-clause-real g c = adds_none (world g.J.Judge.judgement c.args.graph.now) false (AtLists c.args.left.now c.args.right.now) _

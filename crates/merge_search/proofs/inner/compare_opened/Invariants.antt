@@ -1,0 +1,11 @@
+use Rattle.std.proofs.Common.{false}
+use Rattle.merge_search.specs.World.{world}
+use Rattle.merge_search.specs.Work.{Did}
+use Rattle.merge_search.specs.Reports.{Adds}
+use Rattle.merge_search.specs.Inner.{AtParts}
+use Rattle.merge_search.proofs.inner.compare_opened.Given as goal
+
+abbrev pub invariant-loop-h : goal.invariant-loop-h
+invariant-loop-h g l =
+    Did (world g.J.Judge.judgement l.graph) (λ M. Unit {0}) l.fn.search l.search
+    × Adds (world g.J.Judge.judgement l.graph) false (AtParts (world g.J.Judge.judgement l.graph) l.part.own.items l.starts) l.fn.search.found.items l.search.found.items

@@ -1,0 +1,26 @@
+use Rattle.std.proofs.Common.{get_or, false}
+use Rattle.merge_search.specs.World.{world}
+use Rattle.merge_search.specs.Reports.{AtPlaces}
+use Rattle.merge_search.specs.Tops.{AtBefore}
+use Rattle.merge_search.proofs.Adding.{adds_none}
+use Rattle.merge_search.proofs.Again.{row_part, adds_next}
+use Rattle.merge_search.proofs.Work.{no_entry, did_none, did_then, did_map}
+use Rattle.merge_search.proofs.inner.compare_own_part.Goals as goal
+
+pub loop-first-init : goal.loop-first-init
+loop-first-init g c =
+    let v = world g.J.Judge.judgement c.args.graph.now in
+    (did_none v _ c.args.search.now (λ M k. tt), adds_none v false (AtPlaces v c.args.s) _)
+
+pub loop-first-preserved : goal.loop-first-preserved
+loop-first-preserved g c =
+    let v = world g.J.Judge.judgement c.args.graph.now in
+    let first = get_or c.first_fields-first-items.result.now c.loop-first.first-index no_entry in (
+      did_map v _ _ (λ M h. tt) (did_then v _ _ c.loop-first.invariant.0 c.in_ok-compare_each.ensures.done),
+      adds_next v (AtPlaces v c.args.s) (AtBefore c.fields_named.result.now)
+          (row_part v c.args.s first.response c.args.part.now.own.items c.sorted_fields.result.now c.fields_named.result.now c.requires c.sorted_fields.ensures.grouped c.fields_named.ensures)
+          c.loop-first.invariant.1 c.in_ok-compare_each.ensures.real.adds,
+    )
+
+pub returns : goal.returns
+returns g c = record { done = c.loop-first.invariant.0; real = c.loop-first.invariant.1 }

@@ -1,0 +1,10 @@
+use Rattle.std.proofs.Common.{false}
+use Rattle.merge_search.specs.World.{world}
+use Rattle.merge_search.specs.Work.{Did}
+use Rattle.merge_search.specs.Reports.{Adds, AtPlaces}
+use Rattle.merge_search.proofs.inner.compare_own_part.Given as goal
+
+abbrev pub invariant-loop-first : goal.invariant-loop-first
+invariant-loop-first g l =
+    Did (world g.J.Judge.judgement l.graph) (λ M. Unit {0}) l.fn.search l.search
+    × Adds (world g.J.Judge.judgement l.graph) false (AtPlaces (world g.J.Judge.judgement l.graph) l.s) l.fn.search.found.items l.search.found.items

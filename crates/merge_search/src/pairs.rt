@@ -1,0 +1,61 @@
+//! Comparing the fields of one response name with each other.
+ghost use Rattle.std.specs.Prelude.{OnOk, false};
+ghost use Rattle.std.specs.List.{All};
+ghost use Rattle.merge_search.specs.World.{world};
+ghost use Rattle.merge_search.specs.Work.{Did, Done};
+ghost use Rattle.merge_search.specs.Reports.{FindsAll};
+ghost use Rattle.merge_search.specs.Tops.{AllBefore, AtBefore, AtRest};
+
+use crate::graph::Graph;
+use crate::judge::Judge;
+use crate::node::Entry;
+use crate::search::compare_fields;
+use crate::state::Search;
+use crate::view::are_plainly_alike;
+use std::alloc::AllocError;
+
+/// Compares a field with some others.
+///
+/// # Errors
+///
+/// Out of memory.
+pub(crate) fn compare_rest<J: Judge>(
+    graph: &Graph<J>,
+    a: Entry,
+    rest: &[Entry],
+    search: &mut Search,
+) -> Result<(), AllocError>
+    ensures done { let w = world J.judgement graph.now in
+        OnOk result (Did w (λ M. All (λ b. Done w M false a b) rest.now) search.old search.new) }
+    ensures real { let w = world J.judgement graph.now in
+        OnOk result (FindsAll w false (AtRest a rest.now) (AtRest a rest.now) search.old search.new) }
+{
+    for b in rest {
+        compare_fields(graph, a, *b, false, search)?;
+    }
+    Ok(())
+}
+
+/// Compares each field with those after it. Many that are alike are passed at once, since there is nothing to find.
+///
+/// # Errors
+///
+/// Out of memory.
+pub(crate) fn compare_each<J: Judge>(
+    graph: &Graph<J>,
+    fields: &[Entry],
+    search: &mut Search,
+) -> Result<(), AllocError>
+    ensures done { let w = world J.judgement graph.now in
+        OnOk result (Did w (λ M. AllBefore (Done w M false) fields.now) search.old search.new) }
+    ensures real { let w = world J.judgement graph.now in
+        OnOk result (FindsAll w false (AtBefore fields.now) (AtBefore fields.now) search.old search.new) }
+{
+    if fields.len() > 2 && are_plainly_alike(graph, fields, fields) {
+        return Ok(());
+    }
+    for k in 0..fields.len() {
+        compare_rest(graph, fields[k], &fields[k + 1..], search)?;
+    }
+    Ok(())
+}
