@@ -2,6 +2,7 @@
 ghost use Rattle.std.specs.Prelude.{◌≡◌, ◌++◌, ◌↔◌, [], IfOk, OnOk, Some, option_map};
 ghost use Rattle.std.specs.Fmt.{WritesOnOk};
 ghost use Rattle.std.specs.List.{flat_map};
+ghost use Rattle.graph_ways.specs.Onward.{LeadBack};
 ghost use Rattle.language.specs.References.{list_copied};
 ghost use Rattle.sdl_directives.specs.Known.{directive_of};
 ghost use Rattle.sdl_directive_circles.specs.Circles.{AddsCircles, AreCircles, HasNoDirectiveCircle, IsToldOf, circle_text, circle_value, circle_values, steps_text};
@@ -11,7 +12,7 @@ ghost use Rattle.sdl_directive_circles.specs.Uses.{directive_name};
 use crate::graph::{References, references_in};
 use crate::names::NameOf;
 use crate::places::place_of;
-use graph_ways::{Way, way_back};
+use graph_ways::{Ways, way_back, ways_of};
 use graphql_reader::type_system::{DirectiveDefinition, TypeSystemDefinition};
 use language::error::OutOfMemory;
 use language::position::SourcePosition;
@@ -56,9 +57,10 @@ fn circles_in<'d, 't>(
     requires { HasReferences document.now references.now }
     ensures { IfOk result (λ v. AreCircles document.now (circle_values v.items)) }
 {
+    let ways = ways_of(alloc, references.nodes.as_slice())?;
     let mut circles = Vec::new(alloc);
     for definition in document {
-        add_circle(alloc, document, references, definition, &mut circles)?;
+        add_circle(alloc, document, references, &ways, definition, &mut circles)?;
     }
     Ok(circles)
 }
@@ -68,15 +70,17 @@ fn add_circle<'d, 't>(
     alloc: Global,
     document: &'d [TypeSystemDefinition<'t>],
     references: &References<'_>,
+    ways: &Ways,
     definition: &'d TypeSystemDefinition<'t>,
     circles: &mut Vec<DirectiveCircle<'d>>,
 ) -> Result<(), OutOfMemory>
-    requires { HasReferences document.now references.now }
+    requires references { HasReferences document.now references.now }
+    requires ways { LeadBack references.now.nodes.items ways.now }
     ensures { OnOk result (AddsCircles document.now (directive_of definition.now)
         (circle_values circles.old.items) (circle_values circles.new.items)) }
 {
     if let TypeSystemDefinition::Directive(defined) = definition {
-        if let Some(circle) = circle_of(alloc, document, references, &defined.item)? {
+        if let Some(circle) = circle_of(alloc, document, references, ways, &defined.item)? {
             circles.push(circle)?;
         }
     }
@@ -88,13 +92,15 @@ fn circle_of<'d, 't>(
     alloc: Global,
     document: &'d [TypeSystemDefinition<'t>],
     references: &References<'_>,
+    ways: &Ways,
     defined: &'d DirectiveDefinition<'t>,
 ) -> Result<Option<DirectiveCircle<'d>>, OutOfMemory>
-    requires { HasReferences document.now references.now }
+    requires references { HasReferences document.now references.now }
+    requires ways { LeadBack references.now.nodes.items ways.now }
     ensures { IfOk result (λ told. IsToldOf document.now defined.now (option_map circle_value told)) }
 {
     match place_of(&references.places, NameOf::Directive(defined.name.item)) {
-        Some(root) => circle_from(alloc, document, references, root, defined),
+        Some(root) => circle_from(alloc, document, references, ways, root, defined),
         None => Ok(None),
     }
 }
@@ -104,14 +110,16 @@ fn circle_from<'d, 't>(
     alloc: Global,
     document: &'d [TypeSystemDefinition<'t>],
     references: &References<'_>,
+    ways: &Ways,
     root: usize,
     defined: &'d DirectiveDefinition<'t>,
 ) -> Result<Option<DirectiveCircle<'d>>, OutOfMemory>
     requires references { HasReferences document.now references.now }
+    requires ways { LeadBack references.now.nodes.items ways.now }
     requires place { place_of references.now.places (directive_name defined.now) ≡ Some root }
     ensures { IfOk result (λ told. IsToldOf document.now defined.now (option_map circle_value told)) }
 {
-    let Way { links, .. } = way_back(alloc, references.nodes.as_slice(), root)?;
+    let links = way_back(alloc, references.nodes.as_slice(), ways, root)?;
     match links {
         Some(links) => {
             let way = names_on(alloc, document, links.as_slice())?;

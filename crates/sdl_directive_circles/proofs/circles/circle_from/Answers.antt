@@ -1,17 +1,18 @@
-use Rattle.std.proofs.Common.{Option, Vec, ap, refl, subst, sym, ◌∙◌}
+use Rattle.std.proofs.Common.{List, Option, Vec, ap, refl, subst, sym, ◌∙◌}
 use Rattle.std.specs.List.{flat_map}
 use Rattle.std.specs.Prelude.{IfSome}
 use Rattle.std.specs.declared.alloc.Global.{Global}
+use Rattle.graph_ways.specs.Onward.{LeadBack}
 use Rattle.graph_ways.specs.Ways.{HasNoWayBack, IsWayBack}
 use Rattle.type_system_circles.specs.declared.graph.Link.{Link}
-use Rattle.type_system_circles.specs.Graph.{IsGraph}
+use Rattle.type_system_circles.specs.declared.graph.Node.{Node}
 use Rattle.sdl_directive_circles.specs.Graph.{link_told}
-use Rattle.sdl_directive_circles.proofs.Ways.{is_graph, no_way, way_found}
+use Rattle.sdl_directive_circles.proofs.Ways.{no_way, way_found}
 use Rattle.sdl_directive_circles.proofs.circles.circle_from.Goals as goal
 
 pub way_back-requires : goal.way_back-requires
 way_back-requires c =
-    subst IsGraph (sym c.as_slice.ensures.value) (is_graph c.args.document.now c.args.references.now c.requires.references)
+    subst (λ (g : List Node). LeadBack g c.args.ways.now) (sym c.as_slice.ensures.value) c.requires.ways
 
 pub returns-in_ok-way-in-Some : goal.returns-in_ok-way-in-Some
 returns-in_ok-way-in-Some c =
