@@ -8,7 +8,7 @@ use Rattle.rules_merge.specs.declared.overlapping_fields_can_be_merged.Overlappi
 use Rattle.rules_merge.specs.OverlappingFieldsCanBeMerged.{MergeErrors}
 use Rattle.meta.specs.Answers.{Answers}
 use Rattle.schema.specs.Catalog.{Catalog}
-use Rattle.validation.specs.RootRules.{IsRootReport}
+use Rattle.validation.specs.RootRules.{IsRootReportUpTo}
 use Rattle.validation.specs.Stages.{Rules}
 use Rattle.variable_values.specs.Messages.{OfOperation, Values}
 use Rattle.walk.specs.ErrorValue.{ErrorValue, error_cmp, printed_error}
@@ -22,12 +22,12 @@ pub record Tells (errors : List ErrorValue) (text : List ℕ) : Type 0 where
   pub sorted : IsSorted error_cmp errors
   pub written : text ≡ error_lines errors
 
--- a text tells what every rule reports of a document, that on introspection among them where it is closed
-pub record TellsErrors {S C : Type 0} (rules : Rules S C) (closed : Bool) (schema : Catalog S C) (document : List (Definition S)) (text : List ℕ) : Type 0 where
+-- a text tells what every rule reports of a document, that on introspection among them where it is closed, up to a limit
+pub record TellsErrors {S C : Type 0} (rules : Rules S C) (limit : ℕ) (closed : Bool) (schema : Catalog S C) (document : List (Definition S)) (text : List ℕ) : Type 0 where
   pub errors : List ErrorValue
   pub tells : Tells errors text
   pub compared : ℕ
-  pub all : IsRootReport rules closed schema document errors compared
+  pub all : IsRootReportUpTo rules limit closed schema document errors compared
 
 -- a text tells which fields of a document can't be merged, and nothing else
 pub record TellsConflicts {S C : Type 0} (E : S → S → Bool) (schema : Catalog S C) (document : List (Definition S)) (text : List ℕ) : Type 0 where

@@ -104,7 +104,7 @@ fn errors_of(
 ) -> Result<String, ReadError>
     ensures { IfOk result
         (λ text. TellsErrors (⟦<DefaultScalarValue as DialectRules<'static>>⟧.rules_of root.now.schema.dialect)
-        root.now.introspection_disabled root.now.schema document.now (string_bytes text)) }
+        root.now.max_errors root.now.introspection_disabled root.now.schema document.now (string_bytes text)) }
 {
     let errors = root.validate(alloc, document)?;
     let text = lines_of(alloc, errors.as_slice())?;

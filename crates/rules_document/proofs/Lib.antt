@@ -1,3 +1,4 @@
 pub mod Meeting
+pub mod Told
 pub mod Unused
 pub mod FirstMeeting

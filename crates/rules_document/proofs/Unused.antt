@@ -1,5 +1,5 @@
 -- Fragments that no operation reaches, definition by definition.
-use Rattle.std.proofs.Common.{◌≡◌, ◌↔◌, ℕ, List, [], ◌∷◌, ◌++◌, map, refl, sym, subst, ap, arith, inl, inr, ◌⊎◌, Some, slice_get, ◌∙◌, append_assoc, Bool, true, false}
+use Rattle.std.proofs.Common.{◌≡◌, ◌↔◌, ℕ, List, [], ◌∷◌, ◌++◌, map, refl, sym, subst, ap, arith, inl, inr, ◌⊎◌, Some, slice_get, ◌∙◌, Bool, true, false}
 use Rattle.std.specs.List.{Contains}
 use Rattle.std.proofs.lemmas.List.{append-nil, map-append}
 use Rattle.std.proofs.lemmas.List.Elements.{Contains-append_left, Contains-append_right, Contains-append_cases, Contains-push, Contains-push_cases}
@@ -14,6 +14,7 @@ use Rattle.fragment_reach.specs.ReachedFragments.{ReachedOf}
 use Rattle.fragment_reach.specs.declared.reached.ReachedFragments.{ReachedFragments}
 use Rattle.walk.specs.ContextState.{ContextState, with_errors}
 use Rattle.walk.specs.ErrorValue.{ErrorValue}
+use Rattle.walk.proofs.Kept.{with_more, with_none}
 use Rattle.fragment_graph.specs.declared.numbers.Numbers.{Numbers}
 use Rattle.rules_document.specs.declared.met_fragments.MetFragments.{MetFragments}
 use Rattle.rules_document.specs.declared.no_unused_fragments.NoUnusedFragments.{NoUnusedFragments}
@@ -122,12 +123,12 @@ pub reports_more : {S C : Type 0} (fs gs : List NameAndSpan) (w w₁ w₂ : Cont
 reports_more fs gs w w₁ w₂ seen more =
     more
     ∙ ap (λ z. with_errors z (map unused_error gs)) seen
-    ∙ ap (λ zs. record w { errors = zs }) (append_assoc w.errors (map unused_error fs) (map unused_error gs))
+    ∙ with_more w (map unused_error fs) (map unused_error gs)
     ∙ ap (λ zs. with_errors w zs) (sym (map-append unused_error fs gs))
 
 -- nothing was reported
 pub reports_nothing : {S C : Type 0} (w : ContextState S C) → w ≡ with_errors w (map unused_error [])
-reports_nothing w = ap (λ zs. record w { errors = zs }) (sym (append-nil w.errors))
+reports_nothing w = with_none w
 
 pub both : (b : Bool) → b ≡ true → b ≡ false → ⊥
 both b t f = cc

@@ -1,6 +1,6 @@
 //! No fragment spreads itself, directly or through other fragments (GraphQL, October 2021, section 5.5.2.2).
 
-ghost use Rattle.std.specs.Prelude.{◌≡◌, List, None, IfOk, OnOk, OnErr, map, string_bytes};
+ghost use Rattle.std.specs.Prelude.{◌≡◌, ◌∷◌, [], List, None, IfOk, OnOk, OnErr, map, string_bytes};
 ghost use Rattle.language.specs.declared.tree.Definition.{Definition};
 ghost use Rattle.walk.specs.ContextState.{with_errors};
 ghost use Rattle.walk.specs.Rule.{any_value, Appended};
@@ -132,11 +132,26 @@ fn report_all<'a, S: CheckedScalar>(
     ensures ok { OnOk result (ctx.new ≡ with_errors ctx.old (map cycle_error (map name_and_place reports.now))) }
     ensures err { OnErr result (KeepsPlace ctx.old ctx.new) }
 {
-    for report in reports {
-        let message = error_message(alloc, report.fragment)?;
-        ctx.report_error(message.as_str(), &[report.place])?;
+    for cycle in reports {
+        report(alloc, ctx, cycle)?;
     }
     Ok(())
+}
+
+// Reports a cycle, unless no more errors are kept.
+fn report<'a, S: CheckedScalar>(
+    alloc: Global,
+    ctx: &mut ValidatorContext<'a, S>,
+    cycle: &CycleReport<'_>,
+) -> Result<(), OutOfMemory>
+    ensures ok { OnOk result (ctx.new ≡ with_errors ctx.old (cycle_error (name_and_place cycle.now) ∷ [])) }
+    ensures err { OnErr result (KeepsPlace ctx.old ctx.new) }
+{
+    if ctx.is_full() {
+        return Ok(());
+    }
+    let message = error_message(alloc, cycle.fragment)?;
+    ctx.report_error(message.as_str(), &[cycle.place])
 }
 
 fn error_message(alloc: Global, name: &str) -> Result<String, AllocError>

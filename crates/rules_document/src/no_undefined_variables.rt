@@ -1,6 +1,6 @@
 //! Each variable that an operation uses is defined by the operation (GraphQL, October 2021, section 5.8.3).
 
-ghost use Rattle.std.specs.Prelude.{◌≡◌, List, Some, IfOk, OnOk, OnErr, map, option_map, string_bytes};
+ghost use Rattle.std.specs.Prelude.{◌≡◌, ◌∷◌, [], List, Some, IfOk, OnOk, OnErr, map, option_map, string_bytes};
 ghost use Rattle.walk.specs.ContextState.{with_errors};
 ghost use Rattle.walk.specs.Rule.{any_value};
 ghost use Rattle.walk.specs.Step.{KeepsPlace};
@@ -90,13 +90,28 @@ fn report_all<'a, S: CheckedScalar>(
     ensures err { OnErr result (KeepsPlace ctx.old ctx.new) }
 {
     for variable in found {
-        let message = error_message(alloc, variable.name, variable.operation)?;
-        ctx.report_error(
-            message.as_str(),
-            &[variable.place, variable.operation_place],
-        )?;
+        report(alloc, ctx, variable)?;
     }
     Ok(())
+}
+
+// Reports a variable, unless no more errors are kept.
+fn report<'a, S: CheckedScalar>(
+    alloc: Global,
+    ctx: &mut ValidatorContext<'a, S>,
+    variable: &UndefinedVariable<'_>,
+) -> Result<(), OutOfMemory>
+    ensures ok { OnOk result (ctx.new ≡ with_errors ctx.old (undefined_error (undefined_of variable.now) ∷ [])) }
+    ensures err { OnErr result (KeepsPlace ctx.old ctx.new) }
+{
+    if ctx.is_full() {
+        return Ok(());
+    }
+    let message = error_message(alloc, variable.name, variable.operation)?;
+    ctx.report_error(
+        message.as_str(),
+        &[variable.place, variable.operation_place],
+    )
 }
 
 /// Reports each use of a variable that is not defined, by the document's index.

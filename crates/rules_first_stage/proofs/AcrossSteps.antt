@@ -1,5 +1,5 @@
 -- What the rules that look across the document do at an event, one after the other.
-use Rattle.std.proofs.Common.{◌≡◌, List, [], map, refl, sym, ap, append-nil}
+use Rattle.std.proofs.Common.{◌≡◌, List, [], map, refl, sym, ap}
 use denote.Ref.{Bor}
 use Rattle.language.specs.declared.tree.Definition.{Definition}
 use Rattle.events.specs.declared.event.Event.{Event}
@@ -10,6 +10,7 @@ use Rattle.walk.specs.ContextState.{ContextState, DocumentScope, scope_of_contex
 use Rattle.walk.specs.Pair.{no_step}
 use Rattle.walk.specs.Rule.{Appended}
 use Rattle.walk.specs.Step.{Stepped}
+use Rattle.walk.proofs.Kept.{with_none}
 use Rattle.walk.proofs.Runs.{Stepped-pair}
 use Rattle.rules_document.specs.declared.no_fragment_cycles.NoFragmentCycles.{NoFragmentCycles}
 use Rattle.rules_document.specs.AtDocument.{Gives, document_step}
@@ -27,7 +28,7 @@ use Rattle.rules_first_stage.specs.Across.{across_step, last_four_step, last_ste
 
 module _ {S C : Type 0} where
   same_context : (w : ContextState S C) → w ≡ with_errors w []
-  same_context w = ap (λ es. record w { errors = es }) (sym (append-nil w.errors))
+  same_context w = with_none w
 
   -- where no document is left a rule that looks at it there does nothing
   idle_elsewhere : {V : Type 0} (gives : Gives S C V) (scope : DocumentScope S C) (e : Event S) (t : Typing S C) (a : V)

@@ -1,14 +1,18 @@
 //! Each spread names a fragment of the document (GraphQL, October 2021, section 5.5.2.1).
 
-ghost use Rattle.std.specs.Prelude.{◌≡◌, IfOk, string_bytes};
+ghost use Rattle.std.specs.Prelude.{◌≡◌, IfOk, OnErr, OnOk, string_bytes};
+ghost use Rattle.walk.specs.ContextState.{with_errors};
 ghost use Rattle.walk.specs.Entering.{everywhere, finding_step, found};
 ghost use Rattle.walk.specs.Rule.{always, any_value, exactly};
 ghost use Rattle.walk.specs.RuleLaws.{everywhere_silent};
+ghost use Rattle.walk.specs.Step.{KeepsPlace};
 ghost use Rattle.walk.proofs.Entering.{finding_keeps};
-ghost use Rattle.rules_fragments.specs.KnownFragmentNames.{unknown_fragment_message, unknown_fragments, SpreadsKnown};
+ghost use Rattle.rules_fragments.specs.KnownFragmentNames.{unknown_fragment_message, unknown_fragments};
+ghost use Rattle.rules_fragments.specs.KnownFragmentNames.{unknown_name, SpreadsKnown};
 ghost use Rattle.rules_fragments.specs.KnownFragmentNamesLaws.{none_unknown};
 
 use language::error::OutOfMemory;
+use language::position::Spanning;
 use meta::check::CheckedScalar;
 use std::alloc::{AllocError, Global};
 use walk::{Criterion, Event, Fresh, Machine, Rule, SettledRule, ValidatorContext, Visitor};
@@ -55,14 +59,26 @@ impl<'a, S: CheckedScalar> Visitor<'a, S> for KnownFragmentNames {
         event: &Event<'a, S>,
     ) -> Result<(), OutOfMemory> {
         if let Event::EnterFragmentSpread(spread) = event {
-            let name = &spread.item.name;
-            if !ctx.is_known_fragment(name.item) {
-                let message = error_message(self.alloc, name.item)?;
-                ctx.report_error(message.as_str(), &[name.span.start])?;
-            }
+            report_unknown(self.alloc, ctx, &spread.item.name)?;
         }
         Ok(())
     }
+}
+
+// Reports a name that no fragment has.
+fn report_unknown<'a, S: CheckedScalar>(
+    alloc: Global,
+    ctx: &mut ValidatorContext<'a, S>,
+    name: &Spanning<&str>,
+) -> Result<(), OutOfMemory>
+    ensures ok { OnOk result (ctx.new ≡ with_errors ctx.old (unknown_name ctx.old.known name.now)) }
+    ensures err { OnErr result (KeepsPlace ctx.old ctx.new) }
+{
+    if ctx.is_known_fragment(name.item) {
+        return Ok(());
+    }
+    let message = error_message(alloc, name.item)?;
+    ctx.report_error(message.as_str(), &[name.span.start])
 }
 
 fn error_message(alloc: Global, name: &str) -> Result<String, AllocError>

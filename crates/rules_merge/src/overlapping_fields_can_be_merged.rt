@@ -1,7 +1,7 @@
 //! Two fields of one response name in one selection set, with its spreads written out, can be merged (GraphQL, October 2021,
 //! section 5.3.2).
 
-ghost use Rattle.std.specs.Prelude.{◌≡◌, List, IfOk, OnErr, map};
+ghost use Rattle.std.specs.Prelude.{◌≡◌, ◌∷◌, [], List, IfOk, OnErr, OnOk, map};
 ghost use Rattle.walk.specs.ContextState.{with_errors};
 ghost use Rattle.walk.specs.ErrorValue.{ErrorValue};
 ghost use Rattle.walk.specs.Rule.{any_value};
@@ -164,7 +164,17 @@ fn report_all<'a, S: CheckedScalar>(
     ensures err { OnErr result (KeepsPlace ctx.old ctx.new) }
 {
     for conflict in conflicts {
-        ctx.report_error(conflict.message.as_str(), conflict.places.as_slice())?;
+        report(ctx, conflict)?;
     }
     Ok(())
+}
+
+fn report<'a, S: CheckedScalar>(
+    ctx: &mut ValidatorContext<'a, S>,
+    conflict: &Conflict,
+) -> Result<(), OutOfMemory>
+    ensures ok { OnOk result (ctx.new ≡ with_errors ctx.old (error_value (plain_conflict conflict.now) ∷ [])) }
+    ensures err { OnErr result (KeepsPlace ctx.old ctx.new) }
+{
+    ctx.report_error(conflict.message.as_str(), conflict.places.as_slice())
 }

@@ -1,15 +1,19 @@
 //! An operation without a name is the only operation of its document (GraphQL, October 2021, section 5.2.2.1).
 
-ghost use Rattle.std.specs.Prelude.{◌≡◌, length};
+ghost use Rattle.std.specs.Prelude.{◌≡◌, OnErr, OnOk, length};
+ghost use Rattle.walk.specs.ContextState.{with_errors};
 ghost use Rattle.walk.specs.Entering.{everywhere_by, found_by, prepared_step};
 ghost use Rattle.walk.specs.Rule.{always, any_value, exactly};
 ghost use Rattle.walk.specs.RuleLaws.{everywhere_by_silent};
+ghost use Rattle.walk.specs.Step.{KeepsPlace};
 ghost use Rattle.walk.proofs.Entering.{prepared_keeps};
-ghost use Rattle.rules_operations.specs.LoneAnonymousOperation.{operations, has_several, anonymous_among, HasNameAmong};
+ghost use Rattle.rules_operations.specs.LoneAnonymousOperation.{anonymous, anonymous_among, has_several, operations};
+ghost use Rattle.rules_operations.specs.LoneAnonymousOperation.{HasNameAmong};
 ghost use Rattle.rules_operations.specs.LoneAnonymousOperationLaws.{none_anonymous};
 
 use language::error::OutOfMemory;
-use language::tree::Definition;
+use language::position::Spanning;
+use language::tree::{Definition, Operation};
 use meta::check::CheckedScalar;
 use std::alloc::Global;
 use walk::{Criterion, Event, Fresh, Machine, Rule, SettledRule, ValidatorContext, Visitor};
@@ -60,16 +64,30 @@ impl<'a, S: CheckedScalar> Visitor<'a, S> for LoneAnonymousOperation {
                 self.has_several = operation_count(document) > 1;
             }
             Event::EnterOperationDefinition(operation) => {
-                if self.has_several && operation.item.name.is_none() {
-                    ctx.report_error(
-                        "This anonymous operation must be the only defined operation",
-                        &[operation.span.start],
-                    )?;
+                if self.has_several {
+                    report_nameless(ctx, operation)?;
                 }
             }
             _ => {}
         }
         Ok(())
+    }
+}
+
+// Reports an operation without a name.
+fn report_nameless<'a, S: CheckedScalar>(
+    ctx: &mut ValidatorContext<'a, S>,
+    operation: &Spanning<Operation<'_, S>>,
+) -> Result<(), OutOfMemory>
+    ensures ok { OnOk result (ctx.new ≡ with_errors ctx.old (anonymous operation.now)) }
+    ensures err { OnErr result (KeepsPlace ctx.old ctx.new) }
+{
+    match &operation.item.name {
+        Some(_) => Ok(()),
+        None => ctx.report_error(
+            "This anonymous operation must be the only defined operation",
+            &[operation.span.start],
+        ),
     }
 }
 

@@ -6,6 +6,7 @@ use Rattle.walk.specs.ContextState.{ContextState, with_errors}
 use Rattle.walk.specs.Entering.{EachGives}
 use Rattle.walk.specs.ErrorValue.{ErrorValue}
 use Rattle.walk.specs.Rule.{Appended}
+use Rattle.walk.proofs.Kept.{with_more, with_none}
 
 pub false_true : false ≡ true → ⊥
 false_true e = cc
@@ -22,7 +23,7 @@ module _ {S C O : Type 0} (gives : List (MetaTypeOf S C) → O → List ErrorVal
       let q' : gives w.schema.types o fs = subst (λ (z : ContextState S C). gives z.schema.types o fs) e q in (
         es ++ fs,
         each_more (gives w.schema.types) os o es fs p q',
-        e' ∙ ap (λ z. with_errors z fs) e ∙ ap (λ zs. record w { errors = zs }) (append_assoc w.errors es fs),
+        e' ∙ ap (λ z. with_errors z fs) e ∙ with_more w es fs,
       )
 
   -- the same of the next of a list
@@ -42,4 +43,4 @@ module _ {S C O : Type 0} (gives : List (MetaTypeOf S C) → O → List ErrorVal
       subst (λ zs. Appended (EachGives (gives w.schema.types) zs) w w₂) (sym next) (appended_next (map f (take i xs)) (f x) w₁ w₂ p q)
 
   pub appended_none : Appended (EachGives (gives w.schema.types) []) w w
-  appended_none = ([], refl, ap (λ zs. record w { errors = zs }) (sym (append-nil w.errors)))
+  appended_none = ([], refl, with_none w)

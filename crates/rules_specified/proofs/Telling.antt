@@ -14,6 +14,7 @@ use Rattle.language.specs.declared.value.InputValue.{InputValue}
 use Rattle.schema.specs.Catalog.{Catalog}
 use Rattle.walk.specs.ContextState.{ContextState, with_errors}
 use Rattle.walk.specs.ErrorValue.{ErrorValue}
+use Rattle.walk.proofs.Kept.{with_more, with_none}
 use Rattle.rules_specified.specs.Collected.{Collects}
 use Rattle.rules_specified.specs.SingleRootField.{Tells, TellsEach, TellsRoot, is_of_subscription, is_subscription, root_errors, root_name}
 
@@ -23,10 +24,10 @@ neither false b e = (refl, e)
 
 -- nothing is reported
 pub reports_none : {S C : Type 0} (w : ContextState S C) → w ≡ with_errors w []
-reports_none w = ap (λ es. record w { errors = es }) (sym (append-nil w.errors))
+reports_none w = with_none w
 
 pub reports_more : {S C : Type 0} (es fs : List ErrorValue) (w mid last : ContextState S C) → mid ≡ with_errors w es → last ≡ with_errors mid fs → last ≡ with_errors w (es ++ fs)
-reports_more es fs w mid last a b = b ∙ ap (λ z. with_errors z fs) a ∙ ap (λ zs. record w { errors = zs }) (append_assoc w.errors es fs)
+reports_more es fs w mid last a b = b ∙ ap (λ z. with_errors z fs) a ∙ with_more w es fs
 
 module _ {S C : Type 0} (print : InputValue S → List ℕ) (schema : Catalog S C) (document : List (Definition S)) where
   -- of a subscription

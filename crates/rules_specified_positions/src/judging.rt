@@ -125,6 +125,9 @@ impl<'u, S: CheckedScalar> Judge<S, PlacedUse<'u>> for ByDefaults {
         if is_allowed(ctx.schema, &entry.1, found) {
             return Ok(());
         }
+        if ctx.is_full() {
+            return Ok(());
+        }
         let written = entry.1.var_type.item.as_borrowed();
         let message = position_message(alloc, found.variable, written, found.expected)?;
         ctx.report_error(message.as_str(), &[entry.0.span.start, found.place])

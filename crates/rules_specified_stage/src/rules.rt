@@ -1,11 +1,11 @@
 //! The list of the rules of October 2021 in the first stage, and the call that tries them all.
 
-ghost use Rattle.std.specs.Prelude.{◌≡◌, ◌↔◌, IfOk, OnOk, OnErr, IsErr, true};
+ghost use Rattle.std.specs.Prelude.{◌≡◌, IfOk, OnOk, OnErr, IsErr, true};
 ghost use Rattle.walk.specs.ContextState.{IsMadeFor};
-ghost use Rattle.walk.specs.Rule.{Appended, AppendsAllowed, Meets, any_value, at_some_end};
+ghost use Rattle.walk.specs.Rule.{Appended, AppendsAllowed, any_value, at_some_end};
 ghost use Rattle.walk.specs.Step.{KeepsPlace};
 ghost use Rattle.fragment_graph.specs.DocumentCycles.{SearchedDocument};
-ghost use Rattle.rules_first_stage.specs.Stage.{Stage};
+ghost use Rattle.rules_first_stage.specs.Stage.{Stage, stage_reports};
 
 use crate::groups::{Groups, groups};
 use fragment_graph::cycles::DocumentCycles;
@@ -54,11 +54,7 @@ pub fn visit_specified_stage<'a, 't, S: CheckedScalar>(
 ) -> Result<DocumentCycles<'a>, OutOfMemory>
     ensures searched { IfOk result (SearchedDocument document.now) }
     ensures appended { OnOk result (IsMadeFor ctx.old document.now
-        → AppendsAllowed ⟦<S as SpecifiedStage<'a>>⟧.specified_stage.may_report
-        document.now ctx.old ctx.new) }
-    ensures silent { OnOk result (IsMadeFor ctx.old document.now
-        → (ctx.new.errors ≡ ctx.old.errors)
-        ↔ Meets ⟦<S as SpecifiedStage<'a>>⟧.specified_stage.find_nothing ctx.old document.now) }
+        → AppendsAllowed (stage_reports ⟦<S as SpecifiedStage<'a>>⟧.specified_stage) document.now ctx.old ctx.new) }
     ensures only { OnOk result (Appended any_value ctx.old ctx.new) }
     ensures err { OnErr result (KeepsPlace ctx.old ctx.new) }
     ensures failed { OnErr result (ctx.new.failed ≡ true) }

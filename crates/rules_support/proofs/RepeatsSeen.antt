@@ -5,6 +5,7 @@ use Rattle.std.proofs.lemmas.List.{append-nil, take_more, take_all, map-append}
 use Rattle.language.specs.declared.position.SourcePosition.{SourcePosition}
 use Rattle.walk.specs.ContextState.{ContextState, with_errors}
 use Rattle.walk.specs.ErrorValue.{ErrorValue}
+use Rattle.walk.proofs.Kept.{with_more}
 use Rattle.rules_support.specs.Names.{Named, Places}
 use Rattle.rules_support.specs.Noting.{noted}
 use Rattle.rules_support.specs.NotingLaws.{first_place-more}
@@ -45,7 +46,7 @@ seen_more message f xs i x name place p q w w₁ w₂ h e s is_name is_place is_
           is_reported
           ∙ ap (λ z. with_errors z (repeat_at message (p name) n)) s.reported
           ∙ ap (λ z. with_errors (with_errors w (repeats message names)) (repeat_at message (z name) n)) s.noted
-          ∙ ap (λ zs. record w { errors = zs }) (append_assoc w.errors (repeats message names) (repeat_at message (first_place names name) n))
+          ∙ with_more w (repeats message names) (repeat_at message (first_place names name) n)
           ∙ ap (λ zs. with_errors w zs) (sym (repeats-last message [] names n))
           ∙ ap (λ zs. with_errors w (repeats message zs)) more;
     }

@@ -1,15 +1,16 @@
 -- What a loop reports, item by item.
-use Rattle.std.proofs.Common.{◌≡◌, ℕ, ◌+◌, ◌<◌, get_or, List, [], ◌∷◌, ◌++◌, take, length, ap, sym, ◌∙◌, append_assoc}
+use Rattle.std.proofs.Common.{◌≡◌, ℕ, ◌+◌, ◌<◌, get_or, List, [], ◌∷◌, ◌++◌, take, length, ap, sym, ◌∙◌}
 use Rattle.std.specs.List.{flat_map}
 use Rattle.std.proofs.lemmas.List.{append-nil, take_more}
 use Rattle.std.proofs.lemmas.Grind.{flat_map-append}
 use Rattle.schema.specs.Catalog.{Catalog}
 use Rattle.walk.specs.ContextState.{ContextState, with_errors}
 use Rattle.walk.specs.ErrorValue.{ErrorValue}
+use Rattle.walk.proofs.Kept.{with_more, with_none}
 
 -- nothing was reported
 pub reports_none : {S C : Type 0} (w : ContextState S C) → w ≡ with_errors w []
-reports_none w = ap (λ zs. record w { errors = zs }) (sym (append-nil w.errors))
+reports_none w = with_none w
 
 -- what was found at the items that were seen, and then at the next
 pub reports_next : {S C T : Type 0} (finds : T → List ErrorValue) (xs : List T) (i : ℕ) (x d : T) (w w₁ w₂ : ContextState S C) → i < length xs → x ≡ get_or xs i d
@@ -18,7 +19,7 @@ reports_next finds xs i x d w w₁ w₂ h e seen more =
     let before = flat_map finds (take i xs) in
     more
     ∙ ap (λ z. with_errors z (finds x)) seen
-    ∙ ap (λ zs. record w { errors = zs }) (append_assoc w.errors before (finds x))
+    ∙ with_more w before (finds x)
     ∙ ap (λ z. with_errors w (before ++ finds z)) e
     ∙ ap (λ zs. with_errors w (before ++ zs)) (sym (append-nil (finds (get_or xs i d))))
     ∙ ap (λ zs. with_errors w zs) (sym (ap (λ z. flat_map finds z) (take_more xs i d h) ∙ flat_map-append finds (take i xs) (get_or xs i d ∷ [])))

@@ -1,19 +1,20 @@
 -- What is reported of a document in a context that was made for it.
-use Rattle.std.proofs.Common.{◌≡◌, ◌∙◌, ◌++◌, ℕ, List, [], Bool, false, IsPermutation, refl, sym, subst, ap, append_assoc}
+use Rattle.std.proofs.Common.{◌≡◌, ◌∙◌, ◌++◌, ℕ, List, [], Bool, false, IsPermutation, length, refl, sym, subst, ap}
 use Rattle.std.proofs.lemmas.List.{append-nil}
-use Rattle.std.proofs.lemmas.List.Sorted.{IsPermutation-trans}
+use Rattle.std.proofs.lemmas.List.Sorted.{IsPermutation-refl, IsPermutation-trans}
 use Rattle.std.specs.Global.{Global}
 use Rattle.language.specs.declared.tree.Definition.{Definition}
 use Rattle.schema.specs.Catalog.{Catalog}
-use Rattle.walk.specs.ContextState.{ContextState, IsMadeFor, fresh_context, scope_of, typing, with_errors}
+use Rattle.walk.specs.ContextState.{ContextState, IsMadeFor, fitting, fresh_context, limited, scope_of, typing, with_errors}
 use Rattle.walk.specs.ErrorValue.{ErrorValue}
 use Rattle.walk.specs.Rule.{Appended, AppendsAllowed, Collection, any_value, exactly, nothing, together}
 use Rattle.walk.specs.Step.{KeepsPlace}
+use Rattle.walk.proofs.Kept.{fitting_all, with_more, with_none}
 use Rattle.rules_document.specs.AtDocument.{given_at_end}
 use Rattle.rules_merge.specs.declared.overlapping_fields_can_be_merged.OverlappingFieldsCanBeMerged.{OverlappingFieldsCanBeMerged}
 use Rattle.rules_merge.specs.OverlappingFieldsCanBeMerged.{MergeErrors, merge_errors}
 use Rattle.validation.specs.Stages.{AppendsReported, Rules}
-use Rattle.validation.specs.RootRules.{AppendsRootReported, IsRootReport, RootReported, introspection}
+use Rattle.validation.specs.RootRules.{AppendsRootReported, IsRootReport, IsRootReportUpTo, RootReported, introspection}
 use Rattle.validation.proofs.Stages.{merge_permuted}
 
 module _ {S C : Type 0} (rules : Rules S C) (document : List (Definition S)) where
@@ -25,15 +26,31 @@ module _ {S C : Type 0} (rules : Rules S C) (document : List (Definition S)) whe
   abbrev pub RootTells : Bool → ContextState S C → ContextState S C → ℕ → Type 0
   RootTells disabled old new pairs = IsMadeFor old document → AppendsRootReported rules disabled old new document pairs
 
+  -- in a context that was fresh, but for a limit, as much is kept of a report
+  pub told_up_to : (limit : ℕ) (disabled : Bool) (alloc : Global) (schema : Catalog S C) (old new : ContextState S C) (errors : List ErrorValue) (pairs : ℕ)
+      → old ≡ limited (fresh_context alloc schema document) limit → RootTells disabled old new pairs → IsPermutation new.errors errors
+      → IsRootReportUpTo rules limit disabled schema document errors pairs
+  told_up_to limit disabled alloc schema old new errors pairs fresh tells sorted =
+      let (es, told, appended) = tells (ap (λ w. w.known) fresh) in
+      let Of : ContextState S C → Type 0 = λ w. RootReported rules disabled w.errors (scope_of w.schema document) (typing w) document es pairs in
+      let kept : new.errors ≡ fitting limit 0 es = ap (λ w. w.errors) appended ∙ ap (λ w. w.errors ++ fitting w.limit (length w.errors) es) fresh in
+      record {
+        report = es;
+        reported = record { found = es; reported = subst Of fresh told; ordered = IsPermutation-refl es };
+        kept = subst (λ zs. IsPermutation zs errors) kept sorted;
+      }
+
   -- in a fresh context it is all that is reported, in whatever order
   pub told_all : (disabled : Bool) (alloc : Global) (schema : Catalog S C) (old new : ContextState S C) (errors : List ErrorValue) (pairs : ℕ)
       → old ≡ fresh_context alloc schema document → RootTells disabled old new pairs → IsPermutation new.errors errors
       → IsRootReport rules disabled schema document errors pairs
   told_all disabled alloc schema old new errors pairs fresh tells sorted =
-      let (es, told, appended) = tells (ap (λ w. w.known) fresh) in
-      let Of : ContextState S C → Type 0 = λ w. RootReported rules disabled w.errors (scope_of w.schema document) (typing w) document es pairs in
-      let same : new.errors ≡ es = ap (λ w. w.errors) appended ∙ ap (λ w. w.errors ++ es) fresh in
-      record { found = es; reported = subst Of fresh told; ordered = subst (λ zs. IsPermutation zs errors) same sorted }
+      let told = told_up_to 0 disabled alloc schema old new errors pairs fresh tells sorted in
+      record {
+        found = told.reported.found;
+        reported = told.reported.reported;
+        ordered = IsPermutation-trans _ _ _ told.reported.ordered (subst (λ zs. IsPermutation zs errors) (fitting_all 0 told.report) told.kept);
+      }
 
   -- first every rule, and then that on introspection
   pub told_more : (disabled : Bool) (old mid new : ContextState S C) (pairs : ℕ) → Tells old mid pairs
@@ -43,7 +60,7 @@ module _ {S C : Type 0} (rules : Rules S C) (document : List (Definition S)) whe
       let (es, reported, appended) = tells known in
       let After : ContextState S C → Type 0 = λ w. AppendsAllowed (introspection disabled) document w new in
       let (fs, asked, both) = subst After appended (more (ap (λ w. w.known) appended ∙ known)) in
-      (es ++ fs, record { of_rules = es; reported = reported; asked = fs; introspected = asked; all = refl }, both ∙ ap (λ zs. record old { errors = zs }) (append_assoc old.errors es fs))
+      (es ++ fs, record { of_rules = es; reported = reported; asked = fs; introspected = asked; all = refl }, both ∙ with_more old es fs)
 
 module _ {S C : Type 0} (E : S → S → Bool) (document : List (Definition S)) where
   -- the rule on fields that can be merged, which was alone in its list, in a fresh context
@@ -53,14 +70,14 @@ module _ {S C : Type 0} (E : S → S → Bool) (document : List (Definition S)) 
       → IsPermutation new.errors errors → MergeErrors E schema document end errors
   merging_told alloc schema old new end errors fresh tells sorted =
       let (es, (fs, gs, told, none_else, p), appended) = tells (ap (λ w. w.known) fresh) in
-      let same : new.errors ≡ es = ap (λ w. w.errors) appended ∙ ap (λ w. w.errors ++ es) fresh in
+      let same : new.errors ≡ es = ap (λ w. w.errors) appended ∙ ap (λ w. w.errors ++ fitting w.limit (length w.errors) es) fresh ∙ fitting_all 0 es in
       merge_permuted E schema document end fs gs errors (subst (λ w. MergeErrors E w.schema document end fs) fresh told) none_else (IsPermutation-trans _ _ _ p (subst (λ zs. IsPermutation zs errors) same sorted))
 
 module _ {S C : Type 0} where
   -- errors alone were appended, and then others
   pub only_more : (old mid new : ContextState S C) → Appended any_value old mid → Appended any_value mid new → Appended any_value old new
   only_more old mid new (es, u, e) (fs, v, d) =
-      (es ++ fs, tt, d ∙ ap (λ w. with_errors w fs) e ∙ ap (λ zs. record old { errors = zs }) (append_assoc old.errors es fs))
+      (es ++ fs, tt, d ∙ ap (λ w. with_errors w fs) e ∙ with_more old es fs)
 
   -- errors alone were appended, and then a call failed
   pub kept_place : (old mid new : ContextState S C) → Appended any_value old mid → KeepsPlace mid new → KeepsPlace old new
@@ -82,4 +99,4 @@ module _ {S C : Type 0} where
 
   -- no rule appends nothing
   pub none_appended : (document : List (Definition S)) (old : ContextState S C) → AppendsAllowed (introspection false) document old old
-  none_appended document old = ([], refl, ap (λ zs. record old { errors = zs }) (sym (append-nil old.errors)))
+  none_appended document old = ([], refl, with_none old)

@@ -5,15 +5,16 @@ use Rattle.std.proofs.lemmas.List.Sorted.{IsPermutation-sym}
 use Rattle.language.specs.declared.tree.Definition.{Definition}
 use Rattle.schema.specs.Catalog.{Catalog}
 use Rattle.events.specs.Typing.{Typing, untyped}
-use Rattle.walk.specs.ContextState.{DocumentScope, scope_of}
+use Rattle.walk.specs.ContextState.{DocumentScope, fitting, scope_of}
 use Rattle.walk.specs.Entering.{everywhere}
 use Rattle.walk.specs.RuleLaws.{everywhere_silent}
 use Rattle.walk.specs.ErrorValue.{ErrorValue}
+use Rattle.walk.proofs.Kept.{first_place, none_fits}
 use Rattle.rules_fields.specs.DisableIntrospection.{introspection_fields, AsksNoSchema}
 use Rattle.rules_fields.specs.DisableIntrospectionLaws.{none_introspection}
 use Rattle.rules_first_stage.specs.CleanStage.{IsCleanWhere}
 use Rattle.rules_first_stage.proofs.Distinct.{left_none, right_none}
-use Rattle.validation.specs.RootRules.{IsRootReport, IsRootValid, introspection}
+use Rattle.validation.specs.RootRules.{IsRootReport, IsRootReportUpTo, IsRootValid, introspection}
 use Rattle.validation.specs.Stages.{Rules}
 use Rattle.validation.proofs.Stages.{none_iff, permuted_none}
 
@@ -37,4 +38,17 @@ module _ {S C : Type 0} (rules : Rules S C) (schema : Catalog S C) (document : L
         λ (v, h).
             let none_told : r.found ≡ [] = told ∙ ap (λ zs. zs ++ r.reported.asked) (valid.1 v) ∙ asked.1 h in
             permuted_none _ (subst (λ z. IsPermutation z errors) none_told r.ordered),
+      )
+
+  pub root_valid_up_to : (limit : ℕ) (disabled : Bool) (errors : List ErrorValue) (pairs : ℕ)
+      → IsRootReportUpTo rules limit disabled schema document errors pairs → IsCleanWhere rules.first_stage.find_nothing
+      → (errors ≡ []) ↔ IsRootValid rules disabled schema document
+  root_valid_up_to limit disabled errors pairs r clean =
+      let valid = root_valid disabled r.report pairs r.reported clean in (
+        λ e.
+            let none_kept = permuted_none _ (IsPermutation-sym _ _ (subst (λ z. IsPermutation (fitting limit 0 r.report) z) e r.kept)) in
+            valid.0 (none_fits limit 0 r.report (first_place limit) none_kept),
+        λ v.
+            let none_kept : fitting limit 0 r.report ≡ [] = ap (fitting limit 0) (valid.1 v) in
+            permuted_none _ (subst (λ z. IsPermutation z errors) none_kept r.kept),
       )

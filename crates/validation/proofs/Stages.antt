@@ -1,5 +1,5 @@
 -- Two stages as one.
-use Rattle.std.proofs.Common.{◌≡◌, ◌∙◌, ◌↔◌, ◌++◌, ◌≤◌, ◌*◌, ◌-◌, ℕ, List, [], ◌∷◌, Bool, true, false, ap, map, refl, sym, subst, IsPermutation, length, length-append, arith}
+use Rattle.std.proofs.Common.{◌≡◌, ◌∙◌, ◌↔◌, ◌++◌, ◌≤◌, ◌*◌, ◌-◌, ℕ, List, [], ◌∷◌, Bool, true, false, ap, map, refl, sym, subst, IsPermutation, length, arith}
 use Rattle.std.proofs.lemmas.Bool.{true≢false}
 use Rattle.std.proofs.lemmas.List.{append-nil, nil_from_length}
 use Rattle.std.proofs.lemmas.List.Sorted.{IsPermutation-sym, IsPermutation-trans, length_permutation}
@@ -16,9 +16,11 @@ use Rattle.merge_document.specs.Merging.{DocumentMerges}
 use Rattle.merge_document.specs.Conflicts.{IsTidyDocument}
 use Rattle.rules_merge.specs.declared.overlapping_fields_can_be_merged.OverlappingFieldsCanBeMerged.{OverlappingFieldsCanBeMerged}
 use Rattle.rules_merge.specs.OverlappingFieldsCanBeMerged.{MergeErrors, error_value}
-use Rattle.walk.specs.ContextState.{ContextState, DocumentScope, has_some, scope_of, typing, with_errors}
+use Rattle.walk.specs.ContextState.{ContextState, DocumentScope, fitting, has_some, scope_of, typing, with_errors}
 use Rattle.walk.specs.ErrorValue.{ErrorValue}
-use Rattle.walk.specs.Rule.{AppendsAllowed, Meets}
+use Rattle.walk.specs.Rule.{AppendsAllowed}
+use Rattle.walk.proofs.Kept.{empty_has_room, kept_none, with_none}
+use Rattle.rules_first_stage.specs.Stage.{stage_reports}
 use Rattle.rules_first_stage.specs.CleanStage.{CleanDocument, IsCleanWhere}
 use Rattle.events.specs.Node.{field, inline_fragment}
 use Rattle.merge_walk_laws.proofs.Agreeing.{inlines_occur, fields_are_tidy, tidy_arguments}
@@ -35,10 +37,6 @@ not_none xs some empty = true≢false (sym some ∙ ap has_some empty)
 pub is_none : {X : Type 0} (xs : List X) → has_some xs ≡ false → xs ≡ []
 is_none [] e = refl
 is_none (x ∷ xs) e = absurd (true≢false e)
-
--- what is appended and changes nothing is nothing
-no_more : {X : Type 0} (xs ys : List X) → xs ++ ys ≡ xs → ys ≡ []
-no_more xs ys e = nil_from_length ys (omega (arith, length-append xs ys, ap length e))
 
 -- a clean document repeats no argument, nor a key in one
 pub tidy_where_clean : {S C : Type 0} (schema : Catalog S C) (t : Typing S C) (document : List (Definition S)) → CleanDocument schema t document → IsTidyDocument schema document
@@ -69,33 +67,36 @@ module _ {S C : Type 0} (E : S → S → Bool) (schema : Catalog S C) where
 
 module _ {S C : Type 0} (rules : Rules S C) where
   -- the first stage reported, or there were errors before
-  pub after_one : (old new : ContextState S C) (document : List (Definition S)) → AppendsAllowed rules.first_stage.may_report document old new → (new.errors ≡ old.errors) ↔ Meets rules.first_stage.find_nothing old document
+  pub after_one : (old new : ContextState S C) (document : List (Definition S)) → AppendsAllowed (stage_reports rules.first_stage) document old new
       → has_some new.errors ≡ true → AppendsReported rules old new document 0
-  after_one old new document (es, allowed, e) silent some =
-      let told : new.errors ≡ old.errors ++ es = ap (λ w. w.errors) e in
-      let settled : (es ≡ []) ↔ Meets rules.first_stage.find_nothing old document = (
-        λ nothing. silent.0 (told ∙ ap (λ z. old.errors ++ z) nothing ∙ append-nil old.errors),
-        λ met. no_more old.errors es (sym told ∙ silent.1 met),
-      ) in
-      (es, of_stage_one allowed settled (λ nothing. not_none new.errors some (ap (λ w. w.errors) e ∙ nothing)), e)
+  after_one old new document (es, (allowed, settled), e) some =
+      let none_kept : old.errors ++ es ≡ [] → old.errors ++ fitting old.limit (length old.errors) es ≡ [] = λ nothing.
+      let none_before : old.errors ≡ [] = left_none old.errors es nothing in
+      let none_now : es ≡ [] = ap (λ zs. zs ++ es) (sym none_before) ∙ nothing in
+      sym (ap (λ w. w.errors) (with_none old) ∙ ap (λ zs. (with_errors old zs).errors) (sym none_now)) ∙ none_before
+      in
+      (es, of_stage_one allowed settled (λ nothing. not_none new.errors some (ap (λ w. w.errors) e ∙ none_kept nothing)), e)
 
   module _ (old mid new : ContextState S C) (document : List (Definition S)) where
     abbrev Two : ℕ → Type 0
     Two pairs = (es : List ErrorValue) × (end : OverlappingFieldsCanBeMerged) × MergeErrors rules.same mid.schema document end es × (end.compared ≡ pairs) × (new ≡ with_errors mid es)
 
     -- neither reported anything before the second stage
-    pub after_two : IsCleanWhere rules.first_stage.find_nothing → AppendsAllowed rules.first_stage.may_report document old mid → (mid.errors ≡ old.errors) ↔ Meets rules.first_stage.find_nothing old document → has_some mid.errors ≡ false → (pairs : ℕ) → Two pairs
+    pub after_two : IsCleanWhere rules.first_stage.find_nothing → AppendsAllowed (stage_reports rules.first_stage) document old mid → has_some mid.errors ≡ false → (pairs : ℕ) → Two pairs
         → AppendsReported rules old new document pairs
-    after_two clean (fs, allowed, e) silent quiet pairs (es, end, told, counted, e') =
-        let none_now : mid.errors ≡ [] = is_none mid.errors quiet in
-        let none_before : old.errors ≡ [] = left_none old.errors fs (sym (ap (λ w. w.errors) e) ∙ none_now) in
+    after_two clean (fs, (allowed, settled), e) quiet pairs (es, end, told, counted, e') =
+        let none_kept : old.errors ++ fitting old.limit (length old.errors) fs ≡ [] = sym (ap (λ w. w.errors) e) ∙ is_none mid.errors quiet in
+        let none_before : old.errors ≡ [] = left_none old.errors (fitting old.limit (length old.errors) fs) none_kept in
+        let none_fits : fitting old.limit (length old.errors) fs ≡ [] = ap (λ zs. zs ++ fitting old.limit (length old.errors) fs) (sym none_before) ∙ none_kept in
+        let none_now : fs ≡ [] = kept_none old fs (empty_has_room old none_before) none_fits in
+        let same : mid ≡ old = e ∙ ap (with_errors old) none_now ∙ sym (with_none old) in
         let here : MergeErrors rules.same old.schema document end es = subst (λ z. MergeErrors rules.same z document end es) (ap (λ w. w.schema) e) told in
-        let found = silent.0 (none_now ∙ sym none_before) in
+        let found = settled.0 none_now in
         let c = clean old.schema (typing old) document found in
         let reported = of_stage_two none_before found here (here.all c.no_cycle (tidy_where_clean old.schema (typing old) document c) (known_where_clean old.schema (typing old) document c)) in (
           es,
           subst (λ n. Reported rules old.errors (scope_of old.schema document) (typing old) document es n) counted reported,
-          e' ∙ ap (λ w. with_errors w es) e ∙ ap (λ zs. record old { errors = zs ++ es }) (sym (ap (λ w. w.errors) e) ∙ none_now ∙ sym none_before),
+          e' ∙ ap (λ w. with_errors w es) same,
         )
 
   -- nothing is reported if and only if the document is valid
@@ -137,5 +138,8 @@ module _ {S C : Type 0} (rules : Rules S C) (old new : ContextState S C) (docume
   pub valid_iff : (pairs : ℕ) → AppendsReported rules old new document pairs → IsCleanWhere rules.first_stage.find_nothing → old.errors ≡ [] → (new.errors ≡ []) ↔ IsValidIn rules old document
   valid_iff pairs (es, reported, e) clean empty =
       let judged = none_iff rules clean old.schema (typing old) document old.errors es pairs empty reported in
-      let now : new.errors ≡ es = ap (λ w. w.errors) e ∙ ap (λ zs. zs ++ es) empty in
-      (λ nothing. judged.0 (sym now ∙ nothing), λ v. now ∙ judged.1 v)
+      let kept = fitting old.limit (length old.errors) es in
+      let now : new.errors ≡ kept = ap (λ w. w.errors) e ∙ ap (λ zs. zs ++ kept) empty in (
+        λ nothing. judged.0 (kept_none old es (empty_has_room old empty) (sym now ∙ nothing)),
+        λ v. ap (λ w. w.errors) (e ∙ ap (with_errors old) (judged.1 v) ∙ sym (with_none old)) ∙ empty,
+      )

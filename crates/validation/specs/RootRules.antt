@@ -3,7 +3,7 @@ use Rattle.std.specs.Prelude.{◌≡◌, Bool, true, false, ℕ, List, [], ◌++
 use Rattle.language.specs.declared.tree.Definition.{Definition}
 use Rattle.schema.specs.Catalog.{Catalog}
 use Rattle.events.specs.Typing.{Typing, untyped}
-use Rattle.walk.specs.ContextState.{ContextState, DocumentScope, scope_of, typing, with_errors}
+use Rattle.walk.specs.ContextState.{ContextState, DocumentScope, fitting, scope_of, typing, with_errors}
 use Rattle.walk.specs.Entering.{everywhere, found}
 use Rattle.walk.specs.ErrorValue.{ErrorValue}
 use Rattle.walk.specs.Rule.{Allowance, exactly, nothing}
@@ -35,6 +35,12 @@ module _ {S C : Type 0} (rules : Rules S C) where
     pub found : List ErrorValue
     pub reported : RootReported disabled [] (scope_of schema document) untyped document found pairs
     pub ordered : IsPermutation found errors
+
+  -- so many of the errors of a report, or all for 0
+  pub record IsRootReportUpTo (limit : ℕ) (disabled : Bool) (schema : Catalog S C) (document : List (Definition S)) (errors : List ErrorValue) (pairs : ℕ) : Type 0 where
+    pub report : List ErrorValue
+    pub reported : IsRootReport disabled schema document report pairs
+    pub kept : IsPermutation (fitting limit 0 report) errors
 
   -- the document is valid, and where introspection is disabled no field asks for the schema
   abbrev pub IsRootValid : Bool → Catalog S C → List (Definition S) → Type 0

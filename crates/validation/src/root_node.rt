@@ -5,7 +5,8 @@ ghost use Rattle.walk.specs.ContextState.{IsMadeFor};
 ghost use Rattle.walk.specs.ErrorValue.{error_cmp};
 ghost use Rattle.walk.specs.Rule.{Appended, AppendsAllowed, any_value};
 ghost use Rattle.walk.specs.Step.{KeepsPlace};
-ghost use Rattle.validation.specs.RootRules.{AppendsRootReported, IsRootReport, IsRootValid, introspection};
+ghost use Rattle.validation.specs.RootRules.{AppendsRootReported, IsRootReportUpTo};
+ghost use Rattle.validation.specs.RootRules.{IsRootValid, introspection};
 
 use crate::dialects::{DialectRules, clean_by_each_dialect, visit_dialect_rules};
 use crate::rules::{AllRules, disable_introspection, visit_all_rules};
@@ -17,24 +18,27 @@ use schema::model::{Dialect, SchemaTypeOf};
 use std::alloc::Global;
 use walk::{MultiVisitorNil, RuleError, ValidatorContext, visit_rules};
 
-/// A schema, and whether documents may ask for the schema itself (GraphQL, October 2021, section 4).
+/// A schema, whether documents may ask for the schema itself (GraphQL, October 2021, section 4), and how many errors of
+/// a document are reported at most, or 0 for all.
 #[derive(Drop)]
 pub struct RootNodeOf<S, C> {
     pub schema: SchemaTypeOf<S, C>,
     pub introspection_disabled: bool,
+    pub max_errors: usize,
 }
 
 /// The root node of a schema, with the checks that its kind of scalars has.
 pub type RootNode<S = DefaultScalarValue> = RootNodeOf<S, <S as CheckedScalar>::Check>;
 
 impl<S, C> RootNodeOf<S, C> {
-    /// The root node of a schema, for which introspection is allowed.
+    /// The root node of a schema, for which introspection is allowed, and all errors are reported.
     pub fn new(schema: SchemaTypeOf<S, C>) -> RootNodeOf<S, C>
-        ensures { result ≡ record { schema = schema; introspection_disabled = false } }
+        ensures { result ≡ record { schema = schema; introspection_disabled = false; max_errors = 0 } }
     {
         RootNodeOf {
             schema,
             introspection_disabled: false,
+            max_errors: 0,
         }
     }
 
@@ -45,6 +49,7 @@ impl<S, C> RootNodeOf<S, C> {
         RootNodeOf {
             schema: self.schema,
             introspection_disabled: true,
+            max_errors: self.max_errors,
         }
     }
 
@@ -57,6 +62,18 @@ impl<S, C> RootNodeOf<S, C> {
         RootNodeOf {
             schema,
             introspection_disabled: self.introspection_disabled,
+            max_errors: self.max_errors,
+        }
+    }
+
+    /// Has at most so many errors of a document reported, or all for 0.
+    pub fn with_max_errors(self, max_errors: usize) -> RootNodeOf<S, C>
+        ensures { result ≡ record self { max_errors = max_errors } }
+    {
+        RootNodeOf {
+            schema: self.schema,
+            introspection_disabled: self.introspection_disabled,
+            max_errors,
         }
     }
 
@@ -67,13 +84,16 @@ impl<S, C> RootNodeOf<S, C> {
         RootNodeOf {
             schema: self.schema,
             introspection_disabled: false,
+            max_errors: self.max_errors,
         }
     }
 }
 
 impl<S: CheckedScalar> RootNodeOf<S, S::Check> {
-    /// Validates a document: by every rule of the schema's dialect, and by the rule on introspection where it is disabled. Returns the
-    /// errors in ascending order. There are none if and only if the document is valid.
+    /// Validates a document: by every rule of the schema's dialect, and by the rule on introspection where it is
+    /// disabled. Returns the errors in ascending order. There are none if and only if the document is valid.
+    ///
+    /// Where there are as many as `max_errors`, each is one of the document's, and there may be more. Else they are all.
     ///
     /// # Errors
     ///
@@ -84,8 +104,8 @@ impl<S: CheckedScalar> RootNodeOf<S, S::Check> {
         document: &'a [Definition<'_, S>],
     ) -> Result<Vec<RuleError>, OutOfMemory>
         ensures all { IfOk result (λ errors. (pairs : ℕ)
-            × IsRootReport (⟦<S as DialectRules<'a>>⟧.rules_of self.now.schema.dialect) self.now.introspection_disabled
-            self.now.schema document.now errors.items pairs) }
+            × IsRootReportUpTo (⟦<S as DialectRules<'a>>⟧.rules_of self.now.schema.dialect) self.now.max_errors
+            self.now.introspection_disabled self.now.schema document.now errors.items pairs) }
         ensures valid { IfOk result (λ errors. (errors.items ≡ [])
             ↔ IsRootValid (⟦<S as DialectRules<'a>>⟧.rules_of self.now.schema.dialect)
             self.now.introspection_disabled self.now.schema document.now) }
@@ -93,6 +113,7 @@ impl<S: CheckedScalar> RootNodeOf<S, S::Check> {
     {
         clean_by_each_dialect::<S>();
         let mut ctx = ValidatorContext::new(alloc, &self.schema, document)?;
+        ctx.set_limit(self.max_errors);
         visit_dialect_rules(&mut ctx, document)?;
         report_introspection(&mut ctx, document, self.introspection_disabled)?;
         ctx.into_errors()

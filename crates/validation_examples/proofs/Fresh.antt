@@ -1,5 +1,5 @@
 -- What is found of a document in a context that was made for it.
-use Rattle.std.proofs.Common.{◌≡◌, ◌↔◌, ◌++◌, ◌∙◌, ℕ, Bool, false, List, [], IsPermutation, ap, subst, sym}
+use Rattle.std.proofs.Common.{◌≡◌, ◌↔◌, ◌++◌, ◌∙◌, ℕ, Bool, false, List, [], IsPermutation, ap, length, subst, sym}
 use Rattle.std.proofs.lemmas.List.{append-nil}
 use Rattle.std.specs.Global.{Global}
 use Rattle.language.specs.declared.tree.Definition.{Definition}
@@ -8,8 +8,9 @@ use Rattle.events.specs.TypedEvent.{typed_events}
 use Rattle.events.specs.Typing.{untyped}
 use Rattle.walk.specs.declared.multi_visitor.MultiVisitorCons.{MultiVisitorCons}
 use Rattle.walk.specs.declared.multi_visitor.MultiVisitorNil.{MultiVisitorNil}
-use Rattle.walk.specs.ContextState.{ContextState, IsMadeFor, fresh_context, has_some, scope_of, typing}
+use Rattle.walk.specs.ContextState.{ContextState, IsMadeFor, fitting, fresh_context, has_some, scope_of, typing}
 use Rattle.walk.specs.ErrorValue.{ErrorValue}
+use Rattle.walk.proofs.Kept.{fitting_all}
 use Rattle.walk.specs.Pair.{no_step, pair_step}
 use Rattle.walk.specs.PairLaws.{pair_splits}
 use Rattle.walk.specs.RuleLaws.{nil_keeps}
@@ -25,7 +26,7 @@ module _ {S C : Type 0} (document : List (Definition S)) (alloc : Global) (schem
   by_all new rules pairs tells =
       let (es, told, appended) = tells (ap (λ w. w.known) fresh) in
       let Of : ContextState S C → Type 0 = λ w. Reported rules w.errors (scope_of w.schema document) (typing w) document es pairs in
-      let same : new.errors ≡ es = ap (λ w. w.errors) appended ∙ ap (λ w. w.errors ++ es) fresh in
+      let same : new.errors ≡ es = ap (λ w. w.errors) appended ∙ ap (λ w. w.errors ++ fitting w.limit (length w.errors) es) fresh ∙ fitting_all 0 es in
       subst (λ found. Reported rules [] (scope_of schema document) untyped document found pairs) (sym same) (subst Of fresh told)
 
   -- nothing by all rules if and only if it is valid
@@ -48,7 +49,7 @@ module _ {S C : Type 0} (document : List (Definition S)) (alloc : Global) (schem
       let both = pair_splits step no_step (scope_of schema document) events a b es run in
       let none_else : both.by_other ≡ [] = nil_keeps a.1 tt schema untyped document b.1 both.by_other both.other_runs in
       let all : both.by_newer ++ both.by_other ≡ both.by_newer = ap (λ others. both.by_newer ++ others) none_else ∙ append-nil both.by_newer in
-      let reported : IsPermutation (both.by_newer ++ both.by_other) new.errors = subst (IsPermutation (both.by_newer ++ both.by_other)) (sym (ap (λ w. w.errors) appended)) both.together in (
+      let reported : IsPermutation (both.by_newer ++ both.by_other) new.errors = subst (IsPermutation (both.by_newer ++ both.by_other)) (sym (ap (λ w. w.errors) appended ∙ fitting_all 0 es)) both.together in (
         both.by_newer,
         subst (λ list. Run (step (scope_of schema document)) events list.0 b.0 both.by_newer) alone both.newer_runs,
         subst (λ found. IsPermutation found new.errors) all reported,

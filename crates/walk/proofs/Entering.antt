@@ -1,5 +1,5 @@
 -- A run through the events of an outline, by steps where nodes are entered, is a run through its occurrences.
-use Rattle.std.proofs.Common.{◌≡◌, List, [], ◌∷◌, ◌++◌, false, refl, ap, sym, ◌∙◌, subst, append_assoc, IsPermutation}
+use Rattle.std.proofs.Common.{◌≡◌, List, [], ◌∷◌, ◌++◌, false, refl, ap, sym, ◌∙◌, subst, IsPermutation}
 use Rattle.std.proofs.lemmas.List.Sorted.{IsPermutation-refl}
 use Rattle.std.proofs.lemmas.List.{append-nil}
 use Rattle.std.specs.List.{flat_map}
@@ -11,8 +11,7 @@ use Rattle.events.specs.Outline.{Outline, empty, entry, each, outline_of_definit
 use Rattle.events.specs.TypedEvent.{leaving, TypedEvent, events_of}
 use Rattle.events.specs.Occurrence.{Occurrence, occurrences_of, occurrences, is_document}
 use Rattle.events.specs.Node.{Node}
-use Rattle.events.specs.Typing.{Typing}
-use Rattle.events.proofs.Occurrences.{Inner, IsInner, inner-document, inner-occurrences}
+use Rattle.events.proofs.Occurrences.{IsInner, inner-document, inner-occurrences}
 use Rattle.walk.specs.Step.{Run}
 use Rattle.walk.specs.Rule.{AllowsFrom, always, exactly, any_value}
 use Rattle.walk.specs.Entering.{entering_step, finding_step, found, relating_step, given, EachGives, keeping_step, found_keeping, kept_findings, kept_to, kept_after, made_at, prepared_step, found_by}

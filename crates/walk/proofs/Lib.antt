@@ -1,4 +1,5 @@
 pub mod Entering
+pub mod Kept
 pub mod Orders
 pub mod Replaced
 pub mod Runs

@@ -5,8 +5,9 @@ use Rattle.walk.specs.declared.multi_visitor.MultiVisitorCons.{MultiVisitorCons}
 use Rattle.walk.specs.Pair.{pair_step}
 use Rattle.walk.specs.ErrorValue.{ErrorValue}
 use Rattle.events.specs.Typing.{Typing}
-use Rattle.walk.specs.ContextState.{ContextState, HasTypes, scope_of_context, with_errors, typing, pushed, popped, or_untyped}
+use Rattle.walk.specs.ContextState.{ContextState, HasTypes, fitting, scope_of_context, with_errors, typing, pushed, popped, or_untyped}
 use Rattle.events.specs.TypedEvent.{TypedEvent}
+use Rattle.walk.proofs.Kept.{with_more, with_none}
 use Rattle.walk.specs.Step.{StepOf, Run, Stepped, Ran, KeepsPlace}
 
 module _ {E V R : Type 0} (step : E → V → V → List R → Type 0) where
@@ -52,14 +53,14 @@ pub popped-pushed : {S C : Type 0} (w : ContextState S C) (t : Typing S C) → p
 popped-pushed w t = ap (λ ts. record w { typings = ts }) (take-pushed w.typings t)
 
 pub popped-reported : {S C : Type 0} (w : ContextState S C) (t : Typing S C) (es : List ErrorValue) → popped (with_errors (pushed w t) es) ≡ with_errors w es
-popped-reported w t es = ap (λ ts. record w { typings = ts; errors = w.errors ++ es }) (take-pushed w.typings t)
+popped-reported w t es = ap (λ ts. record w { typings = ts; errors = w.errors ++ fitting w.limit (length w.errors) es }) (take-pushed w.typings t)
 
 pub popped-left : {S C : Type 0} (w left : ContextState S C) (t : Typing S C) → left.typings ≡ (pushed w t).typings → (popped left).typings ≡ w.typings
 popped-left w left t e = ap (λ ts. take (length ts - 1) ts) e ∙ take-pushed w.typings t
 
 module _ {S C V : Type 0} (step : StepOf S C V) where
   pub Ran-none : (a : V) (w : ContextState S C) → Ran step [] a a w w
-  Ran-none a w = ([], (refl, refl), ap (λ es. record w { errors = es }) (sym (append-nil w.errors)))
+  Ran-none a w = ([], (refl, refl), with_none w)
 
   pub Ran-one : (m : TypedEvent S C) (a b : V) (w w' : ContextState S C) → Stepped step m a b w w' → Ran step (m ∷ []) a b w w'
   Ran-one m a b w w' (es, s, e) = (es, Run-one (step (scope_of_context w)) m a b es s, e)
@@ -68,7 +69,7 @@ module _ {S C V : Type 0} (step : StepOf S C V) where
   pub Ran-append : (ms ns : List (TypedEvent S C)) (a b c : V) (w w' w'' : ContextState S C) → Ran step ms a b w w' → Ran step ns b c w' w'' → Ran step (ms ++ ns) a c w w''
   Ran-append ms ns a b c w w' w'' (es, r, e) (fs, s, e') =
       let s' = subst (λ z. Run (step (scope_of_context z)) ns b c fs) e s in
-      (es ++ fs, Run-append (step (scope_of_context w)) ms ns a b c es fs r s', e' ∙ ap (λ z. with_errors z fs) e ∙ ap (λ zs. record w { errors = zs }) (append_assoc w.errors es fs))
+      (es ++ fs, Run-append (step (scope_of_context w)) ms ns a b c es fs r s', e' ∙ ap (λ z. with_errors z fs) e ∙ with_more w es fs)
 
   -- a step at types that were pushed for it
   pub Stepped-pushed : (m : Typing S C → TypedEvent S C) (t : Typing S C) (a b : V) (w w₁ w₂ w₃ : ContextState S C) → w₁ ≡ pushed w t → Stepped step (m (typing w₁)) a b w₁ w₂ → w₃ ≡ popped w₂ → Stepped step (m t) a b w w₃
@@ -101,7 +102,7 @@ pub Stepped-pair : {S C V W : Type 0} (newer : StepOf S C V) (other : StepOf S C
     → Stepped newer (m (typing w)) a.0 b.0 w w₁ → Stepped other (m (typing w₁)) a.1 b.1 w₁ w₂ → Stepped (pair_step newer other) (m (typing w)) a b w w₂
 Stepped-pair newer other m a b w w₁ w₂ (es, s, e) (fs, t, e') =
     let t' = subst (λ z. other (scope_of_context z) (m (typing z)) a.1 b.1 fs) e t in
-    (es ++ fs, (es, fs, s, t', refl), e' ∙ ap (λ z. with_errors z fs) e ∙ ap (λ zs. record w { errors = zs }) (append_assoc w.errors es fs))
+    (es ++ fs, (es, fs, s, t', refl), e' ∙ ap (λ z. with_errors z fs) e ∙ with_more w es fs)
 
 -- what holds holds at an error, and at a value
 pub OnErr-from : {T E : Type 0} (P : Type 0) (r : Result T E) → P → OnErr r P

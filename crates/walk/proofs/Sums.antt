@@ -1,20 +1,15 @@
 -- Rules that report nothing.
-use Rattle.std.proofs.Common.{◌≡◌, ◌↔◌, List, [], ◌∷◌, ◌++◌, refl, ap, sym, ◌∙◌, subst, length, length-append, arith}
-use Rattle.std.proofs.lemmas.List.{append-nil, nil_from_length}
+use Rattle.std.proofs.Common.{◌≡◌, List, [], ◌∷◌, ◌++◌, refl, ap, sym, ◌∙◌, subst}
 use Rattle.language.specs.declared.tree.Definition.{Definition}
 use Rattle.walk.specs.ErrorValue.{ErrorValue}
-use Rattle.walk.specs.ContextState.{ContextState, DocumentScope}
-use Rattle.events.specs.Typing.{Typing}
-use Rattle.walk.specs.Rule.{Allowance, Appended, Condition, Settled, SilentIff}
+use Rattle.walk.specs.ContextState.{ContextState, DocumentScope, scope_of, typing}
+use Rattle.walk.specs.Rule.{Allowance, AppendsAllowed, Condition, Settled, SilentIff, settled_by}
 use Rattle.walk.specs.Entering.{given, EachGives}
 use Rattle.events.specs.Occurrence.{Occurrence, occurrences}
 
 left_none : {X : Type 0} (xs ys : List X) → xs ++ ys ≡ [] → xs ≡ []
 left_none [] ys e = refl
 left_none (x ∷ xs) ys e = cc
-
-no_more : {X : Type 0} (xs ys : List X) → xs ++ ys ≡ xs → ys ≡ []
-no_more xs ys e = nil_from_length ys (omega (arith, length-append xs ys, ap length e))
 
 each_settled : {O : Type 0} (gives : O → List ErrorValue → Type 0) → ((o : O) (es : List ErrorValue) → gives o [] → gives o es → es ≡ []) → (os : List O) (es : List ErrorValue) → EachGives gives os [] → EachGives gives os es → es ≡ []
 each_settled gives h [] es none p = p
@@ -28,10 +23,8 @@ module _ {S C : Type 0} where
   pub given_settled : (gives : DocumentScope S C → Occurrence S C → List ErrorValue → Type 0) → ((scope : DocumentScope S C) (o : Occurrence S C) (es : List ErrorValue) → gives scope o [] → gives scope o es → es ≡ []) → Settled (given gives)
   given_settled gives h scope t doc es none p = each_settled (gives scope) (h scope) (occurrences scope.schema t doc) es none p
 
--- a context holds no more errors than before if and only if nothing is found
-pub silent_where : {S C V : Type 0} (allows : V → Allowance S C) (condition : Condition S C) → SilentIff allows condition
-    → (end : V) (scope : DocumentScope S C) (t : Typing S C) (doc : List (Definition S)) (old new : ContextState S C) → Appended (allows end scope t doc) old new → (new.errors ≡ old.errors) ↔ condition scope t doc
-silent_where allows condition h end scope t doc old new (es, p, e) = (
-  λ same. (h end scope t doc es p).0 (no_more old.errors es (sym (ap (λ w. w.errors) e) ∙ same)),
-  λ none. ap (λ w. w.errors) e ∙ ap (λ z. old.errors ++ z) ((h end scope t doc es p).1 none) ∙ append-nil old.errors,
-)
+-- what was appended is nothing if and only if nothing is found
+pub settled_where : {S C V : Type 0} (allows : V → Allowance S C) (condition : Condition S C) → SilentIff allows condition
+    → (end : V) (doc : List (Definition S)) (old new : ContextState S C) → AppendsAllowed (allows end) doc old new
+    → AppendsAllowed (settled_by condition (allows end)) doc old new
+settled_where allows condition h end doc old new (es, p, e) = (es, (p, h end (scope_of old.schema doc) (typing old) doc es p), e)

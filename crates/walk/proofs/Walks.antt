@@ -5,7 +5,7 @@ use Rattle.language.specs.declared.tree.Definition.{Definition}
 use Rattle.schema.specs.Catalog.{Catalog}
 use Rattle.events.specs.Typing.{Typing}
 use Rattle.events.specs.Node
-use Rattle.walk.specs.ContextState.{ContextState, DocumentScope, scope_of_context, typing, failing}
+use Rattle.walk.specs.ContextState.{ContextState, DocumentScope, scope_of_context, typing}
 use Rattle.walk.specs.ErrorValue.{ErrorValue}
 use Rattle.walk.specs.Pair.{pair_step, no_step}
 use Rattle.walk.specs.Rule.{Allowance, AllowsFrom, WalksAppend, of_newest}
@@ -13,8 +13,8 @@ use Rattle.walk.specs.declared.multi_visitor.MultiVisitorCons.{MultiVisitorCons}
 use Rattle.walk.specs.declared.multi_visitor.MultiVisitorNil.{MultiVisitorNil}
 use Rattle.events.specs.Outline.{each, outline_of_definition}
 use Rattle.events.specs.TypedEvent.{TypedEvent, entering, leaving, events_of, typed_events}
-use Rattle.walk.specs.Step.{StepOf, Run, Stepped, Ran, KeepsPlace}
-use Rattle.walk.proofs.Runs.{Ran-append, Ran-none, Ran-one, KeepsPlace-ran}
+use Rattle.walk.specs.Step.{StepOf, Run, Stepped, Ran}
+use Rattle.walk.proofs.Runs.{Ran-append, Ran-none, Ran-one}
 
 module _ {S C V : Type 0} (step : StepOf S C V) where
   -- a run through the first of these events, where those are left

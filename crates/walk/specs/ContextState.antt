@@ -1,26 +1,36 @@
 -- What a context holds, as callers see it.
 use Rattle.std.specs.Global.{Global}
-use Rattle.std.specs.Prelude.{◌≡◌, ℕ, ◌-◌, ◌<◌, List, [], ◌∷◌, ◌++◌, Option, Some, None, Bool, true, false, slice_get, length, take}
+use Rattle.std.specs.Prelude.{◌≡◌, ◌==◌, ◌||◌, nat_lt, if◌then◌else◌, ℕ, ◌+◌, ◌-◌, ◌<◌, List, [], ◌∷◌, ◌++◌, Option, Some, None, Bool, true, false, slice_get, length, take}
 use Rattle.language.specs.declared.tree.Definition.{Definition}
 use Rattle.schema.specs.Catalog.{Catalog}
 use Rattle.walk.specs.ErrorValue.{ErrorValue}
 use Rattle.walk.specs.Names.{fragment_names}
 use Rattle.events.specs.Typing.{Typing, untyped}
 
--- what it allocates by, the schema, the names of the document's fragments, the types that were pushed, what was reported, and
--- whether it has failed
+-- what it allocates by, the schema, the names of the document's fragments, the types that were pushed, what was reported, how
+-- many errors it keeps (0: all), and whether it has failed
 pub record ContextState (S C : Type 0) : Type 0 where
   pub allocator : Global
   pub schema : Catalog S C
   pub known : List (List ℕ)
   pub typings : List (Typing S C)
   pub errors : List ErrorValue
+  pub limit : ℕ
   pub failed : Bool
 
 -- what stays the same in a walk: the schema, and the names of the document's fragments
 pub record DocumentScope (S C : Type 0) : Type 0 where
   pub schema : Catalog S C
   pub known : List (List ℕ)
+
+-- whether one more error is kept behind so many, where so many are kept in all (0: all)
+abbrev pub has_place : ℕ → ℕ → Bool
+has_place limit held = (limit == 0) || nat_lt held limit
+
+-- which of these errors are kept then, one after the other
+abbrev pub fitting : ℕ → ℕ → List ErrorValue → List ErrorValue
+fitting limit held [] = []
+fitting limit held (e ∷ es) = if has_place limit held then e ∷ fitting limit (held + 1) es else []
 
 module _ {S C : Type 0} where
   abbrev pub or_untyped : Option (Typing S C) → Typing S C
@@ -46,9 +56,17 @@ module _ {S C : Type 0} where
   abbrev pub popped : ContextState S C → ContextState S C
   popped w = record w { typings = take (length w.typings - 1) w.typings }
 
-  -- the context with more errors
+  -- one more error is kept
+  abbrev pub HasRoom : ContextState S C → Type 0
+  HasRoom w = has_place w.limit (length w.errors) ≡ true
+
+  -- the context with more errors, as far as they are kept
   abbrev pub with_errors : ContextState S C → List ErrorValue → ContextState S C
-  with_errors w es = record w { errors = w.errors ++ es }
+  with_errors w es = record w { errors = w.errors ++ fitting w.limit (length w.errors) es }
+
+  -- the context with another limit
+  abbrev pub limited : ContextState S C → ℕ → ContextState S C
+  limited w n = record w { limit = n }
 
   -- the context once it has failed
   abbrev pub failing : ContextState S C → ContextState S C
@@ -67,7 +85,7 @@ module _ {S C : Type 0} where
 
   -- a context that was made for a document: no types, and nothing reported
   abbrev pub fresh_context : Global → Catalog S C → List (Definition S) → ContextState S C
-  fresh_context alloc schema doc = record { allocator = alloc; schema = schema; known = fragment_names doc; typings = []; errors = []; failed = false }
+  fresh_context alloc schema doc = record { allocator = alloc; schema = schema; known = fragment_names doc; typings = []; errors = []; limit = 0; failed = false }
 
 module _ {S C : Type 0} where
   -- types that are pushed and popped leave a context as it was, but for what was reported between; whatever is done between, the types

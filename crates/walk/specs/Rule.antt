@@ -76,6 +76,10 @@ module _ {S C : Type 0} where
   abbrev pub both_so : Condition S C → Condition S C → Condition S C
   both_so newer other scope t doc = newer scope t doc × other scope t doc
 
+  -- what is allowed, and nothing if and only if the document meets the condition
+  abbrev pub settled_by : Condition S C → Allowance S C → Allowance S C
+  settled_by condition allowance scope t doc es = allowance scope t doc es × ((es ≡ []) ↔ condition scope t doc)
+
   -- what is allowed of a document is nothing if and only if the document meets the condition
   abbrev pub SilentIff : {V : Type 0} → (V → Allowance S C) → Condition S C → Type 0
   SilentIff {V} allows condition =

@@ -1,11 +1,10 @@
 -- Rules in a list report what each of them is allowed.
-use Rattle.std.proofs.Common.{◌≡◌, ◌↔◌, List, [], ◌∷◌, ◌++◌, zero, suc, length, ap, ◌∙◌, refl, sym, subst, arith, IsPermutation}
+use Rattle.std.proofs.Common.{◌≡◌, ◌↔◌, List, [], ◌∷◌, ◌++◌, zero, suc, ap, ◌∙◌, refl, sym, subst, arith, IsPermutation}
 use Rattle.std.specs.List.{Contains, flat_map}
 use Rattle.std.proofs.lemmas.List.{nil_from_length}
 use Rattle.std.proofs.lemmas.List.Elements.{Contains-append_right}
 use Rattle.std.proofs.lemmas.List.Sorted.{length_permutation}
 use Rattle.language.specs.declared.tree.Definition.{Definition}
-use Rattle.events.specs.Typing.{Typing}
 use Rattle.walk.specs.declared.multi_visitor.MultiVisitorNil.{MultiVisitorNil}
 use Rattle.walk.specs.ErrorValue.{ErrorValue}
 use Rattle.walk.specs.ContextState.{DocumentScope, scope_of}

@@ -1,10 +1,13 @@
 //! What visitors know and report in a walk.
 
-ghost use Rattle.std.specs.Prelude.{◌≡◌, ◌++◌, ◌∷◌, [], true, false, IsErr, IsOk, OnOk, OnErr, map, IfOk, IsPermutation, IsSorted};
+ghost use Rattle.std.specs.Prelude.{◌≡◌, ◌++◌, ◌∷◌, [], true, false, not, length, IsErr, IsOk, OnOk, OnErr, map, IfOk};
+ghost use Rattle.std.specs.Prelude.{IsPermutation, IsSorted};
 ghost use Rattle.std.specs.Option.{option_copied, option_map};
 ghost use Rattle.language.specs.Types.{borrowed_shape};
 ghost use Rattle.walk.specs.Calls.{CalledAt};
-ghost use Rattle.walk.specs.ContextState.{HasTypes, typing, pushed, popped, with_errors, failing, fresh_context, has_some};
+ghost use Rattle.walk.specs.ContextState.{HasRoom, HasTypes, failing, fitting, fresh_context, has_place, has_some};
+ghost use Rattle.walk.specs.ContextState.{limited};
+ghost use Rattle.walk.specs.ContextState.{popped, pushed, typing, with_errors};
 ghost use Rattle.walk.specs.ErrorValue.{error_cmp};
 ghost use Rattle.events.specs.EventValue.{typing_of};
 ghost use Rattle.events.specs.Cursor.{IsNextLeft};
@@ -38,6 +41,7 @@ pub struct ValidatorContextOf<'a, S, C> {
     fragment_names: KeptNames<'a>,
     types: Vec<TypesOf<'a, S, C>>,
     errors: Vec<RuleError>,
+    limit: usize,
     failed: bool,
 }
 
@@ -61,6 +65,7 @@ impl<'a, S, C> Model for ValidatorContextOf<'a, S, C> {
       known = kept_by c.fragment_names;
       typings = map typing_of c.types.items;
       errors = c.errors.items;
+      limit = c.limit;
       failed = c.failed;
     } };
 }
@@ -85,6 +90,7 @@ impl<'a, S, C> ValidatorContextOf<'a, S, C> {
             fragment_names,
             types: Vec::new(alloc),
             errors: Vec::new(alloc),
+            limit: 0,
             failed: false,
         })
     }
@@ -124,6 +130,21 @@ impl<'a, S, C> ValidatorContextOf<'a, S, C> {
         ensures { result ≡ has_some self.now.errors }
     {
         !self.errors.is_empty()
+    }
+
+    /// Keeps no more errors than so many from now on, or all for 0. It drops none that it has.
+    pub fn set_limit(&mut self, limit: usize)
+        ensures { self.new ≡ limited self.old limit }
+    {
+        self.limit = limit;
+    }
+
+    /// Whether no further error is kept.
+    pub fn is_full(&self) -> bool
+        ensures { result ≡ not (has_place self.now.limit (length self.now.errors)) }
+    {
+        let has_place = self.limit == 0 || self.errors.len() < self.limit;
+        !has_place
     }
 
     /// The types at the current node.
@@ -169,7 +190,7 @@ impl<'a, S, C> ValidatorContextOf<'a, S, C> {
         self.types().input
     }
 
-    /// Adds an error with this message, at these places.
+    /// Adds an error with this message, at these places, unless the context is full.
     ///
     /// # Errors
     ///
@@ -187,6 +208,9 @@ impl<'a, S, C> ValidatorContextOf<'a, S, C> {
         if self.failed {
             return Err(OutOfMemory);
         }
+        if self.is_full() {
+            return Ok(());
+        }
         match RuleError::new(self.alloc, message, locations) {
             Ok(error) => self.push_error(error),
             Err(_) => {
@@ -198,6 +222,7 @@ impl<'a, S, C> ValidatorContextOf<'a, S, C> {
 
     // Adds an error.
     fn push_error(&mut self, error: RuleError) -> Result<(), OutOfMemory>
+        requires { HasRoom self.old }
         ensures ok { OnOk result (self.new ≡ with_errors self.old (error ∷ [])) }
         ensures err { OnErr result (self.new ≡ failing self.old) }
     {
@@ -208,7 +233,7 @@ impl<'a, S, C> ValidatorContextOf<'a, S, C> {
         Ok(())
     }
 
-    /// Adds errors, in their order.
+    /// Adds errors, in their order, as far as they are kept.
     ///
     /// # Errors
     ///
@@ -222,6 +247,7 @@ impl<'a, S, C> ValidatorContextOf<'a, S, C> {
         if self.failed {
             return Err(OutOfMemory);
         }
+        keep_fitting(self.limit, self.errors.len(), &mut errors);
         if errors.is_empty() {
             return Ok(());
         }
@@ -388,5 +414,14 @@ impl<'a, S, C> ValidatorContextOf<'a, S, C> {
     {
         let types = self.types().at_input(t);
         self.with_types(types, f)
+    }
+}
+
+// Drops of further errors those that are not kept behind so many.
+fn keep_fitting(limit: usize, held: usize, errors: &mut Vec<RuleError>)
+    ensures { errors.new.items ≡ fitting limit held errors.old.items }
+{
+    if limit > 0 {
+        errors.truncate(limit.saturating_sub(held));
     }
 }

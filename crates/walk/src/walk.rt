@@ -1,8 +1,8 @@
 //! The walk over a document.
 
-ghost use Rattle.std.specs.Prelude.{◌≡◌, ◌↔◌, IfOk, OnOk, OnErr, IsErr, true};
+ghost use Rattle.std.specs.Prelude.{◌≡◌, IfOk, OnOk, OnErr, IsErr, true};
 ghost use Rattle.walk.specs.ContextState.{HasTypes, IsMadeFor, popped, typing};
-ghost use Rattle.walk.specs.Rule.{Appended, AppendsAllowed, Meets, any_value};
+ghost use Rattle.walk.specs.Rule.{Appended, AppendsAllowed, any_value, settled_by};
 ghost use Rattle.events.specs.EventValue.{typed_event, typing_of};
 ghost use Rattle.events.specs.Cursor.{events_left};
 ghost use Rattle.events.specs.Outline.{each, outline_of_definition};
@@ -198,9 +198,7 @@ pub fn visit_settled<'a, 't, S: CheckedScalar, R: Visitor<'a, S> + SettledRule<S
 ) -> Result<(), OutOfMemory>
     requires fresh { R.fresh rules.old }
     ensures appended { OnOk result (IsMadeFor ctx.old document.now
-        → AppendsAllowed (R.allows rules.new) document.now ctx.old ctx.new) }
-    ensures silent { OnOk result (IsMadeFor ctx.old document.now
-        → (ctx.new.errors ≡ ctx.old.errors) ↔ Meets R.finds_nothing ctx.old document.now) }
+        → AppendsAllowed (settled_by R.finds_nothing (R.allows rules.new)) document.now ctx.old ctx.new) }
     ensures ran { OnOk result (Ran R.step (events_in ctx.old document.now) rules.old rules.new ctx.old ctx.new) }
     ensures only { OnOk result (Appended any_value ctx.old ctx.new) }
     ensures err { OnErr result (KeepsPlace ctx.old ctx.new) }

@@ -9,5 +9,5 @@ returns g c =
       errors = c.as_slice.result.now;
       tells = tells _ _ _ c.as_slice.ensures.value c.in_ok-errors.ensures.sorted c.in_ok-text.ensures;
       compared = compared;
-      all = record { found = all.found; reported = all.reported; ordered = permuted_as _ _ _ all.ordered c.as_slice.ensures.value };
+      all = record { report = all.report; reported = all.reported; kept = permuted_as _ _ _ all.kept c.as_slice.ensures.value };
     }

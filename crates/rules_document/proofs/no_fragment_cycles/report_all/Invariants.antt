@@ -5,5 +5,5 @@ use Rattle.rules_document.specs.NoFragmentCycles.{cycle_error}
 use Rattle.rules_document.proofs.no_fragment_cycles.report_all.Given as goal
 
 -- those that were seen are reported
-abbrev pub invariant-loop-report : goal.invariant-loop-report
-invariant-loop-report g l = l.ctx ≡ with_errors l.fn.ctx (map cycle_error (map name_and_place (take l.report-index l.reports)))
+abbrev pub invariant-loop-cycle : goal.invariant-loop-cycle
+invariant-loop-cycle g l = l.ctx ≡ with_errors l.fn.ctx (map cycle_error (map name_and_place (take l.cycle-index l.reports)))

@@ -30,4 +30,4 @@ returns-in_err-visit_settled-clause-appended g c =
     let e : IsErr c.from_residual.result = search rules in IfOk-from_err c.from_residual.result _ e
 
 pub returns-clause-appended : goal.returns-clause-appended
-returns-clause-appended g c = λ known. let (es, allowed, e) = c.in_ok-visit_settled.ensures.appended known in (es, (c.visit_settled.new.rules, allowed), e)
+returns-clause-appended g c = λ known. let (es, allowed, e) = c.in_ok-visit_settled.ensures.appended known in (es, ((c.visit_settled.new.rules, allowed.0), allowed.1), e)

@@ -1,8 +1,9 @@
-use Rattle.std.proofs.Common.{◌≡◌, [], List, Option, ℕ, None, append-nil, ap, subst, sym, ◌∙◌}
+use Rattle.std.proofs.Common.{◌≡◌, [], List, Option, ℕ, None, ap, subst, sym, ◌∙◌}
 use mathlib.Core.Path.{fun_ext}
 use Rattle.std.proofs.lemmas.Result.{IfOk-weaker}
 use Rattle.fragment_reach.specs.Reach.{operation}
 use Rattle.walk.specs.Entering.{EachGives}
+use Rattle.walk.proofs.Kept.{with_none}
 use Rattle.operation_scopes.specs.Places.{places_of}
 use Rattle.rules_positions.specs.DefinedVariables.{first_of, variables_of}
 use Rattle.rules_positions.specs.FirstVariables.{kept_first}
@@ -22,7 +23,7 @@ returns-then-is_empty-clause-ok g c =
     in (
       [],
       none_misplaced g.J.Judge.variable_of g.J.Judge.judged document index c.requires.index name w.schema.types (values_in g.J.Judge.value c.args.uses.now) none,
-      ap (λ zs. record w { errors = zs }) (sym (append-nil w.errors)),
+      with_none w,
     )
 
 pub returns-clause-ok : goal.returns-clause-ok

@@ -1,5 +1,6 @@
-use Rattle.std.proofs.Common.{◌≡◌, [], Some, None, IfOk, option_copied, ap, append-nil, refl, subst, sym, ◌∙◌}
+use Rattle.std.proofs.Common.{◌≡◌, [], Some, None, IfOk, option_copied, ap, refl, subst, sym, ◌∙◌}
 use Rattle.walk.specs.Rule.{Appended}
+use Rattle.walk.proofs.Kept.{with_none}
 use Rattle.rules_positions.specs.FirstVariables.{kept_first}
 use Rattle.rules_positions.specs.JudgedUses.{JudgedIfDefined}
 use Rattle.rules_positions.proofs.judged_uses.report_use.Goals as goal
@@ -23,4 +24,4 @@ returns-in-None-clause-ok g c =
     let is : None ≡ known (g.J.Judge.variable_of u) =
     sym (ap option_copied c.in-None.is) ∙ c.get.ensures ∙ ap known c.variable.ensures
     in
-    subst (λ o. Appended (JudgedIfDefined g.J.Judge.judged w.schema.types o u) w w) is ([], refl, ap (λ zs. record w { errors = zs }) (sym (append-nil w.errors)))
+    subst (λ o. Appended (JudgedIfDefined g.J.Judge.judged w.schema.types o u) w w) is ([], refl, with_none w)

@@ -1,9 +1,9 @@
-use Rattle.std.proofs.Common.{◌≡◌, [], Some, None, refl, ap, ◌∙◌, subst, arith, option_map, string_bytes}
-use Rattle.std.proofs.lemmas.Grind.{common_steps}
+use Rattle.std.proofs.Common.{◌≡◌, [], Some, None, refl, ap, ◌∙◌, subst, option_map, string_bytes}
 use Rattle.language.specs.Types.{borrowed_shape, printed, shape}
 use Rattle.language.specs.ValuesPrinted.{printed_value}
 use Rattle.literals.specs.Judged.{WrittenFault}
 use Rattle.walk.specs.ContextState.{with_errors}
+use Rattle.walk.proofs.Kept.{with_none}
 use Rattle.rules_values.specs.DefaultValuesOfCorrectType.{wrong_default_message}
 use Rattle.rules_values.specs.Faults.{error_at}
 use Rattle.rules_specified_values.proofs.default_values_of_correct_type.report.Goals as goal
@@ -34,5 +34,5 @@ returns-in_default-clause-ok g c =
     let told : WrittenFault schema may shown value.item t None =
     subst (λ z. WrittenFault schema may shown value.item z None) c.as_borrowed.ensures
     (subst (λ o. WrittenFault schema may shown value.item (borrowed_shape c.as_borrowed.result) (option_map string_bytes o)) c.in_default.is c.in_ok-fault.ensures) in
-    let same : c.args.ctx.now ≡ with_errors c.args.ctx.now [] = grind (arith, common_steps) in
+    let same : c.args.ctx.now ≡ with_errors c.args.ctx.now [] = with_none c.args.ctx.now in
     ([], (None, told, refl), same)

@@ -1,9 +1,9 @@
-use Rattle.std.proofs.Common.{◌≡◌, [], Some, None, refl, sym, ap, ◌∙◌, subst, arith, option_map, string_bytes}
-use Rattle.std.proofs.lemmas.Grind.{common_steps}
+use Rattle.std.proofs.Common.{◌≡◌, [], Some, None, refl, sym, ap, ◌∙◌, subst, option_map, string_bytes}
 use Rattle.language.specs.Types.{borrowed_shape}
 use Rattle.language.specs.ValuesPrinted.{printed_value}
 use Rattle.literals.specs.Judged.{WrittenFault}
 use Rattle.walk.specs.ContextState.{typing, with_errors}
+use Rattle.walk.proofs.Kept.{with_none}
 use Rattle.rules_values.specs.ArgumentsOfCorrectType.{wrong_argument_message}
 use Rattle.rules_values.specs.Faults.{error_at, reported}
 use Rattle.rules_values.proofs.arguments_of_correct_type.report.Goals as goal
@@ -33,5 +33,5 @@ returns-in_default-2-clause-ok g c =
     let t = borrowed_shape c.in-Some.written in
     let is : Some t ≡ (typing c.args.ctx.now).input = sym (ap (option_map borrowed_shape) c.in-Some.is) ∙ c.current_input_type_literal.ensures in
     let told : WrittenFault schema may shown value.item t None = subst (λ o. WrittenFault schema may shown value.item t (option_map string_bytes o)) c.in_default-2.is c.in_ok-fault.ensures in
-    let same : c.args.ctx.now ≡ with_errors c.args.ctx.now [] = grind (arith, common_steps) in
+    let same : c.args.ctx.now ≡ with_errors c.args.ctx.now [] = with_none c.args.ctx.now in
     ([], subst (λ o. reported may shown schema (wrong_argument_message name) o value []) is (None, told, refl), same)

@@ -1,12 +1,25 @@
-use Rattle.std.proofs.Common.{◌≡◌, [], Some, None, refl, ap, ◌∙◌, subst, arith, option_map, string_bytes}
-use Rattle.std.proofs.lemmas.Grind.{common_steps}
+use Rattle.std.proofs.Common.{◌≡◌, [], Some, None, refl, ap, ◌∙◌, subst, option_map, string_bytes}
 use Rattle.language.specs.Types.{borrowed_shape, printed, shape}
 use Rattle.language.specs.ValuesPrinted.{printed_value}
 use Rattle.literals.specs.Judged.{WrittenFault}
 use Rattle.walk.specs.ContextState.{with_errors}
-use Rattle.rules_values.specs.DefaultValuesOfCorrectType.{default_of, wrong_default_message}
+use Rattle.walk.proofs.Kept.{with_none}
+use Rattle.rules_values.specs.DefaultValuesOfCorrectType.{default_of, needless_default_message, wrong_default_message}
 use Rattle.rules_values.specs.Faults.{error_at}
 use Rattle.rules_values.proofs.default_values_of_correct_type.report.Goals as goal
+
+-- a default value that is never used
+pub returns-in_ok-report_error-clause-ok : goal.returns-in_ok-report_error-clause-ok
+returns-in_ok-report_error-clause-ok g c =
+    let may = g.S.CheckedScalar.may_answer in
+    let shown = printed_value g.S.ScalarValue.text g.S.ScalarValue.str_of in
+    let schema = c.args.ctx.now.schema in
+    let name = c.args.name.now in
+    let t = shape c.args.t.now in
+    let value = c.args.value.now in
+    let es = error_at value c.as_str.result.now in
+    let said : c.as_str.result.now ≡ needless_default_message name (printed t) = c.as_str.ensures.value ∙ c.in_ok-message.ensures in
+    (es, subst (λ b. default_of may shown b schema name t value es) c.if-is_never_null.ensures (ap (error_at value) said), c.in_ok-report_error.ensures.ok)
 
 pub returns-in_ok-report_error-2-clause-ok : goal.returns-in_ok-report_error-2-clause-ok
 returns-in_ok-report_error-2-clause-ok g c =
@@ -34,5 +47,5 @@ returns-in_default-clause-ok g c =
     let told : WrittenFault schema may shown value.item t None =
     subst (λ z. WrittenFault schema may shown value.item z None) c.as_borrowed.ensures
     (subst (λ o. WrittenFault schema may shown value.item (borrowed_shape c.as_borrowed.result) (option_map string_bytes o)) c.in_default.is c.in_ok-fault.ensures) in
-    let same : c.args.ctx.now ≡ with_errors c.args.ctx.now [] = grind (arith, common_steps) in
+    let same : c.args.ctx.now ≡ with_errors c.args.ctx.now [] = with_none c.args.ctx.now in
     ([], subst (λ b. default_of may shown b schema c.args.name.now t value []) c.if-is_never_null.ensures (None, told, refl), same)

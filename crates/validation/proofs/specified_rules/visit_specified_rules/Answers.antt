@@ -9,14 +9,14 @@ pub returns-then-has_errors-clause-appended : goal.returns-then-has_errors-claus
 returns-then-has_errors-clause-appended g c =
     λ known.
     after_one _ c.args.ctx.now c.visit_specified_stage.new.ctx c.args.document.now
-    (c.in_ok-cycles.ensures.appended known) (c.in_ok-cycles.ensures.silent known) (sym c.has_errors.ensures ∙ c.if-has_errors.true)
+    (c.in_ok-cycles.ensures.appended known) (sym c.has_errors.ensures ∙ c.if-has_errors.true)
 
 pub returns-clause-appended : goal.returns-clause-appended
 returns-clause-appended g c =
     IfOk-weaker c.visit_stage_two.result _ _
     (λ pairs two known.
     after_two _ c.args.ctx.now c.visit_specified_stage.new.ctx c.visit_stage_two.new.ctx c.args.document.now c.clean_documents.ensures
-    (c.in_ok-cycles.ensures.appended known) (c.in_ok-cycles.ensures.silent known) (sym c.has_errors.ensures ∙ c.if-has_errors.false) pairs
+    (c.in_ok-cycles.ensures.appended known) (sym c.has_errors.ensures ∙ c.if-has_errors.false) pairs
     (two (ap (λ w. w.known) c.in_ok-cycles.ensures.only.2 ∙ known)))
     c.visit_stage_two.ensures.appended
 

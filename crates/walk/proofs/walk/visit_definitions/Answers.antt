@@ -1,5 +1,4 @@
 use Rattle.std.proofs.Common.{◌≡◌, ap, ◌∙◌}
-use Rattle.std.proofs.lemmas.Result.{IfOk-weaker}
 use Rattle.events.specs.EventValue.{typing_of}
 use Rattle.events.specs.Cursor.{events_left}
 use Rattle.events.specs.Outline.{each, outline_of_definition}

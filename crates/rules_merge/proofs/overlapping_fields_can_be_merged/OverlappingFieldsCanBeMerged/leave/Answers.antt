@@ -1,10 +1,11 @@
-use Rattle.std.proofs.Common.{◌≤◌, ◌*◌, ◌-◌, ℕ, List, [], length, map, refl, ap, sym, subst, append-nil}
+use Rattle.std.proofs.Common.{◌≤◌, ◌*◌, ◌-◌, ℕ, List, [], length, map, refl, ap, sym, subst}
 use Rattle.std.specs.Option.{IfSome}
 use Rattle.std.proofs.lemmas.Result.{IfOk-weaker}
 use Rattle.merge_graph.specs.Definitions.{fragment_count}
 use Rattle.merge_conflicts.specs.Texts.{errors_of}
 use Rattle.merge_document.specs.Found.{AreTogether, IsJudged}
 use Rattle.merge_document.proofs.Searching.{at_some}
+use Rattle.walk.proofs.Kept.{with_none}
 use Rattle.rules_merge.specs.OverlappingFieldsCanBeMerged.{error_value}
 use Rattle.rules_merge.proofs.Judging.{of_none, of_some}
 use Rattle.rules_merge.proofs.overlapping_fields_can_be_merged.OverlappingFieldsCanBeMerged.leave.Goals as goal
@@ -31,5 +32,5 @@ pub returns-in-None-clause-ok : goal.returns-in-None-clause-ok
 returns-in-None-clause-ok g c = (
   [],
   of_none g.S.PartialEq.eq c.args.ctx.now.schema c.args.document.now c.in_ok-found.field-0 c.in-None.is c.in_ok-found.ensures.none _ refl refl,
-  ap (λ es. record c.args.ctx.now { errors = es }) (sym (append-nil c.args.ctx.now.errors)),
+  with_none c.args.ctx.now,
 )

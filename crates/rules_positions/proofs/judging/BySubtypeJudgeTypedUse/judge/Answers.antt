@@ -1,8 +1,9 @@
-use Rattle.std.proofs.Common.{◌≡◌, [], ◌∷◌, ap, append-nil, inl, inr, refl, subst, sym, ◌∙◌}
+use Rattle.std.proofs.Common.{◌≡◌, [], ◌∷◌, ap, inl, inr, refl, subst, sym, ◌∙◌}
 use Rattle.std.proofs.lemmas.Result.{IfOk-weaker}
 use Rattle.language.specs.Types.{borrowed_shape, printed}
 use Rattle.schema.specs.Subtype.{IsSubtype}
 use Rattle.walk.specs.ContextState.{with_errors}
+use Rattle.walk.proofs.Kept.{full_stays, with_none}
 use Rattle.rules_positions.specs.TypedUses.{use_value}
 use Rattle.rules_positions.specs.VariablesInAllowedPosition.{position_error, position_message, type_in_use}
 use Rattle.rules_positions.proofs.Giving.{false_true}
@@ -13,7 +14,20 @@ returns-then-below-clause-ok g c =
     let w = c.args.ctx.now in
     let expected = borrowed_shape c.args.found.now.expected in
     let stands = subst (λ z. IsSubtype z.types (type_in_use c.args.entry.now.1) expected) (ap (λ k. k.schema) c.ctx.view_is) (c.in_ok-below.ensures.0 c.if-below.true) in
-    ([], inl (stands, refl), ap (λ zs. record w { errors = zs }) (sym (append-nil w.errors)))
+    ([], inl (stands, refl), with_none w)
+
+-- no more errors are kept
+pub returns-then-is_full-clause-ok : goal.returns-then-is_full-clause-ok
+returns-then-is_full-clause-ok g c =
+    let w = c.args.ctx.now in
+    let types = w.schema.types in
+    let u = use_value c.args.found.now in
+    let t = type_in_use c.args.entry.now.1 in
+    let not_below : IsSubtype types t u.expected → ⊥ = λ stands.
+    false_true (sym c.if-below.false ∙ c.in_ok-below.ensures.1 (subst (λ z. IsSubtype z.types t u.expected) (sym (ap (λ k. k.schema) c.ctx.view_is)) stands))
+    in
+    let es = position_error c.args.entry.now u ∷ [] in
+    (es, inr (not_below, refl), full_stays w es _ c.is_full.ensures c.if-is_full.true)
 
 pub returns-clause-ok : goal.returns-clause-ok
 returns-clause-ok g c =
