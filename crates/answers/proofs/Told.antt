@@ -4,6 +4,7 @@ use Rattle.std.proofs.lemmas.Bool.Decides.{nat_tests}
 use Rattle.std.specs.List.{Contains}
 use Rattle.std.specs.Prelude.{Result, Ok, Err}
 use Rattle.answers.specs.Answers.{AreErrorsOf, Document, HasKnownTypes, IsTold, IsValidDocument, SourceCatalog, SourceRules, TellsErrors, verdict_in}
+use Rattle.answers.specs.declared.choices.Choices.{Choices}
 use Rattle.answers.specs.declared.reports.Answer.{Answer}
 use Rattle.answers.specs.declared.reports.Verdict.{Verdict}
 use Rattle.answers.specs.declared.reports.Verdict.TheVariants.{Valid}
@@ -35,13 +36,13 @@ verdict_none : (errors : List ErrorValue) → (verdict_in errors ≡ Valid) ↔ 
 verdict_none [] = (λ e. refl, λ e. refl)
 verdict_none (error ∷ errors) = (λ e. cc, λ e. cc)
 
-module _ (rules : SourceRules) (closed : Bool) (schema : SourceCatalog) (document : Document) where
+module _ (rules : SourceRules) (choices : Choices) (schema : SourceCatalog) (document : Document) where
   -- the errors of a document, where the list is seen otherwise
-  pub errors_seen : (errors items : List ErrorValue) → errors ≡ items → AreErrorsOf rules closed schema document items → AreErrorsOf rules closed schema document errors
-  errors_seen errors items e are = subst (AreErrorsOf rules closed schema document) (sym e) are
+  pub errors_seen : (errors items : List ErrorValue) → errors ≡ items → AreErrorsOf rules choices schema document items → AreErrorsOf rules choices schema document errors
+  errors_seen errors items e are = subst (AreErrorsOf rules choices schema document) (sym e) are
 
   -- they are told
-  pub tells_errors : (text : List ℕ) (errors : List ErrorValue) (answer : Answer) → AreErrorsOf rules closed schema document errors → IsTold text errors answer → TellsErrors rules closed schema text document answer
+  pub tells_errors : (text : List ℕ) (errors : List ErrorValue) (answer : Answer) → AreErrorsOf rules choices schema document errors → IsTold text errors answer → TellsErrors rules choices schema text document answer
   tells_errors text errors answer are told =
       let none = verdict_none errors in
       record {
@@ -52,7 +53,7 @@ module _ (rules : SourceRules) (closed : Bool) (schema : SourceCatalog) (documen
       }
 
 -- the types of the variables of a valid document are known input types
-pub known_types : (rules : SourceRules) (closed : Bool) (schema : SourceCatalog) (document : Document) (def : Definition SourceScalar) → IsValidDocument rules closed schema document
+pub known_types : (rules : SourceRules) (choices : Choices) (schema : SourceCatalog) (document : Document) (def : Definition SourceScalar) → IsValidDocument rules choices schema document
     → IsCleanWhere (rules schema.dialect).first_stage.find_nothing → Contains document def → HasKnownTypes schema def
-known_types rules closed schema document (definition.Operation operation) valid clean stands = (clean schema untyped document valid.0.stage_one).variable_types operation stands
-known_types rules closed schema document (definition.Fragment fragment) valid clean stands = tt
+known_types rules choices schema document (definition.Operation operation) valid clean stands = (clean schema untyped document valid.0.stage_one).variable_types operation stands
+known_types rules choices schema document (definition.Fragment fragment) valid clean stands = tt

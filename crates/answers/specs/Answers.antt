@@ -1,11 +1,12 @@
 -- What is told of a document.
-use Rattle.std.specs.Prelude.{◌≡◌, ◌↔◌, ◌<◌, ⊤, Bool, ℕ, List, [], ◌∷◌, IsPermutation, IsSorted, length, string_bytes}
+use Rattle.std.specs.Prelude.{◌≡◌, ◌↔◌, ◌<◌, ⊤, ℕ, List, [], ◌∷◌, IsPermutation, IsSorted, length, string_bytes}
 use Rattle.std.specs.Str.{IsUtf8}
 use Rattle.language.specs.declared.position.SourcePosition.{SourcePosition}
 use Rattle.language.specs.declared.tree.Definition.{Definition}
 use Rattle.language.specs.declared.tree.Definition.TheVariants as definition
 use Rattle.language.specs.declared.tree.Operation.{Operation}
 use Rattle.error_report.specs.Json.{report_text}
+use Rattle.answers.specs.declared.choices.Choices.{Choices}
 use Rattle.answers.specs.declared.reports.Answer.{Answer}
 use Rattle.answers.specs.declared.reports.Verdict.{Verdict}
 use Rattle.answers.specs.declared.reports.Verdict.TheVariants.{Valid, Invalid, Unreadable, NoValues, NotUtf8}
@@ -16,7 +17,7 @@ use Rattle.sdl_scalars.specs.declared.check.SourceCheck.{SourceCheck}
 use Rattle.sdl_scalars.specs.declared.scalar.SourceScalar.{SourceScalar}
 use Rattle.sdl_scalars.specs.Checks.{MayAnswer}
 use Rattle.sdl_scalars.specs.SourceScalar.{source_str, source_text}
-use Rattle.validation.specs.RootRules.{IsRootReport, IsRootValid}
+use Rattle.validation.specs.RootRules.{IsRootReportUpTo, IsRootValid}
 use Rattle.validation.specs.Stages.{Rules}
 use Rattle.variable_values.specs.Inputs.{HasInputTypes}
 use Rattle.variable_values.specs.InTurn.{InTurn}
@@ -88,15 +89,15 @@ pub data TellsFaults (schema : SourceCatalog) (text given : List ℕ) (document 
   of_values : (values : GivenValues) → TellsFaultsOf schema values text document answer → TellsFaults schema text given document answer
   of_no_values : IsRefused NoValues given answer → TellsFaults schema text given document answer
 
--- By what is known of the rules of each dialect. A document may ask for the schema itself unless that is closed.
-module _ (rules : SourceRules) (closed : Bool) (schema : SourceCatalog) where
+-- By what is known of the rules of each dialect, and what the caller chooses.
+module _ (rules : SourceRules) (choices : Choices) (schema : SourceCatalog) where
   abbrev pub IsValidDocument : Document → Type 0
-  IsValidDocument document = IsRootValid (rules schema.dialect) closed schema document
+  IsValidDocument document = IsRootValid (rules schema.dialect) choices.is_closed schema document
 
-  -- what the rules report of a document, in ascending order; it is nothing exactly where the document is valid
+  -- what the rules report of a document, up to the limit, in ascending order; it is nothing exactly where the document is valid
   pub record AreErrorsOf (document : Document) (errors : List ErrorValue) : Type 0 where
     pub pairs : ℕ
-    pub reported : IsRootReport (rules schema.dialect) closed schema document errors pairs
+    pub reported : IsRootReportUpTo (rules schema.dialect) choices.max_errors choices.is_closed schema document errors pairs
     pub valid : (errors ≡ []) ↔ IsValidDocument document
     pub sorted : IsSorted error_cmp errors
 

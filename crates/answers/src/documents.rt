@@ -4,6 +4,7 @@ ghost use Rattle.answers.specs.Answers.{Answers, IsRefused, OfBytes, TellsErrors
 ghost use Rattle.answers.specs.declared.reports.Verdict.TheVariants.{Unreadable};
 
 use crate::bytes::not_utf8;
+use crate::choices::Choices;
 use crate::errors::errors_of;
 use crate::reports::{Answer, Verdict, answer_of_errors, refusal};
 use crate::rules::AnswerRules;
@@ -14,7 +15,7 @@ use std::alloc::Global;
 use std::str;
 use validation::Definition;
 
-/// Validates the document of a text. Where `is_closed` says so, fields that ask for the schema are errors.
+/// Validates the document of a text.
 ///
 /// # Errors
 ///
@@ -23,13 +24,13 @@ pub fn answer(
     alloc: Global,
     schema: &SchemaType<SourceScalar>,
     query: &[u8],
-    is_closed: bool,
+    choices: Choices,
 ) -> Result<Answer, OutOfMemory>
     ensures { IfOk result
-        (OfBytes (Answers ⟦<SourceScalar as AnswerRules>⟧.rules is_closed schema.now query.now) query.now) }
+        (OfBytes (Answers ⟦<SourceScalar as AnswerRules>⟧.rules choices schema.now query.now) query.now) }
 {
     match str::from_utf8(query) {
-        Ok(text) => answer_of_text(alloc, schema, text, is_closed),
+        Ok(text) => answer_of_text(alloc, schema, text, choices),
         Err(error) => not_utf8(alloc, query, error),
     }
 }
@@ -38,12 +39,12 @@ fn answer_of_text(
     alloc: Global,
     schema: &SchemaType<SourceScalar>,
     text: &str,
-    is_closed: bool,
+    choices: Choices,
 ) -> Result<Answer, OutOfMemory>
-    ensures { IfOk result (Answers ⟦<SourceScalar as AnswerRules>⟧.rules is_closed schema.now text.now) }
+    ensures { IfOk result (Answers ⟦<SourceScalar as AnswerRules>⟧.rules choices schema.now text.now) }
 {
     match read_document(alloc, text) {
-        Ok(document) => answer_of_document(alloc, schema, text, document.as_slice(), is_closed),
+        Ok(document) => answer_of_document(alloc, schema, text, document.as_slice(), choices),
         Err(ReadError::Syntax(error)) => unreadable(alloc, text, error),
         Err(ReadError::OutOfMemory) => Err(OutOfMemory),
     }
@@ -70,11 +71,11 @@ fn answer_of_document(
     schema: &SchemaType<SourceScalar>,
     text: &str,
     document: &[Definition<'_, SourceScalar>],
-    is_closed: bool,
+    choices: Choices,
 ) -> Result<Answer, OutOfMemory>
     ensures { IfOk result
-        (TellsErrors ⟦<SourceScalar as AnswerRules>⟧.rules is_closed schema.now text.now document.now) }
+        (TellsErrors ⟦<SourceScalar as AnswerRules>⟧.rules choices schema.now text.now document.now) }
 {
-    let errors = errors_of(alloc, schema, document, is_closed)?;
+    let errors = errors_of(alloc, schema, document, choices)?;
     answer_of_errors(alloc, text, errors.as_slice())
 }

@@ -5,6 +5,7 @@ ghost use Rattle.walk.specs.ContextState.{IsMadeFor};
 ghost use Rattle.walk.specs.Rule.{AppendsAllowed};
 ghost use Rattle.validation.specs.RootRules.{introspection};
 
+use crate::choices::Choices;
 use crate::rules::AnswerRules;
 use graphql_reader::SourceScalar;
 use language::error::OutOfMemory;
@@ -15,7 +16,7 @@ use validation::rules::disable_introspection;
 use validation::{Definition, visit_dialect_rules};
 use walk::{MultiVisitorNil, RuleError, ValidatorContext, visit_rules};
 
-/// The errors of a document in ascending order. Where `is_closed` says so, fields that ask for the schema are errors.
+/// The errors of a document in ascending order, as far as they are chosen.
 ///
 /// # Errors
 ///
@@ -24,15 +25,16 @@ pub fn errors_of(
     alloc: Global,
     schema: &SchemaType<SourceScalar>,
     document: &[Definition<'_, SourceScalar>],
-    is_closed: bool,
+    choices: Choices,
 ) -> Result<Vec<RuleError>, OutOfMemory>
     ensures { IfOk result
-        (λ errors. AreErrorsOf ⟦<SourceScalar as AnswerRules>⟧.rules is_closed schema.now document.now errors.items) }
+        (λ errors. AreErrorsOf ⟦<SourceScalar as AnswerRules>⟧.rules choices schema.now document.now errors.items) }
 {
     clean_by_each_dialect::<SourceScalar>();
     let mut ctx = ValidatorContext::new(alloc, schema, document)?;
+    ctx.set_limit(choices.max_errors);
     visit_dialect_rules(&mut ctx, document)?;
-    report_introspection(&mut ctx, document, is_closed)?;
+    report_introspection(&mut ctx, document, choices.is_closed)?;
     ctx.into_errors()
 }
 

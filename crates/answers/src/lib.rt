@@ -2,11 +2,12 @@
 //! its variables are, too ([`answer_with_values`]), each with a report as JSON.
 //!
 //! Proved: a document that was read is answered with `Valid` exactly where it is valid by the rules of the schema's
-//! dialect, and the report's bytes are those of its errors. Bytes that are not UTF-8 are answered with the place of the
+//! dialect, and the report's bytes are those of its errors, up to the number that the caller chooses. Bytes that are not UTF-8 are answered with the place of the
 //! first that is not. That a document is that of its text is only tested.
 #![tactic(auto)]
 
 mod bytes;
+mod choices;
 mod documents;
 mod errors;
 mod reports;
@@ -14,6 +15,7 @@ mod rules;
 mod values;
 
 pub use bytes::not_utf8_report;
+pub use choices::Choices;
 pub use documents::answer;
 pub use reports::{Answer, Verdict};
 pub use rules::AnswerRules;

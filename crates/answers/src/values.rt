@@ -4,6 +4,7 @@ ghost use Rattle.answers.specs.Answers.{AnswersValues, FaultsAt, FaultsIn, HasKn
 ghost use Rattle.answers.specs.declared.reports.Verdict.TheVariants.{NoValues};
 
 use crate::bytes::not_utf8;
+use crate::choices::Choices;
 use crate::documents::unreadable;
 use crate::errors::errors_of;
 use crate::reports::{Answer, Verdict, answer_of_errors, refusal};
@@ -30,13 +31,13 @@ pub fn answer_with_values(
     schema: &SchemaType<SourceScalar>,
     query: &[u8],
     values: &[u8],
-    is_closed: bool,
+    choices: Choices,
 ) -> Result<Answer, OutOfMemory>
-    ensures { IfOk result (OfBytes (OfBytes (AnswersValues ⟦<SourceScalar as AnswerRules>⟧.rules is_closed schema.now
+    ensures { IfOk result (OfBytes (OfBytes (AnswersValues ⟦<SourceScalar as AnswerRules>⟧.rules choices schema.now
         query.now values.now) values.now) query.now) }
 {
     match str::from_utf8(query) {
-        Ok(text) => answer_of_query(alloc, schema, text, values, is_closed),
+        Ok(text) => answer_of_query(alloc, schema, text, values, choices),
         Err(error) => not_utf8(alloc, query, error),
     }
 }
@@ -46,13 +47,13 @@ fn answer_of_query(
     schema: &SchemaType<SourceScalar>,
     text: &str,
     values: &[u8],
-    is_closed: bool,
+    choices: Choices,
 ) -> Result<Answer, OutOfMemory>
-    ensures { IfOk result (OfBytes (AnswersValues ⟦<SourceScalar as AnswerRules>⟧.rules is_closed schema.now
+    ensures { IfOk result (OfBytes (AnswersValues ⟦<SourceScalar as AnswerRules>⟧.rules choices schema.now
         text.now values.now) values.now) }
 {
     match str::from_utf8(values) {
-        Ok(given) => answer_of_texts(alloc, schema, text, given, is_closed),
+        Ok(given) => answer_of_texts(alloc, schema, text, given, choices),
         Err(error) => not_utf8(alloc, values, error),
     }
 }
@@ -62,13 +63,13 @@ fn answer_of_texts(
     schema: &SchemaType<SourceScalar>,
     text: &str,
     given: &str,
-    is_closed: bool,
+    choices: Choices,
 ) -> Result<Answer, OutOfMemory>
     ensures { IfOk result
-        (AnswersValues ⟦<SourceScalar as AnswerRules>⟧.rules is_closed schema.now text.now given.now) }
+        (AnswersValues ⟦<SourceScalar as AnswerRules>⟧.rules choices schema.now text.now given.now) }
 {
     match read_document(alloc, text) {
-        Ok(document) => answer_of_both(alloc, schema, text, document.as_slice(), given, is_closed),
+        Ok(document) => answer_of_both(alloc, schema, text, document.as_slice(), given, choices),
         Err(ReadError::Syntax(error)) => unreadable(alloc, text, error),
         Err(ReadError::OutOfMemory) => Err(OutOfMemory),
     }
@@ -81,17 +82,17 @@ fn answer_of_both(
     text: &str,
     document: &[Definition<'_, SourceScalar>],
     given: &str,
-    is_closed: bool,
+    choices: Choices,
 ) -> Result<Answer, OutOfMemory>
     ensures { IfOk result
-        (TellsValues ⟦<SourceScalar as AnswerRules>⟧.rules is_closed schema.now text.now given.now document.now) }
+        (TellsValues ⟦<SourceScalar as AnswerRules>⟧.rules choices schema.now text.now given.now document.now) }
 {
-    let found = errors_of(alloc, schema, document, is_closed)?;
+    let found = errors_of(alloc, schema, document, choices)?;
     let errors = found.as_slice();
     if !errors.is_empty() {
         return answer_of_errors(alloc, text, errors);
     }
-    answer_of_values(alloc, schema, text, document, given, is_closed)
+    answer_of_values(alloc, schema, text, document, given, choices)
 }
 
 // Checks the values for a valid document.
@@ -101,13 +102,13 @@ fn answer_of_values(
     text: &str,
     document: &[Definition<'_, SourceScalar>],
     given: &str,
-    is_closed: bool,
+    choices: Choices,
 ) -> Result<Answer, OutOfMemory>
-    requires { IsValidDocument ⟦<SourceScalar as AnswerRules>⟧.rules is_closed schema.now document.now }
+    requires { IsValidDocument ⟦<SourceScalar as AnswerRules>⟧.rules choices schema.now document.now }
     ensures { IfOk result (TellsFaults schema.now text.now given.now document.now) }
 {
     match read_variables(alloc, given) {
-        Ok(values) => answer_of_faults(alloc, schema, text, document, &values, is_closed),
+        Ok(values) => answer_of_faults(alloc, schema, text, document, &values, choices),
         Err(error) => no_values(alloc, given, error),
     }
 }
@@ -132,12 +133,12 @@ fn answer_of_faults(
     text: &str,
     document: &[Definition<'_, SourceScalar>],
     values: &Variables<SourceScalar>,
-    is_closed: bool,
+    choices: Choices,
 ) -> Result<Answer, OutOfMemory>
-    requires { IsValidDocument ⟦<SourceScalar as AnswerRules>⟧.rules is_closed schema.now document.now }
+    requires { IsValidDocument ⟦<SourceScalar as AnswerRules>⟧.rules choices schema.now document.now }
     ensures { IfOk result (TellsFaultsOf schema.now values.now text.now document.now) }
 {
-    let faults = faults_in(alloc, schema, values, document, is_closed)?;
+    let faults = faults_in(alloc, schema, values, document, choices)?;
     answer_of_errors(alloc, text, faults.as_slice())
 }
 
@@ -147,9 +148,9 @@ fn faults_in(
     schema: &SchemaType<SourceScalar>,
     values: &Variables<SourceScalar>,
     document: &[Definition<'_, SourceScalar>],
-    is_closed: bool,
+    choices: Choices,
 ) -> Result<Vec<RuleError>, OutOfMemory>
-    requires { IsValidDocument ⟦<SourceScalar as AnswerRules>⟧.rules is_closed schema.now document.now }
+    requires { IsValidDocument ⟦<SourceScalar as AnswerRules>⟧.rules choices schema.now document.now }
     ensures { IfOk result (λ faults. FaultsIn schema.now values.now document.now faults.items) }
 {
     // The variables of a valid document have input types, which are known.

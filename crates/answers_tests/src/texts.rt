@@ -1,5 +1,5 @@
 //! What is told of texts. With each request for memory refused in turn, it is the same or out of memory comes.
-use answers::{Answer, Verdict, answer, answer_with_values};
+use answers::{Answer, Choices, Verdict, answer, answer_with_values};
 use sdl_reader::{SchemaReadError, read_schema};
 use std::alloc::Global;
 
@@ -83,24 +83,37 @@ const NO_OBJECT: &str = "[
 ]
 ";
 
-/// Documents, whether introspection is closed, and what is told of each.
-const DOCUMENTS: &[(&[u8], bool, Verdict, &str)] = &[
-    (b"{ pet { name } __typename }", true, Verdict::Valid, "[]\n"),
-    (b"{\n  pet { nme } }", false, Verdict::Invalid, UNKNOWN),
+/// What callers choose: all open, introspection closed, and one error at most.
+const OPEN: Choices = Choices {
+    is_closed: false,
+    max_errors: 0,
+};
+
+const SHUT: Choices = Choices {
+    is_closed: true,
+    max_errors: 0,
+};
+
+const ONE: Choices = Choices {
+    is_closed: false,
+    max_errors: 1,
+};
+
+/// Documents, what is chosen, and what is told of each.
+const DOCUMENTS: &[(&[u8], Choices, Verdict, &str)] = &[
+    (b"{ pet { name } __typename }", SHUT, Verdict::Valid, "[]\n"),
+    (b"{\n  pet { nme } }", OPEN, Verdict::Invalid, UNKNOWN),
+    (b"{\n  pet { nme } }", ONE, Verdict::Invalid, UNKNOWN),
+    (b"{\n  pet { nme  more } }", ONE, Verdict::Invalid, UNKNOWN),
+    (b"{ __schema { __typename } }", OPEN, Verdict::Valid, "[]\n"),
     (
         b"{ __schema { __typename } }",
-        false,
-        Verdict::Valid,
-        "[]\n",
-    ),
-    (
-        b"{ __schema { __typename } }",
-        true,
+        SHUT,
         Verdict::Invalid,
         CLOSED,
     ),
-    (b"{ pet", false, Verdict::Unreadable, BROKEN),
-    (b"{ pet \xff", false, Verdict::NotUtf8, NOT_UTF8),
+    (b"{ pet", OPEN, Verdict::Unreadable, BROKEN),
+    (b"{ pet \xff", OPEN, Verdict::NotUtf8, NOT_UTF8),
 ];
 
 const QUERY: &[u8] = b"query Q($id: Int!) { pet(id: $id) { name } }";
@@ -113,20 +126,20 @@ const VALUES: &[(&[u8], Verdict, &str)] = &[
     (b"{\"i\": \xff}", Verdict::NotUtf8, NOT_UTF8),
 ];
 
-fn told(alloc: Global, query: &[u8], is_closed: bool) -> Result<Answer, SchemaReadError<'static>> {
+fn told(alloc: Global, query: &[u8], choices: Choices) -> Result<Answer, SchemaReadError<'static>> {
     let schema = read_schema(alloc, SCHEMA)?;
-    Ok(answer(alloc, &schema, query, is_closed)?)
+    Ok(answer(alloc, &schema, query, choices)?)
 }
 
 fn told_with(alloc: Global, values: &[u8]) -> Result<Answer, SchemaReadError<'static>> {
     let schema = read_schema(alloc, SCHEMA)?;
-    Ok(answer_with_values(alloc, &schema, QUERY, values, true)?)
+    Ok(answer_with_values(alloc, &schema, QUERY, values, SHUT)?)
 }
 
 #[test]
 fn documents(rt: HostRuntime) {
-    for (query, is_closed, verdict, report) in DOCUMENTS {
-        let found = told(rt.alloc(), query, *is_closed).expect(&rt, "memory");
+    for (query, choices, verdict, report) in DOCUMENTS {
+        let found = told(rt.alloc(), query, *choices).expect(&rt, "memory");
         assert_eq!(rt; found.verdict, *verdict);
         assert_eq!(rt; found.report.as_str(), *report);
     }
@@ -144,8 +157,8 @@ fn values(rt: HostRuntime) {
 /// Run with each request for memory refused in turn, a text is told of as expected, or out of memory comes.
 #[test]
 fn a_refused_request_changes_no_answer(rt: HostRuntime) {
-    for (query, is_closed, verdict, report) in DOCUMENTS {
-        let is_steady = match told(rt.alloc(), query, *is_closed) {
+    for (query, choices, verdict, report) in DOCUMENTS {
+        let is_steady = match told(rt.alloc(), query, *choices) {
             Ok(found) => found.verdict == *verdict && found.report.as_str() == *report,
             Err(error) => error == SchemaReadError::OutOfMemory,
         };

@@ -18,7 +18,7 @@ use Rattle.language.specs.declared.tree.Fragment.{Fragment}
 use Rattle.language.specs.declared.tree.Operation.{Operation}
 use Rattle.lint_app.specs.Host.{Host}
 use Rattle.lint_app.specs.Paths.{AddsEach, Paths, StandsFor}
-use Rattle.lint_app.specs.Told.{Adds, AddsIf, AreErrorsOf, AreFaultsOf, AreToldAs, Document, FaultsAt, FaultsIn, FaultsOf, GivenValues, IsErrorFree, IsFileOf, IsReadOf, Root, TellsDocument, TellsFaultsAt, TellsFaultsIn, TellsFile, TellsFiles, issues_of}
+use Rattle.lint_app.specs.Told.{Adds, AddsIf, AreErrorsOf, AreFaultsOf, AreToldAs, Document, FaultsAt, FaultsIn, FurtherOf, GivenValues, IsErrorFree, IsFileOf, IsReadOf, Root, TellsDocument, TellsFaultsAt, TellsFaultsIn, TellsFile, TellsFiles, issues_of, limit_notes, limit_text}
 use Rattle.lint_args.proofs.Distinct.{distinct-append}
 use Rattle.lint_args.specs.Asks.{added_once, distinct, word_texts}
 use Rattle.lint_report.specs.declared.issues.Issue.{Issue}
@@ -28,7 +28,7 @@ use Rattle.lint_report.specs.Issues.{IsIssueIn}
 use Rattle.sdl_scalars.specs.Checks.{MayAnswer}
 use Rattle.sdl_scalars.specs.declared.scalar.SourceScalar.{SourceScalar}
 use Rattle.sdl_scalars.specs.SourceScalar.{source_str, source_text}
-use Rattle.validation.specs.RootRules.{IsRootReport}
+use Rattle.validation.specs.RootRules.{IsRootReportUpTo}
 use Rattle.lint_app.specs.Rules.{SourceRules}
 use Rattle.variable_values.proofs.InTurns.{Done, done_all, done_more}
 use Rattle.variable_values.specs.Messages.{OfOperation}
@@ -63,14 +63,40 @@ module _ (joined : Joined) (file : ℕ) where
     all = k.all ∙ ap (λ xs. xs ++ k.more) h.all ∙ append_assoc old h.more k.more;
   }
 
+  -- as many errors as may be reported, or fewer
+  pub one_note : (limit count : ℕ) (text : List ℕ) (issue : Issue) (old new : List Issue) → limit ≡ count → text ≡ limit_text limit
+      → IsIssueIn joined file text [] issue → new ≡ old ++ issue ∷ [] → Adds (AreToldAs joined file (limit_notes limit count)) old new
+  one_note limit count text issue old new same is told added =
+      let note : ErrorValue = record { locations = []; message = limit_text limit } in
+      let equal : (limit == count) ≡ true = grind (arith, nat_tests, same) in
+      let one : limit_notes limit count ≡ note ∷ [] = ap (λ b. cond b (note ∷ []) []) equal in
+      record {
+        more = issue ∷ [];
+        told = subst (λ es. AreToldAs joined file es (issue ∷ [])) (sym one) (subst (λ m. IsIssueIn joined file m [] issue) is told, tt);
+        all = added;
+      }
+
+  pub no_note : (limit count : ℕ) (old : List Issue) → (limit ≡ count → ⊥) → Adds (AreToldAs joined file (limit_notes limit count)) old old
+  no_note limit count old apart =
+      let note : ErrorValue = record { locations = []; message = limit_text limit } in
+      let other : (limit == count) ≡ false = grind (arith, nat_tests, apart) in
+      let none : limit_notes limit count ≡ [] = ap (λ b. cond b (note ∷ []) []) other in
+      record {
+        more = [];
+        told = subst (λ es. AreToldAs joined file es []) (sym none) tt;
+        all = sym (append-nil old);
+      }
+
 -- where there is an error, no value is judged
-not_judged : (root : Root) (values : Option GivenValues) (document : Document) (errors : List ErrorValue) → (errors ≡ [] → ⊥) → FaultsOf root values document errors []
+not_judged : (root : Root) (values : Option GivenValues) (document : Document) (errors : List ErrorValue) → (errors ≡ [] → ⊥)
+    → FurtherOf root values document errors (limit_notes root.max_errors (length errors))
 not_judged root values document [] h = absurd (h refl)
 not_judged root values document (error ∷ errors) h = refl
 
 -- where there is none, they are
-judged : (root : Root) (values : Option GivenValues) (document : Document) (errors faults : List ErrorValue) → errors ≡ [] → FaultsIn root values document faults → FaultsOf root values document errors faults
-judged root values document errors faults none h = subst (λ es. FaultsOf root values document es faults) (sym none) h
+judged : (root : Root) (values : Option GivenValues) (document : Document) (errors faults : List ErrorValue) → errors ≡ []
+    → FaultsIn root values document faults → FurtherOf root values document errors faults
+judged root values document errors faults none h = subst (λ es. FurtherOf root values document es faults) (sym none) h
 
 -- whether a list has items
 pub has_items : {X : Type 0} (xs : List X) (b : Bool) → b ≡ (length xs == 0) → b ≡ false → xs ≡ [] → ⊥
@@ -86,23 +112,27 @@ no_items (x ∷ xs) b is none = let bad : suc (length xs) ≡ 0 = zero_if (lengt
 module _ (rules : SourceRules) (root : Root) (values : Option GivenValues) (joined : Joined) (file : ℕ) (document : Document) where
   -- what the root node reports, where the list is seen otherwise
   pub are_errors : (errors items : List ErrorValue) → errors ≡ items
-      → (pairs : ℕ) × IsRootReport (rules root.schema.dialect) root.introspection_disabled root.schema document items pairs
+      → (pairs : ℕ) × IsRootReportUpTo (rules root.schema.dialect) root.max_errors root.introspection_disabled root.schema document items pairs
       → (items ≡ []) ↔ IsErrorFree rules root document → IsSorted error_cmp items → AreErrorsOf rules root document errors
   are_errors errors items e (pairs, reported) valid sorted = subst (AreErrorsOf rules root document) (sym e) (record { pairs = pairs; reported = reported; valid = valid; sorted = sorted })
 
-  -- a document with errors
-  pub tells_errors : (errors : List ErrorValue) (old new : List Issue) → AreErrorsOf rules root document errors → (errors ≡ [] → ⊥) → Adds (AreToldAs joined file errors) old new → Adds (TellsDocument rules root values joined file document) old new
-  tells_errors errors old new are some h = record {
-    more = h.more;
-    told = record {
-      errors = errors;
-      are_errors = are;
-      faults = [];
-      are_faults = not_judged root values document errors some;
-      told = subst (λ es. AreToldAs joined file es h.more) (sym (append-nil errors)) h.told;
-    };
-    all = h.all;
-  }
+  -- a document with errors, and whether there may be more
+  pub tells_errors : (errors : List ErrorValue) (old before new : List Issue) → AreErrorsOf rules root document errors → (errors ≡ [] → ⊥) → Adds (AreToldAs joined file errors) old before
+      → Adds (AreToldAs joined file (limit_notes root.max_errors (length errors))) before new → Adds (TellsDocument rules root values joined file document) old new
+  tells_errors errors old before new are some h k =
+      let notes = limit_notes root.max_errors (length errors) in
+      let both = told_both joined file errors notes old before new h k in
+      record {
+        more = both.more;
+        told = record {
+          errors = errors;
+          are_errors = are;
+          further = notes;
+          is_further = not_judged root values document errors some;
+          told = both.told;
+        };
+        all = both.all;
+      }
 
   -- a document without errors
   pub tells_faults : (errors : List ErrorValue) (old before new : List Issue) → AreErrorsOf rules root document errors → errors ≡ [] → Adds (AreToldAs joined file errors) old before → Adds (TellsFaultsIn root values joined file document) before new → Adds (TellsDocument rules root values joined file document) old new
@@ -113,8 +143,8 @@ module _ (rules : SourceRules) (root : Root) (values : Option GivenValues) (join
         told = record {
           errors = errors;
           are_errors = are;
-          faults = k.told.0;
-          are_faults = judged root values document errors k.told.0 none k.told.1;
+          further = k.told.0;
+          is_further = judged root values document errors k.told.0 none k.told.1;
           told = both.told;
         };
         all = both.all;

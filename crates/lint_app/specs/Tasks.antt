@@ -50,11 +50,13 @@ pub record IsSchemaOf (dialect : Dialect) (schema : SourceSchema) : Type 0 where
   pub valid : IsValidSchema schema
   pub dialect_is : schema.dialect ≡ dialect
 
--- a root node is a valid type system in that dialect, and introspection is closed exactly where the words ask for that
+-- a root node is a valid type system in that dialect, and introspection is closed exactly where the words ask for that, with
+-- their limit on errors
 pub record IsRootOf (task : Task) (root : Root) : Type 0 where
   pub valid : IsValidSchema root.schema
   pub dialect : root.schema.dialect ≡ dialect_of task
   pub closed : root.introspection_disabled ≡ task.is_closed
+  pub limit : root.max_errors ≡ task.max_errors
 
 -- By what is known of the rules of each dialect.
 module _ (rules : SourceRules) where

@@ -1,6 +1,7 @@
 -- What is told of files of queries.
-use Rattle.std.specs.Prelude.{◌≡◌, ◌↔◌, ◌<◌, ⊤, Bool, true, false, ℕ, ◌+◌, List, [], ◌∷◌, ◌++◌, Option, Some, None, IsPermutation, IsSorted, IfSome, if◌then◌else◌, count_by, is_some, length, String, string_bytes}
+use Rattle.std.specs.Prelude.{◌≡◌, ◌↔◌, ◌<◌, ⊤, Bool, true, false, ℕ, ◌+◌, List, [], ◌∷◌, ◌++◌, Option, Some, None, IsPermutation, IsSorted, IfSome, if◌then◌else◌, ◌==◌, codes, count_by, is_some, length, String, string_bytes}
 use Rattle.std.specs.declared.alloc.Global.{Global}
+use Rattle.std.specs.Fmt.{decimal}
 use Rattle.std.specs.List.{AllZip, flat_map}
 use Rattle.std.specs.Option.{option_to_list}
 use Rattle.language.specs.declared.tree.Definition.{Definition}
@@ -20,7 +21,7 @@ use Rattle.sdl_scalars.specs.declared.scalar.SourceScalar.{SourceScalar}
 use Rattle.sdl_scalars.specs.Checks.{MayAnswer}
 use Rattle.sdl_scalars.specs.SourceScalar.{source_str, source_text}
 use Rattle.validation.specs.declared.root_node.RootNodeOf.{RootNodeOf}
-use Rattle.validation.specs.RootRules.{IsRootReport, IsRootValid}
+use Rattle.validation.specs.RootRules.{IsRootReportUpTo, IsRootValid}
 use Rattle.variable_values.specs.Inputs.{HasInputTypes}
 use Rattle.variable_values.specs.InTurn.{InTurn}
 use Rattle.variable_values.specs.Messages.{OfOperation, Values}
@@ -111,10 +112,17 @@ TellsFaultsAt root values joined file def issues = (faults : List ErrorValue) ×
 abbrev pub TellsFaultsIn : Root → Option GivenValues → Joined → ℕ → Document → List Issue → Type 0
 TellsFaultsIn root values joined file document issues = (faults : List ErrorValue) × FaultsIn root values document faults × AreToldAs joined file faults issues
 
--- values are judged where the document has no error
-abbrev pub FaultsOf : Root → Option GivenValues → Document → List ErrorValue → List ErrorValue → Type 0
-FaultsOf root values document [] faults = FaultsIn root values document faults
-FaultsOf root values document (error ∷ errors) faults = faults ≡ []
+abbrev pub limit_text : ℕ → List ℕ
+limit_text limit = codes "There may be more errors: --max-errors is " ++ decimal limit
+
+-- where there are as many errors as may be reported, that there may be more
+abbrev pub limit_notes : ℕ → ℕ → List ErrorValue
+limit_notes limit count = if limit == count then record { locations = []; message = limit_text limit } ∷ [] else []
+
+-- What is told behind the errors: where there is none, values are judged; else that there may be more, if that is so.
+abbrev pub FurtherOf : Root → Option GivenValues → Document → List ErrorValue → List ErrorValue → Type 0
+FurtherOf root values document [] further = FaultsIn root values document further
+FurtherOf root values document (error ∷ errors) further = further ≡ limit_notes root.max_errors (length (error ∷ errors))
 
 -- By what is known of the rules of each dialect.
 module _ (rules : SourceRules) where
@@ -122,20 +130,20 @@ module _ (rules : SourceRules) where
   abbrev pub IsErrorFree : Root → Document → Type 0
   IsErrorFree root document = IsRootValid (rules root.schema.dialect) root.introspection_disabled root.schema document
 
-  -- what the root node reports of a document, in ascending order; it is nothing exactly where the document is valid
+  -- what the root node reports of a document, up to its limit, in ascending order; it is nothing exactly where the document is valid
   pub record AreErrorsOf (root : Root) (document : Document) (errors : List ErrorValue) : Type 0 where
     pub pairs : ℕ
-    pub reported : IsRootReport (rules root.schema.dialect) root.introspection_disabled root.schema document errors pairs
+    pub reported : IsRootReportUpTo (rules root.schema.dialect) root.max_errors root.introspection_disabled root.schema document errors pairs
     pub valid : (errors ≡ []) ↔ IsErrorFree root document
     pub sorted : IsSorted error_cmp errors
 
-  -- a document's errors, or the faults of the values where it has none, as issues of the file or of those of its text
+  -- a document's errors, and what is told behind them, as issues of the file or of those of its text
   pub record TellsDocument (root : Root) (values : Option GivenValues) (joined : Joined) (file : ℕ) (document : Document) (issues : List Issue) : Type 0 where
     pub errors : List ErrorValue
     pub are_errors : AreErrorsOf root document errors
-    pub faults : List ErrorValue
-    pub are_faults : FaultsOf root values document errors faults
-    pub told : AreToldAs joined file (errors ++ faults) issues
+    pub further : List ErrorValue
+    pub is_further : FurtherOf root values document errors further
+    pub told : AreToldAs joined file (errors ++ further) issues
 
   -- the same, of the document that was read from the text
   abbrev pub TellsRead : Root → Option GivenValues → Joined → ℕ → List Issue → Type 0

@@ -1,7 +1,9 @@
 //! Validates the files of queries, one by one or as one document.
-ghost use Rattle.std.specs.Prelude.{◌≡◌, ◌∷◌, [], IfOk, OnOk, Some};
+ghost use Rattle.std.specs.Prelude.{◌≡◌, ◌∷◌, [], IfOk, OnOk, Some, string_bytes};
 ghost use Rattle.std.specs.Option.{option_copied};
-ghost use Rattle.lint_app.specs.Told.{Adds, AddsIf, AreToldAs, HasKnownTypes, IsErrorFree, TellsDocument, TellsEach, TellsFaultsAt, TellsFaultsIn, TellsFiles, TellsRead, TellsTogether};
+ghost use Rattle.lint_app.specs.Told.{Adds, AddsIf, AreToldAs, HasKnownTypes, IsErrorFree, TellsDocument, TellsEach};
+ghost use Rattle.lint_app.specs.Told.{TellsFaultsAt, TellsFaultsIn, TellsFiles, TellsRead, TellsTogether};
+ghost use Rattle.lint_app.specs.Told.{limit_notes, limit_text};
 
 use crate::failure::Failure;
 use crate::files::{add_fault, joined_of};
@@ -167,7 +169,7 @@ impl Judge<'_> {
         }
     }
 
-    // Adds the errors of a document, or if it has none the faults of values.
+    // Adds the errors of a document, and that there may be more; or if it has none the faults of values.
     fn add_issues(
         &self,
         alloc: Global,
@@ -184,7 +186,8 @@ impl Judge<'_> {
         let errors = found.as_slice();
         add_errors(alloc, joined, file, errors, issues)?;
         if !errors.is_empty() {
-            return Ok(());
+            let limit = self.root.max_errors;
+            return add_limit_note(alloc, joined, file, limit, errors.len(), issues);
         }
         self.add_faults(alloc, joined, file, document, issues)?;
         Ok(())
@@ -286,4 +289,32 @@ fn add_errors(
         issues.push(issue)?;
     }
     Ok(())
+}
+
+// Adds that there may be more errors, where so many are as many as may be reported.
+fn add_limit_note(
+    alloc: Global,
+    joined: &Joined,
+    file: usize,
+    limit: usize,
+    count: usize,
+    issues: &mut Vec<Issue>,
+) -> Result<(), OutOfMemory>
+    ensures { OnOk result (Adds (AreToldAs joined.now file (limit_notes limit count)) issues.old.items
+        issues.new.items) }
+{
+    if limit != count {
+        return Ok(());
+    }
+    let message = limit_message(alloc, limit)?;
+    let issue = Issue::of_joined(alloc, joined, file, message.as_str(), &[])?;
+    issues.push(issue)?;
+    Ok(())
+}
+
+fn limit_message(alloc: Global, limit: usize) -> Result<String, OutOfMemory>
+    ensures { IfOk result (λ text. string_bytes text ≡ limit_text limit) }
+{
+    let text = format!(in alloc; "There may be more errors: --max-errors is {limit}")?;
+    Ok(text)
 }

@@ -15,7 +15,7 @@ use std::alloc::Global;
 use validation::{Dialect, RootNode, SchemaType};
 
 /// The schema of a task, a valid type system in the dialect that the task asks for, with introspection disabled if it says
-/// so. Its faults go to `faults`.
+/// so, and its limit on errors. Its faults go to `faults`.
 ///
 /// # Errors
 ///
@@ -31,7 +31,7 @@ pub fn read_root<I: Inputs>(
     let paths = paths_of(alloc, inputs, task.schemas.as_slice())?;
     let sources = read_sources(alloc, inputs, paths.as_slice(), faults)?;
     let schema = schema_of_files(alloc, dialect_of(task), sources.as_slice(), faults)?;
-    let root = RootNode::new(schema);
+    let root = RootNode::new(schema).with_max_errors(task.max_errors);
     Ok(if task.is_closed {
         root.disable_introspection()
     } else {

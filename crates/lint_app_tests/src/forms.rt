@@ -243,6 +243,24 @@ const RUNS: &[(&str, u8, &str, &str)] = &[
         "",
     ),
     (
+        "--schema shop.graphql --schema item.graphql --max-errors 1 bad.graphql good.graphql",
+        1,
+        "bad.graphql:3:3: error: Unknown field \"nme\" on type \"Item\"\n\t\tnme\n\t\t^\nbad.graphql: error: There may be more errors: --max-errors is 1\n2 errors in 1 of 2 files\n",
+        "",
+    ),
+    (
+        "--schema shop.graphql --schema item.graphql --max-errors 2 bad.graphql",
+        1,
+        "bad.graphql:3:3: error: Unknown field \"nme\" on type \"Item\"\n\t\tnme\n\t\t^\n1 error in 1 of 1 file\n",
+        "",
+    ),
+    (
+        "--schema shop.graphql --schema item.graphql --max-errors 0 bad.graphql",
+        1,
+        "bad.graphql:3:3: error: Unknown field \"nme\" on type \"Item\"\n\t\tnme\n\t\t^\n1 error in 1 of 1 file\n",
+        "",
+    ),
+    (
         "--schema shop.graphql --schema item.graphql --dialect juniper default.graphql",
         1,
         "default.graphql:1:19: error: Argument \"id\" has type \"ID!\" and is not nullable, so it can't have a default value\nquery ($id: ID! = \"7\") { item(id: $id) { name } }\n                  ^\n1 error in 1 of 1 file\n",

@@ -60,6 +60,11 @@ abbrev pub IsDepth : Option Text → Option ℕ → Type 0
 IsDepth None depth = depth ≡ None
 IsDepth (Some text) depth = IsNumberOf text depth
 
+-- how many errors of a document are reported at most, or 0 for all
+abbrev pub IsLimit : Option Text → ℕ → Type 0
+IsLimit None limit = limit ≡ 0
+IsLimit (Some text) limit = (number : Option ℕ) × IsNumberOf text number × (limit ≡ unwrap_or number 0)
+
 -- the task has what was found for each argument
 pub record IsOfRows (rows : List Row) (task : Task) : Type 0 where
   pub schemas : texts task.schemas.items ≡ files_of (codes "schema") rows
@@ -69,6 +74,7 @@ pub record IsOfRows (rows : List Row) (task : Task) : Type 0 where
   pub closed : task.is_closed ≡ is_value (codes "closed") (codes "true") rows
   pub together : task.is_together ≡ is_value (codes "together") (codes "true") rows
   pub depth : IsDepth (first_of (codes "depth") rows) task.max_depth
+  pub errors : IsLimit (first_of (codes "errors") rows) task.max_errors
   pub juniper : task.is_juniper ≡ is_value (codes "dialect") (codes "juniper") rows
 
 -- a path that stands for the standard input

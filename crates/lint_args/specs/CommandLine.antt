@@ -50,6 +50,15 @@ depth_rule = record (new_rule (codes "depth")) {
   parser = Some (Unsigned 0 usize_max);
 }
 
+-- `--max-errors N`, a number, which is 1000 where it is left out
+abbrev pub errors_rule : Rule
+errors_rule = record (new_rule (codes "errors")) {
+  long = Some (codes "max-errors");
+  value_names = 1;
+  parser = Some (Unsigned 0 usize_max);
+  defaults = codes "1000" ∷ [];
+}
+
 -- `--dialect NAME`, which is `october2021` where it is left out
 abbrev pub dialect_rule : Bor (List (Bor Text)) → Rule
 dialect_rule dialects = record (new_rule (codes "dialect")) {
@@ -88,8 +97,9 @@ versioned = on_top (λ shape. record shape { has_version = true }) (new_app (cod
 -- all of them
 abbrev pub lint : Choices → App
 lint choices =
-    with_rule (with_rule (with_rule (with_rule (with_rule (with_rule (with_rule (with_rule versioned
-    schema_rule) (format_rule choices.forms)) closed_rule) variables_rule) together_rule) depth_rule) (dialect_rule choices.dialects)) query_rule
+    with_rule (with_rule (with_rule (with_rule (with_rule (with_rule (with_rule (with_rule (with_rule versioned
+    schema_rule) (format_rule choices.forms)) closed_rule) variables_rule) together_rule) depth_rule) errors_rule)
+    (dialect_rule choices.dialects)) query_rule
 
 -- a command has them
 abbrev pub IsLint : Command → Type 0

@@ -13,9 +13,10 @@ sample_words =
     codes "lint" ∷ codes "--schema" ∷ codes "types.graphql" ∷ codes "first.graphql" ∷ codes "--no-introspection"
     ∷ codes "--schema=more.graphql" ∷ codes "--format" ∷ codes "json"
     ∷ codes "second.graphql" ∷ codes "--variables=values.json" ∷ codes "--max-depth" ∷ codes "20" ∷ codes "--dialect=juniper"
+    ∷ codes "--max-errors" ∷ codes "50"
     ∷ codes "--" ∷ codes "--third" ∷ []
 
--- both files of types, all three of queries, the values, JSON, the depth and the dialect, with introspection closed
+-- both files of types, all three of queries, the values, JSON, both limits and the dialect, with introspection closed
 pub record IsSampleTask (task : Task) : Type 0 where
   pub schemas : texts task.schemas.items ≡ codes "types.graphql" ∷ codes "more.graphql" ∷ []
   pub queries : texts task.queries.items ≡ codes "first.graphql" ∷ codes "second.graphql" ∷ codes "--third" ∷ []
@@ -24,6 +25,7 @@ pub record IsSampleTask (task : Task) : Type 0 where
   pub closed : task.is_closed ≡ true
   pub together : task.is_together ≡ false
   pub depth : task.max_depth ≡ Some 20
+  pub errors : task.max_errors ≡ 50
   pub juniper : task.is_juniper ≡ true
 
 abbrev pub KnowsSample : Type 0
@@ -42,6 +44,7 @@ pub record IsPlainTask (schema : Text) (files : List Text) (task : Task) : Type 
   pub closed : task.is_closed ≡ false
   pub together : task.is_together ≡ false
   pub depth : task.max_depth ≡ None
+  pub errors : task.max_errors ≡ 1000
   pub juniper : task.is_juniper ≡ false
 
 abbrev pub KnowsNames : Type 0

@@ -1,7 +1,9 @@
 //! The command line of the program.
 ghost use Rattle.std.specs.Prelude.{◌≡◌, IfOk, false};
 ghost use Rattle.clap.specs.Words.{rule_of};
-ghost use Rattle.lint_args.specs.CommandLine.{HasDialects, HasForms, IsLint, closed_rule, depth_rule, dialect_rule, format_rule, query_rule, schema_rule, together_rule, variables_rule};
+ghost use Rattle.lint_args.specs.CommandLine.{HasDialects, HasForms, IsLint, closed_rule, depth_rule};
+ghost use Rattle.lint_args.specs.CommandLine.{dialect_rule, errors_rule, format_rule, query_rule, schema_rule};
+ghost use Rattle.lint_args.specs.CommandLine.{together_rule, variables_rule};
 
 use clap::{Arg, ArgAction, Command, value_parser};
 use std::alloc::{AllocError, Global};
@@ -44,6 +46,7 @@ pub fn command_line<'w>(alloc: Global) -> Result<Command<'w>, AllocError>
         .arg(variables_argument(alloc))?
         .arg(together_argument(alloc))?
         .arg(depth_argument(alloc))?
+        .arg(errors_argument(alloc))?
         .arg(dialect_argument(alloc))?
         .arg(query_argument(alloc))
 }
@@ -115,6 +118,18 @@ fn depth_argument<'w>(alloc: Global) -> Arg<'w>
         .value_name("N")
         .help("Refuse query files nested more than N levels deep")
         .value_parser(value_parser!(usize))
+}
+
+fn errors_argument<'w>(alloc: Global) -> Arg<'w>
+    ensures rule { rule_of result ≡ errors_rule }
+    ensures local { result.global ≡ false }
+{
+    Arg::new(alloc, "errors")
+        .long("max-errors")
+        .value_name("N")
+        .help("Report at most N errors of each document, or all for 0")
+        .value_parser(value_parser!(usize))
+        .default_value("1000")
 }
 
 fn dialect_argument<'w>(alloc: Global) -> Arg<'w>

@@ -4,7 +4,8 @@ ghost use Rattle.std.specs.List.{list_any};
 ghost use Rattle.std.specs.Str.{bytes_eq};
 ghost use Rattle.clap.specs.Walk.{first_of, texts};
 ghost use Rattle.clap.specs.Words.{found_of, rows_of};
-ghost use Rattle.lint_args.specs.Asks.{AsksFor, IsDepth, IsNumberOf, IsRefusal, added_once, distinct, files_of, form_of, input_count, inputs_among, is_input, is_value, word_texts};
+ghost use Rattle.lint_args.specs.Asks.{AsksFor, IsDepth, IsLimit, IsNumberOf, IsRefusal, added_once, distinct, files_of};
+ghost use Rattle.lint_args.specs.Asks.{form_of, input_count, inputs_among, is_input, is_value, word_texts};
 
 use crate::command_line::command_line;
 use clap::{ArgMatches, Error};
@@ -41,6 +42,8 @@ pub struct Task<'w> {
     pub is_together: bool,
     /// How deep a document may nest, if there is a limit.
     pub max_depth: Option<usize>,
+    /// How many errors of a document are reported at most, or 0 for all.
+    pub max_errors: usize,
     /// Whether queries are judged by juniper's dialect, and not by that of October 2021.
     pub is_juniper: bool,
 }
@@ -64,6 +67,7 @@ impl<'w> Task<'w> {
             is_closed: is_value(&matches, "closed", "true"),
             is_together: is_value(&matches, "together", "true"),
             max_depth: depth_of(&matches),
+            max_errors: limit_of(&matches),
             is_juniper: is_value(&matches, "dialect", "juniper"),
         })
     }
@@ -152,6 +156,16 @@ fn depth_of(matches: &ArgMatches<'_>) -> Option<usize>
     match matches.get_str("depth") {
         Some(text) => number_of(text),
         None => None,
+    }
+}
+
+// How many errors are reported at most, or 0 for all.
+fn limit_of(matches: &ArgMatches<'_>) -> usize
+    ensures { IsLimit (first_of (codes "errors") (rows_of (found_of matches.now))) result }
+{
+    match matches.get_str("errors") {
+        Some(text) => number_of(text).unwrap_or(0),
+        None => 0,
     }
 }
 

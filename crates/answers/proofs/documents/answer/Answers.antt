@@ -9,7 +9,7 @@ use Rattle.answers.proofs.documents.answer.Goals as goal
 pub returns-in-Ok : goal.returns-in-Ok
 returns-in-Ok c =
     IfOk-weaker c.answer_of_text.result _ _
-    (λ told h. of_text c.in-Ok.ensures.cases.1 (subst (λ text. Answers rules-value.it c.args.is_closed c.args.schema.now text told) c.in-Ok.ensures.cases.0 h))
+    (λ told h. of_text c.in-Ok.ensures.cases.1 (subst (λ text. Answers rules-value.it c.args.choices c.args.schema.now text told) c.in-Ok.ensures.cases.0 h))
     c.answer_of_text.ensures
 
 -- they are none

@@ -9,7 +9,7 @@ use Rattle.answers.proofs.values.answer_of_query.Goals as goal
 pub returns-in-Ok : goal.returns-in-Ok
 returns-in-Ok c =
     IfOk-weaker c.answer_of_texts.result _ _
-    (λ told h. of_text c.in-Ok.ensures.cases.1 (subst (λ given. AnswersValues rules-value.it c.args.is_closed c.args.schema.now c.args.text.now given told) c.in-Ok.ensures.cases.0 h))
+    (λ told h. of_text c.in-Ok.ensures.cases.1 (subst (λ given. AnswersValues rules-value.it c.args.choices c.args.schema.now c.args.text.now given told) c.in-Ok.ensures.cases.0 h))
     c.answer_of_texts.ensures
 
 -- they are none

@@ -10,7 +10,7 @@ pub returns-in-Ok : goal.returns-in-Ok
 returns-in-Ok c =
     let given = c.args.values.now in
     IfOk-weaker c.answer_of_query.result _ _
-    (λ told h. of_text c.in-Ok.ensures.cases.1 (subst (λ text. OfBytes (AnswersValues rules-value.it c.args.is_closed c.args.schema.now text given) given told) c.in-Ok.ensures.cases.0 h))
+    (λ told h. of_text c.in-Ok.ensures.cases.1 (subst (λ text. OfBytes (AnswersValues rules-value.it c.args.choices c.args.schema.now text given) given told) c.in-Ok.ensures.cases.0 h))
     c.answer_of_query.ensures
 
 -- they are none

@@ -7,7 +7,7 @@ use Rattle.answers.proofs.values.faults_in.Goals as goal
 
 pub faults_at-requires : goal.faults_at-requires
 faults_at-requires c =
-    known_types rules-value.it c.args.is_closed c.args.schema.now c.args.document.now c.definition-item.result c.requires (c.clean_by_each_dialect.ensures c.args.schema.now.dialect)
+    known_types rules-value.it c.args.choices c.args.schema.now c.args.document.now c.definition-item.result c.requires (c.clean_by_each_dialect.ensures c.args.schema.now.dialect)
     (c.loop-definition.definition-index, c.loop-definition-test.true, sym c.definition-item.is)
 
 pub loop-definition-init : goal.loop-definition-init

@@ -23,12 +23,13 @@ returns c =
     let varied = more _ _ _ _ c.in_ok-arg-4.field-0 closed c.variables_argument.ensures.rule c.variables_argument.ensures.local c.in_ok-arg-4.ensures in
     let joined = more _ _ _ _ c.in_ok-arg-5.field-0 varied c.together_argument.ensures.rule c.together_argument.ensures.local c.in_ok-arg-5.ensures in
     let limited = more _ _ _ _ c.in_ok-arg-6.field-0 joined c.depth_argument.ensures.rule c.depth_argument.ensures.local c.in_ok-arg-6.ensures in
+    let counted = more _ _ _ _ c.in_ok-arg-7.field-0 limited c.errors_argument.ensures.rule c.errors_argument.ensures.local c.in_ok-arg-7.ensures in
     let dialect = c.dialect_argument.ensures.rule in
-    let spoken = more _ _ _ _ c.in_ok-arg-7.field-0 limited dialect.2 c.dialect_argument.ensures.local c.in_ok-arg-7.ensures in
-    IfOk-weaker c.arg-8.result _ _
+    let spoken = more _ _ _ _ c.in_ok-arg-8.field-0 counted dialect.2 c.dialect_argument.ensures.local c.in_ok-arg-8.ensures in
+    IfOk-weaker c.arg-9.result _ _
     (λ command adds. (
       record { forms = format.0; dialects = dialect.0 },
       record { forms = format.1; dialects = dialect.1 },
       more _ _ _ _ command spoken c.query_argument.ensures.rule c.query_argument.ensures.local adds,
     ))
-    c.arg-8.ensures
+    c.arg-9.ensures

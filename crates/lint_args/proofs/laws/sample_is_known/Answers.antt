@@ -2,10 +2,11 @@ use Rattle.std.proofs.Common.{◌≡◌, ◌∙◌, ◌∷◌, [], List, Option,
 use Rattle.clap.proofs.OnLiterals.{clap_on_literals}
 use Rattle.clap.specs.Simple.{matches_of}
 use Rattle.clap.specs.Walk.{Text, first_of}
-use Rattle.lint_args.specs.Asks.{IsDepth, IsNumberOf, files_of, form_of, is_value}
+use Rattle.lint_args.specs.Asks.{IsDepth, IsLimit, IsNumberOf, files_of, form_of, is_value}
 use Rattle.lint_args.specs.CommandLine.{Choices, lint}
 use Rattle.lint_args.specs.Laws.{sample_words}
 use Rattle.lint_args.specs.declared.task.Form.TheVariants as form
+use Rattle.lint_args.proofs.Limits.{limit_from, written_50}
 use Rattle.lint_args.proofs.laws.sample_is_known.Goals as goal
 
 module _ (choices : Choices) where
@@ -37,6 +38,10 @@ module _ (choices : Choices) where
   unfolding clap_on_literals
   depth = refl
 
+  errors : first_of (codes "errors") (matches_of (lint choices) sample_words) ≡ Some (codes "50")
+  unfolding clap_on_literals
+  errors = refl
+
   juniper : is_value (codes "dialect") (codes "juniper") (matches_of (lint choices) sample_words) ≡ true
   unfolding clap_on_literals
   juniper = refl
@@ -55,5 +60,7 @@ returns c = λ task asked. record {
   closed = asked.matched.closed ∙ closed asked.choices;
   together = asked.matched.together ∙ together asked.choices;
   depth = twenty task.max_depth (subst (λ found. IsDepth found task.max_depth) (depth asked.choices) asked.matched.depth);
+  errors = limit_from (codes "50") 50 task.max_errors written_50
+      (subst (λ found. IsLimit found task.max_errors) (errors asked.choices) asked.matched.errors);
   juniper = asked.matched.juniper ∙ juniper asked.choices;
 }

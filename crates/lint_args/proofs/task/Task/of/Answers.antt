@@ -8,7 +8,7 @@ use Rattle.clap.specs.Simple.{is_simple, matches_of}
 use Rattle.clap.specs.Walk.{Text, first_of}
 use Rattle.clap.specs.Words.{found_of}
 use Rattle.clap.specs.declared.error.Error.{Error}
-use Rattle.lint_args.specs.Asks.{IsDepth, IsRefusal, files_of, form_of, is_value, word_texts}
+use Rattle.lint_args.specs.Asks.{IsDepth, IsLimit, IsRefusal, files_of, form_of, is_value, word_texts}
 use Rattle.lint_args.specs.CommandLine.{AreKnown, Choices, lint}
 use Rattle.lint_args.proofs.task.Task.of.Goals as goal
 
@@ -61,6 +61,7 @@ returns-clause-asked c =
         closed = c.is_value.ensures ∙ ap (is_value (codes "closed") (codes "true")) rows;
         together = c.is_value-2.ensures ∙ ap (is_value (codes "together") (codes "true")) rows;
         depth = subst (λ found. IsDepth (first_of (codes "depth") found) c.depth_of.result) rows c.depth_of.ensures;
+        errors = subst (λ found. IsLimit (first_of (codes "errors") found) c.limit_of.result) rows c.limit_of.ensures;
         juniper = c.is_value-3.ensures ∙ ap (is_value (codes "dialect") (codes "juniper")) rows;
       };
     }
