@@ -1,6 +1,5 @@
 -- An argument, and the arguments between parentheses.
-use Rattle.std.proofs.Common.{◌≡◌, ℕ, List, [], ◌∷◌, ◌++◌, map, append_assoc, append-nil, Option, Some, None, option_map, refl, sym, ap, subst, ◌∙◌}
-use Rattle.std.proofs.lemmas.List.{map_push}
+use Rattle.std.proofs.Common.{◌≡◌, ℕ, List, [], ◌∷◌, ◌++◌, map, append_assoc, Option, Some, None, option_map, refl, sym, ap, subst, ◌∙◌}
 use Rattle.language.specs.declared.position.SourcePosition.{SourcePosition}
 use Rattle.language.specs.declared.position.Span.{Span}
 use Rattle.language.specs.declared.position.Spanning.{Spanning}
@@ -16,14 +15,13 @@ use Rattle.graphql_lexer.specs.declared.tokens.Tokens.{Tokens}
 use Rattle.value_reader.specs.Faults.{IsFirstFault}
 use Rattle.value_reader.specs.Grammar.{Rules, lexeme, sign, null_name, Spells, Begins}
 use Rattle.value_reader.specs.Values.{Key, Value, plain, null}
-use Rattle.graphql_reader.specs.Arguments.{Argument, Directive, parens_seen, SpellsArgument, SpellsEach, BeginsArgument, BeginsArguments, BeginsDirective, IsArguments, GoesOnArgument, IsArgumentFault}
+use Rattle.graphql_reader.specs.Arguments.{Argument, Directive, key_sign, parens_seen, SpellsArgument, SpellsArguments, SpellsDirective, SpellsEach, BeginsArgument, BeginsArguments, IsArguments, GoesOnArgument, IsArgumentFault}
+use Rattle.graphql_reader.specs.Passed.{end_after, Reads}
 use Rattle.graphql_reader.proofs.PartLaws.{taken, tail_same, Only}
+use Rattle.graphql_reader.proofs.PassedLaws.{end_append, head_same, named, each_more, seen_more}
 
 abbrev pub argument : Key → Value → Argument
 argument k v = record { name = k; value = v }
-
-abbrev pub key_sign : Key → Lexeme
-key_sign k = lexeme (token.name k.name) k.span.start k.span.end
 
 -- ---- two keys with one token are one
 abbrev key_of : List ℕ → SourcePosition → SourcePosition → Key
@@ -38,15 +36,7 @@ key_same j k e =
     let (n, s, t) = name_of j.name k.name j.span.start j.span.end k.span.start k.span.end e in
     ap (λ m. key_of m j.span.start j.span.end) n ∙ ap (λ a. key_of k.name a j.span.end) s ∙ ap (λ b. key_of k.name k.span.start b) t
 
-head_same : (x y : Lexeme) (xs ys : List Lexeme) → x ∷ xs ≡ y ∷ ys → x ≡ y
-head_same x y xs ys e = cc
-
 -- ---- the name and the colon
-pub named : (k : Key) (old mid : Tokens) → IsTaken (token.name k.name) old mid → IsSpanOf (ahead_of old) k.span → left old ≡ key_sign k ∷ left mid
-named k old mid t (s, e) =
-    taken (token.name k.name) old mid t
-    ∙ ap (λ a. lexeme (token.name k.name) a (ahead_of old).stop ∷ left mid) (sym s) ∙ ap (λ b. lexeme (token.name k.name) k.span.start b ∷ left mid) (sym e)
-
 abbrev colon_at : Tokens → Lexeme
 colon_at t = sign Colon (ahead_of t).start (ahead_of t).stop
 
@@ -132,11 +122,6 @@ value_fault rules k old mid new at (Syntax e) t s c (before, x, more, l, f, ((v,
 )
 
 -- ---- one after the other
-pub each_more : {T : Type 0} (S : T → List Lexeme → Type 0) (xs : List T) (x : T) (front one : List Lexeme) → SpellsEach S xs front → S x one → SpellsEach S (xs ++ x ∷ []) (front ++ one)
-each_more S [] x front one e h = (one, [], ap (λ ts. ts ++ one) e ∙ sym (append-nil one), h, refl)
-each_more S (w ∷ ws) x front one (a, b, e, hw, hs) h =
-    (a, b ++ one, ap (λ ts. ts ++ one) e ∙ append_assoc a b one, hw, each_more S ws x b one hs h)
-
 -- the tokens up to here spell these
 abbrev pub Reached : {T : Type 0} → (T → List Lexeme → Type 0) → List Lexeme → List T → List Lexeme → Type 0
 Reached S ts xs rest = (front : List Lexeme) × (ts ≡ front ++ rest) × SpellsEach S xs front
@@ -151,9 +136,6 @@ reached_more S ts xs x mid rest (front, e, h) (one, f, s) =
 
 pub reached_new : {T U : Type 0} (S : T → List Lexeme → Type 0) (f : U → T) (ts : List Lexeme) (items : List U) → items ≡ [] → Reached S ts (map f items) ts
 reached_new S f ts items e = subst (λ xs. Reached S ts (map f xs) ts) (sym e) ([], refl, refl)
-
-seen_more : {T U : Type 0} (f : U → T) (items new : List U) (x : U) → new ≡ items ++ x ∷ [] → map f new ≡ map f items ++ f x ∷ []
-seen_more f items new x e = ap (λ xs. map f xs) e ∙ map_push f items x
 
 pub reached_push : {T U : Type 0} (S : T → List Lexeme → Type 0) (f : U → T) (ts : List Lexeme) (items new : List U) (x : U) (mid rest : List Lexeme) → Reached S ts (map f items) mid → Next S mid (f x) rest → new ≡ items ++ x ∷ [] → Reached S ts (map f new) rest
 reached_push S f ts items new x mid rest h b e =
@@ -190,14 +172,18 @@ at_name k span old mid after t n s e =
 abbrev pub directive : Key → Option (Spanning (Arguments SourceScalar) Span) → Span → Directive
 directive k given span = record { name = k; arguments = option_map parens_seen given; span = span }
 
-pub directive_read : (rules : Rules) (k : Key) (given : Option (Spanning (Arguments SourceScalar) Span)) (span : Span) (old mid after new : Tokens) → IsTaken (token.punctuator At) old mid → IsTaken (token.name k.name) mid after → IsSpanOf (ahead_of mid) k.span → IsArguments rules after new given → span.start ≡ (ahead_of old).start → span.end ≡ last_end_of new → BeginsDirective rules (left old) (directive k given span) (left new)
-directive_read rules k None span old mid after new t n s (other, same) e f = (
-  sign At span.start (ahead_of old).stop ∷ key_sign k ∷ [],
-  at_name k span old mid after t n s e ∙ ap (λ u. sign At span.start (ahead_of old).stop ∷ key_sign k ∷ left u) (sym same),
-  ((ahead_of old).stop, [], refl, (refl, f ∙ ap last_end_of same ∙ n.2 ∙ sym s.1)),
-)
+pub arguments_end : (rules : Rules) (given : List Argument) (span : Span) (place : SourcePosition) (ts : List Lexeme) → SpellsArguments rules given span ts → end_after place ts ≡ span.end
+arguments_end rules given span place ts (some, inner, a, b, e, h) = ap (end_after place) e ∙ end_append a inner (sign ParenClose b span.end ∷ [])
+
+pub directive_read : (rules : Rules) (k : Key) (given : Option (Spanning (Arguments SourceScalar) Span)) (span : Span) (old mid after new : Tokens) → IsTaken (token.punctuator At) old mid → IsTaken (token.name k.name) mid after → IsSpanOf (ahead_of mid) k.span → IsArguments rules after new given → span.start ≡ (ahead_of old).start → span.end ≡ last_end_of new → Reads (SpellsDirective rules (directive k given span)) old new
+directive_read rules k None span old mid after new t n s (other, same) e f =
+    let stop : last_end_of new ≡ k.span.end = ap last_end_of same ∙ n.2 ∙ sym s.1 in (
+      sign At span.start (ahead_of old).stop ∷ key_sign k ∷ [],
+      (at_name k span old mid after t n s e ∙ ap (λ u. sign At span.start (ahead_of old).stop ∷ key_sign k ∷ left u) (sym same), stop),
+      ((ahead_of old).stop, [], refl, (refl, f ∙ stop)),
+    )
 directive_read rules k (Some p) span old mid after new t n s ((front, g, h), stop) e f = (
   sign At span.start (ahead_of old).stop ∷ key_sign k ∷ front,
-  at_name k span old mid after t n s e ∙ ap (λ xs. sign At span.start (ahead_of old).stop ∷ key_sign k ∷ xs) g,
+  (at_name k span old mid after t n s e ∙ ap (λ xs. sign At span.start (ahead_of old).stop ∷ key_sign k ∷ xs) g, sym stop ∙ sym (arguments_end rules (parens_seen p).given p.span k.span.end front h)),
   ((ahead_of old).stop, front, refl, (h, f ∙ sym stop)),
 )

@@ -12,7 +12,7 @@ use Rattle.value_reader.specs.Faults.{IsFirstFault, IsNone}
 use Rattle.value_reader.specs.Grammar.{Begins}
 use Rattle.value_reader.specs.Values.{Value}
 
-behind_end : (t : Tokens) → (ahead_of t).token ≡ token.end → behind t ≡ []
+pub behind_end : (t : Tokens) → (ahead_of t).token ≡ token.end → behind t ≡ []
 behind_end t e = ap (λ k. if is_last k then [] else tokens_from t.scanned.stop t.scanned.rest.now) e
 
 head_same : (x y : Lexeme) (xs ys : List Lexeme) → x ∷ xs ≡ y ∷ ys → x ≡ y

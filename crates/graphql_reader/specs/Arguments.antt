@@ -19,16 +19,21 @@ use Rattle.graphql_lexer.specs.declared.tokens.Tokens.{Tokens}
 use Rattle.value_reader.specs.Grammar.{Rules, lexeme, sign, Spells}
 use Rattle.value_reader.specs.Seen.{value_seen}
 use Rattle.value_reader.specs.Values.{Key, Value}
+use Rattle.graphql_reader.specs.Passed.{Reads}
 
 pub record Argument : Type 0 where
   pub name : Key
   pub value : Value
 
+-- a name, from its start to its end
+abbrev pub key_sign : Key → Lexeme
+key_sign k = lexeme (token.name k.name) k.span.start k.span.end
+
 -- Argument[Const]: Name `:` Value[Const]
 abbrev pub SpellsArgument : Rules → Argument → List Lexeme → Type 0
 SpellsArgument rules a ts =
     (p : SourcePosition) × (q : SourcePosition) × (more : List Lexeme)
-    × (ts ≡ lexeme (token.name a.name.name) a.name.span.start a.name.span.end ∷ sign Colon p q ∷ more) × Spells rules 0 a.value more
+    × (ts ≡ key_sign a.name ∷ sign Colon p q ∷ more) × Spells rules 0 a.value more
 
 -- one after the other, each by S
 abbrev pub SpellsEach : {T : Type 0} → (T → List Lexeme → Type 0) → List T → List Lexeme → Type 0
@@ -66,17 +71,12 @@ SpellsParens rules (Some p) name_end stop ts = SpellsArguments rules p.given p.s
 -- Directive[Const]: `@` Name Arguments[Const]?
 abbrev pub SpellsDirective : Rules → Directive → List Lexeme → Type 0
 SpellsDirective rules d ts =
-    (a : SourcePosition) × (more : List Lexeme)
-    × (ts ≡ sign At d.span.start a ∷ lexeme (token.name d.name.name) d.name.span.start d.name.span.end ∷ more)
+    (a : SourcePosition) × (more : List Lexeme) × (ts ≡ sign At d.span.start a ∷ key_sign d.name ∷ more)
     × SpellsParens rules d.arguments d.name.span.end d.span.end more
 
-abbrev pub BeginsDirective : Rules → List Lexeme → Directive → List Lexeme → Type 0
-BeginsDirective rules ts d rest = (front : List Lexeme) × (ts ≡ front ++ rest) × SpellsDirective rules d front
-
 -- Directives[Const]: Directive[Const]+
-abbrev pub BeginsDirectives : Rules → List Lexeme → List Directive → List Lexeme → Type 0
-BeginsDirectives rules ts ds rest =
-    (ds ≡ [] → ⊥) × (front : List Lexeme) × (ts ≡ front ++ rest) × SpellsEach (SpellsDirective rules) ds front
+abbrev pub SpellsDirectives : Rules → List Directive → List Lexeme → Type 0
+SpellsDirectives rules ds ts = (ds ≡ [] → ⊥) × SpellsEach (SpellsDirective rules) ds ts
 
 -- some argument begins with these tokens
 abbrev pub GoesOnArgument : Rules → List Lexeme → Type 0
@@ -115,4 +115,4 @@ IsArguments rules old new (Some given) =
 abbrev pub IsDirectives : Rules → Tokens → Tokens → Option (Vec (Spanning (GivenDirective SourceScalar) Span) Global) → Type 0
 IsDirectives rules old new None = IsLeft (token.punctuator At) old new
 IsDirectives rules old new (Some ds) =
-    BeginsDirectives rules (left old) (map directive_seen ds.items) (left new) × ((ahead_of new).token ≡ token.punctuator At → ⊥)
+    Reads (SpellsDirectives rules (map directive_seen ds.items)) old new × ((ahead_of new).token ≡ token.punctuator At → ⊥)

@@ -3,8 +3,9 @@ ghost use Rattle.std.specs.Prelude.{◌≡◌, IfOk, IfErr, List};
 ghost use Rattle.graphql_lexer.specs.Ahead.{left};
 ghost use Rattle.graphql_lexer.specs.Lexemes.{Lexeme};
 ghost use Rattle.graphql_reader.specs.Arguments as g;
-ghost use Rattle.graphql_reader.specs.Arguments.{argument_seen, directive_seen, BeginsArgument, BeginsDirective};
+ghost use Rattle.graphql_reader.specs.Arguments.{argument_seen, directive_seen, BeginsArgument, SpellsDirective};
 ghost use Rattle.graphql_reader.specs.Arguments.{IsArgumentFault, IsArguments, IsDirectives};
+ghost use Rattle.graphql_reader.specs.Passed.{Reads};
 ghost use Rattle.value_reader.specs.Seen.{rules_of};
 
 use graphql_lexer::error::ReadError;
@@ -105,7 +106,7 @@ fn read_directive<'a>(
     max_depth: Option<usize>,
 ) -> Result<Spanning<Directive<'a, SourceScalar>>, ReadError<'a>>
     ensures { IfOk result (λ d.
-        BeginsDirective (rules_of variables max_depth) (left tokens.old) (directive_seen d) (left tokens.new)) }
+        Reads (SpellsDirective (rules_of variables max_depth) (directive_seen d)) tokens.old tokens.new) }
 {
     let start = tokens.start();
     tokens.expect(Punctuator::At, "@")?;

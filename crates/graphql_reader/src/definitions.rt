@@ -1,7 +1,16 @@
 //! Executable documents (GraphQL, October 2021, sections 2.2, 2.3, 2.8 and 2.10).
-ghost use Rattle.std.specs.Prelude.{◌<◌, IfOk, IfErr, length};
-ghost use Rattle.graphql_lexer.specs.Ahead.{left};
+ghost use Rattle.std.specs.Prelude.{◌≡◌, ◌<◌, IfOk, IfErr, IfSome, None, length, map, option_map};
+ghost use Rattle.graphql_lexer.specs.Ahead.{ahead_of, left, IsTaken};
+ghost use Rattle.graphql_lexer.specs.Lexical.{punctuator, name as name_token};
+ghost use Rattle.graphql_lexer.specs.declared.lexer.Punctuator.TheVariants.{ParenOpen};
+ghost use Rattle.graphql_lexer.specs.declared.tokens.Tokens.{Tokens as Reader};
+ghost use Rattle.graphql_reader.specs.Arguments.{name_seen};
+ghost use Rattle.graphql_reader.specs.Documents.{definition_seen, fragment_word, keyword, variable_seen, variables_seen};
+ghost use Rattle.graphql_reader.specs.Documents.{IsDocument, SpellsDefinition, SpellsVariable, SpellsVariableDefinition};
+ghost use Rattle.graphql_reader.specs.Documents.{SpellsVariables};
 ghost use Rattle.graphql_reader.specs.Parts.{IsDefault, IsDefaultFault};
+ghost use Rattle.graphql_reader.specs.Passed.{BeginsWith, Optional, Reads, Then};
+ghost use Rattle.graphql_reader.specs.Selections.{SpellsCondition, SpellsFragmentName, SpellsName};
 ghost use Rattle.value_reader.specs.Seen.{rules_of};
 ghost use Rattle.value_reader.specs.declared.rules.Variables.TheVariants.{Refused};
 
@@ -31,7 +40,9 @@ pub fn read_document<'a>(
     alloc: Global,
     text: &'a str,
 ) -> Result<Vec<Definition<'a, SourceScalar>>, ReadError<'a>>
-    ensures { IfOk result (λ definitions. 0 < length definitions.items) }
+    ensures some { IfOk result (λ definitions. 0 < length definitions.items) }
+    ensures document { IfOk result (λ definitions.
+        IsDocument None text.now (map definition_seen definitions.items)) }
 {
     read_document_within(alloc, text, None)
 }
@@ -47,12 +58,15 @@ pub fn read_document_within<'a>(
     text: &'a str,
     max_depth: Option<usize>,
 ) -> Result<Vec<Definition<'a, SourceScalar>>, ReadError<'a>>
-    ensures { IfOk result (λ definitions. 0 < length definitions.items) }
+    ensures some { IfOk result (λ definitions. 0 < length definitions.items) }
+    ensures document { IfOk result (λ definitions.
+        IsDocument max_depth text.now (map definition_seen definitions.items)) }
 {
     let mut tokens = Tokens::new(alloc, text.as_bytes());
     let mut definitions = Vec::new(alloc);
     for _ in 0..tokens.bound() {
-        definitions.push(read_definition(&mut tokens, max_depth)?)?;
+        let definition = read_definition(&mut tokens, max_depth)?;
+        definitions.push(definition)?;
         if tokens.is_at_end() {
             definitions.shrink_to_fit();
             return Ok(definitions);
@@ -64,7 +78,10 @@ pub fn read_document_within<'a>(
 fn read_definition<'a>(
     tokens: &mut Tokens<'a>,
     max_depth: Option<usize>,
-) -> Result<Definition<'a, SourceScalar>, ReadError<'a>> {
+) -> Result<Definition<'a, SourceScalar>, ReadError<'a>>
+    ensures { IfOk result (λ d.
+        Reads (SpellsDefinition max_depth (definition_seen d)) tokens.old tokens.new) }
+{
     if tokens.is(Punctuator::BraceOpen) {
         return read_bare_query(tokens, max_depth);
     }
@@ -78,7 +95,9 @@ fn read_definition<'a>(
 }
 
 /// The kind of operation whose keyword is next.
-pub fn operation_type_ahead(tokens: &Tokens<'_>) -> Option<OperationType> {
+pub fn operation_type_ahead(tokens: &Tokens<'_>) -> Option<OperationType>
+    ensures { IfSome result (λ kind. (ahead_of tokens.now).token ≡ name_token (keyword kind)) }
+{
     match tokens.ahead() {
         Token::Name("query") => Some(OperationType::Query),
         Token::Name("mutation") => Some(OperationType::Mutation),
@@ -91,9 +110,13 @@ pub fn operation_type_ahead(tokens: &Tokens<'_>) -> Option<OperationType> {
 fn read_bare_query<'a>(
     tokens: &mut Tokens<'a>,
     max_depth: Option<usize>,
-) -> Result<Definition<'a, SourceScalar>, ReadError<'a>> {
+) -> Result<Definition<'a, SourceScalar>, ReadError<'a>>
+    ensures { IfOk result (λ d.
+        Reads (SpellsDefinition max_depth (definition_seen d)) tokens.old tokens.new) }
+{
     let start = tokens.start();
     let selection_set = read_selection_set(tokens, max_depth)?;
+    let span = tokens.span_from(start);
     Ok(Definition::Operation(Spanning {
         item: Operation {
             operation_type: OperationType::Query,
@@ -102,7 +125,7 @@ fn read_bare_query<'a>(
             directives: None,
             selection_set,
         },
-        span: tokens.span_from(start),
+        span,
     }))
 }
 
@@ -110,16 +133,17 @@ fn read_operation<'a>(
     tokens: &mut Tokens<'a>,
     max_depth: Option<usize>,
     operation_type: OperationType,
-) -> Result<Definition<'a, SourceScalar>, ReadError<'a>> {
+) -> Result<Definition<'a, SourceScalar>, ReadError<'a>>
+    ensures { IfOk result (λ d. (ahead_of tokens.old).token ≡ name_token (keyword operation_type)
+        → Reads (SpellsDefinition max_depth (definition_seen d)) tokens.old tokens.new) }
+{
     let start = tokens.start();
     tokens.advance();
-    let name = match tokens.ahead() {
-        Token::Name(_) => Some(tokens.name("a name")?),
-        _ => None,
-    };
+    let name = read_operation_name(tokens)?;
     let variable_definitions = read_variable_definitions(tokens, max_depth)?;
     let directives = read_directives(tokens, Variables::Allowed, max_depth)?;
     let selection_set = read_selection_set(tokens, max_depth)?;
+    let span = tokens.span_from(start);
     Ok(Definition::Operation(Spanning {
         item: Operation {
             operation_type,
@@ -128,19 +152,35 @@ fn read_operation<'a>(
             directives,
             selection_set,
         },
-        span: tokens.span_from(start),
+        span,
     }))
+}
+
+// The name of an operation, if it has one.
+fn read_operation_name<'a>(
+    tokens: &mut Tokens<'a>,
+) -> Result<Option<Spanning<&'a str>>, ReadError<'a>>
+    ensures { IfOk result (λ name. Reads (Optional SpellsName (option_map name_seen name)) tokens.old tokens.new) }
+{
+    match tokens.ahead() {
+        Token::Name(_) => Ok(Some(tokens.name("a name")?)),
+        _ => Ok(None),
+    }
 }
 
 fn read_fragment<'a>(
     tokens: &mut Tokens<'a>,
     max_depth: Option<usize>,
-) -> Result<Definition<'a, SourceScalar>, ReadError<'a>> {
+) -> Result<Definition<'a, SourceScalar>, ReadError<'a>>
+    ensures { IfOk result (λ d. (ahead_of tokens.old).token ≡ name_token fragment_word
+        → Reads (SpellsDefinition max_depth (definition_seen d)) tokens.old tokens.new) }
+{
     let start = tokens.start();
     tokens.advance();
     let (name, type_condition) = read_fragment_head(tokens)?;
     let directives = read_directives(tokens, Variables::Allowed, max_depth)?;
     let selection_set = read_selection_set(tokens, max_depth)?;
+    let span = tokens.span_from(start);
     Ok(Definition::Fragment(Spanning {
         item: Fragment {
             name,
@@ -148,14 +188,17 @@ fn read_fragment<'a>(
             directives,
             selection_set,
         },
-        span: tokens.span_from(start),
+        span,
     }))
 }
 
 // A fragment's name, which must not be `on`, and its type condition.
 fn read_fragment_head<'a>(
     tokens: &mut Tokens<'a>,
-) -> Result<(Spanning<&'a str>, Spanning<&'a str>), ReadError<'a>> {
+) -> Result<(Spanning<&'a str>, Spanning<&'a str>), ReadError<'a>>
+    ensures { IfOk result (λ r.
+        Reads (Then (SpellsFragmentName (name_seen r.0)) (SpellsCondition (name_seen r.1))) tokens.old tokens.new) }
+{
     if tokens.is_word("on") {
         return Err(tokens.fault("a fragment's name"));
     }
@@ -163,13 +206,17 @@ fn read_fragment_head<'a>(
     if !tokens.take_word("on") {
         return Err(tokens.fault("`on`"));
     }
-    Ok((name, tokens.name("a type's name")?))
+    let condition = tokens.name("a type's name")?;
+    Ok((name, condition))
 }
 
 fn read_variable_definitions<'a>(
     tokens: &mut Tokens<'a>,
     max_depth: Option<usize>,
-) -> Result<Option<Spanning<VariableDefinitions<'a, SourceScalar>>>, ReadError<'a>> {
+) -> Result<Option<Spanning<VariableDefinitions<'a, SourceScalar>>>, ReadError<'a>>
+    ensures { IfOk result (λ vs.
+        Reads (Optional (SpellsVariables max_depth) (option_map variables_seen vs)) tokens.old tokens.new) }
+{
     let start = tokens.start();
     if !tokens.take(Punctuator::ParenOpen) {
         return Ok(None);
@@ -182,34 +229,59 @@ fn read_variables_from<'a>(
     tokens: &mut Tokens<'a>,
     max_depth: Option<usize>,
     start: SourcePosition,
-) -> Result<Option<Spanning<VariableDefinitions<'a, SourceScalar>>>, ReadError<'a>> {
+) -> Result<Option<Spanning<VariableDefinitions<'a, SourceScalar>>>, ReadError<'a>>
+    ensures { IfOk result (λ vs. (paren : Reader) → IsTaken (punctuator ParenOpen) paren tokens.old
+        → start ≡ (ahead_of paren).start
+        → Reads (Optional (SpellsVariables max_depth) (option_map variables_seen vs)) paren tokens.new) }
+{
     let mut items = Vec::new(tokens.alloc());
     for _ in 0..tokens.bound() {
-        let name = tokens.variable()?;
-        tokens.expect(Punctuator::Colon, ":")?;
-        items.push((name, read_variable_definition(tokens, max_depth)?))?;
+        let variable = read_variable_definition(tokens, max_depth)?;
+        items.push(variable)?;
         if tokens.take(Punctuator::ParenClose) {
             items.shrink_to_fit();
-            return Ok(Some(Spanning {
-                item: VariableDefinitions { items },
-                span: tokens.span_from(start),
-            }));
+            let span = tokens.span_from(start);
+            let item = VariableDefinitions { items };
+            return Ok(Some(Spanning { item, span }));
         }
     }
     Err(tokens.fault(")"))
 }
 
+type Variable<'a> = (Spanning<&'a str>, VariableDefinition<'a, SourceScalar>);
+
+// One variable: its name, a colon and its definition.
 fn read_variable_definition<'a>(
     tokens: &mut Tokens<'a>,
     max_depth: Option<usize>,
-) -> Result<VariableDefinition<'a, SourceScalar>, ReadError<'a>> {
+) -> Result<Variable<'a>, ReadError<'a>>
+    ensures { IfOk result (λ v.
+        BeginsWith (SpellsVariableDefinition max_depth (variable_seen v)) (left tokens.old) (left tokens.new)) }
+{
+    let name = read_variable(tokens)?;
+    tokens.expect(Punctuator::Colon, ":")?;
     let var_type = read_type(tokens, max_depth)?;
     let default_value = read_default_value(tokens, max_depth)?;
     let directives = read_directives(tokens, Variables::Refused, max_depth)?;
-    Ok(VariableDefinition {
+    let definition = VariableDefinition {
         var_type,
         default_value,
         directives,
+    };
+    Ok((name, definition))
+}
+
+// A variable: `$` and its name. Its span starts at the `$`.
+fn read_variable<'a>(tokens: &mut Tokens<'a>) -> Result<Spanning<&'a str>, ReadError<'a>>
+    ensures { IfOk result (λ v. Reads (SpellsVariable (name_seen v)) tokens.old tokens.new) }
+{
+    let start = tokens.start();
+    tokens.expect(Punctuator::Dollar, "a variable")?;
+    let name = tokens.name("the variable's name")?;
+    let span = tokens.span_from(start);
+    Ok(Spanning {
+        item: name.item,
+        span,
     })
 }
 

@@ -1,4 +1,7 @@
 //! How deep a text may nest.
+ghost use Rattle.std.specs.Prelude.{◌≡◌, true, OnOk};
+ghost use Rattle.value_reader.specs.Grammar.{may_nest};
+
 use graphql_lexer::error::ReadError;
 use graphql_lexer::tokens::Tokens;
 
@@ -14,7 +17,9 @@ pub fn check_depth<'a>(
     tokens: &Tokens<'a>,
     levels: usize,
     max_depth: Option<usize>,
-) -> Result<(), ReadError<'a>> {
+) -> Result<(), ReadError<'a>>
+    ensures { OnOk result (may_nest max_depth levels ≡ true) }
+{
     match max_depth {
         Some(limit) if levels >= limit => Err(tokens.too_deep(limit)),
         _ => Ok(()),

@@ -6,8 +6,9 @@
 //! set a limit, as [`NESTING_LIMIT`]: [`read_document_within`], [`read_type_system_within`].
 //!
 //! Proved of every call: it is safe and returns, whatever the text. Values are read by `value_reader`, which is proved
-//! exact. Arguments, directives, default values and descriptions that were read are those that the tokens spell, and
-//! [`read_constant`] is exact. That the rest of the tree is that of the text is only tested.
+//! exact, and [`read_constant`] is exact. The tree of an executable document is spelled by the tokens of its text, each
+//! of them, with its spans: `IsDocument` of `specs/Documents.antt`. Descriptions are those that the tokens spell. That
+//! the rest of a type system document's tree is that of its text is only tested.
 #![tactic(auto)]
 
 mod arguments;

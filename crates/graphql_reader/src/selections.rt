@@ -1,22 +1,66 @@
 //! Selection sets (GraphQL, October 2021, sections 2.4, 2.5 and 2.8).
-use crate::arguments::{read_arguments, read_directives};
+ghost use Rattle.std.specs.Prelude.{◌≡◌, ◌≢◌, [], true, false, IsTrue, IfOk, OnOk, ℕ, Option, option_map, reverse};
+ghost use Rattle.graphql_lexer.specs.Ahead.{ahead_of, IsTaken};
+ghost use Rattle.graphql_lexer.specs.Lexical.{punctuator, name as name_token};
+ghost use Rattle.graphql_lexer.specs.declared.lexer.Punctuator.TheVariants.{BraceOpen, BraceClose, Spread};
+ghost use Rattle.graphql_lexer.specs.declared.tokens.Tokens.{Tokens as Reader};
+ghost use Rattle.value_reader.specs.Grammar.{may_nest};
+ghost use Rattle.graphql_reader.specs.Arguments.{name_seen};
+ghost use Rattle.graphql_reader.specs.Passed.{Reads};
+ghost use Rattle.graphql_reader.specs.OpenSets.{field_seen, inline_seen, whole, Standing, IsPart, IsTurn};
+ghost use Rattle.graphql_reader.specs.Selections as g;
+ghost use Rattle.graphql_reader.specs.Selections.{directives_seen, nodes_seen, selection_seen, with_set, on};
+ghost use Rattle.graphql_reader.specs.Selections.{SpellsAliased, SpellsDots, SpellsFieldHead, SpellsSet};
+
+use crate::arguments::{Directives, read_arguments, read_directives};
 use crate::depth::check_depth;
 use graphql_lexer::error::ReadError;
 use graphql_lexer::lexer::Punctuator;
 use graphql_lexer::tokens::Tokens;
-use language::position::{SourcePosition, Spanning};
-use language::tree::{Field, FragmentSpread, InlineFragment, Selection};
+use language::position::{SourcePosition, Span, Spanning};
+use language::tree::{Arguments, Field, FragmentSpread, InlineFragment, Selection};
 use sdl_scalars::scalar::SourceScalar;
 use std::mem;
 use value_reader::rules::Variables;
 
 type Nodes<'a> = Vec<Selection<'a, SourceScalar>>;
 
+// A field up to its set.
+#[derive(Drop)]
+struct FieldHead<'a> {
+    alias: Option<Spanning<&'a str>>,
+    name: Spanning<&'a str>,
+    arguments: Option<Spanning<Arguments<'a, SourceScalar>>>,
+    directives: Directives<'a>,
+}
+
+// An inline fragment up to its set.
+#[derive(Drop)]
+struct InlineHead<'a> {
+    type_condition: Option<Spanning<&'a str>>,
+    directives: Directives<'a>,
+}
+
+// What stands before a set.
+#[derive(Drop)]
+enum Head<'a> {
+    Field(FieldHead<'a>),
+    Inline(InlineHead<'a>),
+}
+
+// What is read at a time: a selection, or where one starts and what stands before its set.
+#[derive(Drop)]
+enum Part<'a> {
+    Whole(Selection<'a, SourceScalar>),
+    Head(SourcePosition, Head<'a>),
+}
+
 // A field or an inline fragment whose set is read: where it starts, and the set that it stands in, so far.
 #[derive(Drop)]
-enum Begun<'a> {
-    Field(SourcePosition, Field<'a, SourceScalar>, Nodes<'a>),
-    Inline(SourcePosition, InlineFragment<'a, SourceScalar>, Nodes<'a>),
+struct Begun<'a> {
+    start: SourcePosition,
+    head: Head<'a>,
+    outer: Nodes<'a>,
 }
 
 /// Parses a selection set, which is never empty. What is begun stands on a list in memory, so no depth is too deep for
@@ -28,19 +72,17 @@ enum Begun<'a> {
 pub fn read_selection_set<'a>(
     tokens: &mut Tokens<'a>,
     max_depth: Option<usize>,
-) -> Result<Nodes<'a>, ReadError<'a>> {
+) -> Result<Nodes<'a>, ReadError<'a>>
+    ensures { IfOk result (λ set. Reads (SpellsSet max_depth 0 (nodes_seen set.items)) tokens.old tokens.new) }
+{
     open_set(tokens, 0, max_depth)?;
     let mut begun = Vec::new(tokens.alloc());
     let mut nodes = Vec::new(tokens.alloc());
     for _ in 0..tokens.bound() {
-        if !nodes.is_empty() && tokens.take(Punctuator::BraceClose) {
-            nodes.shrink_to_fit();
-            match begun.pop() {
-                None => return Ok(nodes),
-                Some(last) => nodes = end(last, nodes, tokens)?,
-            }
-        } else {
-            read_selection(tokens, max_depth, &mut nodes, &mut begun)?;
+        let turn = step(tokens, max_depth, &mut nodes, &mut begun)?;
+        match turn {
+            Some(set) => return Ok(set),
+            None => {}
         }
     }
     Err(tokens.fault("}"))
@@ -51,97 +93,231 @@ fn open_set<'a>(
     tokens: &mut Tokens<'a>,
     levels: usize,
     max_depth: Option<usize>,
-) -> Result<(), ReadError<'a>> {
+) -> Result<(), ReadError<'a>>
+    ensures depth { OnOk result (may_nest max_depth levels ≡ true) }
+    ensures taken { OnOk result (IsTaken (punctuator BraceOpen) tokens.old tokens.new) }
+{
     check_depth(tokens, levels, max_depth)?;
     tokens.expect(Punctuator::BraceOpen, "{")
 }
 
-// Puts a set into the selection that it belongs to, and that into the set that it stands in.
-fn end<'a>(
-    begun: Begun<'a>,
-    set: Nodes<'a>,
+// Takes the brace that ends a set, or reads a part more. The outermost set, if it ends there.
+fn step<'a>(
+    tokens: &mut Tokens<'a>,
+    max_depth: Option<usize>,
+    nodes: &mut Nodes<'a>,
+    begun: &mut Vec<Begun<'a>>,
+) -> Result<Option<Nodes<'a>>, ReadError<'a>>
+    ensures { IfOk result (λ turn. (first : Reader)
+        → Standing max_depth first (reverse begun.old.items) nodes.old.items tokens.old
+        → IsTurn max_depth first (reverse begun.new.items) nodes.new.items tokens.new turn) }
+{
+    if ends(tokens, nodes) {
+        return end_set(tokens, nodes, begun);
+    }
+    let part = read_part(tokens, max_depth)?;
+    add_part(tokens, max_depth, part, nodes, begun)?;
+    Ok(None)
+}
+
+// Takes the brace that ends a set, if it is next and some selection is there.
+fn ends<'a>(tokens: &mut Tokens<'a>, nodes: &Nodes<'a>) -> bool
+    ensures taken { IsTrue result → IsTaken (punctuator BraceClose) tokens.old tokens.new }
+    ensures some { IsTrue result → nodes.now.items ≢ [] }
+    ensures left { result ≡ false → tokens.new ≡ tokens.old }
+{
+    if nodes.is_empty() {
+        return false;
+    }
+    tokens.take(Punctuator::BraceClose)
+}
+
+// Puts the innermost set into the selection that it belongs to, and that into the set that it stands in.
+fn end_set<'a>(
     tokens: &Tokens<'a>,
-) -> Result<Nodes<'a>, ReadError<'a>> {
-    match begun {
-        Begun::Field(start, mut item, mut nodes) => {
-            item.selection_set = Some(set);
+    nodes: &mut Nodes<'a>,
+    begun: &mut Vec<Begun<'a>>,
+) -> Result<Option<Nodes<'a>>, ReadError<'a>>
+    ensures { IfOk result (λ turn. (limit : Option ℕ) (first : Reader) (mid : Reader)
+        → Standing limit first (reverse begun.old.items) nodes.old.items mid
+        → IsTaken (punctuator BraceClose) mid tokens.now → nodes.old.items ≢ []
+        → IsTurn limit first (reverse begun.new.items) nodes.new.items tokens.now turn) }
+{
+    let mut set = mem::replace(nodes, Vec::new(tokens.alloc()));
+    set.shrink_to_fit();
+    match begun.pop() {
+        None => Ok(Some(set)),
+        Some(Begun { start, head, outer }) => {
             let span = tokens.span_from(start);
-            nodes.push(Selection::Field(Spanning { item, span }))?;
-            Ok(nodes)
-        }
-        Begun::Inline(start, mut item, mut nodes) => {
-            item.selection_set = set;
-            let span = tokens.span_from(start);
-            nodes.push(Selection::InlineFragment(Spanning { item, span }))?;
-            Ok(nodes)
+            *nodes = outer;
+            nodes.push(whole(head, set, span))?;
+            Ok(None)
         }
     }
 }
 
-// One selection more, or its beginning up to the brace that begins its set.
-fn read_selection<'a>(
+// A selection more, or one that is begun, whose brace is taken.
+fn add_part<'a>(
     tokens: &mut Tokens<'a>,
     max_depth: Option<usize>,
+    part: Part<'a>,
     nodes: &mut Nodes<'a>,
     begun: &mut Vec<Begun<'a>>,
-) -> Result<(), ReadError<'a>> {
-    let start = tokens.start();
-    if tokens.take(Punctuator::Spread) {
-        read_after_dots(tokens, max_depth, start, nodes, begun)
-    } else {
-        read_field(tokens, max_depth, nodes, begun)
+) -> Result<(), ReadError<'a>>
+    ensures { OnOk result ((first : Reader) (mid : Reader)
+        → Standing max_depth first (reverse begun.old.items) nodes.old.items mid
+        → IsPart max_depth mid tokens.old part.entry
+        → Standing max_depth first (reverse begun.new.items) nodes.new.items tokens.new) }
+{
+    match part {
+        Part::Whole(selection) => {
+            nodes.push(selection)?;
+            Ok(())
+        }
+        Part::Head(start, head) => {
+            let outer = mem::replace(nodes, Vec::new(tokens.alloc()));
+            begun.push(Begun { start, head, outer })?;
+            open_set(tokens, begun.len(), max_depth)
+        }
     }
 }
 
-// An inline fragment, or the spread of a fragment.
-fn read_after_dots<'a>(
-    tokens: &mut Tokens<'a>,
-    max_depth: Option<usize>,
-    start: SourcePosition,
-    nodes: &mut Nodes<'a>,
-    begun: &mut Vec<Begun<'a>>,
-) -> Result<(), ReadError<'a>> {
-    if tokens.take_word("on") {
-        let condition = tokens.name("a type's name")?;
-        return begin_inline_fragment(tokens, max_depth, start, Some(condition), nodes, begun);
+fn whole<'a>(head: Head<'a>, set: Nodes<'a>, span: Span) -> Selection<'a, SourceScalar>
+    ensures { selection_seen result ≡ whole head.entry (nodes_seen set.entry.items) span }
+{
+    match head {
+        Head::Field(head) => field(head, Some(set), span),
+        Head::Inline(head) => inline_fragment(head, set, span),
     }
-    if tokens.is(Punctuator::At) || tokens.is(Punctuator::BraceOpen) {
-        return begin_inline_fragment(tokens, max_depth, start, None, nodes, begun);
-    }
-    read_fragment_spread(tokens, max_depth, start, nodes)
 }
 
-fn read_field<'a>(
-    tokens: &mut Tokens<'a>,
-    max_depth: Option<usize>,
-    nodes: &mut Nodes<'a>,
-    begun: &mut Vec<Begun<'a>>,
-) -> Result<(), ReadError<'a>> {
-    let start = tokens.start();
-    let (alias, name) = read_alias_and_name(tokens)?;
-    let arguments = read_arguments(tokens, Variables::Allowed, max_depth)?;
-    let directives = read_directives(tokens, Variables::Allowed, max_depth)?;
+fn field<'a>(
+    head: FieldHead<'a>,
+    selection_set: Option<Nodes<'a>>,
+    span: Span,
+) -> Selection<'a, SourceScalar>
+    ensures { selection_seen result ≡ with_set (field_seen head.entry)
+        (option_map (λ set. nodes_seen set.items) selection_set.entry) span }
+{
+    let FieldHead {
+        alias,
+        name,
+        arguments,
+        directives,
+    } = head;
     let item = Field {
         alias,
         name,
         arguments,
         directives,
-        selection_set: None,
+        selection_set,
     };
-    if tokens.is(Punctuator::BraceOpen) {
-        let outer = mem::replace(nodes, Vec::new(tokens.alloc()));
-        begun.push(Begun::Field(start, item, outer))?;
-        open_set(tokens, begun.len(), max_depth)?;
+    Selection::Field(Spanning { item, span })
+}
+
+fn inline_fragment<'a>(
+    head: InlineHead<'a>,
+    selection_set: Nodes<'a>,
+    span: Span,
+) -> Selection<'a, SourceScalar>
+    ensures { selection_seen result ≡ g.inline (inline_seen head.entry) (nodes_seen selection_set.entry.items) span }
+{
+    let InlineHead {
+        type_condition,
+        directives,
+    } = head;
+    let item = InlineFragment {
+        type_condition,
+        directives,
+        selection_set,
+    };
+    Selection::InlineFragment(Spanning { item, span })
+}
+
+fn fragment_spread<'a>(
+    name: Spanning<&'a str>,
+    directives: Directives<'a>,
+    span: Span,
+) -> Selection<'a, SourceScalar>
+    ensures { selection_seen result ≡ g.spread (name_seen name.entry) (directives_seen directives.entry) span }
+{
+    let item = FragmentSpread { name, directives };
+    Selection::FragmentSpread(Spanning { item, span })
+}
+
+// A selection, or its beginning up to the brace that begins its set.
+fn read_part<'a>(
+    tokens: &mut Tokens<'a>,
+    max_depth: Option<usize>,
+) -> Result<Part<'a>, ReadError<'a>>
+    ensures { IfOk result (λ part. IsPart max_depth tokens.old tokens.new part) }
+{
+    let start = tokens.start();
+    if tokens.take(Punctuator::Spread) {
+        read_after_dots(tokens, max_depth, start)
     } else {
-        let span = tokens.span_from(start);
-        nodes.push(Selection::Field(Spanning { item, span }))?;
+        read_field(tokens, max_depth)
     }
-    Ok(())
+}
+
+// An inline fragment up to its brace, or the spread of a fragment.
+fn read_after_dots<'a>(
+    tokens: &mut Tokens<'a>,
+    max_depth: Option<usize>,
+    start: SourcePosition,
+) -> Result<Part<'a>, ReadError<'a>>
+    ensures { IfOk result (λ part. (dots : Reader) → IsTaken (punctuator Spread) dots tokens.old
+        → start ≡ (ahead_of dots).start → IsPart max_depth dots tokens.new part) }
+{
+    if tokens.take_word("on") {
+        let condition = tokens.name("a type's name")?;
+        return read_inline_head(tokens, max_depth, start, Some(condition));
+    }
+    if tokens.is(Punctuator::At) || tokens.is(Punctuator::BraceOpen) {
+        return read_inline_head(tokens, max_depth, start, None);
+    }
+    read_fragment_spread(tokens, max_depth, start)
+}
+
+// A field, or its beginning up to the brace that begins its set.
+fn read_field<'a>(
+    tokens: &mut Tokens<'a>,
+    max_depth: Option<usize>,
+) -> Result<Part<'a>, ReadError<'a>>
+    ensures { IfOk result (λ part. IsPart max_depth tokens.old tokens.new part) }
+{
+    let start = tokens.start();
+    let head = read_field_head(tokens, max_depth)?;
+    if tokens.is(Punctuator::BraceOpen) {
+        return Ok(Part::Head(start, Head::Field(head)));
+    }
+    let span = tokens.span_from(start);
+    Ok(Part::Whole(field(head, None, span)))
+}
+
+fn read_field_head<'a>(
+    tokens: &mut Tokens<'a>,
+    max_depth: Option<usize>,
+) -> Result<FieldHead<'a>, ReadError<'a>>
+    ensures { IfOk result (λ head. Reads (SpellsFieldHead max_depth (field_seen head)) tokens.old tokens.new) }
+{
+    let (alias, name) = read_alias_and_name(tokens)?;
+    let arguments = read_arguments(tokens, Variables::Allowed, max_depth)?;
+    let directives = read_directives(tokens, Variables::Allowed, max_depth)?;
+    Ok(FieldHead {
+        alias,
+        name,
+        arguments,
+        directives,
+    })
 }
 
 fn read_alias_and_name<'a>(
     tokens: &mut Tokens<'a>,
-) -> Result<(Option<Spanning<&'a str>>, Spanning<&'a str>), ReadError<'a>> {
+) -> Result<(Option<Spanning<&'a str>>, Spanning<&'a str>), ReadError<'a>>
+    ensures { IfOk result (λ r.
+        Reads (SpellsAliased (option_map name_seen r.0) (name_seen r.1)) tokens.old tokens.new) }
+{
     let first = tokens.name("a selection")?;
     if tokens.take(Punctuator::Colon) {
         let name = tokens.name("a field's name")?;
@@ -151,35 +327,35 @@ fn read_alias_and_name<'a>(
 }
 
 // What follows the dots, and a type condition if there is one, up to the brace.
-fn begin_inline_fragment<'a>(
+fn read_inline_head<'a>(
     tokens: &mut Tokens<'a>,
     max_depth: Option<usize>,
     start: SourcePosition,
     type_condition: Option<Spanning<&'a str>>,
-    nodes: &mut Nodes<'a>,
-    begun: &mut Vec<Begun<'a>>,
-) -> Result<(), ReadError<'a>> {
+) -> Result<Part<'a>, ReadError<'a>>
+    ensures { IfOk result (λ part. (dots : Reader) → start ≡ (ahead_of dots).start
+        → Reads (SpellsDots (option_map name_seen type_condition.entry)) dots tokens.old
+        → IsPart max_depth dots tokens.new part) }
+{
     let directives = read_directives(tokens, Variables::Allowed, max_depth)?;
-    let item = InlineFragment {
+    let head = InlineHead {
         type_condition,
         directives,
-        selection_set: Vec::new(tokens.alloc()),
     };
-    let outer = mem::replace(nodes, Vec::new(tokens.alloc()));
-    begun.push(Begun::Inline(start, item, outer))?;
-    open_set(tokens, begun.len(), max_depth)
+    Ok(Part::Head(start, Head::Inline(head)))
 }
 
 fn read_fragment_spread<'a>(
     tokens: &mut Tokens<'a>,
     max_depth: Option<usize>,
     start: SourcePosition,
-    nodes: &mut Nodes<'a>,
-) -> Result<(), ReadError<'a>> {
+) -> Result<Part<'a>, ReadError<'a>>
+    ensures { IfOk result (λ part. (dots : Reader) → IsTaken (punctuator Spread) dots tokens.old
+        → start ≡ (ahead_of dots).start → (ahead_of tokens.old).token ≢ name_token on
+        → IsPart max_depth dots tokens.new part) }
+{
     let name = tokens.name("a fragment's name, `on`, a directive or {")?;
     let directives = read_directives(tokens, Variables::Allowed, max_depth)?;
-    let item = FragmentSpread { name, directives };
     let span = tokens.span_from(start);
-    nodes.push(Selection::FragmentSpread(Spanning { item, span }))?;
-    Ok(())
+    Ok(Part::Whole(fragment_spread(name, directives, span)))
 }

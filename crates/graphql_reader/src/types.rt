@@ -1,4 +1,10 @@
 //! Type references (GraphQL, October 2021, section 2.11).
+ghost use Rattle.std.specs.Prelude.{IfOk, Option, ℕ, reverse};
+ghost use Rattle.graphql_reader.specs.Passed.{Reads, Then};
+ghost use Rattle.graphql_reader.specs.Types.{type_seen, MayBeNull, SpellsBrackets, SpellsShape, SpellsType};
+ghost use Rattle.graphql_lexer.specs.declared.tokens.Tokens.{Tokens as Reader};
+ghost use Rattle.language.specs.Types.{shape};
+
 use crate::depth::check_depth;
 use graphql_lexer::error::ReadError;
 use graphql_lexer::lexer::Punctuator;
@@ -15,26 +21,30 @@ use language::types::Type;
 pub fn read_type<'a>(
     tokens: &mut Tokens<'a>,
     max_depth: Option<usize>,
-) -> Result<Spanning<Type>, ReadError<'a>> {
+) -> Result<Spanning<Type>, ReadError<'a>>
+    ensures { IfOk result (λ k. Reads (SpellsType max_depth (type_seen k)) tokens.old tokens.new) }
+{
     let start = tokens.start();
     let levels = take_opening_brackets(tokens, max_depth)?;
-    let name = tokens.name("a type")?.item;
-    let mut item = read_non_null(tokens, Type::nullable(tokens.alloc(), name)?)?;
+    let name = tokens.name("a type")?;
+    let named = Type::nullable(tokens.alloc(), name.item)?;
+    let mut item = read_non_null(tokens, named)?;
     for _ in 0..levels {
         tokens.expect(Punctuator::BracketClose, "]")?;
-        item = read_non_null(tokens, item.wrap_list(None)?)?;
+        let list = item.wrap_list(None)?;
+        item = read_non_null(tokens, list)?;
     }
-    Ok(Spanning {
-        item,
-        span: tokens.span_from(start),
-    })
+    let span = tokens.span_from(start);
+    Ok(Spanning { item, span })
 }
 
 // The number of brackets that are next.
 fn take_opening_brackets<'a>(
     tokens: &mut Tokens<'a>,
     max_depth: Option<usize>,
-) -> Result<usize, ReadError<'a>> {
+) -> Result<usize, ReadError<'a>>
+    ensures { IfOk result (λ n. Reads (SpellsBrackets max_depth n) tokens.old tokens.new) }
+{
     let bound = tokens.bound();
     for taken in 0..bound {
         if !tokens.is(Punctuator::BracketOpen) {
@@ -47,7 +57,12 @@ fn take_opening_brackets<'a>(
 }
 
 // The type, or the type made non-null where an exclamation mark follows.
-fn read_non_null(tokens: &mut Tokens<'_>, plain: Type) -> Result<Type, OutOfMemory> {
+fn read_non_null(tokens: &mut Tokens<'_>, plain: Type) -> Result<Type, OutOfMemory>
+    ensures { IfOk result (λ k. (limit : Option ℕ) (depth : ℕ) (first : Reader)
+        → MayBeNull (reverse (shape plain).modifiers)
+        → Reads (Then (SpellsBrackets limit depth) (SpellsShape limit depth (shape plain))) first tokens.old
+        → Reads (Then (SpellsBrackets limit depth) (SpellsShape limit depth (shape k))) first tokens.new) }
+{
     if tokens.take(Punctuator::Bang) {
         plain.wrap_non_null()
     } else {

@@ -1,0 +1,24 @@
+use Rattle.std.proofs.Common.{◌≡◌, arith, length, suc, true, reverse, sym, ap, subst, ◌∙◌}
+use Rattle.value_reader.specs.Grammar.{may_nest}
+use Rattle.graphql_reader.specs.OpenSets.{Standing, IsPart}
+use Rattle.graphql_reader.specs.declared.selections.Begun.{Begun}
+use Rattle.graphql_reader.proofs.SelectionLaws.{on_ok_both, reverse_more, reverse_count, selection_more, set_begun}
+use Rattle.graphql_reader.proofs.selections.add_part.Goals as goal
+
+pub returns-in_ok-push-in-Whole : goal.returns-in_ok-push-in-Whole
+returns-in_ok-push-in-Whole c first mid standing part =
+    selection_more c.args.max_depth (reverse c.args.begun.now.items) c.args.nodes.now.items c.push.new.self.items c.in-Whole.selection first mid c.args.tokens.now standing (subst (IsPart c.args.max_depth mid c.args.tokens.now) c.in-Whole.is part) c.in_ok-push-in-Whole.ensures.items
+
+pub returns-in_ok-push-in-Head : goal.returns-in_ok-push-in-Head
+returns-in_ok-push-in-Head c =
+    let limit = c.args.max_depth in
+    let old = c.args.begun.now.items in
+    let grown = c.push-in-Head.new.self.items in
+    let x : Begun = record { start = c.in-Head.start; head = c.in-Head.head; outer = c.replace-outer.result } in
+    let now = c.open_set.new.tokens in
+    let more = c.in_ok-push-in-Head.ensures.items in
+    on_ok_both c.open_set.result (λ nest taken first mid standing part.
+    let stood : Standing limit first (reverse old) x.outer.items mid = subst (λ zs. Standing limit first (reverse old) zs mid) (sym (ap (λ v. v.items) c.replace-outer.ensures.value)) standing in
+    let count : c.len.result ≡ suc (length (reverse old)) = omega (arith, c.len.ensures, c.push-in-Head.new.self.ok.0, reverse_count old grown x more) in
+    let counted : may_nest limit (suc (length (reverse old))) ≡ true = subst (λ n. may_nest limit n ≡ true) count nest in
+    subst (λ bs. Standing limit first bs c.replace-outer.new.dest.items now) (sym (reverse_more old grown x more)) (set_begun limit x (reverse old) c.replace-outer.new.dest.items first mid c.args.tokens.now now stood (subst (IsPart limit mid c.args.tokens.now) c.in-Head.is part) counted taken (ap (λ v. v.items) c.replace-outer.ensures.after ∙ c.new.ensures.items))) c.open_set.ensures.depth c.open_set.ensures.taken

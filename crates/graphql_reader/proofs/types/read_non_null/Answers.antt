@@ -1,0 +1,9 @@
+use Rattle.std.proofs.Common.{refl}
+use Rattle.std.proofs.lemmas.Result.{IfOk-weaker}
+use Rattle.language.specs.Types.{shape}
+use Rattle.graphql_reader.proofs.TypeLaws.{banged}
+use Rattle.graphql_reader.proofs.types.read_non_null.Goals as goal
+
+pub returns-then-take : goal.returns-then-take
+returns-then-take c =
+    IfOk-weaker c.wrap_non_null.result _ _ (λ k is limit depth first may inside. banged limit depth (shape c.args.plain) (shape k) first c.args.tokens.now c.take.new.self may inside (c.if-take.ensures.taken refl) is) c.wrap_non_null.ensures.value

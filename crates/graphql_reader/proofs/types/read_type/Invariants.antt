@@ -1,0 +1,9 @@
+use Rattle.std.proofs.Common.{◌-◌}
+use Rattle.language.specs.Types.{shape}
+use Rattle.graphql_reader.specs.Passed.{Reads}
+use Rattle.graphql_reader.proofs.TypeLaws.{Inside}
+use Rattle.graphql_reader.proofs.types.read_type.Given as goal
+
+-- the brackets that are not yet closed, and the type behind them
+abbrev pub invariant-loop : goal.invariant-loop
+invariant-loop l = Reads (Inside l.fn.max_depth (l.levels - l.counter) (shape l.item)) l.fn.tokens l.tokens
