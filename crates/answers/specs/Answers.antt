@@ -1,11 +1,12 @@
 -- What is told of a document.
-use Rattle.std.specs.Prelude.{◌≡◌, ◌↔◌, ◌<◌, ⊤, ℕ, List, [], ◌∷◌, IsPermutation, IsSorted, length, string_bytes}
+use Rattle.std.specs.Prelude.{◌≡◌, ◌↔◌, ⊤, ℕ, List, [], ◌∷◌, None, IsPermutation, IsSorted, map, string_bytes}
 use Rattle.std.specs.Str.{IsUtf8}
 use Rattle.language.specs.declared.position.SourcePosition.{SourcePosition}
 use Rattle.language.specs.declared.tree.Definition.{Definition}
 use Rattle.language.specs.declared.tree.Definition.TheVariants as definition
 use Rattle.language.specs.declared.tree.Operation.{Operation}
 use Rattle.error_report.specs.Json.{report_text}
+use Rattle.graphql_reader.specs.Documents.{IsDocument, definition_seen}
 use Rattle.answers.specs.declared.choices.Choices.{Choices}
 use Rattle.answers.specs.declared.reports.Answer.{Answer}
 use Rattle.answers.specs.declared.reports.Verdict.{Verdict}
@@ -35,6 +36,10 @@ Document = List (Definition SourceScalar)
 
 abbrev pub GivenValues : Type 0
 GivenValues = Values SourceScalar
+
+-- the document is that of the text: its tokens are those that the tree is written with, spans included
+abbrev pub IsRead : List ℕ → Document → Type 0
+IsRead text document = IsDocument None text (map definition_seen document)
 
 -- valid exactly where there is no error
 abbrev pub verdict_in : List ErrorValue → Verdict
@@ -115,10 +120,10 @@ module _ (rules : SourceRules) (choices : Choices) (schema : SourceCatalog) wher
 
   -- what is told of a text: the errors of the document that was read, or that there is none
   pub data Answers (text : List ℕ) (answer : Answer) : Type 0 where
-    of_document : (document : Document) → (0 < length document) → TellsErrors text document answer → Answers text answer
+    of_document : (document : Document) → IsRead text document → TellsErrors text document answer → Answers text answer
     of_no_document : IsRefused Unreadable text answer → Answers text answer
 
   -- the same, with values
   pub data AnswersValues (text given : List ℕ) (answer : Answer) : Type 0 where
-    of_document_and_values : (document : Document) → (0 < length document) → TellsValues text given document answer → AnswersValues text given answer
+    of_document_and_values : (document : Document) → IsRead text document → TellsValues text given document answer → AnswersValues text given answer
     of_unread_document : IsRefused Unreadable text answer → AnswersValues text given answer
