@@ -24,7 +24,8 @@
  * - A schema that is open stays as it is until `vorxindak_close`. A document is borrowed for the one call.
  * - A handle without a schema is answered with VORXINDAK_CLOSED, also where all its bytes are 0.
  * - A schema is a valid type system (GraphQL, October 2021, section 3).
- * - That a document or a schema is that of its text is tested, and not proved.
+ * - A document that is judged is that of its text: the tokens of the text are those that it is written with. That a
+ *   text which is refused is no document, and that a schema is that of its texts, is tested and not proved.
  */
 #ifndef VORXINDAK_H
 #define VORXINDAK_H

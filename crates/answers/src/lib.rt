@@ -1,9 +1,10 @@
 //! What a caller in another language is told of a document: whether it is valid ([`answer`]), and whether the values of
 //! its variables are, too ([`answer_with_values`]), each with a report as JSON.
 //!
-//! Proved: a document that was read is answered with `Valid` exactly where it is valid by the rules of the schema's
-//! dialect, and the report's bytes are those of its errors, up to the number that the caller chooses. Bytes that are not UTF-8 are answered with the place of the
-//! first that is not. That a document is that of its text is only tested.
+//! Proved: a text that is read as a document is answered with `Valid` exactly where that is valid by the rules of the
+//! schema's dialect. The document is that of the text, and the report's bytes are those of its errors, up to the number
+//! that the caller chooses. Bytes that are not UTF-8 are answered with the place of the first that is not. That a text
+//! which is refused is no document is only tested.
 #![tactic(auto)]
 
 mod bytes;
