@@ -10,7 +10,13 @@ use row_files::{Judge, run};
 use std::alloc::{AllocError, Global};
 use std::process::ExitCode;
 
-const FILES: &[&str] = &["rules.txt", "several.txt", "directives.txt", "made.txt"];
+const FILES: &[&str] = &[
+    "rules.txt",
+    "several.txt",
+    "no_schema.txt",
+    "directives.txt",
+    "made.txt",
+];
 
 /// What is told of schemas.
 struct Faults;

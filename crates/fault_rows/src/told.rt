@@ -5,12 +5,12 @@ use graphql_reader::{SourceScalar, read_type_system};
 use language::position::SourcePosition;
 use schema::model::SchemaType;
 use sdl_directives::STANDARD_DIRECTIVES;
-use sdl_faults::{LocatedFault, text_faults};
+use sdl_faults::{LocatedFault, plain_text_faults, text_faults};
 use sdl_reader::{SchemaReadError, read_schema};
 use std::alloc::{AllocError, Global};
 
-/// Appends each fault of a schema: line and column, counted from 1, and its text; then a line for each further place. A
-/// text that is no schema has the reasons alone.
+/// Appends each fault of a schema: line and column, counted from 1, and its text; then a line for each further place. Of
+/// a text that makes no schema, first the reasons, and then the faults for which none is needed.
 ///
 /// # Errors
 ///
@@ -30,8 +30,35 @@ pub fn tell_schema(alloc: Global, text: &str, came: &mut String) -> Result<(), A
             &schema,
             came,
         ),
-        Err(SchemaReadError::OutOfMemory) => came.push_str("out of memory\n"),
-        Err(error) => writeln!(came, "no schema: {error}"),
+        Err(error) => {
+            tell_reasons(&error, came)?;
+            tell_plain(alloc, document.as_slice(), standard.as_slice(), came)
+        }
+    }
+}
+
+// Why a text makes no schema.
+fn tell_reasons(error: &SchemaReadError<'_>, came: &mut String) -> Result<(), AllocError> {
+    let SchemaReadError::Faults(faults) = error else {
+        return writeln!(came, "no schema: {error}");
+    };
+    for placed in faults.as_slice() {
+        tell_place(placed.position, came)?;
+        writeln!(came, " no schema: {}", placed.fault)?;
+    }
+    Ok(())
+}
+
+// The faults of a text that makes no schema.
+fn tell_plain<'d, 't>(
+    alloc: Global,
+    document: &'d [TypeSystemDefinition<'t>],
+    standard: &'d [TypeSystemDefinition<'t>],
+    came: &mut String,
+) -> Result<(), AllocError> {
+    match plain_text_faults(alloc, document, standard) {
+        Ok(faults) => tell_faults(faults.as_slice(), came),
+        Err(_) => came.push_str("out of memory\n"),
     }
 }
 

@@ -1,7 +1,7 @@
 //! Each request for memory refused in turn, where a schema is judged.
 use graphql_reader::read_type_system;
 use sdl_directives::STANDARD_DIRECTIVES;
-use sdl_faults::text_faults;
+use sdl_faults::{plain_text_faults, text_faults};
 use sdl_reader::{SchemaReadError, read_schema};
 use std::alloc::Global;
 
@@ -36,5 +36,34 @@ fn fault_count(alloc: Global, text: &str) -> Result<usize, SchemaReadError<'_>> 
     let standard = read_type_system(alloc, STANDARD_DIRECTIVES)?;
     let schema = read_schema(alloc, text)?;
     let told = text_faults(alloc, document.as_slice(), standard.as_slice(), &schema)?;
+    Ok(told.len())
+}
+
+/// Texts, and how many faults each has for which no schema is needed.
+const PLAIN_TEXTS: [(&str, usize); 2] = [
+    ("type Query { a: B } enum C { D } extend enum C { E }", 0),
+    (
+        "type Query implements I & I { __a: B @c } interface I extend interface I @d",
+        5,
+    ),
+];
+
+/// The same where no schema is made.
+#[test]
+fn a_refused_request_hides_no_plain_fault(rt: HostRuntime) {
+    for (text, count) in PLAIN_TEXTS {
+        let is_steady = match plain_fault_count(rt.alloc(), text) {
+            Ok(found) => found == count,
+            Err(SchemaReadError::OutOfMemory) => true,
+            Err(_) => false,
+        };
+        assert!(rt; is_steady);
+    }
+}
+
+fn plain_fault_count(alloc: Global, text: &str) -> Result<usize, SchemaReadError<'_>> {
+    let document = read_type_system(alloc, text)?;
+    let standard = read_type_system(alloc, STANDARD_DIRECTIVES)?;
+    let told = plain_text_faults(alloc, document.as_slice(), standard.as_slice())?;
     Ok(told.len())
 }

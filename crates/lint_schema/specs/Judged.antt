@@ -41,8 +41,8 @@ pub record AddsTypeSystemFaults (sources : List Source) (joined : Joined) (docum
   pub valid : (found ≡ []) ↔ IsValidText document standard schema
   pub adds : AddsLocated sources joined found old new
 
--- those of directives, where the document makes no schema
-pub record AddsDirectiveFaults (sources : List Source) (joined : Joined) (document standard : List TypeSystemDefinition) (old new : List Fault) : Type 0 where
+-- those for which no schema is needed, where the document makes none
+pub record AddsPlainFaults (sources : List Source) (joined : Joined) (document standard : List TypeSystemDefinition) (old new : List Fault) : Type 0 where
   pub found : List LocatedFault
   pub are : TellsPlainFaults document standard found
   pub adds : AddsLocated sources joined found old new

@@ -1,6 +1,6 @@
 //! What is wrong with a schema as a type system (GraphQL, October 2021, section 3).
 ghost use Rattle.std.specs.Prelude.{◌≡◌, IfOk, OnOk, Some, string_bytes};
-ghost use Rattle.lint_schema.specs.Judged.{AddsDirectiveFaults, AddsLocated, AddsTypeSystemFaults, IsToldIn, IsToldLocated};
+ghost use Rattle.lint_schema.specs.Judged.{AddsLocated, AddsPlainFaults, AddsTypeSystemFaults, IsToldIn, IsToldLocated};
 ghost use Rattle.lint_schema.specs.Told.{AddsFault, HasAllFurther};
 
 use crate::faults::{add_further, placed_fault};
@@ -12,7 +12,7 @@ use lint_report::faults::Fault;
 use lint_report::sources::{Joined, Source};
 use lint_report::text_report::path_of;
 use schema::model::SchemaType;
-use sdl_faults::{LocatedFault, directive_text_faults, text_faults};
+use sdl_faults::{LocatedFault, plain_text_faults, text_faults};
 use std::alloc::Global;
 
 /// Adds the faults of a schema, in the order of the text from which it was read: the definitions of several files,
@@ -39,12 +39,12 @@ pub fn add_type_system_faults<'d, 't>(
     Ok(())
 }
 
-/// Adds the faults of the directives of these definitions, where they make no schema.
+/// Adds the faults of these definitions for which no schema is needed, where they make none.
 ///
 /// # Errors
 ///
 /// Out of memory; some of the faults may be added then.
-pub fn add_directive_faults<'d, 't>(
+pub fn add_plain_faults<'d, 't>(
     alloc: Global,
     sources: &[Source],
     joined: &Joined,
@@ -52,10 +52,10 @@ pub fn add_directive_faults<'d, 't>(
     standard: &'d [TypeSystemDefinition<'t>],
     faults: &mut Vec<Fault>,
 ) -> Result<(), OutOfMemory>
-    ensures { OnOk result (AddsDirectiveFaults sources.now joined.now document.now standard.now
+    ensures { OnOk result (AddsPlainFaults sources.now joined.now document.now standard.now
         faults.old.items faults.new.items) }
 {
-    let found = directive_text_faults(alloc, document, standard)?;
+    let found = plain_text_faults(alloc, document, standard)?;
     add_located(alloc, sources, joined, found.as_slice(), faults)?;
     Ok(())
 }

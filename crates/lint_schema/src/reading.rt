@@ -5,7 +5,7 @@ ghost use Rattle.sdl_faults.specs.Valid.{IsValidSchema};
 
 use crate::definitions::definitions_of;
 use crate::faults::add_schema_faults;
-use crate::judging::{add_directive_faults, add_type_system_faults};
+use crate::judging::{add_plain_faults, add_type_system_faults};
 use graphql_reader::type_system::TypeSystemDefinition;
 use graphql_reader::{ReadError, SourceScalar, read_type_system};
 use language::error::OutOfMemory;
@@ -23,7 +23,8 @@ type TypeSystem<'t> = Vec<TypeSystemDefinition<'t>>;
 
 /// The schema of these files in this dialect, or `None` if there are faults. Those of the files are added to `faults`:
 /// what is no type definitions by itself; if there is no such file and no earlier fault, why the definitions of all make
-/// no schema and what is wrong with their directives; and if they make one, what is wrong with it as a type system.
+/// no schema and what else is wrong with them for which none is needed; and if they make one, what is wrong with it as a
+/// type system.
 ///
 /// # Errors
 ///
@@ -68,7 +69,7 @@ fn schema_of_joined(
     }
 }
 
-// Adds why the definitions make no schema, and what is wrong with their directives, if they can be read.
+// Adds why the definitions make no schema, and what else is wrong with them, if they can be read.
 fn add_refusal(
     alloc: Global,
     sources: &[Source],
@@ -80,7 +81,7 @@ fn add_refusal(
 {
     add_schema_faults(alloc, sources, joined, error, faults)?;
     match documents_of(alloc, joined.text()) {
-        Ok((document, standard)) => add_directive_faults(
+        Ok((document, standard)) => add_plain_faults(
             alloc,
             sources,
             joined,

@@ -7,7 +7,7 @@ use Rattle.graphql_reader.specs.declared.type_system.TypeSystemDefinition.{TypeS
 use Rattle.language.specs.declared.position.SourcePosition.{SourcePosition}
 use Rattle.sdl_faults.specs.declared.located.LocatedFault.{LocatedFault}
 use Rattle.sdl_faults.specs.Schema.{AreCircles, AreDefaults, AreFaults, AreSchemaFaults, SourceSchema}
-use Rattle.sdl_faults.specs.Text.{AreDirectiveFaults, AreGivenFaults, ArePlainFaults, AreUses, TellsFaults, TellsPlainFaults}
+use Rattle.sdl_faults.specs.Text.{AreDirectiveFaults, AreGivenFaults, AreOwnFaults, ArePlainFaults, AreUses, TellsFaults, TellsPlainFaults}
 use Rattle.sdl_faults.specs.Text as text
 use Rattle.sdl_faults.specs.Told.{Adds, Tells, ToldFault, place_index, told_value, told_values}
 
@@ -79,26 +79,33 @@ adds_directives document standard schema old one new plain given = record {
   all = given.all ∙ ap (λ z. z ++ given.more) plain.all ∙ append_assoc (told_values old) plain.more given.more;
 }
 
-pub tells_plain : (document standard : List TypeSystemDefinition) (none one told : List LocatedFault) → none ≡ []
-    → Adds (ArePlainFaults document standard) none one → IsPermutation one told → IsNonDecreasingBy place_index told → TellsPlainFaults document standard told
-tells_plain document standard none one told empty plain moved sorted = record {
-  faults = plain.more;
-  are = plain.told;
-  all = subst (λ z. IsPermutation z (told_values told)) (plain.all ∙ ap (λ z. told_values z ++ plain.more) empty) (IsPermutation-map told_value one told moved);
+-- what two parts told, in another order
+told_both : {P Q : List ToldFault → Type 0} (none one two told : List LocatedFault) → none ≡ [] → (p : Adds P none one) (q : Adds Q one two) → IsPermutation two told
+    → IsPermutation (p.more ++ q.more) (told_values told)
+told_both none one two told empty p q moved =
+    let all : told_values two ≡ p.more ++ q.more = q.all ∙ ap (λ z. z ++ q.more) (p.all ∙ ap (λ z. told_values z ++ p.more) empty) in
+    subst (λ z. IsPermutation z (told_values told)) all (IsPermutation-map told_value two told moved)
+
+pub tells_plain : (document standard : List TypeSystemDefinition) (none one two told : List LocatedFault) → none ≡ []
+    → Adds (AreOwnFaults document) none one → Adds (ArePlainFaults document standard) one two
+    → IsPermutation two told → IsNonDecreasingBy place_index told → TellsPlainFaults document standard told
+tells_plain document standard none one two told empty first second moved sorted = record {
+  own = first.more;
+  of_directives = second.more;
+  are_own = first.told;
+  are_of_directives = second.told;
+  all = told_both none one two told empty first second moved;
   in_order = sorted;
 }
 
--- what both parts told, in the order of the text
 pub tells_all : (document standard : List TypeSystemDefinition) (schema : SourceSchema) (none one two told : List LocatedFault) → none ≡ []
     → Adds (AreSchemaFaults document schema) none one → Adds (AreDirectiveFaults document standard schema) one two
     → IsPermutation two told → IsNonDecreasingBy place_index told → TellsFaults document standard schema told
-tells_all document standard schema none one two told empty first second moved sorted =
-    let all : told_values two ≡ first.more ++ second.more = second.all ∙ ap (λ z. z ++ second.more) (first.all ∙ ap (λ z. told_values z ++ first.more) empty) in
-    record {
-      of_schema = first.more;
-      of_directives = second.more;
-      are_of_schema = first.told;
-      are_of_directives = second.told;
-      all = subst (λ z. IsPermutation z (told_values told)) all (IsPermutation-map told_value two told moved);
-      in_order = sorted;
-    }
+tells_all document standard schema none one two told empty first second moved sorted = record {
+  of_schema = first.more;
+  of_directives = second.more;
+  are_of_schema = first.told;
+  are_of_directives = second.told;
+  all = told_both none one two told empty first second moved;
+  in_order = sorted;
+}

@@ -12,11 +12,12 @@ use Rattle.sdl_directive_values.specs.Faults as values
 use Rattle.sdl_directive_values.specs.Faults.{reported}
 use Rattle.sdl_directive_values.specs.Given.{document_values}
 use Rattle.sdl_directives.specs.Judged.{document_faults}
+use Rattle.sdl_own_faults.specs.All.{own_faults}
 use Rattle.sdl_scalars.specs.Checks.{MayAnswer}
 use Rattle.sdl_scalars.specs.SourceScalar.{source_str, source_text}
 use Rattle.sdl_faults.specs.declared.located.LocatedFault.{LocatedFault}
 use Rattle.sdl_faults.specs.Schema.{AreSchemaFaults, SourceSchema}
-use Rattle.sdl_faults.specs.Told.{ToldFault, place_index, told_directive_circle, told_given, told_use, told_values}
+use Rattle.sdl_faults.specs.Told.{ToldFault, place_index, told_directive_circle, told_given, told_own, told_use, told_values}
 
 module _ (document standard : List TypeSystemDefinition) where
   -- what is told of the directives that stand in a document
@@ -29,6 +30,10 @@ module _ (document standard : List TypeSystemDefinition) where
     pub are : values.AreFaults schema MayAnswer (printed_value source_text source_str) (document_values document standard) (reported found)
     pub none : (found ≡ []) ↔ HasConformingValues schema MayAnswer (printed_value source_text source_str) document standard
     pub told_is : told ≡ map told_given (reported found)
+
+-- of the faults of its definitions that hang on no other
+abbrev pub AreOwnFaults : List TypeSystemDefinition → List ToldFault → Type 0
+AreOwnFaults document told = told ≡ map told_own (own_faults document)
 
 -- of directives that refer to themselves
 pub record AreCircles (document : List TypeSystemDefinition) (told : List ToldFault) : Type 0 where
@@ -46,11 +51,13 @@ module _ (document standard : List TypeSystemDefinition) where
     pub are_circles : AreCircles document circles
     pub all : told ≡ uses ++ circles
 
-  -- in the order of the text
+  -- with those of definitions that hang on no other, in the order of the text
   pub record TellsPlainFaults (told : List LocatedFault) : Type 0 where
-    pub faults : List ToldFault
-    pub are : ArePlainFaults faults
-    pub all : IsPermutation faults (told_values told)
+    pub own : List ToldFault
+    pub of_directives : List ToldFault
+    pub are_own : AreOwnFaults document own
+    pub are_of_directives : ArePlainFaults of_directives
+    pub all : IsPermutation (own ++ of_directives) (told_values told)
     pub in_order : IsNonDecreasingBy place_index told
 
 module _ (document standard : List TypeSystemDefinition) (schema : SourceSchema) where

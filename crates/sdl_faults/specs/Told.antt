@@ -17,6 +17,7 @@ use Rattle.type_system_defaults.specs.Faults.{DefaultFaultValue, default_fault_t
 use Rattle.type_system_inputs.specs.declared.circles.InputCircle.{InputCircle}
 use Rattle.type_system_inputs.specs.declared.circles.RequiredField.{RequiredField}
 use Rattle.type_system_inputs.specs.Told as inputs
+use Rattle.sdl_own_faults.specs.Fault.{PlacedFault}
 use Rattle.sdl_faults.specs.declared.located.LocatedFault.{LocatedFault}
 use Rattle.sdl_places.specs.Places.{place_in}
 
@@ -76,6 +77,10 @@ module _ (document : List TypeSystemDefinition) where
   -- a circle of input objects at its first field, and further at the others
   abbrev pub told_circle : InputCircle → ToldFault
   told_circle x = record { position = field_place x.first; others = flat_map field_places x.others.items; message = inputs.circle_text x }
+
+-- a fault that hangs on no other definition
+abbrev pub told_own : PlacedFault → ToldFault
+told_own f = told_there (Some f.position) (fault_text f.fault)
 
 -- a fault of a directive where it stands, that of a value of its argument, and a directive that refers to itself
 abbrev pub told_use : uses.FaultValue → ToldFault

@@ -2,7 +2,7 @@
 ghost use Rattle.std.specs.Prelude.{◌≡◌, ◌↔◌, [], IfOk, OnOk};
 ghost use Rattle.std.specs.List.Sorted.{IsNonDecreasingBy, IsPermutation};
 ghost use Rattle.sdl_faults.specs.Schema.{AreCircles, AreDefaults, AreFaults, AreSchemaFaults};
-ghost use Rattle.sdl_faults.specs.Text.{TellsFaults, TellsPlainFaults};
+ghost use Rattle.sdl_faults.specs.Text.{AreOwnFaults, TellsFaults, TellsPlainFaults};
 ghost use Rattle.sdl_faults.specs.Told.{Adds, place_index};
 ghost use Rattle.sdl_faults.specs.Valid.{IsValidText};
 
@@ -13,6 +13,7 @@ use graphql_reader::SourceScalar;
 use graphql_reader::type_system::TypeSystemDefinition;
 use language::error::OutOfMemory;
 use schema::model::SchemaType;
+use sdl_own_faults::own_faults;
 use std::alloc::Global;
 use type_system::schema_faults;
 use type_system_defaults::default_value_faults;
@@ -43,13 +44,14 @@ pub fn text_faults<'d, 't>(
     Ok(told)
 }
 
-/// The faults of the directives of a document for which no schema is needed, as where the document is none: each at its
-/// place, in the order of the text. Values of their arguments are not judged.
+/// The faults of a document for which no schema is needed, as where the document makes none: those of its definitions
+/// that hang on no other definition, and those of its directives, each at its place, in the order of the text. Values of
+/// arguments of directives are not judged.
 ///
 /// # Errors
 ///
 /// Out of memory.
-pub fn directive_text_faults<'d, 't>(
+pub fn plain_text_faults<'d, 't>(
     alloc: Global,
     document: &'d [TypeSystemDefinition<'t>],
     standard: &'d [TypeSystemDefinition<'t>],
@@ -57,9 +59,23 @@ pub fn directive_text_faults<'d, 't>(
     ensures { IfOk result (λ told. TellsPlainFaults document.now standard.now told.items) }
 {
     let mut told = Vec::new(alloc);
+    add_own_faults(alloc, document, &mut told)?;
     add_plain_faults(alloc, document, standard, &mut told)?;
     sort_faults(&mut told)?;
     Ok(told)
+}
+
+// Appends those of definitions that hang on no other.
+fn add_own_faults<'d, 't>(
+    alloc: Global,
+    document: &'d [TypeSystemDefinition<'t>],
+    told: &mut Vec<LocatedFault>,
+) -> Result<(), OutOfMemory>
+    ensures { OnOk result (Adds (AreOwnFaults document.now) told.old.items told.new.items) }
+{
+    let faults = own_faults(alloc, document)?;
+    tell_each(alloc, document, faults.as_slice(), told)?;
+    Ok(())
 }
 
 fn sort_faults(told: &mut Vec<LocatedFault>) -> Result<(), OutOfMemory>

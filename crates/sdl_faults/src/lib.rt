@@ -1,5 +1,5 @@
 //! The faults of a schema that was read from a type system document, each at its place in the text (GraphQL, October
-//! 2021, section 3): [`text_faults`], or [`directive_text_faults`] where there is no schema.
+//! 2021, section 3): [`text_faults`], or [`plain_text_faults`] where there is no schema.
 #![tactic(auto)]
 
 mod all;
@@ -8,5 +8,5 @@ pub mod located;
 mod places;
 mod telling;
 
-pub use all::{directive_text_faults, text_faults};
+pub use all::{plain_text_faults, text_faults};
 pub use located::LocatedFault;

@@ -5,7 +5,8 @@ ghost use Rattle.sdl_directive_values.specs.Faults.{value_fault};
 ghost use Rattle.sdl_directives.specs.Fault.{fault_value as use_value};
 ghost use Rattle.type_system_report.specs.Fault.{fault_value};
 ghost use Rattle.type_system_defaults.specs.Faults.{default_fault};
-ghost use Rattle.sdl_faults.specs.Told.{ToldFault, told_circle, told_default, told_directive_circle, told_fault, told_given, told_use, told_values};
+ghost use Rattle.sdl_own_faults.specs.Fault.{placed_value};
+ghost use Rattle.sdl_faults.specs.Told.{ToldFault, told_circle, told_default, told_directive_circle, told_fault, told_given, told_own, told_use, told_values};
 
 use crate::located::{LocatedFault, tell, tell_at, tell_there};
 use crate::places::{place_of_field, places_of};
@@ -14,6 +15,7 @@ use language::error::OutOfMemory;
 use sdl_directive_circles::DirectiveCircle;
 use sdl_directive_values::ValueFault;
 use sdl_directives::PlacedDirectiveFault;
+use sdl_own_faults::OwnFault;
 use std::alloc::Global;
 use type_system_defaults::DefaultFault;
 use type_system_inputs::InputCircle;
@@ -93,6 +95,19 @@ impl Tell for InputCircle<'_> {
         let position = place_of_field(document, self.first);
         let others = places_of(alloc, document, self.others.as_slice())?;
         tell(alloc, position, others, self, told)
+    }
+}
+
+impl Tell for OwnFault<'_> {
+    ghost telling = { λ document f. told_own (placed_value f) };
+
+    fn tell(
+        &self,
+        alloc: Global,
+        _document: &[TypeSystemDefinition<'_>],
+        told: &mut Vec<LocatedFault>,
+    ) -> Result<(), OutOfMemory> {
+        tell_there(alloc, self.position, &self.fault, told)
     }
 }
 

@@ -1,6 +1,6 @@
 use Rattle.std.proofs.Common.{subst}
 use Rattle.lint_schema.specs.Judged.{AddsLocated}
-use Rattle.lint_schema.proofs.judging.add_directive_faults.Goals as goal
+use Rattle.lint_schema.proofs.judging.add_plain_faults.Goals as goal
 
 pub returns : goal.returns
 returns c = record {

@@ -1,0 +1,9 @@
+pub mod All
+pub mod Fault
+pub mod ListedTypes
+pub mod Members
+pub mod Names
+pub mod Parts
+pub mod RequiredMembers
+pub mod ReservedNames
+pub mod SomeMembers
