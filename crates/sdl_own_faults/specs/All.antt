@@ -9,18 +9,18 @@ use Rattle.type_system_report.specs.declared.fault.CoordinateOf.TheVariants as c
 use Rattle.sdl_own_faults.specs.Fault.{PlacedFault}
 use Rattle.sdl_own_faults.specs.ListedTypes.{wrong_entries}
 use Rattle.sdl_own_faults.specs.Members.{member_faults, parameter_faults}
-use Rattle.sdl_own_faults.specs.Parts.{extensions_in, parts_of}
+use Rattle.sdl_own_faults.specs.Parts.{extensions_in, listing_in}
 use Rattle.sdl_own_faults.specs.ReservedNames.{reserved_name, reserved_type}
 use Rattle.sdl_own_faults.specs.SomeMembers.{missing_members}
 
--- a definition of a type, in all its parts
-abbrev pub whole_faults : TypeDefinition → List TypeDefinition → List PlacedFault
-whole_faults x parts = reserved_type x ++ missing_members x parts ++ wrong_entries x parts
+module _ (extensions listing : List TypeDefinition) where
+  -- a definition of a type, with those of all extensions that extend it, of which some list types
+  abbrev pub whole_faults : TypeDefinition → List PlacedFault
+  whole_faults x = reserved_type x ++ missing_members x extensions ++ wrong_entries x listing
 
--- a definition or extension of a type, where these are all extensions: its members, and if it is a definition, that
-abbrev pub type_faults : List TypeDefinition → TypeDefinition → List PlacedFault
-type_faults extensions x =
-    member_faults x.name.item.now x.body ++ (if x.is_extension then [] else whole_faults x (parts_of x extensions))
+  -- a definition or extension of a type: its members, and if it is a definition, that
+  abbrev pub type_faults : TypeDefinition → List PlacedFault
+  type_faults x = member_faults x.name.item.now x.body ++ (if x.is_extension then [] else whole_faults x)
 
 -- a directive and its arguments
 abbrev pub directive_faults : DirectiveDefinition → List PlacedFault
@@ -28,11 +28,12 @@ directive_faults x =
     reserved_name x.name (c.Directive x.name.item.now)
     ++ flat_map (parameter_faults (c.Directive x.name.item.now)) x.arguments.items
 
-abbrev pub definition_faults : List TypeDefinition → TypeSystemDefinition → List PlacedFault
-definition_faults extensions (d.Schema x) = []
-definition_faults extensions (d.Type x) = type_faults extensions x.item
-definition_faults extensions (d.Directive x) = directive_faults x.item
+abbrev pub definition_faults : List TypeDefinition → List TypeDefinition → TypeSystemDefinition → List PlacedFault
+definition_faults extensions listing (d.Schema x) = []
+definition_faults extensions listing (d.Type x) = type_faults extensions listing x.item
+definition_faults extensions listing (d.Directive x) = directive_faults x.item
 
 -- all of a document; each definition of a name is judged where it has several
 abbrev pub own_faults : List TypeSystemDefinition → List PlacedFault
-own_faults document = flat_map (definition_faults (extensions_in document)) document
+own_faults document =
+    flat_map (definition_faults (extensions_in document) (listing_in (extensions_in document))) document

@@ -35,6 +35,6 @@ module _ (x : TypeDefinition) where
   abbrev pub wrong_entry : List (List ℕ) → List ℕ → List PlacedFault
   wrong_entry before n = listed_again before n ++ own_interface n
 
-  -- the entries of the parts of a type
+  -- the entries of a type and of those of these extensions that extend it
   abbrev pub wrong_entries : List TypeDefinition → List PlacedFault
-  wrong_entries parts = each_after wrong_entry [] (listed_names parts)
+  wrong_entries listing = each_after wrong_entry [] (listed_names x listing)

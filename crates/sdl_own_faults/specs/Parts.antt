@@ -1,5 +1,5 @@
--- A type in all its parts: a definition with the extensions of its name and kind (section 3.4.3).
-use Rattle.std.specs.Prelude.{List, [], ◌∷◌, Bool, true, false, ◌&&◌, if◌then◌else◌, map}
+-- Extensions of types, and which of them extend a definition (section 3.4.3).
+use Rattle.std.specs.Prelude.{List, [], ◌∷◌, Bool, true, false, ◌&&◌, ◌==◌, if◌then◌else◌, length, map}
 use Rattle.std.specs.List.{flat_map}
 use Rattle.std.specs.Str.{bytes_eq}
 use Rattle.graphql_reader.specs.declared.type_system.TypeBody.{TypeBody}
@@ -8,6 +8,7 @@ use Rattle.graphql_reader.specs.declared.type_system.TypeDefinition.{TypeDefinit
 use Rattle.graphql_reader.specs.declared.type_system.TypeSystemDefinition.{TypeSystemDefinition}
 use Rattle.graphql_reader.specs.declared.type_system.TypeSystemDefinition.TheVariants as d
 use Rattle.sdl_own_faults.specs.declared.parts.Part.{Part}
+use Rattle.sdl_own_faults.specs.Fault.{Written}
 
 -- the definitions and extensions of these parts
 abbrev pub definitions_of : List Part → List TypeDefinition
@@ -34,9 +35,17 @@ is_same_kind _ _ = false
 abbrev pub extends : TypeDefinition → TypeDefinition → Bool
 extends e x = bytes_eq e.name.item.now x.name.item.now && is_same_kind e.body x.body
 
-abbrev pub part_in : TypeDefinition → TypeDefinition → List TypeDefinition
-part_in x e = if extends e x then e ∷ [] else []
+-- the types that a definition or extension lists: the members of a union, or interfaces
+abbrev pub listed_of : List Written → TypeBody → List Written
+listed_of interfaces (b.Union ns) = ns.items
+listed_of interfaces _ = interfaces
 
--- a definition, and then those of these extensions that extend it
-abbrev pub parts_of : TypeDefinition → List TypeDefinition → List TypeDefinition
-parts_of x extensions = x ∷ flat_map (part_in x) extensions
+abbrev pub listed_by : TypeDefinition → List Written
+listed_by x = listed_of x.interfaces.items x.body
+
+-- those of these extensions that list some
+abbrev pub listing_of : TypeDefinition → List TypeDefinition
+listing_of e = if length (listed_by e) == 0 then [] else e ∷ []
+
+abbrev pub listing_in : List TypeDefinition → List TypeDefinition
+listing_in extensions = flat_map listing_of extensions

@@ -8,7 +8,7 @@ ghost use Rattle.sdl_own_faults.specs.Parts.{definitions_of};
 use crate::fault::OwnFault;
 use crate::listed_types::report_wrong_entries;
 use crate::members::{report_members, report_parameters};
-use crate::parts::{Part, extensions_in, parts_of};
+use crate::parts::{Part, extensions_in, listing_in};
 use crate::reserved_names::{report_reserved_name, report_reserved_type};
 use crate::some_members::report_missing_members;
 use graphql_reader::type_system::{DirectiveDefinition, TypeDefinition, TypeSystemDefinition};
@@ -21,7 +21,8 @@ use type_system_report::CoordinateOf;
 /// themselves, and required arguments and input fields that are deprecated.
 ///
 /// Each definition of a type is judged, also of a name that has several, with all extensions of its name and kind. It
-/// takes time in proportion to the length of the document, and to the number of types times that of extensions.
+/// takes time in proportion to the length of the document, to the number of types times that of the extensions that list
+/// interfaces or members of unions, and to the number of types without members times that of all extensions.
 ///
 /// # Errors
 ///
@@ -33,8 +34,15 @@ pub fn own_faults<'d, 't>(
     ensures { IfOk result (λ v. reported v ≡ own_faults document.now) }
 {
     let extensions = extensions_in(alloc, document)?;
+    let listing = listing_in(alloc, extensions.as_slice())?;
     let mut faults = Vec::new(alloc);
-    report_definitions(alloc, &mut faults, extensions.as_slice(), document)?;
+    report_definitions(
+        alloc,
+        &mut faults,
+        extensions.as_slice(),
+        listing.as_slice(),
+        document,
+    )?;
     Ok(faults)
 }
 
@@ -42,13 +50,14 @@ fn report_definitions<'d, 't>(
     alloc: Global,
     faults: &mut Vec<OwnFault<'d>>,
     extensions: &[Part<'d, 't>],
+    listing: &[Part<'d, 't>],
     document: &'d [TypeSystemDefinition<'t>],
 ) -> Result<(), OutOfMemory>
     ensures { OnOk result (reported faults.new ≡ reported faults.old
-        ++ flat_map (definition_faults (definitions_of extensions.now)) document.now) }
+        ++ flat_map (definition_faults (definitions_of extensions.now) (definitions_of listing.now)) document.now) }
 {
     for definition in document {
-        report_definition(alloc, faults, extensions, definition)?;
+        report_definition(alloc, faults, extensions, listing, definition)?;
     }
     Ok(())
 }
@@ -57,15 +66,16 @@ fn report_definition<'d, 't>(
     alloc: Global,
     faults: &mut Vec<OwnFault<'d>>,
     extensions: &[Part<'d, 't>],
+    listing: &[Part<'d, 't>],
     definition: &'d TypeSystemDefinition<'t>,
 ) -> Result<(), OutOfMemory>
     ensures { OnOk result (reported faults.new ≡ reported faults.old
-        ++ definition_faults (definitions_of extensions.now) definition.now) }
+        ++ definition_faults (definitions_of extensions.now) (definitions_of listing.now) definition.now) }
 {
     match definition {
         TypeSystemDefinition::Schema(_) => Ok(()),
         TypeSystemDefinition::Type(defined) => {
-            report_type(alloc, faults, extensions, &defined.item)
+            report_type(alloc, faults, extensions, listing, &defined.item)
         }
         TypeSystemDefinition::Directive(defined) => report_directive(faults, &defined.item),
     }
@@ -76,32 +86,33 @@ fn report_type<'d, 't>(
     alloc: Global,
     faults: &mut Vec<OwnFault<'d>>,
     extensions: &[Part<'d, 't>],
+    listing: &[Part<'d, 't>],
     defined: &'d TypeDefinition<'t>,
 ) -> Result<(), OutOfMemory>
     ensures { OnOk result (reported faults.new ≡ reported faults.old
-        ++ type_faults (definitions_of extensions.now) defined.now) }
+        ++ type_faults (definitions_of extensions.now) (definitions_of listing.now) defined.now) }
 {
     report_members(faults, defined)?;
     if defined.is_extension {
         return Ok(());
     }
-    let parts = parts_of(alloc, defined, extensions)?;
-    report_whole(alloc, faults, defined, parts.as_slice())
+    report_whole(alloc, faults, extensions, listing, defined)
 }
 
-// Reports the faults of a type with these parts.
+// Reports the faults of a definition with those of the extensions that extend it.
 fn report_whole<'d, 't>(
     alloc: Global,
     faults: &mut Vec<OwnFault<'d>>,
+    extensions: &[Part<'d, 't>],
+    listing: &[Part<'d, 't>],
     defined: &'d TypeDefinition<'t>,
-    parts: &[Part<'d, 't>],
 ) -> Result<(), OutOfMemory>
     ensures { OnOk result (reported faults.new ≡ reported faults.old
-        ++ whole_faults defined.now (definitions_of parts.now)) }
+        ++ whole_faults (definitions_of extensions.now) (definitions_of listing.now) defined.now) }
 {
     report_reserved_type(faults, defined)?;
-    report_missing_members(faults, defined, parts)?;
-    report_wrong_entries(alloc, faults, defined, parts)
+    report_missing_members(faults, defined, extensions)?;
+    report_wrong_entries(alloc, faults, defined, listing)
 }
 
 // Reports the faults of a directive and its arguments.

@@ -16,18 +16,18 @@ use language::error::OutOfMemory;
 use std::alloc::Global;
 use type_system_report::{CoordinateOf, FaultKind, FaultKindOf};
 
-/// Reports each interface that a type with these parts implements, or each member of a union, that stands there before,
-/// and an interface that is the type itself.
+/// Reports each interface that a type implements, or each member of a union, that stands there before, and an interface
+/// that is the type itself. `listing` has the extensions that list types.
 pub(crate) fn report_wrong_entries<'d, 't>(
     alloc: Global,
     faults: &mut Vec<OwnFault<'d>>,
     defined: &'d TypeDefinition<'t>,
-    parts: &[Part<'d, 't>],
+    listing: &[Part<'d, 't>],
 ) -> Result<(), OutOfMemory>
     ensures { OnOk result (reported faults.new ≡ reported faults.old
-        ++ wrong_entries defined.now (definitions_of parts.now)) }
+        ++ wrong_entries defined.now (definitions_of listing.now)) }
 {
-    let names = listed_names(alloc, parts)?;
+    let names = listed_names(alloc, defined, listing)?;
     report_entries(faults, defined, names.as_slice())
 }
 

@@ -1,42 +1,61 @@
 //! The names of the types that a type lists: of the members of a union, or of interfaces.
 ghost use Rattle.std.specs.Prelude.{◌≡◌, ◌++◌, IfOk, OnOk};
+ghost use Rattle.std.specs.List.{flat_map};
 ghost use Rattle.language.specs.Names.{is_among};
 ghost use Rattle.language.specs.References.{list_copied};
-ghost use Rattle.sdl_own_faults.specs.Names.{listed_by, listed_names, written_names};
+ghost use Rattle.sdl_own_faults.specs.Names.{listed_names, names_in, written_names};
 ghost use Rattle.sdl_own_faults.specs.Parts.{definitions_of};
 
-use crate::parts::Part;
-use graphql_reader::type_system::{TypeBody, TypeDefinition};
+use crate::parts::{Part, extends, listed_by};
+use graphql_reader::type_system::TypeDefinition;
 use language::error::OutOfMemory;
 use language::position::Spanning;
 use std::alloc::Global;
 
-/// The names of the types that the parts of a type list.
+/// The names of the types that a type lists in its definition, and then in those of these extensions that extend it.
 ///
 /// # Errors
 ///
 /// Out of memory.
 pub(crate) fn listed_names<'d, 't>(
     alloc: Global,
-    parts: &[Part<'d, 't>],
+    defined: &'d TypeDefinition<'t>,
+    listing: &[Part<'d, 't>],
 ) -> Result<Vec<&'d str>, OutOfMemory>
-    ensures { IfOk result (λ v. list_copied v.items ≡ listed_names (definitions_of parts.now)) }
+    ensures { IfOk result (λ v. list_copied v.items ≡ listed_names defined.now (definitions_of listing.now)) }
 {
     let mut names = Vec::new(alloc);
-    for part in parts {
-        add_names(&mut names, listed_by(part.definition))?;
-    }
+    add_names(&mut names, listed_by(defined))?;
+    add_extending(&mut names, defined, listing)?;
     Ok(names)
 }
 
-// The members of a union, or the interfaces that a type implements.
-fn listed_by<'d, 't>(defined: &'d TypeDefinition<'t>) -> &'d [Spanning<&'t str>]
-    ensures { result.now ≡ listed_by defined.now }
+fn add_extending<'d, 't>(
+    names: &mut Vec<&'d str>,
+    defined: &TypeDefinition<'t>,
+    listing: &[Part<'d, 't>],
+) -> Result<(), OutOfMemory>
+    ensures { OnOk result (list_copied names.new.items ≡ list_copied names.old.items
+        ++ flat_map (names_in defined.now) (definitions_of listing.now)) }
 {
-    match &defined.body {
-        TypeBody::Union(names) => names.as_slice(),
-        _ => defined.interfaces.as_slice(),
+    for extension in listing {
+        add_extended(names, defined, extension.definition)?;
     }
+    Ok(())
+}
+
+fn add_extended<'d, 't>(
+    names: &mut Vec<&'d str>,
+    defined: &TypeDefinition<'t>,
+    extension: &'d TypeDefinition<'t>,
+) -> Result<(), OutOfMemory>
+    ensures { OnOk result (list_copied names.new.items ≡ list_copied names.old.items
+        ++ names_in defined.now extension.now) }
+{
+    if extends(extension, defined) {
+        add_names(names, listed_by(extension))?;
+    }
+    Ok(())
 }
 
 fn add_names<'d, 't>(

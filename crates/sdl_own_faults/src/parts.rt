@@ -1,11 +1,10 @@
-//! A type in all its parts: a definition with the extensions of its name and kind (GraphQL, October 2021, section
-//! 3.4.3).
+//! Extensions of types, and which of them extend a definition (GraphQL, October 2021, section 3.4.3).
 ghost use Rattle.std.specs.Prelude.{◌≡◌, ◌++◌, IfOk, OnOk};
-ghost use Rattle.std.specs.List.{flat_map};
-ghost use Rattle.sdl_own_faults.specs.Parts.{definitions_of, extends, extension_in, extensions_in, is_same_kind, part_in, parts_of};
+ghost use Rattle.sdl_own_faults.specs.Parts.{definitions_of, extends, extension_in, extensions_in, is_same_kind, listed_by, listing_in, listing_of};
 
 use graphql_reader::type_system::{TypeBody, TypeDefinition, TypeSystemDefinition};
 use language::error::OutOfMemory;
+use language::position::Spanning;
 use std::alloc::Global;
 
 /// A definition or extension of a type.
@@ -48,55 +47,49 @@ fn add_extension<'d, 't>(
     Ok(())
 }
 
-/// The definition of a type, and then those of the extensions that extend it.
+/// Those of the extensions that list types: interfaces, or members of a union.
 ///
 /// # Errors
 ///
 /// Out of memory.
-pub(crate) fn parts_of<'d, 't>(
+pub(crate) fn listing_in<'d, 't>(
     alloc: Global,
-    defined: &'d TypeDefinition<'t>,
     extensions: &[Part<'d, 't>],
 ) -> Result<Vec<Part<'d, 't>>, OutOfMemory>
-    ensures { IfOk result (λ v. definitions_of v.items ≡ parts_of defined.now (definitions_of extensions.now)) }
+    ensures { IfOk result (λ v. definitions_of v.items ≡ listing_in (definitions_of extensions.now)) }
 {
-    let mut parts = Vec::new(alloc);
-    parts.push(Part {
-        definition: defined,
-    })?;
-    add_parts(&mut parts, defined, extensions)?;
-    Ok(parts)
-}
-
-fn add_parts<'d, 't>(
-    parts: &mut Vec<Part<'d, 't>>,
-    defined: &TypeDefinition<'t>,
-    extensions: &[Part<'d, 't>],
-) -> Result<(), OutOfMemory>
-    ensures { OnOk result (definitions_of parts.new.items ≡ definitions_of parts.old.items
-        ++ flat_map (part_in defined.now) (definitions_of extensions.now)) }
-{
+    let mut listing = Vec::new(alloc);
     for extension in extensions {
-        add_part(parts, defined, *extension)?;
+        add_listing(&mut listing, *extension)?;
     }
-    Ok(())
+    Ok(listing)
 }
 
-fn add_part<'d, 't>(
-    parts: &mut Vec<Part<'d, 't>>,
-    defined: &TypeDefinition<'t>,
+fn add_listing<'d, 't>(
+    listing: &mut Vec<Part<'d, 't>>,
     extension: Part<'d, 't>,
 ) -> Result<(), OutOfMemory>
-    ensures { OnOk result (definitions_of parts.new.items ≡ definitions_of parts.old.items
-        ++ part_in defined.now extension.entry.definition.now) }
+    ensures { OnOk result (definitions_of listing.new.items ≡ definitions_of listing.old.items
+        ++ listing_of extension.entry.definition.now) }
 {
-    if extends(extension.definition, defined) {
-        parts.push(extension)?;
+    if !listed_by(extension.definition).is_empty() {
+        listing.push(extension)?;
     }
     Ok(())
 }
 
-fn extends(extension: &TypeDefinition<'_>, defined: &TypeDefinition<'_>) -> bool
+/// The types that a definition or extension lists: the members of a union, or the interfaces that a type implements.
+pub(crate) fn listed_by<'d, 't>(defined: &'d TypeDefinition<'t>) -> &'d [Spanning<&'t str>]
+    ensures { result.now ≡ listed_by defined.now }
+{
+    match &defined.body {
+        TypeBody::Union(names) => names.as_slice(),
+        _ => defined.interfaces.as_slice(),
+    }
+}
+
+/// Whether an extension has the name and the kind of a definition.
+pub(crate) fn extends(extension: &TypeDefinition<'_>, defined: &TypeDefinition<'_>) -> bool
     ensures { result ≡ extends extension.now defined.now }
 {
     extension.name.item == defined.name.item && is_same_kind(&extension.body, &defined.body)

@@ -3,41 +3,47 @@
 ghost use Rattle.std.specs.Prelude.{◌≡◌, ◌++◌, OnOk};
 ghost use Rattle.type_system_report.specs.Fault.{kind_value};
 ghost use Rattle.sdl_own_faults.specs.Fault.{reported};
-ghost use Rattle.sdl_own_faults.specs.SomeMembers.{are_typenames, lack_members, lacks_members, missing_kind, missing_members};
+ghost use Rattle.sdl_own_faults.specs.SomeMembers.{add_none, adds_none, are_typenames, lacks_members, missing_kind, missing_members};
 ghost use Rattle.sdl_own_faults.specs.Parts.{definitions_of};
 
 use crate::fault::{OwnFault, report};
-use crate::parts::Part;
+use crate::parts::{Part, extends};
 use graphql_reader::type_system::{FieldDefinition, TypeBody, TypeDefinition};
 use language::error::OutOfMemory;
 use type_system_report::{CoordinateOf, FaultKind, FaultKindOf};
 
-/// Reports a type none of whose parts lists a member, where it needs one.
+/// Reports a type that lists no member, and none of whose extensions does, where it needs one.
 pub(crate) fn report_missing_members<'d, 't>(
     faults: &mut Vec<OwnFault<'d>>,
     defined: &'d TypeDefinition<'t>,
-    parts: &[Part<'d, 't>],
+    extensions: &[Part<'d, 't>],
 ) -> Result<(), OutOfMemory>
     ensures { OnOk result (reported faults.new ≡ reported faults.old
-        ++ missing_members defined.now (definitions_of parts.now)) }
+        ++ missing_members defined.now (definitions_of extensions.now)) }
 {
-    if lack_members(parts) {
+    if lacks_members(&defined.body) && add_none(defined, extensions) {
         let at = CoordinateOf::Type(defined.name.item);
         report(faults, &defined.name, at, missing_kind(&defined.body))?;
     }
     Ok(())
 }
 
-// Whether all parts lack members.
-fn lack_members(parts: &[Part<'_, '_>]) -> bool
-    ensures { result ≡ lack_members (definitions_of parts.now) }
+// Whether none of the extensions adds a member.
+fn add_none(defined: &TypeDefinition<'_>, extensions: &[Part<'_, '_>]) -> bool
+    ensures { result ≡ add_none defined.now (definitions_of extensions.now) }
 {
-    for part in parts {
-        if !lacks_members(&part.definition.body) {
+    for extension in extensions {
+        if !adds_none(defined, extension.definition) {
             return false;
         }
     }
     true
+}
+
+fn adds_none(defined: &TypeDefinition<'_>, extension: &TypeDefinition<'_>) -> bool
+    ensures { result ≡ adds_none defined.now extension.now }
+{
+    !extends(extension, defined) || lacks_members(&extension.body)
 }
 
 // Whether a type of this kind lists members, and there is none.
