@@ -31,7 +31,7 @@ name_of : (m n : List ℕ) (a b p q : SourcePosition) → lexeme (token.name m) 
 name_of m n a b p q e =
     let t : token.name m ≡ token.name n = ap (λ x. x.token) e in (cc, ap (λ x. x.start) e, ap (λ x. x.stop) e)
 
-key_same : (j k : Key) → key_sign j ≡ key_sign k → j ≡ k
+pub key_same : (j k : Key) → key_sign j ≡ key_sign k → j ≡ k
 key_same j k e =
     let (n, s, t) = name_of j.name k.name j.span.start j.span.end k.span.start k.span.end e in
     ap (λ m. key_of m j.span.start j.span.end) n ∙ ap (λ a. key_of k.name a j.span.end) s ∙ ap (λ b. key_of k.name k.span.start b) t

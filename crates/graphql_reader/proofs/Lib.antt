@@ -1,8 +1,12 @@
 pub mod ArgumentLaws
 pub mod ConstantLaws
 pub mod DocumentLaws
+pub mod DocumentOnlyLaws
+pub mod OnlyLaws
 pub mod PartLaws
 pub mod PassedLaws
+pub mod SameLaws
 pub mod SelectionLaws
 pub mod TypeLaws
+pub mod TypeOnlyLaws
 pub mod ViewLaws

@@ -1,10 +1,11 @@
 //! Executable documents (GraphQL, October 2021, sections 2.2, 2.3, 2.8 and 2.10).
-ghost use Rattle.std.specs.Prelude.{◌≡◌, ◌<◌, IfOk, IfErr, IfSome, None, length, map, option_map};
+ghost use Rattle.std.specs.Prelude.{◌≡◌, ◌<◌, IfOk, IfErr, IfSome, List, None, length, map, option_map};
 ghost use Rattle.graphql_lexer.specs.Ahead.{ahead_of, left, IsTaken};
 ghost use Rattle.graphql_lexer.specs.Lexical.{punctuator, name as name_token};
 ghost use Rattle.graphql_lexer.specs.declared.lexer.Punctuator.TheVariants.{ParenOpen};
 ghost use Rattle.graphql_lexer.specs.declared.tokens.Tokens.{Tokens as Reader};
 ghost use Rattle.graphql_reader.specs.Arguments.{name_seen};
+ghost use Rattle.graphql_reader.specs.Documents as g;
 ghost use Rattle.graphql_reader.specs.Documents.{definition_seen, fragment_word, keyword, variable_seen, variables_seen};
 ghost use Rattle.graphql_reader.specs.Documents.{IsDocument, SpellsDefinition, SpellsVariable, SpellsVariableDefinition};
 ghost use Rattle.graphql_reader.specs.Documents.{SpellsVariables};
@@ -43,6 +44,8 @@ pub fn read_document<'a>(
     ensures some { IfOk result (λ definitions. 0 < length definitions.items) }
     ensures document { IfOk result (λ definitions.
         IsDocument None text.now (map definition_seen definitions.items)) }
+    ensures only { IfOk result (λ definitions. (others : List g.Definition)
+        → IsDocument None text.now others → others ≡ map definition_seen definitions.items) }
 {
     read_document_within(alloc, text, None)
 }
@@ -61,6 +64,8 @@ pub fn read_document_within<'a>(
     ensures some { IfOk result (λ definitions. 0 < length definitions.items) }
     ensures document { IfOk result (λ definitions.
         IsDocument max_depth text.now (map definition_seen definitions.items)) }
+    ensures only { IfOk result (λ definitions. (others : List g.Definition)
+        → IsDocument max_depth text.now others → others ≡ map definition_seen definitions.items) }
 {
     let mut tokens = Tokens::new(alloc, text.as_bytes());
     let mut definitions = Vec::new(alloc);

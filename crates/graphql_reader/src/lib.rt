@@ -7,8 +7,9 @@
 //!
 //! Proved of every call: it is safe and returns, whatever the text. Values are read by `value_reader`, which is proved
 //! exact, and [`read_constant`] is exact. The tree of an executable document is spelled by the tokens of its text, each
-//! of them, with its spans: `IsDocument` of `specs/Documents.antt`. Descriptions are those that the tokens spell. That
-//! the rest of a type system document's tree is that of its text is only tested.
+//! of them, with its spans, and no other tree is: `IsDocument` of `specs/Documents.antt`. That an error of
+//! [`read_document`] means that there is none is only tested. Descriptions are those that the tokens spell. That the
+//! rest of a type system document's tree is that of its text is only tested.
 #![tactic(auto)]
 
 mod arguments;

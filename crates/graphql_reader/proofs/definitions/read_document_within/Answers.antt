@@ -3,7 +3,9 @@ use Rattle.graphql_lexer.specs.Ahead.{left}
 use Rattle.graphql_lexer.specs.Lexemes.{AreLexemes}
 use Rattle.graphql_reader.specs.Documents.{SpellsDefinition, definition_seen}
 use Rattle.graphql_reader.proofs.ArgumentLaws.{pushed_some}
+use Rattle.graphql_reader.proofs.ConstantLaws.{Only}
 use Rattle.graphql_reader.proofs.DocumentLaws.{document_read}
+use Rattle.graphql_reader.proofs.DocumentOnlyLaws.{document_once}
 use Rattle.graphql_reader.proofs.PassedLaws.{reads_new, reads_push}
 use Rattle.graphql_reader.proofs.definitions.read_document_within.Goals as goal
 
@@ -23,3 +25,9 @@ returns-then-is_at_end-clause-document c =
     let grown : all ≡ c.loop.definitions.items ++ c.in_ok-definition.definition ∷ [] = c.shrink_to_fit.ensures.items ∙ c.in_ok-push.ensures.items in
     let are : AreLexemes c.args.text.now (left first) = subst (λ s. AreLexemes s (left first)) c.as_bytes.ensures.value c.new-tokens.ensures.lexemes in
     document_read c.args.max_depth c.args.text.now (map definition_seen all) first now are (reads_push S definition_seen c.loop.definitions.items all c.in_ok-definition.definition first c.loop.tokens now c.loop.invariant c.in_ok-definition.ensures grown) (pushed_some definition_seen c.loop.definitions.items all c.in_ok-definition.definition grown) (c.is_at_end.ensures.0 c.if-is_at_end.true)
+
+pub returns-then-is_at_end-clause-only : goal.returns-then-is_at_end-clause-only
+returns-then-is_at_end-clause-only c others is =
+    let ts = left c.new-tokens.result in
+    let only : Only c.args.text.now ts = subst (λ s. Only s ts) c.as_bytes.ensures.value c.new-tokens.ensures.only in
+    document_once c.args.max_depth c.args.text.now ts (map definition_seen c.shrink_to_fit.new.self.items) others only (returns-then-is_at_end-clause-document c) is
