@@ -22,12 +22,16 @@ const TEXTS: [(&str, usize); 3] = [
 #[test]
 fn a_refused_request_hides_no_fault(rt: HostRuntime) {
     for (text, count) in TEXTS {
-        let is_steady = match fault_count(rt.alloc(), text) {
-            Ok(found) => found == count,
-            Err(SchemaReadError::OutOfMemory) => true,
-            Err(_) => false,
-        };
-        assert!(rt; is_steady);
+        assert!(rt; is_steady(fault_count(rt.alloc(), text), count));
+    }
+}
+
+// Whether there are as many faults as expected, or memory ran out.
+fn is_steady(found: Result<usize, SchemaReadError<'_>>, count: usize) -> bool {
+    match found {
+        Ok(found) => found == count,
+        Err(SchemaReadError::OutOfMemory) => true,
+        Err(_) => false,
     }
 }
 
@@ -52,12 +56,7 @@ const PLAIN_TEXTS: [(&str, usize); 2] = [
 #[test]
 fn a_refused_request_hides_no_plain_fault(rt: HostRuntime) {
     for (text, count) in PLAIN_TEXTS {
-        let is_steady = match plain_fault_count(rt.alloc(), text) {
-            Ok(found) => found == count,
-            Err(SchemaReadError::OutOfMemory) => true,
-            Err(_) => false,
-        };
-        assert!(rt; is_steady);
+        assert!(rt; is_steady(plain_fault_count(rt.alloc(), text), count));
     }
 }
 
