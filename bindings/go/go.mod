@@ -1,3 +1,0 @@
-module vorxindak
-
-go 1.19
