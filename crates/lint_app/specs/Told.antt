@@ -1,5 +1,5 @@
 -- What is told of files of queries.
-use Rattle.std.specs.Prelude.{◌≡◌, ◌↔◌, ◌<◌, ⊤, Bool, true, false, ℕ, ◌+◌, List, [], ◌∷◌, ◌++◌, Option, Some, None, IsPermutation, IsSorted, IfSome, if◌then◌else◌, ◌==◌, codes, count_by, is_some, length, String, string_bytes}
+use Rattle.std.specs.Prelude.{◌≡◌, ◌↔◌, ⊤, Bool, true, false, ℕ, ◌+◌, List, [], ◌∷◌, ◌++◌, Option, Some, None, IsPermutation, IsSorted, IfSome, if◌then◌else◌, ◌==◌, codes, count_by, is_some, length, map, String, string_bytes}
 use Rattle.std.specs.declared.alloc.Global.{Global}
 use Rattle.std.specs.Fmt.{decimal}
 use Rattle.std.specs.List.{AllZip, flat_map}
@@ -7,6 +7,7 @@ use Rattle.std.specs.Option.{option_to_list}
 use Rattle.language.specs.declared.tree.Definition.{Definition}
 use Rattle.language.specs.declared.tree.Definition.TheVariants as definition
 use Rattle.language.specs.declared.tree.Operation.{Operation}
+use Rattle.graphql_reader.specs.Documents.{IsDocument, definition_seen}
 use Rattle.lint_app.specs.declared.documents.Report.{Report}
 use Rattle.lint_app.specs.Host.{Host}
 use Rattle.lint_app.specs.Paths.{Paths}
@@ -15,7 +16,7 @@ use Rattle.lint_report.specs.declared.issues.Issue.{Issue}
 use Rattle.lint_report.specs.declared.sources.Joined.{Joined}
 use Rattle.lint_report.specs.declared.sources.Source.{Source}
 use Rattle.lint_report.specs.Issues.{IsIssueIn}
-use Rattle.lint_report.specs.Places.{HasNoFile, JoinsFile}
+use Rattle.lint_report.specs.Places.{HasNoFile, JoinsFile, text_of}
 use Rattle.sdl_scalars.specs.declared.check.SourceCheck.{SourceCheck}
 use Rattle.sdl_scalars.specs.declared.scalar.SourceScalar.{SourceScalar}
 use Rattle.sdl_scalars.specs.Checks.{MayAnswer}
@@ -32,6 +33,10 @@ Root = RootNodeOf SourceScalar SourceCheck
 
 abbrev pub Document : Type 0
 Document = List (Definition SourceScalar)
+
+-- the document is that of the text: its tokens are those that the tree is written with, nested within some limit or none
+abbrev pub IsRead : List ℕ → Document → Type 0
+IsRead text document = (limit : Option ℕ) × IsDocument limit text (map definition_seen document)
 
 abbrev pub GivenValues : Type 0
 GivenValues = Values SourceScalar
@@ -147,7 +152,8 @@ module _ (rules : SourceRules) where
 
   -- the same, of the document that was read from the text
   abbrev pub TellsRead : Root → Option GivenValues → Joined → ℕ → List Issue → Type 0
-  TellsRead root values joined file issues = (document : Document) × (0 < length document) × TellsDocument root values joined file document issues
+  TellsRead root values joined file issues =
+      (document : Document) × IsRead (text_of joined) document × TellsDocument root values joined file document issues
 
   -- the same, of files that are read as one document; their numbers count from that of the first
   abbrev pub TellsFiles : Root → Option GivenValues → ℕ → List Source → List Issue → Type 0
