@@ -115,4 +115,5 @@ IsArguments rules old new (Some given) =
 abbrev pub IsDirectives : Rules → Tokens → Tokens → Option (Vec (Spanning (GivenDirective SourceScalar) Span) Global) → Type 0
 IsDirectives rules old new None = IsLeft (token.punctuator At) old new
 IsDirectives rules old new (Some ds) =
-    Reads (SpellsDirectives rules (map directive_seen ds.items)) old new × ((ahead_of new).token ≡ token.punctuator At → ⊥)
+    Reads (SpellsDirectives rules (map directive_seen ds.items)) old new
+    × ((ahead_of new).token ≡ token.punctuator At → ⊥)

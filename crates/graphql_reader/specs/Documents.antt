@@ -70,7 +70,8 @@ abbrev pub SpellsVariableDefinition : Option ℕ → Variable → List Lexeme �
 SpellsVariableDefinition limit v =
     Then (SpellsVariable v.name)
     (Then (One (token.punctuator Colon)) (Then (SpellsType limit v.kind)
-    (Then (Optional (SpellsDefault limit) v.default) (Optional (SpellsDirectives (constant_rules limit)) v.directives))))
+    (Then (Optional (SpellsDefault limit) v.default)
+    (Optional (SpellsDirectives (constant_rules limit)) v.directives))))
 
 -- VariableDefinitions: `(` VariableDefinition+ `)`
 abbrev pub SpellsVariables : Option ℕ → Variables → List Lexeme → Type 0
@@ -121,11 +122,12 @@ SpellsDefinition limit (fragment f) ts = SpellsFragment limit f ts
 abbrev pub SpellsDocument : Option ℕ → List Definition → List Lexeme → Type 0
 SpellsDocument limit ds ts = (ds ≡ [] → ⊥) × SpellsEach (SpellsDefinition limit) ds ts
 
--- The tokens of the text are those of the document, and then the text ends. Selection sets, lists and objects of a value, and
--- list types each nest at most as deep as the limit, where there is one.
+-- The tokens of the text are those of the document, and then the text ends. Selection sets, lists and objects of a
+-- value, and list types each nest at most as deep as the limit, where there is one.
 abbrev pub IsDocument : Option ℕ → List ℕ → List Definition → Type 0
 IsDocument limit text ds =
-    (ts : List Lexeme) × (last : Lexeme) × AreLexemes text (ts ++ last ∷ []) × (last.token ≡ token.end) × SpellsDocument limit ds ts
+    (ts : List Lexeme) × (last : Lexeme)
+    × AreLexemes text (ts ++ last ∷ []) × (last.token ≡ token.end) × SpellsDocument limit ds ts
 
 -- ---- what the code's definitions stand for
 abbrev pub variable_seen : Spanning (Bor (List ℕ)) Span × GivenVariable SourceScalar → Variable

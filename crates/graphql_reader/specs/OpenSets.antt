@@ -43,21 +43,24 @@ SpellsNodes limit depth nodes ts = SpellsEach (SpellsSelection limit (suc depth)
 abbrev pub From : SourcePosition → (List Lexeme → Type 0) → List Lexeme → Type 0
 From start P ts = (x : Lexeme) × (xs : List Lexeme) × (ts ≡ x ∷ xs) × (start ≡ x.start) × P ts
 
--- the brace of the outermost set, and for each set inside the selections before it, what stands before its brace, and that
+-- the brace of the outermost set, and for each set inside the selections before it, its head and its brace
 abbrev pub SpellsBegun : Option ℕ → List Begun → List Lexeme → Type 0
 SpellsBegun limit [] ts = (may_nest limit 0 ≡ true) × One (token.punctuator BraceOpen) ts
 SpellsBegun limit (x ∷ xs) ts =
     (may_nest limit (suc (length xs)) ≡ true)
     × Then (SpellsBegun limit xs)
-    (Then (SpellsNodes limit (length xs) x.outer.items) (Then (From x.start (SpellsHead limit x.head)) (One (token.punctuator BraceOpen)))) ts
+    (Then (SpellsNodes limit (length xs) x.outer.items)
+    (Then (From x.start (SpellsHead limit x.head)) (One (token.punctuator BraceOpen)))) ts
 
 -- what was taken spells these sets and, in the innermost, these selections
 abbrev pub Standing : Option ℕ → Tokens → List Begun → Nodes → Tokens → Type 0
-Standing limit first begun nodes now = Reads (Then (SpellsBegun limit begun) (SpellsNodes limit (length begun) nodes)) first now
+Standing limit first begun nodes now =
+    Reads (Then (SpellsBegun limit begun) (SpellsNodes limit (length begun) nodes)) first now
 
 -- a selection, however deep, or what stands before its set
 abbrev pub IsPart : Option ℕ → Tokens → Tokens → Part → Type 0
-IsPart limit old new (part.Whole s) = Reads (λ ts. (depth : ℕ) → SpellsSelection limit depth (selection_seen s) ts) old new
+IsPart limit old new (part.Whole s) =
+    Reads (λ ts. (depth : ℕ) → SpellsSelection limit depth (selection_seen s) ts) old new
 IsPart limit old new (part.Head start h) = Reads (From start (SpellsHead limit h)) old new
 
 -- the outermost set, or none while it is begun

@@ -63,7 +63,8 @@ SpellsAliased alias k = Then (Optional SpellsAlias alias) (SpellsName k)
 abbrev pub SpellsFieldHead : Option ℕ → FieldHead → List Lexeme → Type 0
 SpellsFieldHead limit h =
     Then (SpellsAliased h.alias h.name)
-    (Then (Optional (SpellsGiven (open_rules limit)) h.arguments) (Optional (SpellsDirectives (open_rules limit)) h.directives))
+    (Then (Optional (SpellsGiven (open_rules limit)) h.arguments)
+    (Optional (SpellsDirectives (open_rules limit)) h.directives))
 
 abbrev pub on : List ℕ
 on = codes "on"
@@ -87,7 +88,8 @@ SpellsFragmentName k ts = (k.name ≡ on → ⊥) × SpellsName k ts
 -- FragmentSpread: `...` FragmentName Directives?
 abbrev pub SpellsSpread : Option ℕ → Key → Option (List Directive) → List Lexeme → Type 0
 SpellsSpread limit k ds =
-    Then (One (token.punctuator Spread)) (Then (SpellsFragmentName k) (Optional (SpellsDirectives (open_rules limit)) ds))
+    Then (One (token.punctuator Spread))
+    (Then (SpellsFragmentName k) (Optional (SpellsDirectives (open_rules limit)) ds))
 
 -- in braces, inside of so many sets
 abbrev pub InBraces : Option ℕ → ℕ → (List Lexeme → Type 0) → List Lexeme → Type 0
@@ -126,7 +128,10 @@ GivenDirectives = Option (Vec (Spanning (GivenDirective SourceScalar) Span) Glob
 abbrev pub directives_seen : GivenDirectives → Option (List Directive)
 directives_seen ds = option_map (λ v. map directive_seen v.items) ds
 
-abbrev pub field_head : Option Name → Name → Option (Spanning (Arguments SourceScalar) Span) → GivenDirectives → FieldHead
+abbrev pub GivenArguments : Type 0
+GivenArguments = Option (Spanning (Arguments SourceScalar) Span)
+
+abbrev pub field_head : Option Name → Name → GivenArguments → GivenDirectives → FieldHead
 field_head alias name arguments directives =
     record {
       alias = option_map name_seen alias;
@@ -157,7 +162,9 @@ with_set h None span = leaf h span
 with_set h (Some set) span = field h set span
 
 abbrev pub field_layer : opened.Field-F SourceScalar Selection Spanless Spanless → Spanless
-field_layer f span = with_set (field_head f.alias f.name f.arguments f.directives) (option_map (λ set. selections_of set.items) f.selection_set) span
+field_layer f span =
+    with_set (field_head f.alias f.name f.arguments f.directives)
+    (option_map (λ set. selections_of set.items) f.selection_set) span
 
 abbrev pub inline_layer : opened.InlineFragment-F SourceScalar Selection Spanless Spanless → Spanless
 inline_layer i span = inline (inline_head i.type_condition i.directives) (selections_of i.selection_set.items) span

@@ -26,7 +26,8 @@ SpellsModified limit depth name (m.NonNull ∷ ms) ts =
 -- ListType: `[` Type `]`
 SpellsModified limit depth name (m.List None ∷ ms) ts =
     (may_nest limit depth ≡ true)
-    × Then (One (token.punctuator BracketOpen)) (Then (SpellsModified limit (suc depth) name ms) (One (token.punctuator BracketClose))) ts
+    × Then (One (token.punctuator BracketOpen))
+    (Then (SpellsModified limit (suc depth) name ms) (One (token.punctuator BracketClose))) ts
 -- no text tells a number of items
 SpellsModified limit depth name (m.List (Some n) ∷ ms) ts = ⊥
 

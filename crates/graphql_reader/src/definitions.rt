@@ -6,9 +6,9 @@ ghost use Rattle.graphql_lexer.specs.declared.lexer.Punctuator.TheVariants.{Pare
 ghost use Rattle.graphql_lexer.specs.declared.tokens.Tokens.{Tokens as Reader};
 ghost use Rattle.graphql_reader.specs.Arguments.{name_seen};
 ghost use Rattle.graphql_reader.specs.Documents as g;
-ghost use Rattle.graphql_reader.specs.Documents.{definition_seen, fragment_word, keyword, variable_seen, variables_seen};
-ghost use Rattle.graphql_reader.specs.Documents.{IsDocument, SpellsDefinition, SpellsVariable, SpellsVariableDefinition};
-ghost use Rattle.graphql_reader.specs.Documents.{SpellsVariables};
+ghost use Rattle.graphql_reader.specs.Documents.{definition_seen, variable_seen, variables_seen};
+ghost use Rattle.graphql_reader.specs.Documents.{fragment_word, keyword, IsDocument, SpellsDefinition};
+ghost use Rattle.graphql_reader.specs.Documents.{SpellsVariable, SpellsVariableDefinition, SpellsVariables};
 ghost use Rattle.graphql_reader.specs.Parts.{IsDefault, IsDefaultFault};
 ghost use Rattle.graphql_reader.specs.Passed.{BeginsWith, Optional, Reads, Then};
 ghost use Rattle.graphql_reader.specs.Selections.{SpellsCondition, SpellsFragmentName, SpellsName};
