@@ -1,8 +1,10 @@
+pub mod Along
 pub mod BlockLaws
 pub mod BlockValue
 pub mod EscapeLaws
 pub mod FaultLaws
 pub mod Found
+pub mod Inline
 pub mod Lists
 pub mod Names
 pub mod Numbers
@@ -11,7 +13,9 @@ pub mod Progress
 pub mod Quoted
 pub mod Read
 pub mod Runs
+pub mod Skipped
 pub mod StringLaws
+pub mod Tables
 pub mod Turns
 pub mod Unique
 pub mod Written

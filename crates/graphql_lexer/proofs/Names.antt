@@ -26,7 +26,7 @@ pub all_ascii : (p : ℕ → Bool) → ((c : ℕ) → p c ≡ true → c < 128) 
 all_ascii p h [] k = IsAscii-nil
 all_ascii p h (c ∷ cs) k = let parts = both (p c) (list_all p cs) k in IsAscii-cons c cs (h c parts.0) (all_ascii p h cs parts.1)
 
-continue_ascii : (c : ℕ) → is_name_continue c ≡ true → c < 128
+pub continue_ascii : (c : ℕ) → is_name_continue c ≡ true → c < 128
 continue_ascii c h = grind (arith, nat_tests)
 
 start_continue : (c : ℕ) → is_name_start c ≡ true → is_name_continue c ≡ true
@@ -59,6 +59,10 @@ names_first c cs h =
     ∙ ap (λ b. choice false b ((c == 45) || is_digit c) (is_name_start c) c cs) (not_dot c h)
     ∙ ap (λ d. choice false false d (is_name_start c) c cs) (not_number c h)
     ∙ ap (λ e. choice false false false e c cs) h
+
+pub named : (text : List ℕ) → is_name_start (at text 0) ≡ true → name_at text ≡ token_at text
+named [] h = cc
+named (c ∷ cs) h = sym (names_first c cs h)
 
 name_read : (c : ℕ) (cs r : List ℕ) → is_name_start c ≡ true → list_all is_name_continue cs ≡ true → EndsName r → name_at ((c ∷ cs) ++ r) ≡ (name (c ∷ cs), length (c ∷ cs))
 unfolding name_length

@@ -1,9 +1,8 @@
 -- What the scanner passes is ignored by the grammar, and what the grammar ignores is passed.
-use Rattle.std.proofs.Common.{◌≡◌, ◌<◌, ◌≤◌, ◌+◌, ◌-◌, inl, inr, ℕ, zero, suc, List, [], ◌∷◌, ◌++◌, Bool, true, false, ◌==◌, if◌then◌else◌, length, take, drop, refl, sym, ap, subst, ◌∙◌, arith, zero-add, length-drop}
+use Rattle.std.proofs.Common.{◌≡◌, ◌<◌, ◌≤◌, ◌+◌, ◌-◌, inl, inr, ℕ, zero, suc, List, [], ◌∷◌, ◌++◌, Bool, true, false, ◌==◌, if◌then◌else◌, length, take, drop, refl, sym, ap, subst, ◌∙◌, arith, zero-add}
 use Rattle.std.proofs.lemmas.Bool.Decides.{nat_tests}
 use Rattle.std.specs.List.{prefix_len}
 use Rattle.std.proofs.lemmas.List.Sums.{prefix_len-le-length}
-use Rattle.std.proofs.lemmas.List.{drop-drop}
 use Rattle.graphql_lexer.specs.Lexical.{is_blank, is_comment_char, begins, byte_order_mark, IsIgnored}
 use Rattle.graphql_lexer.specs.Scanning.{comment_length, ignored_at, ignored_from, ignored_length}
 use Rattle.graphql_lexer.proofs.Names.{run_length}
@@ -89,28 +88,3 @@ pub skip_none : (text : List ℕ) → ignored_at text ≡ 0 → ignored_length t
 unfolding ignored_from
 skip_none [] h = refl
 skip_none (c ∷ cs) h = let no : (ignored_at (c ∷ cs) == 0) ≡ true = grind (arith, nat_tests) in rw no refl
-
--- ---- at a place of the text
-pub skip_next : (text : List ℕ) (passed : ℕ) → passed ≤ length text → 0 < ignored_at (drop passed text) → (ignored_length (drop passed text) ≡ ignored_at (drop passed text) + ignored_length (drop (passed + ignored_at (drop passed text)) text)) × (passed + ignored_at (drop passed text) ≤ length text)
-skip_next text passed h some =
-    let n = ignored_at (drop passed text) in
-    let w = ignored_within (drop passed text) in
-    let k = length-drop passed text in
-    (skip_step (drop passed text) some ∙ ap (λ t. n + ignored_length t) (drop-drop n passed text), omega arith)
-
--- one more is passed
-pub skip_more : (text : List ℕ) (passed taken : ℕ) → taken ≡ ignored_at (drop passed text) → 0 < taken → passed ≤ length text → ignored_length (drop passed text) ≡ taken + ignored_length (drop (passed + taken) text)
-skip_more text passed taken e some h =
-    let there : 0 < ignored_at (drop passed text) = omega arith in
-    (skip_next text passed h there).0 ∙ ap (λ n. n + ignored_length (drop (passed + n) text)) (sym e)
-
--- a token is there
-pub skip_stop : (text : List ℕ) (passed : ℕ) → ignored_at (drop passed text) ≡ 0 → ignored_length (drop passed text) ≡ 0
-skip_stop text passed e = skip_none (drop passed text) e
-
--- the text ends there
-pub skip_end : (text : List ℕ) (passed : ℕ) → length text ≤ passed → ignored_length (drop passed text) ≡ 0
-skip_end text passed h =
-    let k = ignored_within (drop passed text) in
-    let n = length-drop passed text in
-    skip_none (drop passed text) (omega arith)

@@ -1,9 +1,13 @@
 -- Runs at the front of a list, and lists that begin with a word.
-use Rattle.std.proofs.Common.{◌≡◌, ◌+◌, ℕ, suc, List, [], ◌∷◌, ◌++◌, Bool, true, false, nat_eq, cond, length, take, drop, refl, subst, arith}
+use Rattle.std.proofs.Common.{◌≡◌, ◌≤◌, ◌+◌, ℕ, suc, List, [], ◌∷◌, ◌++◌, Bool, true, false, nat_eq, nat_le, cond, length, take, drop, refl, subst, arith}
 use Rattle.std.proofs.lemmas.Bool.Decides.{nat_tests}
 use Rattle.std.specs.List.{prefix_len, list_all}
-use Rattle.graphql_lexer.specs.Lexical.{at, begins}
-use Rattle.graphql_lexer.proofs.Names.{both}
+use Rattle.std.specs.Str.{is_utf8, IsUtf8}
+use Rattle.std.proofs.lemmas.List.Sums.{prefix_len-le-length}
+use Rattle.std.proofs.lemmas.Str.{is_utf8-from_IsUtf8, IsUtf8-from_ascii}
+use Rattle.graphql_lexer.specs.Lexical.{at, begins, name, is_name_continue}
+use Rattle.graphql_lexer.specs.Scanning.{name_length, name_at}
+use Rattle.graphql_lexer.proofs.Names.{both, all_ascii, continue_ascii}
 
 one_more : (k : ℕ) → suc k ≡ 1 + k
 one_more k = omega arith
@@ -38,3 +42,20 @@ begins_split (x ∷ xs) (y ∷ ys) h =
     let more = begins_split xs ys parts.1 in
     let same = same_byte x y parts.0 in
     cc
+
+-- ---- names
+pub name_utf8 : (text : List ℕ) → IsUtf8 (take (name_length text) text)
+unfolding name_length
+name_utf8 text = IsUtf8-from_ascii _ (all_ascii is_name_continue continue_ascii _ (run_all is_name_continue text))
+
+name_within : (text : List ℕ) → name_length text ≤ length text
+unfolding name_length
+name_within text = prefix_len-le-length is_name_continue text
+
+pub name_there : (text : List ℕ) → (name (take (name_length text) text), name_length text) ≡ name_at text
+name_there text =
+    let n = name_length text in
+    let within : n ≤ length text = name_within text in
+    let long : nat_le n (length text) ≡ true = grind (arith, nat_tests) in
+    let valid : is_utf8 (take n text) ≡ true = is_utf8-from_IsUtf8 (take n text) (name_utf8 text) in
+    rw (long, valid) refl

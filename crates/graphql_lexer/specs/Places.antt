@@ -14,6 +14,11 @@ after p c =
 abbrev pub after_all : Cursor → List ℕ → Cursor
 after_all p bytes = fold after p bytes
 
+-- after n bytes that end no line
+abbrev pub along : Cursor → ℕ → Cursor
+along p n =
+    record { index = p.index + n; line = p.line; column = p.column + n; after_return = (n == 0) && p.after_return }
+
 -- no line and no column is past the index
 abbrev pub Counts : Cursor → Type 0
 Counts p = (p.line ≤ p.index) × (p.column ≤ p.index)

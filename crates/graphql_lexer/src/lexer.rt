@@ -1,12 +1,14 @@
 //! The token at the front of a text (GraphQL, October 2021, sections 2.1 and 2.9).
 ghost use Rattle.std.specs.Prelude.{◌≡◌, ◌≤◌, ◌<◌, ◌++◌, ℕ, List, length, drop, option_map, false};
-ghost use Rattle.std.specs.Prelude.{Some, None, IfSome, IfOk, MatchResult};
-ghost use Rattle.graphql_lexer.specs.Lexical.{is_comment_char, is_name_continue, is_number_byte as number_byte};
+ghost use Rattle.std.specs.Prelude.{Some, None, true, IfSome, IfOk, MatchResult};
+ghost use Rattle.graphql_lexer.specs.Lexical.{is_comment_char, is_number_byte as number_byte};
 ghost use Rattle.graphql_lexer.specs.Lexemes.{IsFront};
+ghost use Rattle.graphql_lexer.specs.Scan.{is_inline};
 ghost use Rattle.graphql_lexer.specs.Lexical.{Token as GrammarToken, IsToken};
 ghost use Rattle.graphql_lexer.specs.Scanning as spec;
 ghost use Rattle.graphql_lexer.specs.Seen.{seen, seen_at};
 
+use crate::classes::{is_name_byte, is_name_start};
 use std::str;
 
 /// A token that stands for itself (section 2.1.8).
@@ -97,6 +99,57 @@ fn punctuator_at(byte: u8) -> (Token<'static>, usize)
     (Token::Punctuator(punctuator), 1)
 }
 
+/// The name or the punctuator at the front of a text, and its length in bytes, if one is there.
+#[inline(always)]
+pub(crate) fn plain_at(text: &[u8]) -> Option<(Token<'_>, usize)>
+    ensures exact { IfSome result (λ r. seen_at r ≡ spec.token_at text.now) }
+    ensures inline { IfSome result (λ r. is_inline (seen r.0) ≡ true) }
+{
+    match text.first() {
+        Some(byte) if is_name_start(*byte) => Some(name_at(text)),
+        _ => mark_at(text),
+    }
+}
+
+// The punctuator at the front of a text, and its length in bytes, if one is there.
+#[inline(always)]
+#[tactic(auto, unfolding(crate::specs::Scanning::token_at, crate::specs::Scanning::punctuator_of))]
+fn mark_at(text: &[u8]) -> Option<(Token<'_>, usize)>
+    ensures exact { IfSome result (λ r. seen_at r ≡ spec.token_at text.now) }
+    ensures inline { IfSome result (λ r. is_inline (seen r.0) ≡ true) }
+{
+    let punctuator = match *text.first()? {
+        b'!' => Punctuator::Bang,
+        b'$' => Punctuator::Dollar,
+        b'&' => Punctuator::Ampersand,
+        b'(' => Punctuator::ParenOpen,
+        b')' => Punctuator::ParenClose,
+        b':' => Punctuator::Colon,
+        b'=' => Punctuator::Equals,
+        b'@' => Punctuator::At,
+        b'[' => Punctuator::BracketOpen,
+        b']' => Punctuator::BracketClose,
+        b'{' => Punctuator::BraceOpen,
+        b'|' => Punctuator::Pipe,
+        b'}' => Punctuator::BraceClose,
+        _ => return dots_at(text),
+    };
+    Some((Token::Punctuator(punctuator), 1))
+}
+
+// The punctuator `...`, if it is at the front of a text.
+#[inline(always)]
+#[tactic(auto, unfolding(crate::specs::Scanning::token_at, crate::specs::Scanning::spread_at))]
+fn dots_at(text: &[u8]) -> Option<(Token<'_>, usize)>
+    ensures exact { IfSome result (λ r. seen_at r ≡ spec.token_at text.now) }
+    ensures inline { IfSome result (λ r. is_inline (seen r.0) ≡ true) }
+{
+    match text {
+        [b'.', b'.', b'.', ..] => Some((Token::Punctuator(Punctuator::Spread), 3)),
+        _ => None,
+    }
+}
+
 #[tactic(auto, unfolding(crate::specs::Scanning::spread_at))]
 fn spread_at(text: &[u8]) -> (Token<'_>, usize)
     ensures { seen_at result ≡ spec.spread_at text.now }
@@ -107,17 +160,18 @@ fn spread_at(text: &[u8]) -> (Token<'_>, usize)
     }
 }
 
+#[inline(always)]
 fn name_at(text: &[u8]) -> (Token<'_>, usize)
     ensures { seen_at result ≡ spec.name_at text.now }
 {
     let length = name_length(text);
-    match front(text, length) {
-        Some(name) => (Token::Name(name), length),
-        None => (Token::Fault("a name", 0), 0),
-    }
+    // A name is ASCII.
+    let name = unsafe { str::from_utf8_unchecked(&text[..length]) };
+    (Token::Name(name), length)
 }
 
 #[tactic(auto, unfolding(crate::specs::Scanning::name_length))]
+#[inline(always)]
 fn name_length(text: &[u8]) -> usize
     ensures exact { result ≡ spec.name_length text.now }
     ensures within { result ≤ length text.now }
@@ -348,12 +402,6 @@ fn front(text: &[u8], count: usize) -> Option<&str>
         },
         None => None,
     }
-}
-
-fn is_name_byte(byte: u8) -> bool
-    ensures { result ≡ is_name_continue byte }
-{
-    matches!(byte, b'_' | b'0'..=b'9' | b'A'..=b'Z' | b'a'..=b'z')
 }
 
 fn is_number_byte(byte: u8) -> bool

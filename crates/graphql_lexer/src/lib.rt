@@ -10,6 +10,7 @@
 #![tactic(auto)]
 
 mod block_strings;
+mod classes;
 mod cursor;
 pub mod error;
 mod escapes;

@@ -149,7 +149,7 @@ impl<'a> Tokens<'a> {
         ensures last_end { last_end_of self.new ≡ (ahead_of self.old).stop }
     {
         self.last_end = position_of(self.scanned.stop);
-        self.scanned = scan(self.scanned.stop, self.scanned.rest);
+        self.scanned.advance();
     }
 
     /// Whether this punctuator is next.

@@ -2,6 +2,7 @@ pub mod Complete
 pub mod Reached
 pub mod ReadLoop
 pub mod Runs
+pub mod Short
 pub mod Stacks
 pub mod Texts
 pub mod Turns

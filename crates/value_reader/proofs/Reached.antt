@@ -115,7 +115,7 @@ stops rules ts fs rest h x e (v, more, k) =
     refused_none rules tokens (x ∷ more) v [] (h.runs (x ∷ more) ∙ run_refused rules fs x more e) (tokens, sym (append-nil tokens), subst (Spells rules 0 v) all k)
 
 -- ---- the place that is told
-other_place : (P Q : Type 0) (t : token.Token) (start place : SourcePosition) → (P → Q) → (Q → P) → IsPlaceOf P t start place → IsPlaceOf Q t start place
+pub other_place : (P Q : Type 0) (t : token.Token) (start place : SourcePosition) → (P → Q) → (Q → P) → IsPlaceOf P t start place → IsPlaceOf Q t start place
 other_place P Q (token.string raw) start place f g h = (λ q. h.0 (g q), λ n. h.1 (λ p. n (f p)))
 other_place P Q _ start place f g h = h
 

@@ -1,23 +1,28 @@
 -- One turn of the loop that reads a value.
-use Rattle.std.proofs.Common.{◌≡◌, ◌<◌, List, [], Option, Some, None, Vec, length, map, reverse, sym, ap, subst, arith}
+use Rattle.std.proofs.Common.{◌≡◌, ◌<◌, inl, inr, Bool, true, false, refl, List, [], ◌∷◌, Option, Some, None, Vec, length, map, reverse, sym, ap, subst, arith}
 use Rattle.std.specs.declared.alloc.Global.{Global}
+use Rattle.language.specs.declared.position.SourcePosition.{SourcePosition}
 use Rattle.language.specs.declared.position.Span.{Span}
 use Rattle.language.specs.declared.position.Spanning.{Spanning}
 use Rattle.language.specs.declared.value.InputValue.{InputValue}
 use Rattle.sdl_scalars.specs.declared.scalar.SourceScalar.{SourceScalar}
 use Rattle.graphql_lexer.specs.Ahead.{ahead_of, behind, left}
 use Rattle.graphql_lexer.specs.Lexemes.{Lexeme}
+use Rattle.graphql_lexer.specs.Lexical as token
 use Rattle.graphql_lexer.specs.declared.error.ReadError.{ReadError}
 use Rattle.graphql_lexer.specs.declared.error.ReadError.TheVariants.{Syntax, OutOfMemory}
 use Rattle.graphql_lexer.specs.declared.tokens.Tokens.{Tokens}
-use Rattle.value_reader.specs.Faults.{IsFirstFault, IsNone}
+use Rattle.value_reader.specs.Faults.{IsFirstFault, IsNone, IsPlaceOf, IsTokenPlace, IsPlaced}
 use Rattle.value_reader.specs.Grammar.{Rules, Begins}
-use Rattle.value_reader.specs.Machine.{Frame, Turn, going, done, refused, step}
+use Rattle.value_reader.specs.Machine.{Frame, Turn, going, done, refused, step, takes_value}
 use Rattle.value_reader.specs.Seen.{begun_seen, stack_seen, value_seen, IsTurn, IsRefusal}
 use Rattle.value_reader.specs.Values.{Value}
 use Rattle.value_reader.specs.declared.begun.Begun.{Begun}
 use Rattle.value_reader.proofs.Complete.{begins_once}
 use Rattle.value_reader.proofs.Reached.{Reached, reached_none, reached_going, reached_done, reached_refused, reached_fault}
+
+head_same : (x y : Lexeme) (xs ys : List Lexeme) → x ∷ xs ≡ y ∷ ys → x ≡ y
+head_same x y xs ys e = cc
 
 abbrev Parts : Type 0
 Parts = Vec Begun Global
@@ -54,6 +59,23 @@ read_fault rules ts fs old new OutOfMemory h r k = tt
 read_fault rules ts fs old new (Syntax e) h r k =
     let f = reached_fault rules ts fs (ahead_of old) (behind old) e.position h r.0 r.1 in
     (f.0, ahead_of old, behind old, k, f.1, f.2)
+
+told : (fits : Bool) (t : token.Token) (start place : SourcePosition) → IsPlaceOf (fits ≡ true) t start place → IsTokenPlace t start place
+told fits (token.punctuator p) start place h = h
+told fits (token.name s) start place h = h
+told fits (token.int s) start place h = h
+told fits (token.float s) start place h = h
+told true (token.string raw) start place (inside, at) = inr (inside refl)
+told false (token.string raw) start place (inside, at) = inl (at (λ e. cc))
+told fits (token.block_string raw) start place h = h
+told fits token.end start place h = h
+told fits token.fault start place h = tt
+
+pub read_placed : (fs : List Frame) (old new : Tokens) (turn : Turn) (e : ReadError) → IsRefusal fs (ahead_of old) turn e → left new ≡ left old → IsPlaced (ahead_of new) e
+read_placed fs old new turn OutOfMemory r k = tt
+read_placed fs old new turn (Syntax e) r k =
+    let same : ahead_of new ≡ ahead_of old = head_same _ _ _ _ k in
+    subst (λ x. IsPlaced x (Syntax e)) (sym same) (told (takes_value fs) (ahead_of old).token (ahead_of old).start e.position r.1)
 
 pub read_less : (old new : Tokens) → left new ≡ behind old → length (left new) < length (left old)
 read_less old new k = omega (arith, ap length k)

@@ -1,5 +1,5 @@
 -- The first token with which no value goes on, and the place in it that the error tells.
-use Rattle.std.specs.Prelude.{◌≡◌, ◌+◌, ◌-◌, ◌^◌, ℕ, min, List, [], ◌∷◌, ◌++◌}
+use Rattle.std.specs.Prelude.{◌≡◌, ◌⊎◌, ◌+◌, ◌-◌, ◌^◌, ℕ, min, List, [], ◌∷◌, ◌++◌}
 use denote.Ref.{Bor}
 use Rattle.language.specs.declared.position.SourcePosition.{SourcePosition}
 use Rattle.graphql_lexer.specs.Lexemes.{Lexeme}
@@ -37,6 +37,21 @@ IsPlaceOf StringFits (token.string raw) start place = (StringFits → IsInString
 IsPlaceOf StringFits (token.block_string raw) start place = place ≡ start
 IsPlaceOf StringFits token.end start place = place ≡ start
 IsPlaceOf StringFits token.fault start place = Unit {0}
+
+-- the same of a token of which it is not said whether a string may stand there
+abbrev pub IsTokenPlace : token.Token → SourcePosition → SourcePosition → Type 0
+IsTokenPlace (token.punctuator p) start place = place ≡ start
+IsTokenPlace (token.name s) start place = place ≡ start
+IsTokenPlace (token.int s) start place = place ≡ start
+IsTokenPlace (token.float s) start place = place ≡ start
+IsTokenPlace (token.string raw) start place = (place ≡ start) ⊎ IsInString raw start place
+IsTokenPlace (token.block_string raw) start place = place ≡ start
+IsTokenPlace token.end start place = place ≡ start
+IsTokenPlace token.fault start place = Unit {0}
+
+abbrev pub IsPlaced : Lexeme → ReadError → Type 0
+IsPlaced x (Syntax e) = IsTokenPlace x.token x.start e.position
+IsPlaced x OutOfMemory = Unit {0}
 
 -- what an error of the string tells, which starts there
 abbrev pub IsStringRefusal : SourcePosition → StringError → ReadError → Type 0

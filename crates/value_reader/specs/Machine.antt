@@ -136,6 +136,16 @@ step_by rules (at_name from ∷ fs) t start stop = name_turn from fs t stop
 abbrev pub step : Rules → List Frame → Lexeme → Turn
 step rules fs x = step_by rules fs x.token x.start x.stop
 
+abbrev pub is_punctuator : token.Token → Bool
+is_punctuator (token.punctuator p) = true
+is_punctuator (token.name s) = false
+is_punctuator (token.int s) = false
+is_punctuator (token.float s) = false
+is_punctuator (token.string s) = false
+is_punctuator (token.block_string s) = false
+is_punctuator token.end = false
+is_punctuator token.fault = false
+
 -- a value may come next
 abbrev pub takes_value : List Frame → Bool
 takes_value [] = true

@@ -14,7 +14,7 @@ use Rattle.graphql_lexer.specs.declared.error.ReadError.{ReadError}
 use Rattle.graphql_lexer.specs.declared.error.ReadError.TheVariants.{Syntax, OutOfMemory}
 use Rattle.value_reader.specs.Grammar.{Rules, IsTextOf}
 use Rattle.value_reader.specs.Faults.{IsPlaceOf}
-use Rattle.value_reader.specs.Machine.{Entry, Frame, in_list, at_key, at_colon, at_value, at_name, Turn, going, done, refused, items_of, fields_of, plain_of, takes_value}
+use Rattle.value_reader.specs.Machine.{Entry, Frame, in_list, at_key, at_colon, at_value, at_name, Turn, going, done, refused, items_of, fields_of, span_of, plain_of, takes_value}
 use Rattle.value_reader.specs.Values.{Plain, variable, int, float, string, boolean, null, enum, Key, Value, plain, list, object}
 use Rattle.value_reader.specs.declared.rules.Rules.{Rules as GivenRules}
 use Rattle.value_reader.specs.declared.rules.Variables.{Variables}
@@ -119,6 +119,10 @@ IsStringContent t content = (s : List ℕ) × IsTextOf t s × ((span : Span) →
 abbrev pub IsNameless : Lexeme → ReadError → Type 0
 IsNameless x (Syntax e) = ((n : List ℕ) → x.token ≡ token.name n → ⊥) × (x.token ≢ token.fault → e.position ≡ x.start)
 IsNameless x OutOfMemory = Unit {0}
+
+-- the token is the name of this variable, which starts there
+abbrev pub IsVariable : SourcePosition → Lexeme → Value → Type 0
+IsVariable start x v = (n : List ℕ) × (x.token ≡ token.name n) × (v ≡ plain (variable n) (span_of start x.stop))
 
 -- a turn at a token that might begin a value is refused
 abbrev pub IsFirstRefusal : Lexeme → Turn → ReadError → Type 0

@@ -4,7 +4,7 @@ ghost use Rattle.graphql_lexer.specs.Ahead.{ahead_of};
 ghost use Rattle.graphql_lexer.specs.Lexical.{punctuator};
 ghost use Rattle.value_reader.specs.Grammar.{may_nest};
 ghost use Rattle.value_reader.specs.Machine as spec;
-ghost use Rattle.value_reader.specs.Seen.{allows, begun_seen, stack_seen, values_seen, entries_seen, key_seen, rules_seen, IsTurn, IsRefusal, IsFirstRefusal, IsRefusedAt};
+ghost use Rattle.value_reader.specs.Seen.{allows, begun_seen, stack_seen, value_seen, values_seen, entries_seen, key_seen, rules_seen, IsTurn, IsNameless, IsRefusal, IsFirstRefusal, IsRefusedAt, IsVariable};
 
 use crate::begun::{Begun, Entries, Turn, Value, attach, begin, depth, list, object, put_back};
 use crate::plain::{expected_value, name_ahead, plain_value};
@@ -193,9 +193,20 @@ fn read_name<'a>(
         (IsRefusal (spec.at_name start ∷ stack_seen parts.old) x
         (spec.name_turn start (stack_seen parts.old) x.token x.stop)) }
 {
+    attach(parts, variable_ahead(tokens, start)?)
+}
+
+/// The variable whose name comes next, and whose dollar sign starts there.
+pub(crate) fn variable_ahead<'a>(
+    tokens: &Tokens<'a>,
+    start: SourcePosition,
+) -> Result<Spanning<Value>, ReadError<'a>>
+    ensures value { let x = ahead_of tokens.now in IfOk result (λ v. IsVariable start x (value_seen v)) }
+    ensures refused { IfErr result (IsNameless (ahead_of tokens.now)) }
+{
     let name = name_ahead(tokens, "the variable's name")?;
     let end = tokens.span().end;
     let span = Span { start, end };
     let item = InputValue::Variable(name);
-    attach(parts, Spanning { item, span })
+    Ok(Spanning { item, span })
 }

@@ -1,8 +1,9 @@
 use Rattle.std.proofs.lemmas.Result.{err_from_is_err_and}
-use Rattle.graphql_lexer.specs.Ahead.{left}
+use Rattle.graphql_lexer.specs.Ahead.{ahead_of, left}
+use Rattle.value_reader.specs.Machine.{step}
 use Rattle.value_reader.specs.Seen.{rules_of, stack_seen, value_seen}
-use Rattle.value_reader.proofs.ReadLoop.{read_begins, read_going, read_done, read_once, read_none, read_fault, read_less}
-use Rattle.value_reader.proofs.reader.read_value.Goals as goal
+use Rattle.value_reader.proofs.ReadLoop.{read_begins, read_going, read_done, read_once, read_none, read_fault, read_less, read_placed}
+use Rattle.value_reader.proofs.reader.read_parts.Goals as goal
 
 pub loop-parts-init : goal.loop-parts-init
 loop-parts-init c = read_begins (rules_of c.args.variables c.args.max_depth) (left c.args.tokens.now) c.new-parts.result c.new-parts.ensures.items
@@ -44,3 +45,10 @@ returns-in_err-turn-clause-fault c =
     let rules = rules_of c.args.variables c.args.max_depth in
     let p = err_from_is_err_and c.from_residual.result c.from_residual.ensures.1 in
     rw (p.1, p.2) (read_fault rules (left c.args.tokens.now) (stack_seen l.parts) l.tokens c.read_token.new.tokens _ l.invariant c.in_err-turn.ensures.refused c.in_err-turn.ensures.left)
+
+pub returns-in_err-turn-clause-placed : goal.returns-in_err-turn-clause-placed
+returns-in_err-turn-clause-placed c =
+    let l = c.loop-parts in
+    let fs = stack_seen l.parts in
+    let p = err_from_is_err_and c.from_residual.result c.from_residual.ensures.1 in
+    rw (p.1, p.2) (read_placed fs l.tokens c.read_token.new.tokens (step (rules_of c.args.variables c.args.max_depth) fs (ahead_of l.tokens)) _ c.in_err-turn.ensures.refused c.in_err-turn.ensures.left)

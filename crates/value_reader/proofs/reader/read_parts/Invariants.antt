@@ -2,7 +2,7 @@ use Rattle.std.proofs.Common.{length}
 use Rattle.graphql_lexer.specs.Ahead.{left}
 use Rattle.value_reader.specs.Seen.{rules_of, stack_seen}
 use Rattle.value_reader.proofs.Reached.{Reached}
-use Rattle.value_reader.proofs.reader.read_value.Given as goal
+use Rattle.value_reader.proofs.reader.read_parts.Given as goal
 
 -- the tokens so far lead to what is begun
 abbrev pub invariant-loop-parts : goal.invariant-loop-parts
