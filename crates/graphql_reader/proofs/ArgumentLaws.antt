@@ -61,10 +61,10 @@ argument_once rules k v old mid new rest t s c only b more (front, e, (p, q, inn
     (ap (λ j. argument j b.value) (key_same b.name k (head_same _ _ _ _ whole)) ∙ ap (λ u. argument k u) w, r)
 
 -- ---- the first fault
-abbrev origin : SourcePosition
+abbrev pub origin : SourcePosition
 origin = record { index = 0; line = 0; column = 0 }
 
-abbrev nothing : Value
+abbrev pub nothing : Value
 nothing = plain null (record { start = origin; end = origin })
 
 nothing_spelled : List Lexeme
@@ -141,7 +141,7 @@ pub reached_push : {T U : Type 0} (S : T → List Lexeme → Type 0) (f : U → 
 reached_push S f ts items new x mid rest h b e =
     subst (λ xs. Reached S ts xs rest) (sym (seen_more f items new x e)) (reached_more S ts (map f items) (f x) mid rest h b)
 
-not_none : {T : Type 0} (xs : List T) (x : T) → xs ++ x ∷ [] ≡ [] → ⊥
+pub not_none : {T : Type 0} (xs : List T) (x : T) → xs ++ x ∷ [] ≡ [] → ⊥
 not_none [] x e = cc
 not_none (w ∷ ws) x e = cc
 

@@ -126,7 +126,7 @@ abbrev begins_by : ℕ → List ℕ → Bool
 begins_by n [] = false
 begins_by n (x ∷ xs) = nat_eq x n
 
-not_fragment : (k : OperationType) → keyword k ≡ fragment_word → ⊥
+pub not_fragment : (k : OperationType) → keyword k ≡ fragment_word → ⊥
 not_fragment Query e = let f : true ≡ false = ap (begins_by 113) e in cc
 not_fragment Mutation e = let f : true ≡ false = ap (begins_by 109) e in cc
 not_fragment Subscription e = let f : true ≡ false = ap (begins_by 115) e in cc

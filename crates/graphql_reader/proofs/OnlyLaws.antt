@@ -94,11 +94,11 @@ same_given rules x y = record {
 starts_given : (rules : Rules) (x : Parens) → Starts (IsSign (token.punctuator ParenOpen)) (SpellsGiven rules x)
 starts_given rules x = record { starts = λ a r (some, inner, p, q, e, h). ap (λ z. first (z ++ r)) e }
 
-abbrev end_or : Option Parens → SourcePosition → SourcePosition
+abbrev pub end_or : Option Parens → SourcePosition → SourcePosition
 end_or None place = place
 end_or (Some p) place = p.span.end
 
-given_there : (rules : Rules) (o : Option Parens) (place stop : SourcePosition) (ts : List Lexeme) → SpellsParens rules o place stop ts → Optional (SpellsGiven rules) o ts
+pub given_there : (rules : Rules) (o : Option Parens) (place stop : SourcePosition) (ts : List Lexeme) → SpellsParens rules o place stop ts → Optional (SpellsGiven rules) o ts
 given_there rules None place stop ts (e, f) = e
 given_there rules (Some p) place stop ts (h, f) = h
 
@@ -159,7 +159,7 @@ pub same_parens : (rules : Rules) (o p : Option Parens) → Same (Optional (Spel
 same_parens rules o p = same_less (λ r n. (n, tt)) (same_optional (same_given rules) (starts_given rules) o p)
 
 -- ---- what stands before a set
-plain : (k : Key) (ts : List Lexeme) → SpellsAliased None k ts → SpellsName k ts
+pub plain : (k : Key) (ts : List Lexeme) → SpellsAliased None k ts → SpellsName k ts
 plain k ts (a, b, e, none, h) = subst (SpellsName k) (sym (e ∙ ap (λ z. z ++ b) none)) h
 
 same_alias : (j k : Key) → Same (SpellsAlias j) (SpellsAlias k) Any (j ≡ k)

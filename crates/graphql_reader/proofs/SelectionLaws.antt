@@ -1,5 +1,5 @@
 -- Selections, and the sets that are begun.
-use Rattle.std.specs.Prelude.{Result, Ok, Err, OnOk}
+use Rattle.std.specs.Prelude.{Result, Ok, Err, IfErr, OnErr, OnOk}
 use Rattle.std.proofs.lemmas.List.{length-append, length-reverse, reverse-append}
 use Rattle.std.proofs.Common.{◌≡◌, arith, reverse, ℕ, suc, true, List, [], ◌∷◌, ◌++◌, map, length, append_assoc, append-nil, Option, Some, None, option_map, refl, sym, ap, subst, ◌∙◌}
 use Rattle.language.specs.declared.position.SourcePosition.{SourcePosition}
@@ -106,7 +106,7 @@ spread_read limit k ds span node dots a b c d t s other h start stop is =
 front_all : (xs ys : List Lexeme) → ys ≡ [] → xs ++ ys ≡ xs
 front_all xs ys e = ap (λ zs. xs ++ zs) e ∙ append-nil xs
 
-more_of : (limit : Option ℕ) (depth : ℕ) (xs : List Selection) (ts : List Lexeme) → (xs ≡ [] → ⊥) → SpellsEach (SpellsSelection limit depth) xs ts → SpellsMore limit depth (selections_of xs) ts
+pub more_of : (limit : Option ℕ) (depth : ℕ) (xs : List Selection) (ts : List Lexeme) → (xs ≡ [] → ⊥) → SpellsEach (SpellsSelection limit depth) xs ts → SpellsMore limit depth (selections_of xs) ts
 more_of limit depth [] ts some h = absurd (some refl)
 more_of limit depth (x ∷ []) ts some (one, more, e, s, none) = subst (SpellsSelection limit depth x) (sym (e ∙ front_all one more none)) s
 more_of limit depth (x ∷ y ∷ ys) ts some (one, more, e, s, h) = (one, more, e, s, more_of limit depth (y ∷ ys) more (λ n. cc) h)
@@ -122,6 +122,10 @@ nodes_more limit depth nodes ts some h = more_of limit (suc depth) (map selectio
 pub on_ok_both : {T E P Q R : Type 0} (r : Result T E) → (P → Q → R) → OnOk r P → OnOk r Q → OnOk r R
 on_ok_both (Ok x) f p q = f p q
 on_ok_both (Err e) f p q = tt
+
+pub on_err_both : {T E P : Type 0} (r : Result T E) {Q R : E → Type 0} → ((e : E) → P → Q e → R e) → OnErr r P → IfErr r Q → IfErr r R
+on_err_both (Ok x) f p q = tt
+on_err_both (Err e) f p q = f e p q
 
 pub none_of : {T : Type 0} (xs : List T) → length xs ≡ 0 → xs ≡ []
 none_of [] e = refl

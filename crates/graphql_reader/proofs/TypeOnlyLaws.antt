@@ -16,10 +16,10 @@ use Rattle.graphql_reader.proofs.SameLaws.{Same, Apart, Starts, Before, Any, No,
 abbrev pub NoBang : Tokened
 NoBang = No (IsSign (token.punctuator Bang))
 
-bare : MayBeNull []
+pub bare : MayBeNull []
 bare rest e = cc
 
-listed : (size : Option ℕ) (ms : List TypeModifier) → MayBeNull (m.List size ∷ ms)
+pub listed : (size : Option ℕ) (ms : List TypeModifier) → MayBeNull (m.List size ∷ ms)
 listed size ms rest e = cc
 
 pub same_named : (n o : List ℕ) → token.name n ≡ token.name o → n ≡ o

@@ -1,6 +1,8 @@
 pub mod Arguments
 pub mod Constants
 pub mod Documents
+pub mod Faults
+pub mod Languages
 pub mod OpenSets
 pub mod Parts
 pub mod Passed

@@ -7,10 +7,12 @@ use Rattle.language.specs.declared.tree.Selection.{Selection as Node}
 use Rattle.sdl_scalars.specs.declared.scalar.SourceScalar.{SourceScalar}
 use Rattle.graphql_lexer.specs.Lexemes.{Lexeme}
 use Rattle.graphql_lexer.specs.Lexical as token
+use Rattle.graphql_lexer.specs.declared.error.ReadError.{ReadError}
 use Rattle.graphql_lexer.specs.declared.lexer.Punctuator.TheVariants.{BraceOpen}
 use Rattle.graphql_lexer.specs.declared.tokens.Tokens.{Tokens}
 use Rattle.value_reader.specs.Grammar.{may_nest}
 use Rattle.graphql_reader.specs.Arguments.{SpellsEach}
+use Rattle.graphql_reader.specs.Languages.{Language, ASet, Anything, FirstInSet, NoSelection, Nothing, RestOfSets, IsFault, Leaves}
 use Rattle.graphql_reader.specs.Passed.{One, Reads, Then}
 use Rattle.graphql_reader.specs.Selections.{FieldHead, InlineHead, Selection, field, inline, Selections, SpellsFieldHead, SpellsInlineHead, SpellsSelection, SpellsSet, field_head, inline_head, selection_seen, nodes_seen}
 use Rattle.graphql_reader.specs.declared.selections.Begun.{Begun}
@@ -72,3 +74,31 @@ IsTurn limit first begun nodes now (Some set) = Reads (SpellsSet limit 0 (nodes_
 abbrev pub whole : Head → Selections → Span → Selection
 whole (head.Field h) set span = field (field_seen h) set span
 whole (head.Inline h) set span = inline (inline_seen h) set span
+
+-- ---- what is left
+-- of so many sets and one, where these selections stand in the innermost
+abbrev pub Rests : ℕ → Nodes → Language
+Rests n [] = FirstInSet n
+Rests n (x ∷ xs) = RestOfSets (suc n)
+
+-- nothing of the P that the tokens begin with, or the set of one that is begun
+abbrev pub LeavesPart : (ℕ → Language) → Option ℕ → Tokens → Tokens → Part → Type 0
+LeavesPart P limit old new (part.Whole s) = (depth : ℕ) → Leaves limit NoSelection (P depth) Nothing old new
+LeavesPart P limit old new (part.Head start h) = (depth : ℕ) → Leaves limit NoSelection (P depth) (ASet depth) old new
+
+abbrev pub IsPartFault : (ℕ → Language) → Option ℕ → Tokens → Tokens → ReadError → Type 0
+IsPartFault P limit old new e = (depth : ℕ) → IsFault limit NoSelection (P depth) old new e
+
+-- the outermost set, where it is there
+abbrev pub Turn : Type 0
+Turn = Option (Vec (Node SourceScalar) Global)
+
+-- nothing of the sets, where the outermost is there, or the rest of those that are begun then
+abbrev pub LeavesTurn : Option ℕ → Tokens → ℕ → Nodes → Tokens → ℕ → Nodes → Turn → Type 0
+LeavesTurn limit old n nodes new k more None = Leaves limit Anything (Rests n nodes) (Rests k more) old new
+LeavesTurn limit old n nodes new k more (Some set) = Leaves limit Anything (Rests n nodes) Nothing old new
+
+-- a set ends: the outermost, or another, which is in a selection then
+abbrev pub IsOutside : ℕ → ℕ → Nodes → Turn → Type 0
+IsOutside n k more None = (n ≡ suc k) × (more ≡ [] → ⊥)
+IsOutside n k more (Some set) = n ≡ 0

@@ -1,13 +1,16 @@
 //! Arguments and directives (GraphQL, October 2021, sections 2.6 and 2.12).
-ghost use Rattle.std.specs.Prelude.{◌≡◌, IfOk, IfErr, List};
+ghost use Rattle.std.specs.Prelude.{◌≡◌, IfOk, IfErr, List, OnOk};
 ghost use Rattle.graphql_lexer.specs.Ahead.{left};
 ghost use Rattle.graphql_lexer.specs.Lexemes.{Lexeme};
 ghost use Rattle.graphql_reader.specs.Arguments as g;
 ghost use Rattle.graphql_reader.specs.Arguments.{argument_seen, directive_seen, BeginsArgument, SpellsDirective};
 ghost use Rattle.graphql_reader.specs.Arguments.{IsArgumentFault, IsArguments, IsDirectives};
+ghost use Rattle.graphql_reader.specs.Languages.{ADirective, AnArgument, Anything, InParens, Marks, NoMarks, NoParen};
+ghost use Rattle.graphql_reader.specs.Languages.{Nothing, Perhaps, IsFault, Leaves};
 ghost use Rattle.graphql_reader.specs.Passed.{Reads};
 ghost use Rattle.value_reader.specs.Seen.{rules_of};
 
+use crate::expected::{expect, name};
 use graphql_lexer::error::ReadError;
 use graphql_lexer::lexer::Punctuator;
 use graphql_lexer::tokens::Tokens;
@@ -27,20 +30,25 @@ type Argument<'a> = (Spanning<&'a str>, Spanning<InputValue<SourceScalar>>);
 ///
 /// # Errors
 ///
-/// A syntax error after the parenthesis, a value with more levels than `max_depth`, or out of memory.
+/// The first token behind the parenthesis with which no arguments go on, which is a level too many where it opens more
+/// than `max_depth`, or out of memory.
 pub fn read_arguments<'a>(
     tokens: &mut Tokens<'a>,
     variables: Variables,
     max_depth: Option<usize>,
 ) -> Result<Option<Spanning<Arguments<'a, SourceScalar>>>, ReadError<'a>>
-    ensures { IfOk result (IsArguments (rules_of variables max_depth) tokens.old tokens.new) }
+    ensures tree { IfOk result (IsArguments (rules_of variables max_depth) tokens.old tokens.new) }
+    ensures leaves { OnOk result
+        (Leaves max_depth NoParen (Perhaps (InParens variables)) Nothing tokens.old tokens.new) }
+    ensures stuck { IfErr result
+        (IsFault max_depth NoParen (Perhaps (InParens variables)) tokens.old tokens.new) }
 {
     let start = tokens.start();
     if !tokens.take(Punctuator::ParenOpen) {
         return Ok(None);
     }
     let mut items = Vec::new(tokens.alloc());
-    for _ in 0..tokens.bound() {
+    loop {
         let argument = read_argument(tokens, variables, max_depth)?;
         items.push(argument)?;
         if tokens.take(Punctuator::ParenClose) {
@@ -50,7 +58,6 @@ pub fn read_arguments<'a>(
             return Ok(Some(Spanning { item, span }));
         }
     }
-    Err(tokens.fault(")"))
 }
 
 // One argument: its name, a colon and its value.
@@ -66,9 +73,11 @@ fn read_argument<'a>(
         → (b ≡ argument_seen a) × (rest ≡ left tokens.new)) }
     ensures fault { IfErr result
         (IsArgumentFault (rules_of variables max_depth) (left tokens.old) (left tokens.new)) }
+    ensures leaves { OnOk result (Leaves max_depth Anything (AnArgument variables) Nothing tokens.old tokens.new) }
+    ensures stuck { IfErr result (IsFault max_depth Anything (AnArgument variables) tokens.old tokens.new) }
 {
-    let name = tokens.name("an argument's name")?;
-    tokens.expect(Punctuator::Colon, ":")?;
+    let name = name(tokens, "an argument's name")?;
+    expect(tokens, Punctuator::Colon, ":")?;
     let value = read_value(tokens, variables, max_depth)?;
     Ok((name, value))
 }
@@ -77,27 +86,27 @@ fn read_argument<'a>(
 ///
 /// # Errors
 ///
-/// A syntax error after an `@`, a value with more levels than `max_depth`, or out of memory.
+/// The first token behind an `@` with which no directives go on, which is a level too many where it opens more than
+/// `max_depth`, or out of memory.
 pub fn read_directives<'a>(
     tokens: &mut Tokens<'a>,
     variables: Variables,
     max_depth: Option<usize>,
 ) -> Result<Directives<'a>, ReadError<'a>>
-    ensures { IfOk result (IsDirectives (rules_of variables max_depth) tokens.old tokens.new) }
+    ensures tree { IfOk result (IsDirectives (rules_of variables max_depth) tokens.old tokens.new) }
+    ensures leaves { OnOk result (Leaves max_depth NoMarks (Marks variables) Nothing tokens.old tokens.new) }
+    ensures stuck { IfErr result (IsFault max_depth NoMarks (Marks variables) tokens.old tokens.new) }
 {
     if !tokens.is(Punctuator::At) {
         return Ok(None);
     }
     let mut directives = Vec::new(tokens.alloc());
-    for _ in 0..tokens.bound() {
-        if !tokens.is(Punctuator::At) {
-            directives.shrink_to_fit();
-            return Ok(Some(directives));
-        }
+    while tokens.is(Punctuator::At) {
         let directive = read_directive(tokens, variables, max_depth)?;
         directives.push(directive)?;
     }
-    Err(tokens.fault("a directive"))
+    directives.shrink_to_fit();
+    Ok(Some(directives))
 }
 
 fn read_directive<'a>(
@@ -105,12 +114,14 @@ fn read_directive<'a>(
     variables: Variables,
     max_depth: Option<usize>,
 ) -> Result<Spanning<Directive<'a, SourceScalar>>, ReadError<'a>>
-    ensures { IfOk result (λ d.
+    ensures tree { IfOk result (λ d.
         Reads (SpellsDirective (rules_of variables max_depth) (directive_seen d)) tokens.old tokens.new) }
+    ensures leaves { OnOk result (Leaves max_depth NoParen (ADirective variables) Nothing tokens.old tokens.new) }
+    ensures stuck { IfErr result (IsFault max_depth NoParen (ADirective variables) tokens.old tokens.new) }
 {
     let start = tokens.start();
-    tokens.expect(Punctuator::At, "@")?;
-    let name = tokens.name("a directive's name")?;
+    expect(tokens, Punctuator::At, "@")?;
+    let name = name(tokens, "a directive's name")?;
     let arguments = read_arguments(tokens, variables, max_depth)?;
     let span = tokens.span_from(start);
     let item = Directive { name, arguments };

@@ -1,21 +1,28 @@
 //! Executable documents (GraphQL, October 2021, sections 2.2, 2.3, 2.8 and 2.10).
-ghost use Rattle.std.specs.Prelude.{◌≡◌, ◌<◌, IfOk, IfErr, IfSome, List, None, length, map, option_map};
+ghost use Rattle.std.specs.Prelude.{◌≡◌, ◌≢◌, ◌<◌, ℕ, IfErr, IfOk, IfSome, List, MatchOption, None, OnOk, Option};
+ghost use Rattle.std.specs.Prelude.{length, map, option_map};
 ghost use Rattle.graphql_lexer.specs.Ahead.{ahead_of, left, IsTaken};
 ghost use Rattle.graphql_lexer.specs.Lexical.{punctuator, name as name_token};
-ghost use Rattle.graphql_lexer.specs.declared.lexer.Punctuator.TheVariants.{ParenOpen};
+ghost use Rattle.graphql_lexer.specs.declared.lexer.Punctuator.TheVariants.{BraceOpen, ParenOpen};
 ghost use Rattle.graphql_lexer.specs.declared.tokens.Tokens.{Tokens as Reader};
 ghost use Rattle.graphql_reader.specs.Arguments.{name_seen};
 ghost use Rattle.graphql_reader.specs.Documents as g;
 ghost use Rattle.graphql_reader.specs.Documents.{definition_seen, variable_seen, variables_seen};
 ghost use Rattle.graphql_reader.specs.Documents.{fragment_word, keyword, IsDocument, SpellsDefinition};
 ghost use Rattle.graphql_reader.specs.Documents.{SpellsVariable, SpellsVariableDefinition, SpellsVariables};
+ghost use Rattle.graphql_reader.specs.Faults.{IsDocumentFault, IsNoDocument};
+ghost use Rattle.graphql_reader.specs.Languages.{ADefault, ADefinition, AFragmentHead, AName, AVariable};
+ghost use Rattle.graphql_reader.specs.Languages.{AVariableDefinition, AllVariables, Anything, BegunVariables, NoEquals};
+ghost use Rattle.graphql_reader.specs.Languages.{NoNameNext, NoParen, NoVariable, Nothing, Perhaps, IsFault, Leaves};
 ghost use Rattle.graphql_reader.specs.Parts.{IsDefault, IsDefaultFault};
 ghost use Rattle.graphql_reader.specs.Passed.{BeginsWith, Optional, Reads, Then};
 ghost use Rattle.graphql_reader.specs.Selections.{SpellsCondition, SpellsFragmentName, SpellsName};
+ghost use Rattle.language.specs.declared.tree.OperationType.{OperationType as Kind};
 ghost use Rattle.value_reader.specs.Seen.{rules_of};
 ghost use Rattle.value_reader.specs.declared.rules.Variables.TheVariants.{Refused};
 
 use crate::arguments::read_directives;
+use crate::expected::{expect, name};
 use crate::selections::read_selection_set;
 use crate::types::read_type;
 use graphql_lexer::error::ReadError;
@@ -36,7 +43,8 @@ use value_reader::rules::Variables;
 ///
 /// # Errors
 ///
-/// The text has a syntax error, whose position, expectation and finding the error holds, or out of memory.
+/// The text is no document: the error tells the place of the first token with which no document goes on, what was
+/// expected there and what was found. Or out of memory, which says nothing of the text.
 pub fn read_document<'a>(
     alloc: Global,
     text: &'a str,
@@ -46,6 +54,8 @@ pub fn read_document<'a>(
         IsDocument None text.now (map definition_seen definitions.items)) }
     ensures only { IfOk result (λ definitions. (others : List g.Definition)
         → IsDocument None text.now others → others ≡ map definition_seen definitions.items) }
+    ensures none { IfErr result (IsNoDocument None text.now) }
+    ensures fault { IfErr result (IsDocumentFault None text.now) }
 {
     read_document_within(alloc, text, None)
 }
@@ -55,7 +65,8 @@ pub fn read_document<'a>(
 ///
 /// # Errors
 ///
-/// As [`read_document`], and the first token that begins a level too many.
+/// As [`read_document`], where no document nests deeper: the first token at fault may be one that begins a level too
+/// many.
 pub fn read_document_within<'a>(
     alloc: Global,
     text: &'a str,
@@ -66,10 +77,12 @@ pub fn read_document_within<'a>(
         IsDocument max_depth text.now (map definition_seen definitions.items)) }
     ensures only { IfOk result (λ definitions. (others : List g.Definition)
         → IsDocument max_depth text.now others → others ≡ map definition_seen definitions.items) }
+    ensures none { IfErr result (IsNoDocument max_depth text.now) }
+    ensures fault { IfErr result (IsDocumentFault max_depth text.now) }
 {
     let mut tokens = Tokens::new(alloc, text.as_bytes());
     let mut definitions = Vec::new(alloc);
-    for _ in 0..tokens.bound() {
+    loop {
         let definition = read_definition(&mut tokens, max_depth)?;
         definitions.push(definition)?;
         if tokens.is_at_end() {
@@ -77,15 +90,16 @@ pub fn read_document_within<'a>(
             return Ok(definitions);
         }
     }
-    Err(tokens.fault("the end of the text"))
 }
 
 fn read_definition<'a>(
     tokens: &mut Tokens<'a>,
     max_depth: Option<usize>,
 ) -> Result<Definition<'a, SourceScalar>, ReadError<'a>>
-    ensures { IfOk result (λ d.
+    ensures tree { IfOk result (λ d.
         Reads (SpellsDefinition max_depth (definition_seen d)) tokens.old tokens.new) }
+    ensures leaves { OnOk result (Leaves max_depth Anything ADefinition Nothing tokens.old tokens.new) }
+    ensures stuck { IfErr result (IsFault max_depth Anything ADefinition tokens.old tokens.new) }
 {
     if tokens.is(Punctuator::BraceOpen) {
         return read_bare_query(tokens, max_depth);
@@ -101,7 +115,9 @@ fn read_definition<'a>(
 
 /// The kind of operation whose keyword is next.
 pub fn operation_type_ahead(tokens: &Tokens<'_>) -> Option<OperationType>
-    ensures { IfSome result (λ kind. (ahead_of tokens.now).token ≡ name_token (keyword kind)) }
+    ensures kind { IfSome result (λ kind. (ahead_of tokens.now).token ≡ name_token (keyword kind)) }
+    ensures other { MatchOption result
+        ((kind : Kind) → (ahead_of tokens.now).token ≢ name_token (keyword kind)) (λ kind. Unit {0}) }
 {
     match tokens.ahead() {
         Token::Name("query") => Some(OperationType::Query),
@@ -116,8 +132,12 @@ fn read_bare_query<'a>(
     tokens: &mut Tokens<'a>,
     max_depth: Option<usize>,
 ) -> Result<Definition<'a, SourceScalar>, ReadError<'a>>
-    ensures { IfOk result (λ d.
+    ensures tree { IfOk result (λ d.
         Reads (SpellsDefinition max_depth (definition_seen d)) tokens.old tokens.new) }
+    ensures leaves { OnOk result ((ahead_of tokens.old).token ≡ punctuator BraceOpen
+        → Leaves max_depth Anything ADefinition Nothing tokens.old tokens.new) }
+    ensures stuck { IfErr result (λ e. (ahead_of tokens.old).token ≡ punctuator BraceOpen
+        → IsFault max_depth Anything ADefinition tokens.old tokens.new e) }
 {
     let start = tokens.start();
     let selection_set = read_selection_set(tokens, max_depth)?;
@@ -139,8 +159,12 @@ fn read_operation<'a>(
     max_depth: Option<usize>,
     operation_type: OperationType,
 ) -> Result<Definition<'a, SourceScalar>, ReadError<'a>>
-    ensures { IfOk result (λ d. (ahead_of tokens.old).token ≡ name_token (keyword operation_type)
+    ensures tree { IfOk result (λ d. (ahead_of tokens.old).token ≡ name_token (keyword operation_type)
         → Reads (SpellsDefinition max_depth (definition_seen d)) tokens.old tokens.new) }
+    ensures leaves { OnOk result ((ahead_of tokens.old).token ≡ name_token (keyword operation_type)
+        → Leaves max_depth Anything ADefinition Nothing tokens.old tokens.new) }
+    ensures stuck { IfErr result (λ e. (ahead_of tokens.old).token ≡ name_token (keyword operation_type)
+        → IsFault max_depth Anything ADefinition tokens.old tokens.new e) }
 {
     let start = tokens.start();
     tokens.advance();
@@ -165,10 +189,15 @@ fn read_operation<'a>(
 fn read_operation_name<'a>(
     tokens: &mut Tokens<'a>,
 ) -> Result<Option<Spanning<&'a str>>, ReadError<'a>>
-    ensures { IfOk result (λ name. Reads (Optional SpellsName (option_map name_seen name)) tokens.old tokens.new) }
+    ensures tree { IfOk result (λ name.
+        Reads (Optional SpellsName (option_map name_seen name)) tokens.old tokens.new) }
+    ensures leaves { OnOk result ((limit : Option ℕ)
+        → Leaves limit NoNameNext (Perhaps AName) Nothing tokens.old tokens.new) }
+    ensures stuck { IfErr result (λ e. (limit : Option ℕ)
+        → IsFault limit NoNameNext (Perhaps AName) tokens.old tokens.new e) }
 {
     match tokens.ahead() {
-        Token::Name(_) => Ok(Some(tokens.name("a name")?)),
+        Token::Name(_) => Ok(Some(name(tokens, "a name")?)),
         _ => Ok(None),
     }
 }
@@ -177,8 +206,12 @@ fn read_fragment<'a>(
     tokens: &mut Tokens<'a>,
     max_depth: Option<usize>,
 ) -> Result<Definition<'a, SourceScalar>, ReadError<'a>>
-    ensures { IfOk result (λ d. (ahead_of tokens.old).token ≡ name_token fragment_word
+    ensures tree { IfOk result (λ d. (ahead_of tokens.old).token ≡ name_token fragment_word
         → Reads (SpellsDefinition max_depth (definition_seen d)) tokens.old tokens.new) }
+    ensures leaves { OnOk result ((ahead_of tokens.old).token ≡ name_token fragment_word
+        → Leaves max_depth Anything ADefinition Nothing tokens.old tokens.new) }
+    ensures stuck { IfErr result (λ e. (ahead_of tokens.old).token ≡ name_token fragment_word
+        → IsFault max_depth Anything ADefinition tokens.old tokens.new e) }
 {
     let start = tokens.start();
     tokens.advance();
@@ -201,26 +234,32 @@ fn read_fragment<'a>(
 fn read_fragment_head<'a>(
     tokens: &mut Tokens<'a>,
 ) -> Result<(Spanning<&'a str>, Spanning<&'a str>), ReadError<'a>>
-    ensures { IfOk result (λ r.
+    ensures tree { IfOk result (λ r.
         Reads (Then (SpellsFragmentName (name_seen r.0)) (SpellsCondition (name_seen r.1))) tokens.old tokens.new) }
+    ensures leaves { OnOk result ((limit : Option ℕ)
+        → Leaves limit Anything AFragmentHead Nothing tokens.old tokens.new) }
+    ensures stuck { IfErr result (λ e. (limit : Option ℕ)
+        → IsFault limit Anything AFragmentHead tokens.old tokens.new e) }
 {
     if tokens.is_word("on") {
         return Err(tokens.fault("a fragment's name"));
     }
-    let name = tokens.name("a fragment's name")?;
+    let fragment = name(tokens, "a fragment's name")?;
     if !tokens.take_word("on") {
         return Err(tokens.fault("`on`"));
     }
-    let condition = tokens.name("a type's name")?;
-    Ok((name, condition))
+    let condition = name(tokens, "a type's name")?;
+    Ok((fragment, condition))
 }
 
 fn read_variable_definitions<'a>(
     tokens: &mut Tokens<'a>,
     max_depth: Option<usize>,
 ) -> Result<Option<Spanning<VariableDefinitions<'a, SourceScalar>>>, ReadError<'a>>
-    ensures { IfOk result (λ vs.
+    ensures tree { IfOk result (λ vs.
         Reads (Optional (SpellsVariables max_depth) (option_map variables_seen vs)) tokens.old tokens.new) }
+    ensures leaves { OnOk result (Leaves max_depth NoParen (Perhaps AllVariables) Nothing tokens.old tokens.new) }
+    ensures stuck { IfErr result (IsFault max_depth NoParen (Perhaps AllVariables) tokens.old tokens.new) }
 {
     let start = tokens.start();
     if !tokens.take(Punctuator::ParenOpen) {
@@ -235,12 +274,14 @@ fn read_variables_from<'a>(
     max_depth: Option<usize>,
     start: SourcePosition,
 ) -> Result<Option<Spanning<VariableDefinitions<'a, SourceScalar>>>, ReadError<'a>>
-    ensures { IfOk result (λ vs. (paren : Reader) → IsTaken (punctuator ParenOpen) paren tokens.old
+    ensures tree { IfOk result (λ vs. (paren : Reader) → IsTaken (punctuator ParenOpen) paren tokens.old
         → start ≡ (ahead_of paren).start
         → Reads (Optional (SpellsVariables max_depth) (option_map variables_seen vs)) paren tokens.new) }
+    ensures leaves { OnOk result (Leaves max_depth Anything BegunVariables Nothing tokens.old tokens.new) }
+    ensures stuck { IfErr result (IsFault max_depth Anything BegunVariables tokens.old tokens.new) }
 {
     let mut items = Vec::new(tokens.alloc());
-    for _ in 0..tokens.bound() {
+    loop {
         let variable = read_variable_definition(tokens, max_depth)?;
         items.push(variable)?;
         if tokens.take(Punctuator::ParenClose) {
@@ -250,7 +291,6 @@ fn read_variables_from<'a>(
             return Ok(Some(Spanning { item, span }));
         }
     }
-    Err(tokens.fault(")"))
 }
 
 type Variable<'a> = (Spanning<&'a str>, VariableDefinition<'a, SourceScalar>);
@@ -260,11 +300,14 @@ fn read_variable_definition<'a>(
     tokens: &mut Tokens<'a>,
     max_depth: Option<usize>,
 ) -> Result<Variable<'a>, ReadError<'a>>
-    ensures { IfOk result (λ v.
+    ensures tree { IfOk result (λ v.
         BeginsWith (SpellsVariableDefinition max_depth (variable_seen v)) (left tokens.old) (left tokens.new)) }
+    ensures leaves { OnOk result
+        (Leaves max_depth NoVariable AVariableDefinition Nothing tokens.old tokens.new) }
+    ensures stuck { IfErr result (IsFault max_depth NoVariable AVariableDefinition tokens.old tokens.new) }
 {
     let name = read_variable(tokens)?;
-    tokens.expect(Punctuator::Colon, ":")?;
+    expect(tokens, Punctuator::Colon, ":")?;
     let var_type = read_type(tokens, max_depth)?;
     let default_value = read_default_value(tokens, max_depth)?;
     let directives = read_directives(tokens, Variables::Refused, max_depth)?;
@@ -278,11 +321,15 @@ fn read_variable_definition<'a>(
 
 // A variable: `$` and its name. Its span starts at the `$`.
 fn read_variable<'a>(tokens: &mut Tokens<'a>) -> Result<Spanning<&'a str>, ReadError<'a>>
-    ensures { IfOk result (λ v. Reads (SpellsVariable (name_seen v)) tokens.old tokens.new) }
+    ensures tree { IfOk result (λ v. Reads (SpellsVariable (name_seen v)) tokens.old tokens.new) }
+    ensures leaves { OnOk result ((limit : Option ℕ)
+        → Leaves limit Anything AVariable Nothing tokens.old tokens.new) }
+    ensures stuck { IfErr result (λ e. (limit : Option ℕ)
+        → IsFault limit Anything AVariable tokens.old tokens.new e) }
 {
     let start = tokens.start();
-    tokens.expect(Punctuator::Dollar, "a variable")?;
-    let name = tokens.name("the variable's name")?;
+    expect(tokens, Punctuator::Dollar, "a variable")?;
+    let name = name(tokens, "the variable's name")?;
     let span = tokens.span_from(start);
     Ok(Spanning {
         item: name.item,
@@ -294,7 +341,8 @@ fn read_variable<'a>(tokens: &mut Tokens<'a>) -> Result<Spanning<&'a str>, ReadE
 ///
 /// # Errors
 ///
-/// A syntax error after the `=`, more levels than `max_depth`, or out of memory.
+/// The first token behind the `=` with which no constant goes on, which is a level too many where it opens more than
+/// `max_depth`, or out of memory.
 pub fn read_default_value<'a>(
     tokens: &mut Tokens<'a>,
     max_depth: Option<usize>,
@@ -302,6 +350,8 @@ pub fn read_default_value<'a>(
     ensures default { IfOk result (IsDefault (rules_of Refused max_depth) tokens.old tokens.new) }
     ensures fault { IfErr result
         (IsDefaultFault (rules_of Refused max_depth) (left tokens.old) (left tokens.new)) }
+    ensures leaves { OnOk result (Leaves max_depth NoEquals (Perhaps ADefault) Nothing tokens.old tokens.new) }
+    ensures stuck { IfErr result (IsFault max_depth NoEquals (Perhaps ADefault) tokens.old tokens.new) }
 {
     if !tokens.take(Punctuator::Equals) {
         return Ok(None);

@@ -1,5 +1,7 @@
 //! How deep a text may nest.
-ghost use Rattle.std.specs.Prelude.{◌≡◌, true, OnOk};
+ghost use Rattle.std.specs.Prelude.{◌≡◌, false, true, IfErr, OnErr, OnOk};
+ghost use Rattle.graphql_lexer.specs.Ahead.{ahead_of};
+ghost use Rattle.value_reader.specs.Faults.{IsPlaced};
 ghost use Rattle.value_reader.specs.Grammar.{may_nest};
 
 use graphql_lexer::error::ReadError;
@@ -18,7 +20,9 @@ pub fn check_depth<'a>(
     levels: usize,
     max_depth: Option<usize>,
 ) -> Result<(), ReadError<'a>>
-    ensures { OnOk result (may_nest max_depth levels ≡ true) }
+    ensures depth { OnOk result (may_nest max_depth levels ≡ true) }
+    ensures deep { OnErr result (may_nest max_depth levels ≡ false) }
+    ensures placed { IfErr result (IsPlaced (ahead_of tokens.now)) }
 {
     match max_depth {
         Some(limit) if levels >= limit => Err(tokens.too_deep(limit)),

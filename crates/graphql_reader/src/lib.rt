@@ -7,15 +7,17 @@
 //!
 //! Proved of every call: it is safe and returns, whatever the text. Values are read by `value_reader`, which is proved
 //! exact, and [`read_constant`] is exact. The tree of an executable document is spelled by the tokens of its text, each
-//! of them, with its spans, and no other tree is: `IsDocument` of `specs/Documents.antt`. That an error of
-//! [`read_document`] means that there is none is only tested. Descriptions are those that the tokens spell. That the
-//! rest of a type system document's tree is that of its text is only tested.
+//! of them, with its spans, and no other tree is: `IsDocument` of `specs/Documents.antt`. A syntax error of
+//! [`read_document`] means that the text is no document, and its place is that of the first token with which none goes
+//! on: `specs/Faults.antt`. What it says was expected is only tested. Descriptions are those that the tokens spell.
+//! That the rest of a type system document's tree is that of its text is only tested.
 #![tactic(auto)]
 
 mod arguments;
 mod constants;
 mod definitions;
 mod depth;
+mod expected;
 mod selections;
 pub mod type_system;
 mod type_system_reader;

@@ -1,19 +1,25 @@
 //! Selection sets (GraphQL, October 2021, sections 2.4, 2.5 and 2.8).
-ghost use Rattle.std.specs.Prelude.{◌≡◌, ◌≢◌, [], true, false, IsTrue, IfOk, OnOk, ℕ, Option, option_map, reverse};
-ghost use Rattle.graphql_lexer.specs.Ahead.{ahead_of, IsTaken};
+ghost use Rattle.std.specs.Prelude.{◌≡◌, ◌≢◌, ◌<◌, ◌≤◌, [], true, false, IsTrue, IfErr, IfOk, OnOk};
+ghost use Rattle.std.specs.Prelude.{ℕ, Option, length, option_map, reverse};
+ghost use Rattle.graphql_lexer.specs.Ahead.{ahead_of, left, IsTaken};
 ghost use Rattle.graphql_lexer.specs.Lexical.{punctuator, name as name_token};
 ghost use Rattle.graphql_lexer.specs.declared.lexer.Punctuator.TheVariants.{BraceOpen, BraceClose, Spread};
 ghost use Rattle.graphql_lexer.specs.declared.tokens.Tokens.{Tokens as Reader};
 ghost use Rattle.value_reader.specs.Grammar.{may_nest};
 ghost use Rattle.graphql_reader.specs.Arguments.{name_seen};
+ghost use Rattle.graphql_reader.specs.Languages.{AField, AFieldHead, ASelection, ASet, ASpread, AfterDots};
+ghost use Rattle.graphql_reader.specs.Languages.{AliasedName, Anything, BegunSet, FirstInSet, InlineBody, NoColon};
+ghost use Rattle.graphql_reader.specs.Languages.{NoField, Nothing, IsFault, Leaves};
 ghost use Rattle.graphql_reader.specs.Passed.{Reads};
-ghost use Rattle.graphql_reader.specs.OpenSets.{field_seen, inline_seen, whole, Standing, IsPart, IsTurn};
+ghost use Rattle.graphql_reader.specs.OpenSets.{field_seen, inline_seen, whole, Rests, Standing, IsPart, IsPartFault};
+ghost use Rattle.graphql_reader.specs.OpenSets.{IsOutside, IsTurn, LeavesPart, LeavesTurn};
 ghost use Rattle.graphql_reader.specs.Selections as g;
 ghost use Rattle.graphql_reader.specs.Selections.{directives_seen, nodes_seen, selection_seen, with_set, on};
 ghost use Rattle.graphql_reader.specs.Selections.{SpellsAliased, SpellsDots, SpellsFieldHead, SpellsSet};
 
 use crate::arguments::{Directives, read_arguments, read_directives};
 use crate::depth::check_depth;
+use crate::expected::{expect, name};
 use graphql_lexer::error::ReadError;
 use graphql_lexer::lexer::Punctuator;
 use graphql_lexer::tokens::Tokens;
@@ -68,24 +74,26 @@ struct Begun<'a> {
 ///
 /// # Errors
 ///
-/// A syntax error, more levels than `max_depth`, or out of memory.
+/// The first token with which no selection set goes on, which is a level too many where it opens more than `max_depth`,
+/// or out of memory.
 pub fn read_selection_set<'a>(
     tokens: &mut Tokens<'a>,
     max_depth: Option<usize>,
 ) -> Result<Nodes<'a>, ReadError<'a>>
-    ensures { IfOk result (λ set. Reads (SpellsSet max_depth 0 (nodes_seen set.items)) tokens.old tokens.new) }
+    ensures tree { IfOk result (λ set. Reads (SpellsSet max_depth 0 (nodes_seen set.items)) tokens.old tokens.new) }
+    ensures leaves { OnOk result (Leaves max_depth Anything (ASet 0) Nothing tokens.old tokens.new) }
+    ensures stuck { IfErr result (IsFault max_depth Anything (ASet 0) tokens.old tokens.new) }
 {
     open_set(tokens, 0, max_depth)?;
     let mut begun = Vec::new(tokens.alloc());
     let mut nodes = Vec::new(tokens.alloc());
-    for _ in 0..tokens.bound() {
+    loop {
         let turn = step(tokens, max_depth, &mut nodes, &mut begun)?;
         match turn {
             Some(set) => return Ok(set),
             None => {}
         }
     }
-    Err(tokens.fault("}"))
 }
 
 // Takes the brace that begins a set inside of so many.
@@ -96,9 +104,11 @@ fn open_set<'a>(
 ) -> Result<(), ReadError<'a>>
     ensures depth { OnOk result (may_nest max_depth levels ≡ true) }
     ensures taken { OnOk result (IsTaken (punctuator BraceOpen) tokens.old tokens.new) }
+    ensures leaves { OnOk result (Leaves max_depth Anything (ASet levels) (BegunSet levels) tokens.old tokens.new) }
+    ensures stuck { IfErr result (IsFault max_depth Anything (ASet levels) tokens.old tokens.new) }
 {
     check_depth(tokens, levels, max_depth)?;
-    tokens.expect(Punctuator::BraceOpen, "{")
+    expect(tokens, Punctuator::BraceOpen, "{")
 }
 
 // Takes the brace that ends a set, or reads a part more. The outermost set, if it ends there.
@@ -108,9 +118,14 @@ fn step<'a>(
     nodes: &mut Nodes<'a>,
     begun: &mut Vec<Begun<'a>>,
 ) -> Result<Option<Nodes<'a>>, ReadError<'a>>
-    ensures { IfOk result (λ turn. (first : Reader)
+    ensures tree { IfOk result (λ turn. (first : Reader)
         → Standing max_depth first (reverse begun.old.items) nodes.old.items tokens.old
         → IsTurn max_depth first (reverse begun.new.items) nodes.new.items tokens.new turn) }
+    ensures leaves { IfOk result (LeavesTurn max_depth tokens.old (length begun.old.items) nodes.old.items
+        tokens.new (length begun.new.items) nodes.new.items) }
+    ensures less { OnOk result (length (left tokens.new) < length (left tokens.old)) }
+    ensures stuck { IfErr result
+        (IsFault max_depth Anything (Rests (length begun.old.items) nodes.old.items) tokens.old tokens.new) }
 {
     if ends(tokens, nodes) {
         return end_set(tokens, nodes, begun);
@@ -125,6 +140,7 @@ fn ends<'a>(tokens: &mut Tokens<'a>, nodes: &Nodes<'a>) -> bool
     ensures taken { IsTrue result → IsTaken (punctuator BraceClose) tokens.old tokens.new }
     ensures some { IsTrue result → nodes.now.items ≢ [] }
     ensures left { result ≡ false → tokens.new ≡ tokens.old }
+    ensures other { result ≡ false → nodes.now.items ≢ [] → (ahead_of tokens.old).token ≢ punctuator BraceClose }
 {
     if nodes.is_empty() {
         return false;
@@ -138,10 +154,12 @@ fn end_set<'a>(
     nodes: &mut Nodes<'a>,
     begun: &mut Vec<Begun<'a>>,
 ) -> Result<Option<Nodes<'a>>, ReadError<'a>>
-    ensures { IfOk result (λ turn. (limit : Option ℕ) (first : Reader) (mid : Reader)
+    ensures tree { IfOk result (λ turn. (limit : Option ℕ) (first : Reader) (mid : Reader)
         → Standing limit first (reverse begun.old.items) nodes.old.items mid
         → IsTaken (punctuator BraceClose) mid tokens.now → nodes.old.items ≢ []
         → IsTurn limit first (reverse begun.new.items) nodes.new.items tokens.now turn) }
+    ensures outside { IfOk result (IsOutside (length begun.old.items) (length begun.new.items) nodes.new.items) }
+    ensures memory { IfErr result (λ e. e ≡ ReadError.OutOfMemory) }
 {
     let mut set = mem::replace(nodes, Vec::new(tokens.alloc()));
     set.shrink_to_fit();
@@ -164,10 +182,16 @@ fn add_part<'a>(
     nodes: &mut Nodes<'a>,
     begun: &mut Vec<Begun<'a>>,
 ) -> Result<(), ReadError<'a>>
-    ensures { OnOk result ((first : Reader) (mid : Reader)
+    ensures tree { OnOk result ((first : Reader) (mid : Reader)
         → Standing max_depth first (reverse begun.old.items) nodes.old.items mid
         → IsPart max_depth mid tokens.old part.entry
         → Standing max_depth first (reverse begun.new.items) nodes.new.items tokens.new) }
+    ensures leaves { OnOk result ((mid : Reader) → LeavesPart ASelection max_depth mid tokens.old part.entry
+        → Leaves max_depth Anything (FirstInSet (length begun.old.items))
+        (Rests (length begun.new.items) nodes.new.items) mid tokens.new) }
+    ensures less { OnOk result (length (left tokens.new) ≤ length (left tokens.old)) }
+    ensures stuck { IfErr result (λ e. (mid : Reader) → LeavesPart ASelection max_depth mid tokens.old part.entry
+        → IsFault max_depth Anything (FirstInSet (length begun.old.items)) mid tokens.new e) }
 {
     match part {
         Part::Whole(selection) => {
@@ -250,7 +274,9 @@ fn read_part<'a>(
     tokens: &mut Tokens<'a>,
     max_depth: Option<usize>,
 ) -> Result<Part<'a>, ReadError<'a>>
-    ensures { IfOk result (λ part. IsPart max_depth tokens.old tokens.new part) }
+    ensures tree { IfOk result (λ part. IsPart max_depth tokens.old tokens.new part) }
+    ensures leaves { IfOk result (LeavesPart ASelection max_depth tokens.old tokens.new) }
+    ensures stuck { IfErr result (IsPartFault ASelection max_depth tokens.old tokens.new) }
 {
     let start = tokens.start();
     if tokens.take(Punctuator::Spread) {
@@ -266,11 +292,13 @@ fn read_after_dots<'a>(
     max_depth: Option<usize>,
     start: SourcePosition,
 ) -> Result<Part<'a>, ReadError<'a>>
-    ensures { IfOk result (λ part. (dots : Reader) → IsTaken (punctuator Spread) dots tokens.old
+    ensures tree { IfOk result (λ part. (dots : Reader) → IsTaken (punctuator Spread) dots tokens.old
         → start ≡ (ahead_of dots).start → IsPart max_depth dots tokens.new part) }
+    ensures leaves { IfOk result (LeavesPart AfterDots max_depth tokens.old tokens.new) }
+    ensures stuck { IfErr result (IsPartFault AfterDots max_depth tokens.old tokens.new) }
 {
     if tokens.take_word("on") {
-        let condition = tokens.name("a type's name")?;
+        let condition = name(tokens, "a type's name")?;
         return read_inline_head(tokens, max_depth, start, Some(condition));
     }
     if tokens.is(Punctuator::At) || tokens.is(Punctuator::BraceOpen) {
@@ -284,7 +312,9 @@ fn read_field<'a>(
     tokens: &mut Tokens<'a>,
     max_depth: Option<usize>,
 ) -> Result<Part<'a>, ReadError<'a>>
-    ensures { IfOk result (λ part. IsPart max_depth tokens.old tokens.new part) }
+    ensures tree { IfOk result (λ part. IsPart max_depth tokens.old tokens.new part) }
+    ensures leaves { IfOk result (LeavesPart AField max_depth tokens.old tokens.new) }
+    ensures stuck { IfErr result (IsPartFault AField max_depth tokens.old tokens.new) }
 {
     let start = tokens.start();
     let head = read_field_head(tokens, max_depth)?;
@@ -299,7 +329,10 @@ fn read_field_head<'a>(
     tokens: &mut Tokens<'a>,
     max_depth: Option<usize>,
 ) -> Result<FieldHead<'a>, ReadError<'a>>
-    ensures { IfOk result (λ head. Reads (SpellsFieldHead max_depth (field_seen head)) tokens.old tokens.new) }
+    ensures tree { IfOk result (λ head.
+        Reads (SpellsFieldHead max_depth (field_seen head)) tokens.old tokens.new) }
+    ensures leaves { OnOk result (Leaves max_depth NoField AFieldHead Nothing tokens.old tokens.new) }
+    ensures stuck { IfErr result (IsFault max_depth NoField AFieldHead tokens.old tokens.new) }
 {
     let (alias, name) = read_alias_and_name(tokens)?;
     let arguments = read_arguments(tokens, Variables::Allowed, max_depth)?;
@@ -315,12 +348,16 @@ fn read_field_head<'a>(
 fn read_alias_and_name<'a>(
     tokens: &mut Tokens<'a>,
 ) -> Result<(Option<Spanning<&'a str>>, Spanning<&'a str>), ReadError<'a>>
-    ensures { IfOk result (λ r.
+    ensures tree { IfOk result (λ r.
         Reads (SpellsAliased (option_map name_seen r.0) (name_seen r.1)) tokens.old tokens.new) }
+    ensures leaves { OnOk result ((limit : Option ℕ)
+        → Leaves limit NoColon AliasedName Nothing tokens.old tokens.new) }
+    ensures stuck { IfErr result (λ e. (limit : Option ℕ)
+        → IsFault limit NoColon AliasedName tokens.old tokens.new e) }
 {
-    let first = tokens.name("a selection")?;
+    let first = name(tokens, "a selection")?;
     if tokens.take(Punctuator::Colon) {
-        let name = tokens.name("a field's name")?;
+        let name = name(tokens, "a field's name")?;
         return Ok((Some(first), name));
     }
     Ok((None, first))
@@ -333,9 +370,11 @@ fn read_inline_head<'a>(
     start: SourcePosition,
     type_condition: Option<Spanning<&'a str>>,
 ) -> Result<Part<'a>, ReadError<'a>>
-    ensures { IfOk result (λ part. (dots : Reader) → start ≡ (ahead_of dots).start
+    ensures tree { IfOk result (λ part. (dots : Reader) → start ≡ (ahead_of dots).start
         → Reads (SpellsDots (option_map name_seen type_condition.entry)) dots tokens.old
         → IsPart max_depth dots tokens.new part) }
+    ensures leaves { IfOk result (LeavesPart InlineBody max_depth tokens.old tokens.new) }
+    ensures stuck { IfErr result (IsPartFault InlineBody max_depth tokens.old tokens.new) }
 {
     let directives = read_directives(tokens, Variables::Allowed, max_depth)?;
     let head = InlineHead {
@@ -350,11 +389,15 @@ fn read_fragment_spread<'a>(
     max_depth: Option<usize>,
     start: SourcePosition,
 ) -> Result<Part<'a>, ReadError<'a>>
-    ensures { IfOk result (λ part. (dots : Reader) → IsTaken (punctuator Spread) dots tokens.old
+    ensures tree { IfOk result (λ part. (dots : Reader) → IsTaken (punctuator Spread) dots tokens.old
         → start ≡ (ahead_of dots).start → (ahead_of tokens.old).token ≢ name_token on
         → IsPart max_depth dots tokens.new part) }
+    ensures leaves { IfOk result (λ part. (ahead_of tokens.old).token ≢ name_token on
+        → LeavesPart (λ depth. ASpread) max_depth tokens.old tokens.new part) }
+    ensures stuck { IfErr result (λ e. (ahead_of tokens.old).token ≢ name_token on
+        → IsPartFault (λ depth. ASpread) max_depth tokens.old tokens.new e) }
 {
-    let name = tokens.name("a fragment's name, `on`, a directive or {")?;
+    let name = name(tokens, "a fragment's name, `on`, a directive or {")?;
     let directives = read_directives(tokens, Variables::Allowed, max_depth)?;
     let span = tokens.span_from(start);
     Ok(Part::Whole(fragment_spread(name, directives, span)))
