@@ -169,6 +169,9 @@ def without_rt(script):
 class Program:
     """A program of this repository: the script that runs it, its crate, and words with which it ends at once."""
 
+    kind = "program"
+    tries = "; `./{0} --try ..` runs at once, with nothing proved"
+
     def __init__(self, script, crate, words):
         self.script, self.crate, self.words = script, crate, words
         self.binary = CRATES / crate / "out" / crate
@@ -216,10 +219,13 @@ class Program:
             self.say(f"not built; all that rt wrote is in {log.name}")
             return False
         os.unlink(log.name)
-        # An edit during the build is newer than its start, so the next call builds again.
+        self.note(start)
+        return True
+
+    def note(self, start):
+        """Notes that the binary is that of the sources as they stood at a time: an edit after it has the next call build again."""
         self.mark.touch()
         os.utime(self.mark, (start, start))
-        return True
 
     def prove(self, crates, named, log):
         """Proves these crates, and builds the program."""
@@ -227,17 +233,18 @@ class Program:
         progress = Progress(self.script, crates, named, at_once)
         is_long = len(crates) > 2
         count = f"{len(crates)} crates, {at_once} at a time" if is_long else "what changed"
-        self.say(
-            f"proving {count}, in about {shown(progress.expected + 1)}; "
-            f"`./{self.script} --try ..` runs at once, with nothing proved"
-        )
+        self.say(f"proving {count}, in about {shown(progress.expected + 1)}" + self.tries.format(self.script))
         folder = CRATES / self.crate
         if is_long:
             status = followed(["rt", "all", "check", "--jobs", str(at_once)], folder, log, progress.tell)
             if status:
                 return
-        self.say("building the program")
-        followed(["rt", "run", "--", *self.words], folder, log, lambda _: None)
+        self.say(f"building the {self.kind}")
+        followed(self.last(), folder, log, lambda _: None)
+
+    def last(self):
+        """The command that builds the program, once all that it stands on is proved."""
+        return ["rt", "run", "--", *self.words]
 
     def run(self, words):
         """Runs the program with these words in place of the script; builds it first where that is wanted."""

@@ -6,7 +6,6 @@ use Rattle.std.specs.Prelude.{Result, Ok, Err}
 use Rattle.answers.specs.Answers.{AreErrorsOf, Document, HasKnownTypes, IsTold, IsValidDocument, SourceCatalog, SourceRules, TellsErrors, verdict_in}
 use Rattle.answers.specs.declared.choices.Choices.{Choices}
 use Rattle.answers.specs.declared.reports.Answer.{Answer}
-use Rattle.answers.specs.declared.reports.Verdict.{Verdict}
 use Rattle.answers.specs.declared.reports.Verdict.TheVariants.{Valid}
 use Rattle.events.specs.Typing.{untyped}
 use Rattle.language.specs.declared.tree.Definition.{Definition}

@@ -6,7 +6,10 @@ use Rattle.language.specs.declared.tree.Definition.{Definition}
 use Rattle.language.specs.declared.tree.Definition.TheVariants as definition
 use Rattle.language.specs.declared.tree.Operation.{Operation}
 use Rattle.error_report.specs.Json.{report_text}
+use Rattle.graphql_lexer.specs.declared.error.ReadError.TheVariants.{Syntax}
+use Rattle.graphql_lexer.specs.declared.error.SyntaxError.{SyntaxError}
 use Rattle.graphql_reader.specs.Documents.{IsDocument, definition_seen}
+use Rattle.graphql_reader.specs.Faults.{IsDocumentFault, IsNoDocument}
 use Rattle.answers.specs.declared.choices.Choices.{Choices}
 use Rattle.answers.specs.declared.reports.Answer.{Answer}
 use Rattle.answers.specs.declared.reports.Verdict.{Verdict}
@@ -18,6 +21,7 @@ use Rattle.sdl_scalars.specs.declared.check.SourceCheck.{SourceCheck}
 use Rattle.sdl_scalars.specs.declared.scalar.SourceScalar.{SourceScalar}
 use Rattle.sdl_scalars.specs.Checks.{MayAnswer}
 use Rattle.sdl_scalars.specs.SourceScalar.{source_str, source_text}
+use Rattle.validation.specs.declared.root_node.RootNodeOf.{RootNodeOf}
 use Rattle.validation.specs.RootRules.{IsRootReportUpTo, IsRootValid}
 use Rattle.validation.specs.Stages.{Rules}
 use Rattle.variable_values.specs.Inputs.{HasInputTypes}
@@ -57,6 +61,18 @@ pub record IsRefused (verdict : Verdict) (text : List ℕ) (answer : Answer) : T
   pub position : SourcePosition
   pub refused : IsRefusal text position (string_bytes answer.report)
 
+-- the same, with the place that the report has
+pub record IsRefusedAt (verdict : Verdict) (text : List ℕ) (place : SourcePosition) (answer : Answer) : Type 0 where
+  pub verdict_is : answer.verdict ≡ verdict
+  pub refused : IsRefusal text place (string_bytes answer.report)
+
+-- The text is that of no document, and that is told: the report has the place of the first token with which none goes on.
+pub record IsUnread (text : List ℕ) (answer : Answer) : Type 0 where
+  pub error : SyntaxError
+  pub none : IsNoDocument None text (Syntax error)
+  pub fault : IsDocumentFault None text (Syntax error)
+  pub told : IsRefusedAt Unreadable text error.position answer
+
 -- bytes are told of as the text that they are, or as no UTF-8
 pub data OfBytes (P : Answer → Type 0) (bytes : List ℕ) (answer : Answer) : Type 0 where
   of_text : IsUtf8 bytes → P answer → OfBytes P bytes answer
@@ -94,6 +110,10 @@ pub data TellsFaults (schema : SourceCatalog) (text given : List ℕ) (document 
   of_values : (values : GivenValues) → TellsFaultsOf schema values text document answer → TellsFaults schema text given document answer
   of_no_values : IsRefused NoValues given answer → TellsFaults schema text given document answer
 
+-- what is chosen by a root node
+abbrev pub choices_of : RootNodeOf SourceScalar SourceCheck → Choices
+choices_of root = record { is_closed = root.introspection_disabled; max_errors = root.max_errors }
+
 -- By what is known of the rules of each dialect, and what the caller chooses.
 module _ (rules : SourceRules) (choices : Choices) (schema : SourceCatalog) where
   abbrev pub IsValidDocument : Document → Type 0
@@ -105,6 +125,12 @@ module _ (rules : SourceRules) (choices : Choices) (schema : SourceCatalog) wher
     pub reported : IsRootReportUpTo (rules schema.dialect) choices.max_errors choices.is_closed schema document errors pairs
     pub valid : (errors ≡ []) ↔ IsValidDocument document
     pub sorted : IsSorted error_cmp errors
+
+  -- the errors of the document of a text
+  pub record IsReportOn (text : List ℕ) (errors : List ErrorValue) : Type 0 where
+    pub document : Document
+    pub read : IsRead text document
+    pub are_errors : AreErrorsOf document errors
 
   -- the errors of a document are told, with `Valid` exactly where it is valid
   pub record TellsErrors (text : List ℕ) (document : Document) (answer : Answer) : Type 0 where
@@ -118,12 +144,12 @@ module _ (rules : SourceRules) (choices : Choices) (schema : SourceCatalog) wher
     of_errors : (IsValidDocument document → ⊥) → TellsErrors text document answer → TellsValues text given document answer
     of_faults : IsValidDocument document → TellsFaults schema text given document answer → TellsValues text given document answer
 
-  -- what is told of a text: the errors of the document that was read, or that there is none
+  -- what is told of a text: the errors of its document, or that it is that of none
   pub data Answers (text : List ℕ) (answer : Answer) : Type 0 where
     of_document : (document : Document) → IsRead text document → TellsErrors text document answer → Answers text answer
-    of_no_document : IsRefused Unreadable text answer → Answers text answer
+    of_no_document : IsUnread text answer → Answers text answer
 
   -- the same, with values
   pub data AnswersValues (text given : List ℕ) (answer : Answer) : Type 0 where
     of_document_and_values : (document : Document) → IsRead text document → TellsValues text given document answer → AnswersValues text given answer
-    of_unread_document : IsRefused Unreadable text answer → AnswersValues text given answer
+    of_unread_document : IsUnread text answer → AnswersValues text given answer

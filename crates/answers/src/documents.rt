@@ -1,6 +1,6 @@
 //! Whether a document is valid.
 ghost use Rattle.std.specs.Prelude.{IfOk};
-ghost use Rattle.answers.specs.Answers.{Answers, IsRefused, OfBytes, TellsErrors};
+ghost use Rattle.answers.specs.Answers.{Answers, IsRefusedAt, OfBytes, TellsErrors};
 ghost use Rattle.answers.specs.declared.reports.Verdict.TheVariants.{Unreadable};
 
 use crate::bytes::not_utf8;
@@ -56,7 +56,7 @@ fn answer_of_text(
 ///
 /// Out of memory.
 pub fn unreadable(alloc: Global, text: &str, error: SyntaxError<'_>) -> Result<Answer, OutOfMemory>
-    ensures { IfOk result (IsRefused Unreadable text.now) }
+    ensures { IfOk result (IsRefusedAt Unreadable text.now error.entry.position) }
 {
     let report = refusal(alloc, text, error.position, &error)?;
     Ok(Answer {

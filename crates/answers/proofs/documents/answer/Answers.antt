@@ -1,6 +1,6 @@
 use Rattle.std.proofs.Common.{subst}
 use Rattle.std.proofs.lemmas.Result.{IfOk-weaker}
-use Rattle.answers.specs.Answers.{Answers, OfBytes}
+use Rattle.answers.specs.Answers.{Answers}
 use Rattle.answers.specs.Answers.{of_text, of_no_text}
 use Rattle.answers.specs.contracts.rules.SourceScalarAnswerRules.TheImpl.{rules-value}
 use Rattle.answers.proofs.documents.answer.Goals as goal

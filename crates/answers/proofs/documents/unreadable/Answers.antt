@@ -2,4 +2,4 @@ use Rattle.std.proofs.Common.{refl}
 use Rattle.answers.proofs.documents.unreadable.Goals as goal
 
 pub returns : goal.returns
-returns c = record { verdict_is = refl; position = c.args.error.position; refused = c.in_ok-report.ensures }
+returns c = record { verdict_is = refl; refused = c.in_ok-report.ensures }

@@ -1,0 +1,3 @@
+module vorxindak
+
+go 1.19

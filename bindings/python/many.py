@@ -1,0 +1,15 @@
+"""many.py COUNT [FORM]: validates so many documents, all of one form if it is given, and prints how many errors they have."""
+import sys
+
+from vorxindak import Schema
+
+FORMS = (
+    "query q%d($name: String!) { greeting(name: $name) }",
+    '{ greeting(nam: "%d") { length } }',
+    "{ field%d }",
+    "{ greeting%d(",
+)
+
+forms = FORMS[int(sys.argv[2]) :][:1] if sys.argv[2:] else FORMS
+with Schema("type Query { greeting(name: String!): String }") as schema:
+    print(sum(len(schema.validate(forms[i % len(forms)] % i)) for i in range(int(sys.argv[1]))))

@@ -1,0 +1,107 @@
+"""python3 test.py: what the binding does, from the specification and the contracts of the library."""
+import threading
+import unittest
+
+from vorxindak import Error, Location, Schema, SchemaError, version
+
+SDL = "type Query { greeting(name: String!): String }"
+
+
+class Tests(unittest.TestCase):
+    def test_errors(self):
+        with Schema(SDL) as schema:
+            self.assertEqual(schema.validate('{ greeting(name: "Ada") }'), [])
+            unknown = Error('Unknown field "nam" on type "Query"', (Location(1, 3),))
+            self.assertEqual(schema.validate("{ nam }"), [unknown])
+            self.assertEqual(schema.validate(b"{ nam }"), [unknown])
+
+    def test_syntax_errors(self):
+        with Schema(SDL) as schema:
+            (error,) = schema.validate("{ greeting(")
+            self.assertEqual(error.locations, (Location(1, 12),))
+            (error,) = schema.validate(b"{ a }\n# \xff")
+            self.assertEqual(error.locations, (Location(2, 3),))
+            self.assertEqual(len(schema.validate("")), 1)
+
+    def test_columns_are_in_characters(self):
+        with Schema(SDL) as schema:
+            (error,) = schema.validate('{ greeting(name: "é") nam }')
+            self.assertEqual(error.locations, (Location(1, 23),))
+
+    def test_introspection(self):
+        with Schema(SDL) as schema:
+            query = "{ __schema { queryType { name } } }"
+            self.assertEqual(schema.validate(query), [])
+            self.assertEqual(len(schema.validate(query, introspection=False)), 1)
+
+    def test_a_limit_on_errors(self):
+        with Schema(SDL) as schema:
+            counts = [len(schema.validate("{ a b c }", max_errors=it)) for it in (0, 1, 2, 3, 4)]
+            self.assertEqual(counts, [3, 1, 2, 3, 3])
+
+    def test_variables(self):
+        query = "query($name: String!) { greeting(name: $name) }"
+        with Schema(SDL) as schema:
+            self.assertEqual(schema.validate_variables(query, {"name": "Ada"}), [])
+            self.assertEqual(schema.validate_variables(query, '{"name": "Ada"}'), [])
+            self.assertEqual(len(schema.validate_variables(query, {})), 1)
+            self.assertEqual(len(schema.validate_variables(query, "[]")), 1)
+
+    def test_faults_of_a_schema(self):
+        with self.assertRaises(SchemaError) as raised:
+            Schema("type Query { a: Int }", "type A { b: B }")
+        (error,) = raised.exception.errors
+        self.assertEqual(error.path, "1")
+        for text in ("", "{}", b"\xff"):
+            with self.assertRaises(SchemaError):
+                Schema(text)
+
+    def test_dialects(self):
+        for dialect, count in (("october2021", 1), ("juniper", 0)):
+            with Schema("type Query { a: Int } type Subscription { a: Int b: Int }", dialect=dialect) as schema:
+                self.assertEqual(len(schema.validate("subscription { a b }")), count)
+        with self.assertRaises(KeyError):
+            Schema(SDL, dialect="other")
+
+    def test_several_texts(self):
+        with Schema("type Query { a: A }", "type A { b: Int }") as schema:
+            self.assertEqual(schema.validate("{ a { b } }"), [])
+
+    def test_long_reports(self):
+        with Schema(SDL) as schema:
+            names = [f"field{number}" for number in range(1000)]
+            errors = schema.validate("{ " + " ".join(names) + " }")
+            messages = [f'Unknown field "{name}" on type "Query"' for name in names]
+            self.assertEqual([error.message for error in errors], messages)
+
+    def test_closed(self):
+        schema = Schema(SDL)
+        schema.close()
+        schema.close()
+        with self.assertRaises(ValueError):
+            schema.validate("{ a }")
+
+    def test_threads(self):
+        with Schema(SDL) as schema:
+            found = {}
+
+            def work(number):
+                name = f"field{number}"
+                found[name] = {schema.validate(f"{{ {name} }}")[0].message for _ in range(200)}
+
+            threads = [threading.Thread(target=work, args=[number]) for number in range(8)]
+            for thread in threads:
+                thread.start()
+            work(8)
+            for thread in threads:
+                thread.join()
+            self.assertEqual(len(found), 9)
+            for name, messages in found.items():
+                self.assertEqual(messages, {f'Unknown field "{name}" on type "Query"'})
+
+    def test_version(self):
+        self.assertRegex(version(), r"^\d+\.\d+\.\d+$")
+
+
+if __name__ == "__main__":
+    unittest.main()
