@@ -1,7 +1,9 @@
 //! What is told of texts. With each request for memory refused in turn, it is the same or out of memory comes.
-use answers::{Answer, Choices, Verdict, answer, answer_with_values};
+use answers::{Answer, Choices, Verdict, answer, answer_with_values, validate_text};
+use graphql_reader::ReadError;
 use sdl_reader::{SchemaReadError, read_schema};
 use std::alloc::Global;
+use validation::RootNode;
 
 const SCHEMA: &str = "type Query { pet(id: Int): Pet } type Pet { name: String }";
 
@@ -126,6 +128,15 @@ const VALUES: &[(&[u8], Verdict, &str)] = &[
     (b"{\"i\": \xff}", Verdict::NotUtf8, NOT_UTF8),
 ];
 
+/// Texts, and of each the number of errors, or the index of the first token with which no document goes on.
+const TEXTS: &[(&str, Result<usize, usize>)] = &[
+    ("{ pet { name } }", Ok(0)),
+    ("{ pet { nme } more }", Ok(2)),
+    ("{ pet", Err(5)),
+    ("{ pet { } }", Err(8)),
+    ("{ pet { name } } pet", Err(17)),
+];
+
 fn told(alloc: Global, query: &[u8], choices: Choices) -> Result<Answer, SchemaReadError<'static>> {
     let schema = read_schema(alloc, SCHEMA)?;
     Ok(answer(alloc, &schema, query, choices)?)
@@ -134,6 +145,39 @@ fn told(alloc: Global, query: &[u8], choices: Choices) -> Result<Answer, SchemaR
 fn told_with(alloc: Global, values: &[u8]) -> Result<Answer, SchemaReadError<'static>> {
     let schema = read_schema(alloc, SCHEMA)?;
     Ok(answer_with_values(alloc, &schema, QUERY, values, SHUT)?)
+}
+
+/// The number of errors of a text, or the index of its fault; `None` where memory is refused.
+fn found_in(alloc: Global, text: &str) -> Option<Result<usize, usize>> {
+    let Ok(schema) = read_schema(alloc, SCHEMA) else {
+        return None;
+    };
+    let root = RootNode::new(schema);
+    match validate_text(alloc, &root, text) {
+        Ok(errors) => Some(Ok(errors.len())),
+        Err(ReadError::Syntax(error)) => Some(Err(error.position.index())),
+        Err(ReadError::OutOfMemory) => None,
+    }
+}
+
+#[test]
+fn errors_of_texts(rt: HostRuntime) {
+    for (text, wanted) in TEXTS {
+        let found = found_in(rt.alloc(), text).expect(&rt, "memory");
+        assert!(rt; found == *wanted);
+    }
+}
+
+/// The same with each request for memory refused in turn: what is found is as expected, or out of memory comes.
+#[test]
+fn a_refused_request_changes_no_errors(rt: HostRuntime) {
+    for (text, wanted) in TEXTS {
+        let is_steady = match found_in(rt.alloc(), text) {
+            Some(found) => found == *wanted,
+            None => true,
+        };
+        assert!(rt; is_steady);
+    }
 }
 
 #[test]
