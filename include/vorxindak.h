@@ -97,8 +97,8 @@ uint32_t vorxindak_open(vorxindak *handle, const uint8_t *texts, size_t length, 
  * at most `max_errors` errors, or all for 0. Where it has as many, each is an error of the document, and there may be
  * more.
  *
- * Answers VALID exactly where the text is that of a valid document, INVALID where its document is not valid, UNREADABLE
- * where it is no document, NOT_UTF8, CLOSED, UNKNOWN_FLAG or OUT_OF_MEMORY. The handle keeps the report until the next call that makes one. */
+ * Answers VALID exactly where the document of the text is valid, INVALID where it is not, UNREADABLE where the text is no
+ * document, NOT_UTF8, CLOSED, UNKNOWN_FLAG or OUT_OF_MEMORY. The handle keeps the report until the next call that makes one. */
 uint32_t vorxindak_validate(vorxindak *handle, const uint8_t *query, size_t length, size_t max_errors, uint32_t flags);
 
 /* Validates a document, and if it is valid the values of its variables, by name in a JSON object. They are checked for
