@@ -66,7 +66,8 @@ pub record IsRefusedAt (verdict : Verdict) (text : List ℕ) (place : SourcePosi
   pub verdict_is : answer.verdict ≡ verdict
   pub refused : IsRefusal text place (string_bytes answer.report)
 
--- The text is that of no document, and that is told: the report has the place of the first token with which none goes on.
+-- The text is that of no document, and that is told: the report has the place of the first token with which none goes
+-- on.
 pub record IsUnread (text : List ℕ) (answer : Answer) : Type 0 where
   pub error : SyntaxError
   pub none : IsNoDocument None text (Syntax error)
@@ -79,7 +80,8 @@ pub data OfBytes (P : Answer → Type 0) (bytes : List ℕ) (answer : Answer) : 
   of_no_text : answer.verdict ≡ NotUtf8 → IsNotUtf8 bytes (string_bytes answer.report) → OfBytes P bytes answer
 
 -- the faults of the values for the variables of an operation, in ascending order
-pub record AreFaultsOf (schema : SourceCatalog) (values : GivenValues) (operation : Operation SourceScalar) (faults : List ErrorValue) : Type 0 where
+pub record AreFaultsOf (schema : SourceCatalog) (values : GivenValues) (operation : Operation SourceScalar)
+    (faults : List ErrorValue) : Type 0 where
   pub found : List ErrorValue
   pub all : OfOperation schema MayAnswer source_text source_str values operation found
   pub ordered : IsPermutation found faults
@@ -100,7 +102,8 @@ abbrev pub FaultsIn : SourceCatalog → GivenValues → Document → List ErrorV
 FaultsIn schema values document faults = InTurn (λ index. FaultsAt schema values) 0 document faults
 
 -- they are told
-pub record TellsFaultsOf (schema : SourceCatalog) (values : GivenValues) (text : List ℕ) (document : Document) (answer : Answer) : Type 0 where
+pub record TellsFaultsOf (schema : SourceCatalog) (values : GivenValues) (text : List ℕ) (document : Document)
+    (answer : Answer) : Type 0 where
   pub faults : List ErrorValue
   pub are_faults : FaultsIn schema values document faults
   pub told : IsTold text faults answer
@@ -119,7 +122,8 @@ module _ (rules : SourceRules) (choices : Choices) (schema : SourceCatalog) wher
   abbrev pub IsValidDocument : Document → Type 0
   IsValidDocument document = IsRootValid (rules schema.dialect) choices.is_closed schema document
 
-  -- what the rules report of a document, up to the limit, in ascending order; it is nothing exactly where the document is valid
+  -- what the rules report of a document, up to the limit, in ascending order; it is nothing exactly where the document
+  -- is valid
   pub record AreErrorsOf (document : Document) (errors : List ErrorValue) : Type 0 where
     pub pairs : ℕ
     pub reported : IsRootReportUpTo (rules schema.dialect) choices.max_errors choices.is_closed schema document errors pairs
@@ -151,5 +155,6 @@ module _ (rules : SourceRules) (choices : Choices) (schema : SourceCatalog) wher
 
   -- the same, with values
   pub data AnswersValues (text given : List ℕ) (answer : Answer) : Type 0 where
-    of_document_and_values : (document : Document) → IsRead text document → TellsValues text given document answer → AnswersValues text given answer
+    of_document_and_values : (document : Document) → IsRead text document → TellsValues text given document answer
+        → AnswersValues text given answer
     of_unread_document : IsUnread text answer → AnswersValues text given answer

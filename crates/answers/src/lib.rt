@@ -3,9 +3,9 @@
 //! returns the errors.
 //!
 //! Proved: a text is answered with `Valid` exactly where it is that of a document that is valid by the rules of the
-//! schema's dialect, and with `Unreadable` exactly where it is that of none. A report's bytes are those of the errors, up
-//! to the number that the caller chooses, or of the first token with which no document goes on. Bytes that are not UTF-8
-//! are answered with the place of the first that is not.
+//! schema's dialect, and with `Unreadable` exactly where it is that of none. A report's bytes are those of the errors,
+//! up to the number that the caller chooses, or of the first token with which no document goes on. Bytes that are not
+//! UTF-8 are answered with the place of the first that is not.
 #![tactic(auto)]
 
 mod bytes;

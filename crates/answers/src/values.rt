@@ -1,6 +1,7 @@
 //! Whether a document is valid, and whether the values of its variables are.
 ghost use Rattle.std.specs.Prelude.{IfOk};
-ghost use Rattle.answers.specs.Answers.{AnswersValues, FaultsAt, FaultsIn, HasKnownTypes, IsRefused, IsValidDocument, OfBytes, TellsFaults, TellsFaultsOf, TellsValues};
+ghost use Rattle.answers.specs.Answers.{AnswersValues, FaultsAt, FaultsIn, HasKnownTypes, IsRefused, IsValidDocument};
+ghost use Rattle.answers.specs.Answers.{OfBytes, TellsFaults, TellsFaultsOf, TellsValues};
 ghost use Rattle.answers.specs.declared.reports.Verdict.TheVariants.{NoValues};
 
 use crate::bytes::not_utf8;
@@ -20,8 +21,8 @@ use validation::dialects::clean_by_each_dialect;
 use validation::{Definition, Variables, validate_input_values};
 use walk::RuleError;
 
-/// Validates the document of a text, and if it is valid the values of its variables, which are a JSON object. The values
-/// are checked for each operation.
+/// Validates the document of a text, and if it is valid the values of its variables, which are a JSON object. The
+/// values are checked for each operation.
 ///
 /// # Errors
 ///

@@ -1,5 +1,6 @@
 //! A matrix of bits: a set of columns for each row.
-ghost use Rattle.std.specs.Prelude.{◌≡◌, ◌<◌, ◌&&◌, ◌||◌, ℕ, false, not, nat_lt, length, IsOk, IsTrue, OnOk, OnErr, IfOk};
+ghost use Rattle.std.specs.Prelude.{◌≡◌, ◌<◌, ◌&&◌, ◌||◌, ℕ, false, not, nat_lt, length, IsOk, IsTrue, OnOk, OnErr};
+ghost use Rattle.std.specs.Prelude.{IfOk};
 ghost use Rattle.bit_matrix.specs.Count.{count_below};
 ghost use Rattle.bit_matrix.specs.Rows.{marked};
 ghost use Rattle.bit_matrix.specs.Set.{has};

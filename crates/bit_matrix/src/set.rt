@@ -1,5 +1,6 @@
 //! A set of small numbers, one bit for each.
-ghost use Rattle.std.specs.Prelude.{◌≡◌, ◌≢◌, ◌<◌, ◌≤◌, ◌+◌, ◌*◌, ◌/◌, ◌%◌, ◌^◌, ◌&&◌, ◌||◌, ℕ, false, not, nat_eq, nat_lt, length, IsOk, IsTrue, OnOk, OnErr, IfOk};
+ghost use Rattle.std.specs.Prelude.{◌≡◌, ◌≢◌, ◌<◌, ◌≤◌, ◌+◌, ◌*◌, ◌/◌, ◌%◌, ◌^◌, ◌&&◌, ◌||◌, ℕ, false, not, nat_eq};
+ghost use Rattle.std.specs.Prelude.{nat_lt, length, IsOk, IsTrue, OnOk, OnErr, IfOk};
 ghost use Rattle.bit_matrix.specs.Set.{has, bit_of, is_bit, new_below};
 
 use std::alloc::{AllocError, Global};

@@ -1,10 +1,12 @@
 //! The program's work, over any reader and any writers.
-ghost use Rattle.std.specs.Prelude.{◌≡◌, ◌≤◌, ◌⊎◌, Err, IfErr, IfOk, None, OnOk, Some, false, true, if◌then◌else◌, map, string_bytes};
+ghost use Rattle.std.specs.Prelude.{◌≡◌, ◌≤◌, ◌⊎◌, Err, IfErr, IfOk, None, OnOk, Some, false, true, if◌then◌else◌, map};
+ghost use Rattle.std.specs.Prelude.{string_bytes};
 ghost use Rattle.std.specs.Io.KnownBytes.{Appends};
 ghost use Rattle.check_app.specs.Failures.{TellsFailure};
 ghost use Rattle.check_app.specs.Statuses.{status_of};
 ghost use Rattle.check_app.specs.Told.{IsReportAsked, IsReportBy, IsReportOnSome, TellsReport};
-ghost use Rattle.check_app.specs.Words.{is_read, is_usage, mode_named, other_task, plain_task, reads_input, sample_named, task_asked};
+ghost use Rattle.check_app.specs.Words.{is_read, is_usage, mode_named, other_task, plain_task, reads_input};
+ghost use Rattle.check_app.specs.Words.{sample_named, task_asked};
 
 use crate::failure::Failure;
 use crate::report::Report;

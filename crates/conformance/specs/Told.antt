@@ -22,22 +22,26 @@ pub record Tells (errors : List ErrorValue) (text : List ℕ) : Type 0 where
   pub sorted : IsSorted error_cmp errors
   pub written : text ≡ error_lines errors
 
--- a text tells what every rule reports of a document, that on introspection among them where it is closed, up to a limit
-pub record TellsErrors {S C : Type 0} (rules : Rules S C) (limit : ℕ) (closed : Bool) (schema : Catalog S C) (document : List (Definition S)) (text : List ℕ) : Type 0 where
+-- a text tells what every rule reports of a document, that on introspection among them where it is closed, up to a
+-- limit
+pub record TellsErrors {S C : Type 0} (rules : Rules S C) (limit : ℕ) (closed : Bool) (schema : Catalog S C)
+    (document : List (Definition S)) (text : List ℕ) : Type 0 where
   pub errors : List ErrorValue
   pub tells : Tells errors text
   pub compared : ℕ
   pub all : IsRootReportUpTo rules limit closed schema document errors compared
 
 -- a text tells which fields of a document can't be merged, and nothing else
-pub record TellsConflicts {S C : Type 0} (E : S → S → Bool) (schema : Catalog S C) (document : List (Definition S)) (text : List ℕ) : Type 0 where
+pub record TellsConflicts {S C : Type 0} (E : S → S → Bool) (schema : Catalog S C) (document : List (Definition S))
+    (text : List ℕ) : Type 0 where
   pub errors : List ErrorValue
   pub tells : Tells errors text
   pub end : OverlappingFieldsCanBeMerged
   pub all : MergeErrors E schema document end errors
 
 -- a text tells the faults of the values that are given for an operation's variables
-pub record TellsFaults {S C : Type 0} (schema : Catalog S C) (may : Answers (InputValue S) C) (shown : S → List ℕ) (str_of : S → Option (List ℕ)) (values : Values S) (operation : Operation S) (text : List ℕ) : Type 0 where
+pub record TellsFaults {S C : Type 0} (schema : Catalog S C) (may : Answers (InputValue S) C) (shown : S → List ℕ)
+    (str_of : S → Option (List ℕ)) (values : Values S) (operation : Operation S) (text : List ℕ) : Type 0 where
   pub errors : List ErrorValue
   pub tells : Tells errors text
   pub found : List ErrorValue

@@ -41,7 +41,8 @@ type Query {
 directive @on(x: Int! = 3, y: Int!) on FIELD | QUERY
 ";
 
-/// Appends the errors of the rule of this name, or those of the rules on values, one per line. There a dialect may follow.
+/// Appends the errors of the rule of this name, or those of the rules on values, one per line. There a dialect may
+/// follow.
 ///
 /// # Errors
 ///

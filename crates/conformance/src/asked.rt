@@ -1,5 +1,5 @@
-//! What is asked of documents besides all errors: what a rule reports alone, or the rules that a linter chose, what is said
-//! of values, and how much work a document makes.
+//! What is asked of documents besides all errors: what a rule reports alone, or the rules that a linter chose, what is
+//! said of values, and how much work a document makes.
 use crate::found::found;
 use crate::texts::written;
 use crate::usages::{undefined, unused};
@@ -79,7 +79,8 @@ fn ended(mut line: String) -> Result<String, OutOfMemory> {
 //
 // - `linter`: how many errors two walks of a linter append: with one rule, and with two;
 // - `no values`: the faults of the values for the first operation where none is given;
-// - `looked`: how many spreads the search for cycles looks at, and whether it finds one; each spread inside a fragment is
+// - `looked`: how many spreads the search for cycles looks at, and whether it finds one; each spread inside a
+//   fragment is
 //   looked at once;
 // - `graph`: what the search for conflicts finds in the document's graph;
 // - `undefined`, `unused`: variables that are not defined, or not used;

@@ -76,7 +76,8 @@ fn errors_by_mode(
     Ok(Some(told_by_mode(alloc, &root, mode, text)?))
 }
 
-// By every rule; by the rule `overlapping_fields_can_be_merged` alone; by the check of variable values; or what is asked.
+// By every rule; by the rule `overlapping_fields_can_be_merged` alone; by the check of variable values; or what is
+// asked.
 fn told_by_mode(
     alloc: Global,
     root: &RootNode,

@@ -1,6 +1,6 @@
 //! The program `conformance`: validates documents, and reports where what comes is not what is expected. Of most the
-//! errors of juniper's own code are known; of those for October 2021, the section of the specification that asks for them.
-//! Further rows tell of single rules, of the search for conflicts, of uses of variables and of their values.
+//! errors of juniper's own code are known; of those for October 2021, the section of the specification that asks for
+//! them. Further rows tell of single rules, of the search for conflicts, of uses of variables and of their values.
 #![tactic(auto)]
 
 mod alone;

@@ -4,8 +4,8 @@ use samples::build::Checks;
 use std::alloc::{AllocError, Global};
 use std::str;
 
-/// Appends the exit status of a run with these arguments and this input, on a line, and what it writes to its output and
-/// to its faults. All words are arguments.
+/// Appends the exit status of a run with these arguments and this input, on a line, and what it writes to its output
+/// and to its faults. All words are arguments.
 ///
 /// # Errors
 ///

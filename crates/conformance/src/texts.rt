@@ -5,8 +5,8 @@ use std::fmt::Write;
 
 /// A text that is made, or else as it is written.
 ///
-/// `towers FIELD` are two towers of fragments, of which each spreads the next below two fields; the last of the second has
-/// this field. `crossing` is a tower of two fragments a level, of which each spreads both of the next level.
+/// `towers FIELD` are two towers of fragments, of which each spreads the next below two fields; the last of the second
+/// has this field. `crossing` is a tower of two fragments a level, of which each spreads both of the next level.
 pub fn written(alloc: Global, text: &str) -> Result<String, AllocError> {
     if text == "crossing" {
         return crossing(alloc);

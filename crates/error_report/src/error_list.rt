@@ -1,7 +1,8 @@
 //! Errors as JSON: a list of `{ message, locations }`.
 ghost use Rattle.std.specs.Prelude.{◌≡◌, ◌++◌, IfOk, OnOk, codes, string_bytes};
 ghost use Rattle.json.specs.Layout.{pretty};
-ghost use Rattle.error_report.specs.Json.{column_in, error_tokens, line_in, location_tokens, locations_tokens, report_text, report_tokens};
+ghost use Rattle.error_report.specs.Json.{column_in, error_tokens, line_in, location_tokens, locations_tokens};
+ghost use Rattle.error_report.specs.Json.{report_text, report_tokens};
 ghost use Rattle.lint_report.specs.Json.{number_member, text_member};
 
 use json::{Pretty, Token};

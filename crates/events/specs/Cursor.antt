@@ -11,7 +11,9 @@ use Rattle.events.specs.declared.cursor.EventCursorOf.{EventCursorOf}
 use Rattle.events.specs.declared.event.Event.{Event}
 use Rattle.events.specs.declared.typed_events.TypesOf.{TypesOf}
 use Rattle.events.specs.Typing.{Typing}
-use Rattle.events.specs.Outline.{each, outline_of_value, outline_of_object_field, outline_of_argument, outline_of_directive, outline_of_variable_definition, outline_of_set, outline_of_selection, outline_of_definition}
+use Rattle.events.specs.Outline.{each, outline_of_value, outline_of_object_field, outline_of_argument}
+use Rattle.events.specs.Outline.{outline_of_directive, outline_of_variable_definition, outline_of_set}
+use Rattle.events.specs.Outline.{outline_of_selection, outline_of_definition}
 use Rattle.events.specs.TypedEvent.{TypedEvent, events_of}
 use Rattle.events.specs.EventValue.{typed_event, typing_of}
 
@@ -43,12 +45,14 @@ module _ {S C : Type 0} where
   Pushes old new events = (schema : Catalog S C) → stack_events schema new.items ≡ events schema ++ stack_events schema old.items
 
   -- the first of these events is at hand, at these types, and the others have come in front of those of a stack
-  abbrev pub EntersIn : Catalog S C → Event S → TypesOf S C → Vec (Frame S C) Global → Vec (Frame S C) Global → List (TypedEvent S C) → Type 0
+  abbrev pub EntersIn : Catalog S C → Event S → TypesOf S C → Vec (Frame S C) Global → Vec (Frame S C) Global
+      → List (TypedEvent S C) → Type 0
   EntersIn schema e types old new events =
       typed_event e (typing_of types) ∷ stack_events schema new.items ≡ events ++ stack_events schema old.items
 
   -- the same in each schema
-  abbrev pub Enters : Event S → TypesOf S C → Vec (Frame S C) Global → Vec (Frame S C) Global → (Catalog S C → List (TypedEvent S C)) → Type 0
+  abbrev pub Enters : Event S → TypesOf S C → Vec (Frame S C) Global → Vec (Frame S C) Global
+      → (Catalog S C → List (TypedEvent S C)) → Type 0
   Enters e types old new events = (schema : Catalog S C) → EntersIn schema e types old new (events schema)
 
   -- what is left of a walk

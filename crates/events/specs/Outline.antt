@@ -23,7 +23,8 @@ use Rattle.meta.specs.declared.arguments.Argument.{Argument}
 use Rattle.schema.specs.Catalog.{Catalog}
 use Rattle.events.specs.Node.{Node, Placed, ArgumentEntry, ObjectEntry, VariableEntry}
 use Rattle.events.specs.SchemaView.{field_arguments, directive_arguments}
-use Rattle.events.specs.Typing.{Typing, at_operation, at_fragment, at_set, at_field, at_inline, at_variable, at_argument, at_items, at_object_field}
+use Rattle.events.specs.Typing.{Typing, at_operation, at_fragment, at_set, at_field, at_inline, at_variable}
+use Rattle.events.specs.Typing.{at_argument, at_items, at_object_field}
 
 -- nothing, or a node with its types and what stands in it, and then what comes after it
 pub data Outline (S C : Type 0) : Type 0 where
@@ -81,7 +82,8 @@ module _ {S C : Type 0} where
       node_with (Node.list_value (record { item = map item_of vs.items; span = p })) t (each (λ v. v.item.1 v.span (at_items t)) vs.items)
   value_step schema (opened_value.Object es) p t =
       node_with (Node.object_value (record { item = map entry_of es.items; span = p })) t
-      (each (λ e. let u = at_object_field schema t (string_bytes e.0.item) in node_with (Node.object_field (entry_of e)) u (e.1.item.1 e.1.span u)) es.items)
+      (each (λ e. let u = at_object_field schema t (string_bytes e.0.item) in
+          node_with (Node.object_field (entry_of e)) u (e.1.item.1 e.1.span u)) es.items)
 
   -- a value, at the stretch where it stands
   unfoldable pub outline_of_bare_value : Catalog S C → InputValue S → BelowValue S C
@@ -137,13 +139,15 @@ module _ {S C : Type 0} where
   set_step_if_there (Some children) t = set_step children.items t
 
   -- in a field: arguments, directives, selection set
-  abbrev pub field_step : Catalog S C → opened.Field-F S (Selection S × Below S C) (Field S × Below S C) (InlineFragment S × Below S C) → Below S C
+  abbrev pub field_step : Catalog S C → opened.Field-F S (Selection S × Below S C) (Field S × Below S C)
+      (InlineFragment S × Below S C) → Below S C
   field_step schema f t =
       beside (outline_of_arguments schema (field_arguments t.parent f.name.item.now) t f.arguments)
       (beside (outline_of_directives schema t f.directives) (set_step_if_there f.selection_set t))
 
   -- in an inline fragment: directives, selection set
-  abbrev pub inline_step : Catalog S C → opened.InlineFragment-F S (Selection S × Below S C) (Field S × Below S C) (InlineFragment S × Below S C) → Below S C
+  abbrev pub inline_step : Catalog S C → opened.InlineFragment-F S (Selection S × Below S C) (Field S × Below S C)
+      (InlineFragment S × Below S C) → Below S C
   inline_step schema i t = beside (outline_of_directives schema t i.directives) (set_step i.selection_set.items t)
 
   -- a spread: its directives
@@ -151,7 +155,8 @@ module _ {S C : Type 0} where
   outline_of_spread schema t s = node_with (Node.fragment_spread s) t (outline_of_directives schema t s.item.directives)
 
   -- one level of a selection, by what was made of the selections in it
-  abbrev pub selection_step : Catalog S C → opened.Selection-F S (Selection S × Below S C) (Field S × Below S C) (InlineFragment S × Below S C) → Below S C
+  abbrev pub selection_step : Catalog S C
+      → opened.Selection-F S (Selection S × Below S C) (Field S × Below S C) (InlineFragment S × Below S C) → Below S C
   selection_step schema (opened.Field f) t =
       let u = at_field schema t f.item.0 in node_with (Node.field (record { item = f.item.0; span = f.span })) u (f.item.1 u)
   selection_step schema (opened.FragmentSpread s) t = outline_of_spread schema t s
@@ -160,7 +165,9 @@ module _ {S C : Type 0} where
 
   -- a selection: a field, a spread or an inline fragment
   unfoldable pub outline_of_selection : Catalog S C → Typing S C → Selection S → Outline S C
-  outline_of_selection schema t s = para-Selection S (Below S C) (Below S C) (Below S C) (selection_step schema) (field_step schema) (inline_step schema) s t
+  outline_of_selection schema t s =
+      para-Selection S (Below S C) (Below S C) (Below S C) (selection_step schema) (field_step schema)
+      (inline_step schema) s t
 
   -- a selection set, at the types of what bears it
   abbrev pub outline_of_set : Catalog S C → Typing S C → List (Selection S) → Outline S C

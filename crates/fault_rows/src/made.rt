@@ -1,4 +1,5 @@
-//! A schema of any size, of the kind that teams have: groups of an object with its connection, its filter and its kinds.
+//! A schema of any size, of the kind that teams have: groups of an object with its connection, its filter and its
+//! kinds.
 use std::alloc::{AllocError, Global};
 
 const COMMON: &str = "directive @cost(points: Int! = 1) on FIELD_DEFINITION

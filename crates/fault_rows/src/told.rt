@@ -9,8 +9,8 @@ use sdl_faults::{LocatedFault, plain_text_faults, text_faults};
 use sdl_reader::{SchemaReadError, read_schema};
 use std::alloc::{AllocError, Global};
 
-/// Appends each fault of a schema: line and column, counted from 1, and its text; then a line for each further place. Of
-/// a text that makes no schema, first the reasons, and then the faults for which none is needed.
+/// Appends each fault of a schema: line and column, counted from 1, and its text; then a line for each further place.
+/// Of a text that makes no schema, first the reasons, and then the faults for which none is needed.
 ///
 /// # Errors
 ///

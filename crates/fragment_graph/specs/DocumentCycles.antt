@@ -35,7 +35,8 @@ abbrev pub IsReported : List NameAndPlace → List ℕ → Type 0
 IsReported reports f = (r : NameAndPlace) × Contains reports r × (r.0 ≡ f)
 
 -- Some name on the path is reported; its first is left out, which is its last where it leads back.
-abbrev pub SomeReported : {S : Type 0} {document : List (Definition S)} → List NameAndPlace → {f h : List ℕ} → NamePath document f h → Type 0
+abbrev pub SomeReported : {S : Type 0} {document : List (Definition S)} → List NameAndPlace → {f h : List ℕ}
+    → NamePath document f h → Type 0
 SomeReported reports {h = h} (name_step s) = IsReported reports h
 SomeReported reports (name_more {g = g} s path) = IsReported reports g ⊎ SomeReported reports path
 

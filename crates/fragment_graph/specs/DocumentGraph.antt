@@ -9,7 +9,8 @@ use Rattle.fragment_graph.specs.declared.numbers.Numbers.{Numbers}
 use Rattle.fragment_graph.specs.declared.document_graph.DocumentGraph.{DocumentGraph}
 use Rattle.fragment_graph.specs.Graph.{spreads_of, spread_count}
 use Rattle.fragment_graph.specs.Numbers.{defined_number, number_of, names_of, HasNumber, NumbersOf}
-use Rattle.fragment_graph.specs.Spreads.{PlacedSpread, definition_spreads, fragment_spreads, spreads_named, spreads_of_name}
+use Rattle.fragment_graph.specs.Spreads.{PlacedSpread, definition_spreads, fragment_spreads, spreads_named}
+use Rattle.fragment_graph.specs.Spreads.{spreads_of_name}
 
 -- A spread with its target's number, which is past the last where no fragment has the name.
 abbrev pub resolved : Numbers → PlacedSpread → Spread
@@ -22,7 +23,8 @@ IsNumbered n (definition.Fragment f) = HasNumber n f.item.name.item.now
 -- A definition's spreads were added to the node of its name.
 pub record JoinsDefinition {S : Type 0} (n : Numbers) (d : Definition S) (old new : List Node) : Type 0 where
   pub sized : length new ≡ length old
-  pub joined : (name : List ℕ) (k : ℕ) → number_of n name ≡ Some k → spreads_of new k ≡ spreads_of old k ++ map (resolved n) (spreads_named name d)
+  pub joined : (name : List ℕ) (k : ℕ) → number_of n name ≡ Some k
+      → spreads_of new k ≡ spreads_of old k ++ map (resolved n) (spreads_named name d)
   pub counted : spread_count new ≡ spread_count old + length (definition_spreads d)
 
 -- Each node has the spreads of all definitions of its name, and there are no others.

@@ -23,6 +23,7 @@ pub record Searched (graph : List Node) (o : Outcome) : Type 0 where
   pub rank_length : length o.ranks.items ≡ length graph
   pub ranked : (v r : ℕ) → slice_get o.ranks.items v ≡ Some r ↔ (slice_get o.order.items r ≡ Some v)
   -- without a report, the target of a spread comes before its source
-  pub earlier : o.reports.items ≡ [] → (u v s r : ℕ) → Spreads graph u v → slice_get o.ranks.items u ≡ Some s → slice_get o.ranks.items v ≡ Some r → r < s
+  pub earlier : o.reports.items ≡ [] → (u v s r : ℕ) → Spreads graph u v → slice_get o.ranks.items u ≡ Some s
+      → slice_get o.ranks.items v ≡ Some r → r < s
   -- there is no report if and only if no path leads back
   pub none : (o.reports.items ≡ []) ↔ ((v : ℕ) → Path graph v v → ⊥)

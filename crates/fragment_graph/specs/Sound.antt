@@ -62,7 +62,8 @@ abbrev pub Chained : List Node → (ℕ → Type 0) → List Step → List ℕ �
 Chained graph B [] next = Unit {0}
 Chained graph B (p ∷ ps) next = StepHolds graph B p (after ps next) × Chained graph B ps next
 
-pub record Sound (graph : List Node) (path : List Step) (next : List ℕ) (cs : List Colour) (order : List ℕ) (reports : List Report) (looked : ℕ) : Type 0 where
+pub record Sound (graph : List Node) (path : List Step) (next : List ℕ) (cs : List Colour) (order : List ℕ)
+    (reports : List Report) (looked : ℕ) : Type 0 where
   pub sized : length cs ≡ length graph
   pub placed : (i : ℕ) (p : Step) → slice_get path i ≡ Some p → slice_get cs p.node ≡ Some (InWork i)
   pub stands : (v i : ℕ) → slice_get cs v ≡ Some (InWork i) → (l : ℕ) × (slice_get path i ≡ Some (record { node = v; looked = l }))

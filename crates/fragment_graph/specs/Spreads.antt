@@ -52,7 +52,8 @@ fragment_spreads document = flat_map definition_spreads document
 -- Those of a definition, if it is that of a fragment of the name.
 abbrev pub spreads_named : {S : Type 0} → List ℕ → Definition S → PlacedSpreads
 spreads_named name (definition.Operation o) = []
-spreads_named name (definition.Fragment f) = if bytes_eq f.item.name.item.now name then placed_spreads_of_all f.item.selection_set.items else []
+spreads_named name (definition.Fragment f) =
+    if bytes_eq f.item.name.item.now name then placed_spreads_of_all f.item.selection_set.items else []
 
 -- Those inside all definitions of a name, in the document's order.
 abbrev pub spreads_of_name : {S : Type 0} → List (Definition S) → List ℕ → PlacedSpreads

@@ -28,7 +28,9 @@ module _ {S : Type 0} where
 
   -- Those of a definition, if it is an operation of the name.
   abbrev pub operation_named : Option (List ℕ) → Definition S → PlacedSpreads
-  operation_named name (definition.Operation o) = if same_name (option_map (λ n. n.item.now) o.item.name) name then placed_spreads_of_all o.item.selection_set.items else []
+  operation_named name (definition.Operation o) =
+      if same_name (option_map (λ n. n.item.now) o.item.name) name then placed_spreads_of_all o.item.selection_set.items
+      else []
   operation_named name (definition.Fragment f) = []
 
   -- Those of all definitions that share a scope, at any depth.
@@ -39,7 +41,8 @@ module _ {S : Type 0} where
   -- The least set that holds an operation's scope and, with a scope, the fragment of every name that it spreads.
   pub data Reach (document : List (Definition S)) (name : Option (List ℕ)) : ScopeName → Type 0 where
     start : Reach document name (operation name)
-    onward : {s : ScopeName} → Reach document name s → (x : PlacedSpread) → Contains (scope_spreads document s) x → Reach document name (fragment x.name)
+    onward : {s : ScopeName} → Reach document name s → (x : PlacedSpread) → Contains (scope_spreads document s) x
+        → Reach document name (fragment x.name)
 
   -- Some operation reaches the fragment.
   abbrev pub IsReached : List (Definition S) → List ℕ → Type 0

@@ -54,4 +54,5 @@ pub record Searching (graph : List Node) (starts : List Spread) (order : List �
   pub sized : length marks ≡ length graph
   pub real : (v : ℕ) → IsMarked marks v → Reached graph starts v
   pub begun : (x : Spread) → Contains starts x → x.target < length graph → IsMarked marks x.target
-  pub closed : (i u : ℕ) → i < next → slice_get order i ≡ Some u → (x : Spread) → Contains (spreads_of graph u) x → x.target < length graph → IsMarked marks x.target
+  pub closed : (i u : ℕ) → i < next → slice_get order i ≡ Some u → (x : Spread) → Contains (spreads_of graph u) x
+      → x.target < length graph → IsMarked marks x.target

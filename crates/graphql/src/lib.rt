@@ -2,10 +2,10 @@
 //! validated against a schema.
 //!
 //! [`read_schema`] reads type system definitions, and [`read_document`] reads a document. A [`RootNode`] validates
-//! documents, [`validate_text`] reads and validates the document of a text, and [`validate_input_values`] checks the values
-//! of variables. `validation` is re-exported whole,
-//! for rules of one's own and for schemas that are built by hand. `merge_field_laws` and `variable_values_laws` say more
-//! of merging and of values, for proofs of one's own.
+//! documents, [`validate_text`] reads and validates the document of a text, and [`validate_input_values`] checks the
+//! values of variables. `validation` is re-exported whole,
+//! for rules of one's own and for schemas that are built by hand. `merge_field_laws` and `variable_values_laws` say
+//! more of merging and of values, for proofs of one's own.
 #![tactic(auto)]
 
 pub use answers::validate_text;

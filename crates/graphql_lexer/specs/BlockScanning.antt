@@ -1,5 +1,6 @@
 -- How far the code has come in a block string: in its lines, and in one of them.
-use Rattle.std.specs.Prelude.{◌≡◌, ℕ, ◌≤◌, Bool, true, false, ◌&&◌, ◌==◌, if◌then◌else◌, List, [], ◌∷◌, ◌++◌, drop, slice_range, option_map, unwrap_or, min, Option}
+use Rattle.std.specs.Prelude.{◌≡◌, ℕ, ◌≤◌, Bool, true, false, ◌&&◌, ◌==◌, if◌then◌else◌, List, [], ◌∷◌, ◌++◌, drop}
+use Rattle.std.specs.Prelude.{slice_range, option_map, unwrap_or, min, Option}
 use Rattle.std.specs.Str.{IsCharBoundary}
 use Rattle.std.specs.List.{onto_first}
 use Rattle.graphql_lexer.specs.Lexical.{is_line_end}

@@ -1,5 +1,6 @@
 -- What a block string stands for (GraphQL, October 2021, section 2.9.4), over the bytes of UTF-8.
-use Rattle.std.specs.Prelude.{ℕ, min, Bool, not, ◌&&◌, ◌||◌, ◌==◌, if◌then◌else◌, List, [], ◌∷◌, map, filter, drop, unwrap_or}
+use Rattle.std.specs.Prelude.{ℕ, min, Bool, not, ◌&&◌, ◌||◌, ◌==◌, if◌then◌else◌, List, [], ◌∷◌, map, filter, drop}
+use Rattle.std.specs.Prelude.{unwrap_or}
 use Rattle.std.specs.List.{list_all, prefix_len, reduce, onto_first, join_with_byte}
 use Rattle.graphql_lexer.specs.Lexical.{at, begins, escaped_quotes, is_line_end}
 

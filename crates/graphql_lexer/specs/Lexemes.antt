@@ -1,7 +1,8 @@
 -- The tokens of a text, each with its place.
 use Rattle.std.specs.Prelude.{◌≡◌, ℕ, Bool, true, false, List, [], ◌∷◌, ◌++◌, take, drop}
 use Rattle.language.specs.declared.position.SourcePosition.{SourcePosition}
-use Rattle.graphql_lexer.specs.Lexical.{Token, punctuator, name, int, float, string, block_string, end, fault, IsToken, IsIgnored}
+use Rattle.graphql_lexer.specs.Lexical.{Token, punctuator, name, int, float, string, block_string, end, fault, IsToken}
+use Rattle.graphql_lexer.specs.Lexical.{IsIgnored}
 use Rattle.graphql_lexer.specs.Places.{after_all}
 use Rattle.graphql_lexer.specs.declared.cursor.Cursor.{Cursor}
 
@@ -39,8 +40,11 @@ origin = record { index = 0; line = 0; column = 0; after_return = false }
 -- of the text is left.
 pub data Reads : Cursor → List ℕ → List Lexeme → Cursor → List ℕ → Type 0 where
   nothing : (p : Cursor) (text : List ℕ) → Reads p text [] p text
-  ignored : (p q : Cursor) (s more rest : List ℕ) (xs : List Lexeme) → IsIgnored s more → Reads (after_all p s) more xs q rest → Reads p (s ++ more) xs q rest
-  token : (p q : Cursor) (t : Token) (s more rest : List ℕ) (xs : List Lexeme) → IsToken t s more → Reads (after_all p s) more xs q rest → Reads p (s ++ more) (record { token = t; start = position p; stop = position (after_all p s) } ∷ xs) q rest
+  ignored : (p q : Cursor) (s more rest : List ℕ) (xs : List Lexeme) → IsIgnored s more
+      → Reads (after_all p s) more xs q rest → Reads p (s ++ more) xs q rest
+  token : (p q : Cursor) (t : Token) (s more rest : List ℕ) (xs : List Lexeme) → IsToken t s more
+      → Reads (after_all p s) more xs q rest → Reads p (s ++ more)
+      (record { token = t; start = position p; stop = position (after_all p s) } ∷ xs) q rest
 
 -- no token begins the text, nor an ignored one, whatever follows
 abbrev pub Stuck : List ℕ → Type 0

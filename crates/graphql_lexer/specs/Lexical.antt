@@ -1,10 +1,13 @@
 -- Tokens and ignored tokens, production by production (GraphQL, October 2021, appendix B.1), over the bytes of UTF-8.
 -- Each is a relation on the bytes of the token and on what follows it, which the restrictions on lookahead speak of.
-use Rattle.std.specs.Prelude.{◌≡◌, ◌<◌, ◌⊎◌, ℕ, Bool, true, false, ◌&&◌, ◌||◌, ◌==◌, nat_le, nat_eq, List, [], ◌∷◌, ◌++◌, length, slice_index}
+use Rattle.std.specs.Prelude.{◌≡◌, ◌<◌, ◌⊎◌, ℕ, Bool, true, false, ◌&&◌, ◌||◌, ◌==◌, nat_le, nat_eq, List, [], ◌∷◌}
+use Rattle.std.specs.Prelude.{◌++◌, length, slice_index}
 use Rattle.std.specs.List.{list_all, starts_with}
 use Rattle.std.specs.Str.{IsUtf8}
 use Rattle.graphql_lexer.specs.declared.lexer.Punctuator.{Punctuator}
-use Rattle.graphql_lexer.specs.declared.lexer.Punctuator.TheVariants.{Bang, Dollar, Ampersand, ParenOpen, ParenClose, Spread, Colon, Equals, At, BracketOpen, BracketClose, BraceOpen, Pipe, BraceClose}
+use Rattle.graphql_lexer.specs.declared.lexer.Punctuator.TheVariants.{Bang, Dollar, Ampersand, ParenOpen, ParenClose}
+use Rattle.graphql_lexer.specs.declared.lexer.Punctuator.TheVariants.{Spread, Colon, Equals, At, BracketOpen}
+use Rattle.graphql_lexer.specs.declared.lexer.Punctuator.TheVariants.{BracketClose, BraceOpen, Pipe, BraceClose}
 
 -- A token. Of a string, what stands between its quotes. After the last one stands the end of the text or a fault.
 pub data Token : Type 0 where
@@ -161,7 +164,8 @@ pub data IsStringText : List ℕ → Type 0 where
 -- BlockStringCharacter*, where the closing quotes follow: no other three quotes stand there but behind a backslash
 pub data IsBlockText : List ℕ → Type 0 where
   no_block_char : IsBlockText []
-  block_char : {c : ℕ} {cs : List ℕ} → is_source c ≡ true → begins three_quotes (c ∷ (cs ++ three_quotes)) ≡ false → begins escaped_quotes (c ∷ (cs ++ three_quotes)) ≡ false → IsBlockText cs → IsBlockText (c ∷ cs)
+  block_char : {c : ℕ} {cs : List ℕ} → is_source c ≡ true → begins three_quotes (c ∷ (cs ++ three_quotes)) ≡ false
+      → begins escaped_quotes (c ∷ (cs ++ three_quotes)) ≡ false → IsBlockText cs → IsBlockText (c ∷ cs)
   escaped_block : {cs : List ℕ} → IsBlockText cs → IsBlockText (92 ∷ 34 ∷ 34 ∷ 34 ∷ cs)
 
 -- ---- Token

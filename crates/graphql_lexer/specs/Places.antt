@@ -1,5 +1,5 @@
--- Places in a text: the index from its start, the line, the column in the line, each from 0, in bytes. A line ends with a line feed, a
--- carriage return, or both in this order.
+-- Places in a text: the index from its start, the line, the column in the line, each from 0, in bytes. A line ends with
+-- a line feed, a carriage return, or both in this order.
 use Rattle.std.specs.Prelude.{ℕ, ◌+◌, ◌≤◌, true, false, ◌&&◌, ◌==◌, if◌then◌else◌, List, fold}
 use Rattle.graphql_lexer.specs.declared.cursor.Cursor.{Cursor}
 

@@ -1,5 +1,6 @@
 -- What the scanner makes of a text: its tokens with their places, up to the end or the first fault.
-use Rattle.std.specs.Prelude.{◌≡◌, ◌<◌, ◌+◌, ℕ, zero, suc, Bool, true, false, if◌then◌else◌, List, [], ◌∷◌, length, take, drop, Option, Some, None}
+use Rattle.std.specs.Prelude.{◌≡◌, ◌<◌, ◌+◌, ℕ, zero, suc, Bool, true, false, if◌then◌else◌, List, [], ◌∷◌, length}
+use Rattle.std.specs.Prelude.{take, drop, Option, Some, None}
 use Rattle.graphql_lexer.specs.Lexical.{Token, punctuator, name, int, float, string, block_string, end, fault}
 use Rattle.graphql_lexer.specs.Lexemes.{Lexeme, is_last, position, origin}
 use Rattle.graphql_lexer.specs.Places.{after_all, Counts}

@@ -1,11 +1,17 @@
 -- What the scanner computes: the token at the front of a text with its length, and the bytes before it. Lexical says in
 -- the words of the grammar what tokens are; that this computes them is proved.
-use Rattle.std.specs.Prelude.{ℕ, zero, suc, ◌+◌, ◌-◌, Bool, false, not, ◌&&◌, ◌||◌, ◌==◌, nat_le, nat_lt, if◌then◌else◌, List, [], ◌∷◌, length, take, drop, Option, Some, None}
+use Rattle.std.specs.Prelude.{ℕ, zero, suc, ◌+◌, ◌-◌, Bool, false, not, ◌&&◌, ◌||◌, ◌==◌, nat_le, nat_lt, if◌then◌else◌}
+use Rattle.std.specs.Prelude.{List, [], ◌∷◌, length, take, drop, Option, Some, None}
 use Rattle.std.specs.List.{prefix_len}
 use Rattle.std.specs.Str.{is_utf8}
 use Rattle.graphql_lexer.specs.declared.lexer.Punctuator.{Punctuator}
-use Rattle.graphql_lexer.specs.declared.lexer.Punctuator.TheVariants.{Bang, Dollar, Ampersand, ParenOpen, ParenClose, Spread, Colon, Equals, At, BracketOpen, BracketClose, BraceOpen, Pipe, BraceClose}
-use Rattle.graphql_lexer.specs.Lexical.{Token, punctuator, name, int, float, string, block_string, end, fault, at, is_digit, is_name_start, is_name_continue, is_number_byte, is_sign, is_indicator, is_source, is_comment_char, is_string_char, is_blank, begins, three_quotes, escaped_quotes, byte_order_mark}
+use Rattle.graphql_lexer.specs.declared.lexer.Punctuator.TheVariants.{Bang, Dollar, Ampersand, ParenOpen, ParenClose}
+use Rattle.graphql_lexer.specs.declared.lexer.Punctuator.TheVariants.{Spread, Colon, Equals, At, BracketOpen}
+use Rattle.graphql_lexer.specs.declared.lexer.Punctuator.TheVariants.{BracketClose, BraceOpen, Pipe, BraceClose}
+use Rattle.graphql_lexer.specs.Lexical.{Token, punctuator, name, int, float, string, block_string, end, fault, at}
+use Rattle.graphql_lexer.specs.Lexical.{is_digit, is_name_start, is_name_continue, is_number_byte, is_sign}
+use Rattle.graphql_lexer.specs.Lexical.{is_indicator, is_source, is_comment_char, is_string_char, is_blank, begins}
+use Rattle.graphql_lexer.specs.Lexical.{three_quotes, escaped_quotes, byte_order_mark}
 
 -- how many bytes at the front are digits
 abbrev pub digits : List ℕ → ℕ
@@ -95,7 +101,8 @@ punctuator_token None = (fault, 0)
 unfoldable pub spread_at : List ℕ → Token × ℕ
 spread_at text = if ((at text 0 == 46) && (at text 1 == 46)) && (at text 2 == 46) then (punctuator Spread, 3) else (fault, 0)
 
--- How many bytes stand before a string's closing quote, or before what no string may hold: a control character but for the tab.
+-- How many bytes stand before a string's closing quote, or before what no string may hold: a control character but for
+-- the tab.
 -- `escaped` says that a backslash stands before, which is no part of an escape itself.
 unfoldable pub string_length : Bool → List ℕ → ℕ
 string_length escaped [] = 0
@@ -114,7 +121,8 @@ string_at text =
 abbrev pub is_refused : ℕ → Bool
 is_refused c = not (is_source c)
 
--- How many bytes of `\"""` are left after the byte at the front, where so many were left before it; nothing where the string ends.
+-- How many bytes of `\"""` are left after the byte at the front, where so many were left before it; nothing where the
+-- string ends.
 unfoldable pub block_turn : ℕ → List ℕ → Option ℕ
 block_turn left text =
     if nat_lt 0 left then Some (left - 1)
@@ -137,7 +145,8 @@ unfoldable pub block_string_at : List ℕ → Token × ℕ
 block_string_at text =
     let body = drop 3 text in
     let n = block_length 0 body in
-    if (nat_le n (length body) && is_utf8 (take n body)) && begins three_quotes (drop n body) then (block_string (take n body), n + 6) else (fault, 0)
+    if (nat_le n (length body) && is_utf8 (take n body))
+        && begins three_quotes (drop n body) then (block_string (take n body), n + 6) else (fault, 0)
 
 unfoldable pub any_string_at : List ℕ → Token × ℕ
 any_string_at text = if begins three_quotes text then block_string_at text else string_at text

@@ -2,7 +2,8 @@
 use Rattle.std.specs.Prelude.{ℕ}
 use Rattle.graphql_lexer.specs.Lexical as spec
 use Rattle.graphql_lexer.specs.declared.lexer.Token.{Token}
-use Rattle.graphql_lexer.specs.declared.lexer.Token.TheVariants.{Punctuator, Name, Int, Float, String, BlockString, End, Fault}
+use Rattle.graphql_lexer.specs.declared.lexer.Token.TheVariants.{Punctuator, Name, Int, Float, String, BlockString, End}
+use Rattle.graphql_lexer.specs.declared.lexer.Token.TheVariants.{Fault}
 
 abbrev pub seen : Token → spec.Token
 seen (Punctuator p) = spec.punctuator p

@@ -1,5 +1,5 @@
--- Where a fault inside a string is told: at the first byte with which no escape goes on, or at the end of one that stands
--- for no character, as a surrogate alone.
+-- Where a fault inside a string is told: at the first byte with which no escape goes on, or at the end of one that
+-- stands for no character, as a surrogate alone.
 use Rattle.std.specs.Prelude.{◌≡◌, ◌⊎◌, ℕ, suc, ◌+◌, true, false, List, [], ◌∷◌, ◌++◌, Some, length, take, drop}
 use Rattle.std.specs.Char.Utf16.{is_high_surrogate}
 use Rattle.graphql_lexer.specs.Lexical.{at}
@@ -11,7 +11,8 @@ use Rattle.graphql_lexer.specs.declared.strings.StringError.TheVariants.{Escape,
 pub data IsWritten : List ℕ → Type 0 where
   character_written : {e c : ℕ} → escaped_character e ≡ Some c → IsWritten (92 ∷ e ∷ [])
   unit_written : {s : List ℕ} {u : ℕ} → IsEscapedUnicode s u → is_high_surrogate u ≡ false → IsWritten (92 ∷ 117 ∷ s)
-  pair_written : {s t : List ℕ} {u v : ℕ} → IsEscapedUnicode s u → is_high_surrogate u ≡ true → IsEscapedUnicode t v → IsWritten (92 ∷ 117 ∷ (s ++ (92 ∷ 117 ∷ t)))
+  pair_written : {s t : List ℕ} {u v : ℕ} → IsEscapedUnicode s u → is_high_surrogate u ≡ true → IsEscapedUnicode t v
+      → IsWritten (92 ∷ 117 ∷ (s ++ (92 ∷ 117 ∷ t)))
 
 -- some escape begins with s
 abbrev pub GoesOn : List ℕ → Type 0

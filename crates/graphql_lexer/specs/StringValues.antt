@@ -1,6 +1,7 @@
 -- What a string stands for (GraphQL, October 2021, section 2.9.4), production by production, over the bytes of UTF-8.
 -- A text holds characters, so two code units that are a surrogate pair stand for one, and a surrogate alone for none.
-use Rattle.std.specs.Prelude.{◌≡◌, ℕ, ◌+◌, ◌*◌, Bool, true, not, ◌||◌, ◌==◌, if◌then◌else◌, List, [], ◌∷◌, ◌++◌, Option, Some, None}
+use Rattle.std.specs.Prelude.{◌≡◌, ℕ, ◌+◌, ◌*◌, Bool, true, not, ◌||◌, ◌==◌, if◌then◌else◌, List, [], ◌∷◌, ◌++◌, Option}
+use Rattle.std.specs.Prelude.{Some, None}
 use Rattle.std.specs.Char.{IsScalar, is_digit, digit_value, encode_utf8}
 use Rattle.std.specs.Char.Utf16.{is_high_surrogate, is_low_surrogate, surrogate_pair_char}
 use Rattle.std.specs.List.{list_all}
@@ -36,7 +37,8 @@ IsEscapedUnicode s u =
 pub data IsEscape : List ℕ → ℕ → Type 0 where
   character : {e c : ℕ} → escaped_character e ≡ Some c → IsEscape (92 ∷ e ∷ []) c
   unicode : {s : List ℕ} {u : ℕ} → IsEscapedUnicode s u → IsScalar u → IsEscape (92 ∷ 117 ∷ s) u
-  pair : {s t : List ℕ} {u v : ℕ} → IsEscapedUnicode s u → IsEscapedUnicode t v → is_high_surrogate u ≡ true → is_low_surrogate v ≡ true → IsEscape (92 ∷ 117 ∷ (s ++ (92 ∷ 117 ∷ t))) (surrogate_pair_char u v)
+  pair : {s t : List ℕ} {u v : ℕ} → IsEscapedUnicode s u → IsEscapedUnicode t v → is_high_surrogate u ≡ true
+      → is_low_surrogate v ≡ true → IsEscape (92 ∷ 117 ∷ (s ++ (92 ∷ 117 ∷ t))) (surrogate_pair_char u v)
 
 -- no backslash
 abbrev pub is_plain : ℕ → Bool

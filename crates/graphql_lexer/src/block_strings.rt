@@ -1,5 +1,6 @@
 //! The values of block strings (GraphQL, October 2021, section 2.9.4).
-ghost use Rattle.std.specs.Prelude.{◌≡◌, ◌≤◌, ◌<◌, ◌+◌, ◌++◌, ◌==◌, ◌&&◌, ◌∷◌, true, false, if◌then◌else◌, Some, length, take, drop, map, IfOk, OnOk, string_bytes, slice_index};
+ghost use Rattle.std.specs.Prelude.{◌≡◌, ◌≤◌, ◌<◌, ◌+◌, ◌++◌, ◌==◌, ◌&&◌, ◌∷◌, true, false, if◌then◌else◌, Some};
+ghost use Rattle.std.specs.Prelude.{length, take, drop, map, IfOk, OnOk, string_bytes, slice_index};
 ghost use Rattle.std.specs.List.{list_all, prefix_len};
 ghost use Rattle.graphql_lexer.specs.BlockScanning.{LinesRead, LineAt, left_of, lesser};
 ghost use Rattle.graphql_lexer.specs.BlockStrings as spec;

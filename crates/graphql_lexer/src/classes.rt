@@ -2,8 +2,8 @@
 ghost use Rattle.std.specs.Prelude.{◌≡◌, ◌&&◌, ◌||◌, ◌==◌, not};
 ghost use Rattle.graphql_lexer.specs.Lexical.{is_blank, is_line_end, is_name_continue, is_name_start as name_start};
 
-// Each byte of a name stands at its own place, a comma at those of a tab, a space and a comma, a plus sign where another
-// ignored token may begin, and a point elsewhere.
+// Each byte of a name stands at its own place, a comma at those of a tab, a space and a comma, a plus sign where
+// another ignored token may begin, and a point elsewhere.
 static BYTES: [u8; 256] = *b"\
     .........,+..+..................\
     ,..+........,...0123456789......\

@@ -1,5 +1,6 @@
 //! The escapes of strings (GraphQL, October 2021, section 2.9.4).
-ghost use Rattle.std.specs.Prelude.{◌≡◌, ◌≤◌, ◌<◌, ◌+◌, length, false, Ok, Err, Some, None, MatchResult, IfOk, IfErr, IfSome};
+ghost use Rattle.std.specs.Prelude.{◌≡◌, ◌≤◌, ◌<◌, ◌+◌, length, false, Ok, Err, Some, None, MatchResult, IfOk, IfErr};
+ghost use Rattle.std.specs.Prelude.{IfSome};
 ghost use Rattle.std.specs.Char.{digit_value};
 ghost use Rattle.graphql_lexer.specs.Lexical.{at};
 ghost use Rattle.graphql_lexer.specs.StringValues.{escaped_character, is_hex};

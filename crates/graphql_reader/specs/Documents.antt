@@ -20,7 +20,8 @@ use Rattle.value_reader.specs.Seen.{value_seen}
 use Rattle.value_reader.specs.Values.{Key, Value}
 use Rattle.graphql_reader.specs.Arguments.{Directive, name_seen, SpellsDirectives, SpellsEach}
 use Rattle.graphql_reader.specs.Passed.{Covers, One, Optional, Then}
-use Rattle.graphql_reader.specs.Selections.{Selections, SpellsCondition, SpellsFragmentName, SpellsName, SpellsSet, directives_seen, nodes_seen, open_rules}
+use Rattle.graphql_reader.specs.Selections.{Selections, SpellsCondition, SpellsFragmentName, SpellsName, SpellsSet}
+use Rattle.graphql_reader.specs.Selections.{directives_seen, nodes_seen, open_rules}
 use Rattle.graphql_reader.specs.Types.{PlacedType, SpellsType, type_seen}
 
 -- a variable of an operation, whose span begins at the `$`

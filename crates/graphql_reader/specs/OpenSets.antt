@@ -12,9 +12,12 @@ use Rattle.graphql_lexer.specs.declared.lexer.Punctuator.TheVariants.{BraceOpen}
 use Rattle.graphql_lexer.specs.declared.tokens.Tokens.{Tokens}
 use Rattle.value_reader.specs.Grammar.{may_nest}
 use Rattle.graphql_reader.specs.Arguments.{SpellsEach}
-use Rattle.graphql_reader.specs.Languages.{Language, ASet, Anything, FirstInSet, NoSelection, Nothing, RestOfSets, IsFault, Leaves}
+use Rattle.graphql_reader.specs.Languages.{Language, ASet, Anything, FirstInSet, NoSelection, Nothing, RestOfSets}
+use Rattle.graphql_reader.specs.Languages.{IsFault, Leaves}
 use Rattle.graphql_reader.specs.Passed.{One, Reads, Then}
-use Rattle.graphql_reader.specs.Selections.{FieldHead, InlineHead, Selection, field, inline, Selections, SpellsFieldHead, SpellsInlineHead, SpellsSelection, SpellsSet, field_head, inline_head, selection_seen, nodes_seen}
+use Rattle.graphql_reader.specs.Selections.{FieldHead, InlineHead, Selection, field, inline, Selections}
+use Rattle.graphql_reader.specs.Selections.{SpellsFieldHead, SpellsInlineHead, SpellsSelection, SpellsSet, field_head}
+use Rattle.graphql_reader.specs.Selections.{inline_head, selection_seen, nodes_seen}
 use Rattle.graphql_reader.specs.declared.selections.Begun.{Begun}
 use Rattle.graphql_reader.specs.declared.selections.Head.{Head}
 use Rattle.graphql_reader.specs.declared.selections.Head.TheVariants as head

@@ -14,7 +14,8 @@ use Rattle.graphql_lexer.specs.Lexical as token
 use Rattle.graphql_lexer.specs.declared.lexer.Punctuator.TheVariants.{Colon, Spread, BraceOpen, BraceClose}
 use Rattle.value_reader.specs.Grammar.{Rules, may_nest}
 use Rattle.value_reader.specs.Values.{Key}
-use Rattle.graphql_reader.specs.Arguments.{Directive, Parens, name_seen, parens_seen, directive_seen, key_sign, SpellsArguments, SpellsDirectives}
+use Rattle.graphql_reader.specs.Arguments.{Directive, Parens, name_seen, parens_seen, directive_seen, key_sign}
+use Rattle.graphql_reader.specs.Arguments.{SpellsArguments, SpellsDirectives}
 use Rattle.graphql_reader.specs.Passed.{Covers, One, Optional, Then}
 
 -- a field up to its selection set

@@ -1,5 +1,6 @@
 -- What is left of lists and objects that are gone through, with a list of those that wait.
-use Rattle.std.specs.Prelude.{◌≡◌, ℕ, ◌+◌, ◌*◌, List, [], ◌++◌, map, reverse, codes, Bool, true, false, Option, Some, None, string_bytes}
+use Rattle.std.specs.Prelude.{◌≡◌, ℕ, ◌+◌, ◌*◌, List, [], ◌++◌, map, reverse, codes, Bool, true, false, Option, Some}
+use Rattle.std.specs.Prelude.{None, string_bytes}
 use Rattle.std.specs.Fmt.{IsPlainFormatter, HasWritten}
 use Rattle.std.specs.declared.fmt.Formatter.{Formatter}
 use Rattle.std.specs.List.{flat_map, sum_by}
@@ -41,7 +42,8 @@ module _ {S : Type 0} (text : S → List ℕ) (str_of : S → Option (List ℕ))
   -- the bytes of what is left, with the bracket after it
   abbrev pub printed_left : Bool → Rest S → List ℕ
   printed_left is_first (Items vs) = separated is_first (map (λ v. printed_value text str_of v.item) vs.now) ++ codes "]"
-  printed_left is_first (Entries es) = separated is_first (map (λ e. printed_entry text str_of (string_bytes e.0.item) e.1.item) es.now) ++ codes "}"
+  printed_left is_first (Entries es) =
+      separated is_first (map (λ e. printed_entry text str_of (string_bytes e.0.item) e.1.item) es.now) ++ codes "}"
 
   -- those of what waits, the last one first
   abbrev pub printed_waiting : List (Rest S) → List ℕ

@@ -38,7 +38,8 @@ module _ {S : Type 0} (text : S → List ℕ) (str_of : S → Option (List ℕ))
   printed_step (InputValue-F.Enum e) = string_bytes e
   printed_step (InputValue-F.Variable v) = codes "$" ++ string_bytes v
   printed_step (InputValue-F.List vs) = codes "[" ++ comma_separated (map (λ v. v.item) vs.items) ++ codes "]"
-  printed_step (InputValue-F.Object es) = codes "{" ++ comma_separated (map (λ e. keyed (string_bytes e.0.item) e.1.item) es.items) ++ codes "}"
+  printed_step (InputValue-F.Object es) =
+      codes "{" ++ comma_separated (map (λ e. keyed (string_bytes e.0.item) e.1.item) es.items) ++ codes "}"
 
   -- The bytes of a value. By cases:
   --   null            null

@@ -20,7 +20,8 @@ same_item test x y = same_span x.span y.span && test x.item y.item
 
 -- two entries have one key, at one place, and their values are at one place
 abbrev pub same_place : {A B : Type 0} → Entry A → Entry B → Bool
-same_place x y = pointwise nat_eq (string_bytes x.0.item) (string_bytes y.0.item) && (same_span x.0.span y.0.span && same_span x.1.span y.1.span)
+same_place x y = pointwise nat_eq (string_bytes x.0.item) (string_bytes y.0.item)
+    && (same_span x.0.span y.0.span && same_span x.1.span y.1.span)
 
 abbrev pub same_entry : {A B : Type 0} → (A → B → Bool) → Entry A → Entry B → Bool
 same_entry test x y = same_place x y && test x.1.item y.1.item

@@ -56,4 +56,5 @@ module _ (rules : SourceRules) where
 
   -- of a command line: its words are refused, help or the version could not be written, or its task ends so
   abbrev pub Ends : List (String Global) → Host → Option (List ℕ) → Option (List ℕ) → Type 0
-  Ends words host = WritesSome (λ text. IsRefused (word_texts words) text ⊎ ((task : Task) × AsksFor (word_texts words) task × EndsTask host task text))
+  Ends words host = WritesSome (λ text. IsRefused (word_texts words) text
+      ⊎ ((task : Task) × AsksFor (word_texts words) task × EndsTask host task text))

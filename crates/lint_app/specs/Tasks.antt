@@ -1,6 +1,7 @@
 -- What is told where the words ask for it.
 use Prim.Native.Nat.{zero, suc}
-use Rattle.std.specs.Prelude.{◌≡◌, ◌-◌, ◌==◌, ◌&&◌, if◌then◌else◌, codes, not, ℕ, Bool, List, Option, is_some, length, string_bytes, vec_len}
+use Rattle.std.specs.Prelude.{◌≡◌, ◌-◌, ◌==◌, ◌&&◌, if◌then◌else◌, codes, not, ℕ, Bool, List, Option, is_some, length}
+use Rattle.std.specs.Prelude.{string_bytes, vec_len}
 use Rattle.lint_app.specs.declared.documents.Report.{Report}
 use Rattle.lint_app.specs.declared.program.Told.{Told}
 use Rattle.lint_app.specs.Host.{Host}
@@ -36,7 +37,8 @@ abbrev pub IsTextOf : Bool → Task → ℕ → List Fault → List Source → R
 IsTextOf coloured task files faults sources report = IsTextIn task.form coloured files faults sources report.issues.items report.judged
 
 -- a report on so many files is told: whether it has issues, and whether there is no fault and all files were judged
-pub record IsToldOf (coloured : Bool) (task : Task) (files : ℕ) (faults : List Fault) (sources : List Source) (report : Report) (told : Told) : Type 0 where
+pub record IsToldOf (coloured : Bool) (task : Task) (files : ℕ) (faults : List Fault) (sources : List Source)
+    (report : Report) (told : Told) : Type 0 where
   pub text : IsTextOf coloured task files faults sources report (string_bytes told.text)
   pub has_errors : told.has_errors ≡ not (vec_len report.issues == 0)
   pub is_whole : told.is_whole ≡ ((length faults == 0) && (report.judged == files))
@@ -50,8 +52,8 @@ pub record IsSchemaOf (dialect : Dialect) (schema : SourceSchema) : Type 0 where
   pub valid : IsValidSchema schema
   pub dialect_is : schema.dialect ≡ dialect
 
--- a root node is a valid type system in that dialect, and introspection is closed exactly where the words ask for that, with
--- their limit on errors
+-- a root node is a valid type system in that dialect, and introspection is closed exactly where the words ask for that,
+-- with their limit on errors
 pub record IsRootOf (task : Task) (root : Root) : Type 0 where
   pub valid : IsValidSchema root.schema
   pub dialect : root.schema.dialect ≡ dialect_of task
@@ -73,7 +75,9 @@ module _ (rules : SourceRules) where
 
   -- the same with some values, exactly where the words name a file of values
   abbrev pub TellsBy : Host → Task → Root → Told → Type 0
-  TellsBy host task root told = (values : Option GivenValues) × (is_some values ≡ is_some task.variables) × TellsQueries host task root values told
+  TellsBy host task root told =
+      (values : Option GivenValues) × (is_some values ≡ is_some task.variables)
+      × TellsQueries host task root values told
 
   -- the same by some root node that has what the words ask for
   abbrev pub TellsTask : Host → Task → Told → Type 0

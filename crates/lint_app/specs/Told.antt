@@ -1,5 +1,7 @@
 -- What is told of files of queries.
-use Rattle.std.specs.Prelude.{◌≡◌, ◌↔◌, ⊤, Bool, true, false, ℕ, ◌+◌, List, [], ◌∷◌, ◌++◌, Option, Some, None, IsPermutation, IsSorted, IfSome, if◌then◌else◌, ◌==◌, codes, count_by, is_some, length, map, String, string_bytes}
+use Rattle.std.specs.Prelude.{◌≡◌, ◌↔◌, ⊤, Bool, true, false, ℕ, ◌+◌, List, [], ◌∷◌, ◌++◌, Option, Some, None}
+use Rattle.std.specs.Prelude.{IsPermutation, IsSorted, IfSome, if◌then◌else◌, ◌==◌, codes, count_by, is_some, length}
+use Rattle.std.specs.Prelude.{map, String, string_bytes}
 use Rattle.std.specs.declared.alloc.Global.{Global}
 use Rattle.std.specs.Fmt.{decimal}
 use Rattle.std.specs.List.{AllZip, flat_map}
@@ -34,7 +36,8 @@ Root = RootNodeOf SourceScalar SourceCheck
 abbrev pub Document : Type 0
 Document = List (Definition SourceScalar)
 
--- the document is that of the text: its tokens are those that the tree is written with, nested within some limit or none
+-- the document is that of the text: its tokens are those that the tree is written with, nested within some limit or
+-- none
 abbrev pub IsRead : List ℕ → Document → Type 0
 IsRead text document = (limit : Option ℕ) × IsDocument limit text (map definition_seen document)
 
@@ -73,7 +76,8 @@ IsFileOf host path source = (string_bytes source.path ≡ path) × IfSome (host.
 
 -- what is read of a path: the file of this name, or nothing
 abbrev pub IsReadOf : Host → ℕ → String Global → List Source → Type 0
-IsReadOf host index path sources = (read : Option Source) × (sources ≡ option_to_list read) × IfSome read (IsFileOf host (string_bytes path))
+IsReadOf host index path sources =
+    (read : Option Source) × (sources ≡ option_to_list read) × IfSome read (IsFileOf host (string_bytes path))
 
 -- what is read of each path in turn
 abbrev pub AreReadOf : Host → Paths → List Source → Type 0
@@ -82,7 +86,8 @@ AreReadOf host = InTurn (IsReadOf host) 0
 -- a text with these files behind it, whose numbers count from this
 abbrev pub JoinsFiles : ℕ → List Source → Joined → Joined → Type 0
 JoinsFiles file [] old new = new ≡ old
-JoinsFiles file (source ∷ sources) old new = (next : Joined) × JoinsFile old file (string_bytes source.text) next × JoinsFiles (file + 1) sources next new
+JoinsFiles file (source ∷ sources) old new =
+    (next : Joined) × JoinsFile old file (string_bytes source.text) next × JoinsFiles (file + 1) sources next new
 
 -- the text of these files
 abbrev pub IsJoined : ℕ → List Source → Joined → Type 0
@@ -112,10 +117,12 @@ FaultsIn root (Some values) document faults = InTurn (λ index. FaultsAt root va
 
 -- both as issues of the file or of those of the text
 abbrev pub TellsFaultsAt : Root → GivenValues → Joined → ℕ → Definition SourceScalar → List Issue → Type 0
-TellsFaultsAt root values joined file def issues = (faults : List ErrorValue) × FaultsAt root values def faults × AreToldAs joined file faults issues
+TellsFaultsAt root values joined file def issues =
+    (faults : List ErrorValue) × FaultsAt root values def faults × AreToldAs joined file faults issues
 
 abbrev pub TellsFaultsIn : Root → Option GivenValues → Joined → ℕ → Document → List Issue → Type 0
-TellsFaultsIn root values joined file document issues = (faults : List ErrorValue) × FaultsIn root values document faults × AreToldAs joined file faults issues
+TellsFaultsIn root values joined file document issues =
+    (faults : List ErrorValue) × FaultsIn root values document faults × AreToldAs joined file faults issues
 
 abbrev pub limit_text : ℕ → List ℕ
 limit_text limit = codes "There may be more errors: --max-errors is " ++ decimal limit
@@ -135,15 +142,18 @@ module _ (rules : SourceRules) where
   abbrev pub IsErrorFree : Root → Document → Type 0
   IsErrorFree root document = IsRootValid (rules root.schema.dialect) root.introspection_disabled root.schema document
 
-  -- what the root node reports of a document, up to its limit, in ascending order; it is nothing exactly where the document is valid
+  -- what the root node reports of a document, up to its limit, in ascending order; it is nothing exactly where the
+  -- document is valid
   pub record AreErrorsOf (root : Root) (document : Document) (errors : List ErrorValue) : Type 0 where
     pub pairs : ℕ
-    pub reported : IsRootReportUpTo (rules root.schema.dialect) root.max_errors root.introspection_disabled root.schema document errors pairs
+    pub reported : IsRootReportUpTo (rules root.schema.dialect) root.max_errors root.introspection_disabled root.schema
+        document errors pairs
     pub valid : (errors ≡ []) ↔ IsErrorFree root document
     pub sorted : IsSorted error_cmp errors
 
   -- a document's errors, and what is told behind them, as issues of the file or of those of its text
-  pub record TellsDocument (root : Root) (values : Option GivenValues) (joined : Joined) (file : ℕ) (document : Document) (issues : List Issue) : Type 0 where
+  pub record TellsDocument (root : Root) (values : Option GivenValues) (joined : Joined) (file : ℕ)
+      (document : Document) (issues : List Issue) : Type 0 where
     pub errors : List ErrorValue
     pub are_errors : AreErrorsOf root document errors
     pub further : List ErrorValue
@@ -161,7 +171,9 @@ module _ (rules : SourceRules) where
 
   -- what is told of a file by itself, if it is a document
   abbrev pub TellsFile : Root → Option GivenValues → ℕ → Source → List (Option (List Issue)) → Type 0
-  TellsFile root values file source outcomes = (outcome : Option (List Issue)) × (outcomes ≡ outcome ∷ []) × IfSome outcome (TellsFiles root values file (source ∷ []))
+  TellsFile root values file source outcomes =
+      (outcome : Option (List Issue)) × (outcomes ≡ outcome ∷ [])
+      × IfSome outcome (TellsFiles root values file (source ∷ []))
 
   -- each file is judged by itself: the issues are those of all documents in turn, and so many files are documents
   pub record TellsEach (root : Root) (values : Option GivenValues) (sources : List Source) (report : Report) : Type 0 where

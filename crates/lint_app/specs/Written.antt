@@ -1,5 +1,6 @@
 -- What is written of documents, and which words ask for help or the version.
-use Rattle.std.specs.Prelude.{◌≡◌, ◌||◌, Bool, true, ℕ, List, Option, String, codes, if◌then◌else◌, nat_eq, string_bytes}
+use Rattle.std.specs.Prelude.{◌≡◌, ◌||◌, Bool, true, ℕ, List, Option, String, codes, if◌then◌else◌, nat_eq}
+use Rattle.std.specs.Prelude.{string_bytes}
 use Rattle.std.specs.declared.alloc.Global.{Global}
 use Rattle.std.specs.Io.KnownBytes.{Appends}
 use Rattle.std.specs.List.{list_any, starts_with}
@@ -14,14 +15,16 @@ use Rattle.lint_args.specs.declared.task.Task.{Task}
 -- a word that is answered with help or the version: `--help`, `--version`, and one that begins with `-h` or `-V`
 abbrev pub begins_request : List ℕ → Bool
 begins_request word =
-    bytes_eq word (codes "--help") || bytes_eq word (codes "--version") || starts_with nat_eq word (codes "-h") || starts_with nat_eq word (codes "-V")
+    bytes_eq word (codes "--help") || bytes_eq word (codes "--version") || starts_with nat_eq word (codes "-h")
+        || starts_with nat_eq word (codes "-V")
 
 abbrev pub asks_for_text : List (String Global) → Bool
 asks_for_text = list_any (λ word. begins_request (string_bytes word))
 
 -- By what is known of the rules of each dialect.
 module _ (rules : SourceRules) where
-  -- what is told of a task's files was written in one piece, every file was judged, and the status says whether there are errors
+  -- what is told of a task's files was written in one piece, every file was judged, and the status says whether there
+  -- are errors
   pub record WritesTask (host : Host) (task : Task) (old new : Option (List ℕ)) (status : ℕ) : Type 0 where
     pub told : Told
     pub tells : TellsTask rules host task told

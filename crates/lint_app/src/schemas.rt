@@ -14,8 +14,8 @@ use lint_schema::schema_of;
 use std::alloc::Global;
 use validation::{Dialect, RootNode, SchemaType};
 
-/// The schema of a task, a valid type system in the dialect that the task asks for, with introspection disabled if it says
-/// so, and its limit on errors. Its faults go to `faults`.
+/// The schema of a task, a valid type system in the dialect that the task asks for, with introspection disabled if it
+/// says so, and its limit on errors. Its faults go to `faults`.
 ///
 /// # Errors
 ///

@@ -1,5 +1,7 @@
 -- Which task the command line asks for.
-use Rattle.std.specs.Prelude.{◌≡◌, ◌<◌, ◌+◌, ◌^◌, ◌⊎◌, ℕ, [], ◌∷◌, ◌++◌, Bool, IfSome, List, None, Option, Some, String, codes, cond, count_by, false, filter, if◌then◌else◌, map, not, option_map, string_bytes, unwrap_or}
+use Rattle.std.specs.Prelude.{◌≡◌, ◌<◌, ◌+◌, ◌^◌, ◌⊎◌, ℕ, [], ◌∷◌, ◌++◌, Bool, IfSome, List, None, Option, Some, String}
+use Rattle.std.specs.Prelude.{codes, cond, count_by, false, filter, if◌then◌else◌, map, not, option_map, string_bytes}
+use Rattle.std.specs.Prelude.{unwrap_or}
 use Rattle.std.specs.declared.alloc.Global.{Global}
 use Rattle.std.specs.Borrow.{Bor}
 use Rattle.std.specs.List.{list_any}

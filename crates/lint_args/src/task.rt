@@ -4,7 +4,8 @@ ghost use Rattle.std.specs.List.{list_any};
 ghost use Rattle.std.specs.Str.{bytes_eq};
 ghost use Rattle.clap.specs.Walk.{first_of, texts};
 ghost use Rattle.clap.specs.Words.{found_of, rows_of};
-ghost use Rattle.lint_args.specs.Asks.{AsksFor, IsDepth, IsLimit, IsNumberOf, IsRefusal, added_once, distinct, files_of};
+ghost use Rattle.lint_args.specs.Asks.{AsksFor, IsDepth, IsLimit, IsNumberOf, IsRefusal, added_once, distinct};
+ghost use Rattle.lint_args.specs.Asks.{files_of};
 ghost use Rattle.lint_args.specs.Asks.{form_of, input_count, inputs_among, is_input, is_value, word_texts};
 
 use crate::command_line::command_line;

@@ -25,7 +25,8 @@ location_tokens sources place =
 
 -- a place, if its file has the same path
 abbrev pub told_locations : List Source → ℕ → Place → List Token
-told_locations sources file place = if bytes_eq (path_in sources place.file) (path_in sources file) then location_tokens sources place else []
+told_locations sources file place =
+    if bytes_eq (path_in sources place.file) (path_in sources file) then location_tokens sources place else []
 
 -- the places in that file, as a list
 abbrev pub locations_tokens : List Source → ℕ → List Place → List Token

@@ -1,5 +1,6 @@
 -- A position of several files, read as one text, mapped back to its file.
-use Rattle.std.specs.Prelude.{◌≡◌, ◌+◌, ◌-◌, ◌^◌, ℕ, List, [], ◌∷◌, ◌++◌, None, filter, length, min, nat_le, string_bytes, unwrap_or}
+use Rattle.std.specs.Prelude.{◌≡◌, ◌+◌, ◌-◌, ◌^◌, ℕ, List, [], ◌∷◌, ◌++◌, None, filter, length, min, nat_le}
+use Rattle.std.specs.Prelude.{string_bytes, unwrap_or}
 use Rattle.std.specs.List.{last_or}
 use Rattle.language.specs.declared.position.SourcePosition.{SourcePosition}
 use Rattle.language.specs.Position.{index_of, line_of, column_of}
@@ -46,5 +47,6 @@ pub record HasNoFile (joined : Joined) : Type 0 where
 -- after it are counted, up to the greatest number
 pub record JoinsFile (old : Joined) (file : ℕ) (text : List ℕ) (new : Joined) : Type 0 where
   pub text_is : text_of new ≡ text_of old ++ between_files old.starts.items ++ text
-  pub starts_are : new.starts.items ≡ old.starts.items ++ record { file = file; index = length (text_of old ++ between_files old.starts.items); line = old.lines } ∷ []
+  pub starts_are : new.starts.items ≡ old.starts.items
+      ++ record { file = file; index = length (text_of old ++ between_files old.starts.items); line = old.lines } ∷ []
   pub lines_are : new.lines ≡ min (old.lines + line_ends (text ++ 10 ∷ [])) (2 ^ 64 - 1)

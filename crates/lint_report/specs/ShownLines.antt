@@ -1,5 +1,6 @@
 -- The line of a position, and what comes before the position in it.
-use Rattle.std.specs.Prelude.{◌≡◌, ◌==◌, ◌-◌, ◌||◌, ◌&&◌, ℕ, Bool, not, List, [], count_by, drop, nat_le, nat_lt, reverse, take, take_while}
+use Rattle.std.specs.Prelude.{◌≡◌, ◌==◌, ◌-◌, ◌||◌, ◌&&◌, ℕ, Bool, not, List, [], count_by, drop, nat_le, nat_lt}
+use Rattle.std.specs.Prelude.{reverse, take, take_while}
 use Rattle.std.specs.List.{prefix_len}
 use Rattle.std.specs.Str.{IsCharBoundary}
 use Rattle.language.specs.declared.position.SourcePosition.{SourcePosition}

@@ -1,5 +1,6 @@
 -- Errors as text.
-use Rattle.std.specs.Prelude.{◌≡◌, ◌==◌, ◌+◌, ◌-◌, ◌^◌, ℕ, Bool, List, [], ◌∷◌, ◌++◌, chars, codes, length, min, slice_get, string_bytes, if◌then◌else◌}
+use Rattle.std.specs.Prelude.{◌≡◌, ◌==◌, ◌+◌, ◌-◌, ◌^◌, ℕ, Bool, List, [], ◌∷◌, ◌++◌, chars, codes, length, min}
+use Rattle.std.specs.Prelude.{slice_get, string_bytes, if◌then◌else◌}
 use Rattle.std.specs.Fmt.{decimal}
 use Rattle.std.specs.List.{AllZip, concat}
 use Rattle.std.specs.Option.{option_map_or}
@@ -38,7 +39,8 @@ told_column sources place = from_one (characters_before (text_in sources place.f
 -- what comes before a message: `path:line:column: `
 abbrev pub told_place : Bool → List Source → Place → List ℕ
 told_place coloured sources place =
-    bold coloured ++ path_in sources place.file ++ plain coloured ++ codes ":" ++ decimal (told_line place) ++ codes ":" ++ decimal (told_column sources place) ++ codes ": "
+    bold coloured ++ path_in sources place.file ++ plain coloured ++ codes ":" ++ decimal (told_line place) ++ codes ":"
+        ++ decimal (told_column sources place) ++ codes ": "
 
 -- a window of the line of a place, and a mark below the place
 pub record ShowsLine (coloured : Bool) (sources : List Source) (place : Place) (text : List ℕ) : Type 0 where
@@ -72,7 +74,8 @@ abbrev pub AreNotes : Bool → List Source → List Place → List ℕ → Type 
 AreNotes coloured sources places text = AreTexts (IsNoteText coloured sources) places text
 
 -- the error at its first place, and a note for each further one
-pub record IsPlacedText (coloured : Bool) (sources : List Source) (first : Place) (others : List Place) (message text : List ℕ) : Type 0 where
+pub record IsPlacedText (coloured : Bool) (sources : List Source) (first : Place) (others : List Place)
+    (message text : List ℕ) : Type 0 where
   pub error : List ℕ
   pub notes : List ℕ
   pub is_error : IsErrorText coloured sources first message error

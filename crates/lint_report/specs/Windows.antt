@@ -1,5 +1,6 @@
 -- What is shown of a line round a place. Characters stand for themselves, as numbers.
-use Rattle.std.specs.Prelude.{◌==◌, ◌+◌, ◌-◌, ℕ, List, [], ◌∷◌, ◌++◌, Bool, encode_utf8_all, false, flat_map, if◌then◌else◌, max, nat_le, replicate, unwrap_or}
+use Rattle.std.specs.Prelude.{◌==◌, ◌+◌, ◌-◌, ℕ, List, [], ◌∷◌, ◌++◌, Bool, encode_utf8_all, false, flat_map}
+use Rattle.std.specs.Prelude.{if◌then◌else◌, max, nat_le, replicate, unwrap_or}
 use Rattle.lint_report.specs.Colours.{mark}
 use Rattle.unicode_width.specs.Width.{char_width}
 

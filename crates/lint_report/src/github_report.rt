@@ -1,6 +1,7 @@
 //! Errors as commands of a workflow of GitHub's, which shows each at its place.
 ghost use Rattle.std.specs.Prelude.{◌≡◌, ◌++◌, IfOk, OnOk, flat_map, string_bytes};
-ghost use Rattle.lint_report.specs.Github.{fault_command, github_text, issue_command, message_character, message_text, place_properties, property_character, property_text};
+ghost use Rattle.lint_report.specs.Github.{fault_command, github_text, issue_command, message_character, message_text};
+ghost use Rattle.lint_report.specs.Github.{place_properties, property_character, property_text};
 
 use crate::faults::Fault;
 use crate::issues::Issue;

@@ -2,7 +2,8 @@
 //! which a server answers, whose `path` is a list of keys.
 ghost use Rattle.std.specs.Prelude.{◌≡◌, ◌++◌, IfOk, OnOk, flat_map, string_bytes};
 ghost use Rattle.json.specs.Layout.{pretty};
-ghost use Rattle.lint_report.specs.Json.{fault_tokens, issue_tokens, json_text, location_tokens, locations_tokens, number_member, report_tokens, text_member, told_locations};
+ghost use Rattle.lint_report.specs.Json.{fault_tokens, issue_tokens, json_text, location_tokens, locations_tokens};
+ghost use Rattle.lint_report.specs.Json.{number_member, report_tokens, text_member, told_locations};
 
 use crate::faults::Fault;
 use crate::issues::Issue;

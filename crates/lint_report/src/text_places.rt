@@ -4,7 +4,8 @@ ghost use Rattle.std.specs.Prelude.{◌≡◌, ◌+◌, ◌≤◌, if◌then◌e
 ghost use Rattle.std.specs.List.{prefix_len};
 ghost use Rattle.language.specs.Position as position;
 ghost use Rattle.lint_report.specs.Lines.{line_ends, more_ends};
-ghost use Rattle.lint_report.specs.ShownLines.{IsLineOf, before_place, begins_character, characters_before, column_after, is_in_line};
+ghost use Rattle.lint_report.specs.ShownLines.{IsLineOf, before_place, begins_character, characters_before};
+ghost use Rattle.lint_report.specs.ShownLines.{column_after, is_in_line};
 
 use language::position::SourcePosition;
 

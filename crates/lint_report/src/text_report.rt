@@ -1,7 +1,9 @@
 //! Errors as text: each with its place, a window of its line, and a mark below the place.
 ghost use Rattle.std.specs.Prelude.{◌≡◌, ◌++◌, IfOk, OnOk, Some, string_bytes};
 ghost use Rattle.lint_report.specs.ShownLines.{IsSplitAt};
-ghost use Rattle.lint_report.specs.Texts.{Adds, AreFaultTexts, AreNotes, IsErrorText, IsIssueText, IsNoteText, IsTextReport, ShowsLine, count_text, counts_text, last_line, path_in, summary_text, text_in, told_column, told_line, told_place, unjudged_text};
+ghost use Rattle.lint_report.specs.Texts.{Adds, AreFaultTexts, AreNotes, IsErrorText, IsIssueText, IsNoteText};
+ghost use Rattle.lint_report.specs.Texts.{IsTextReport, ShowsLine, count_text, counts_text, last_line, path_in};
+ghost use Rattle.lint_report.specs.Texts.{summary_text, text_in, told_column, told_line, told_place, unjudged_text};
 
 use crate::colours::{bold, error_word, plain};
 use crate::faults::Fault;

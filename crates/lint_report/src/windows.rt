@@ -1,7 +1,9 @@
 //! What is shown of a line round a place: a window of at most 120 columns, and a mark below the place.
-ghost use Rattle.std.specs.Prelude.{◌≡◌, ◌-◌, ◌≤◌, ◌++◌, [], IfSome, IsUtf8, MatchOption, OnOk, chars, encode_utf8_all, string_bytes};
+ghost use Rattle.std.specs.Prelude.{◌≡◌, ◌-◌, ◌≤◌, ◌++◌, [], IfSome, IsUtf8, MatchOption, OnOk, chars, encode_utf8_all};
+ghost use Rattle.std.specs.Prelude.{string_bytes};
 ghost use Rattle.std.specs.Char.{encode_utf8};
-ghost use Rattle.lint_report.specs.Windows.{blank_for, blanks, columns, first_within, last_within, room_for, room_of, window};
+ghost use Rattle.lint_report.specs.Windows.{blank_for, blanks, columns, first_within, last_within, room_for, room_of};
+ghost use Rattle.lint_report.specs.Windows.{window};
 
 use crate::colours::mark;
 use std::alloc::AllocError;

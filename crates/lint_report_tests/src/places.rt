@@ -4,7 +4,8 @@ use lint_report::sources::Joined;
 use lint_report::text_places::{line_of, position_at};
 use std::alloc::{AllocError, Global};
 
-// The second file begins with the end of a line, and ends with half of one, which the line feed between the files completes.
+// The second file begins with the end of a line, and ends with half of one, which the line feed between the files
+// completes.
 const FILES: &[&str] = &["ab\ncd", "\r\nx\r", "y"];
 
 // An index of the joined text; file, line, column and index there.

@@ -35,14 +35,16 @@ pub record AddsLocated (sources : List Source) (joined : Joined) (found : List L
 
 -- those of a schema that was read from the document; there is none if and only if it is a valid type system and the
 -- directives of the document are used rightly
-pub record AddsTypeSystemFaults (sources : List Source) (joined : Joined) (document standard : List TypeSystemDefinition) (schema : SourceSchema) (old new : List Fault) : Type 0 where
+pub record AddsTypeSystemFaults (sources : List Source) (joined : Joined)
+    (document standard : List TypeSystemDefinition) (schema : SourceSchema) (old new : List Fault) : Type 0 where
   pub found : List LocatedFault
   pub are : TellsFaults document standard schema found
   pub valid : (found ≡ []) ↔ IsValidText document standard schema
   pub adds : AddsLocated sources joined found old new
 
 -- those for which no schema is needed, where the document makes none
-pub record AddsPlainFaults (sources : List Source) (joined : Joined) (document standard : List TypeSystemDefinition) (old new : List Fault) : Type 0 where
+pub record AddsPlainFaults (sources : List Source) (joined : Joined) (document standard : List TypeSystemDefinition)
+    (old new : List Fault) : Type 0 where
   pub found : List LocatedFault
   pub are : TellsPlainFaults document standard found
   pub adds : AddsLocated sources joined found old new
@@ -50,5 +52,6 @@ pub record AddsPlainFaults (sources : List Source) (joined : Joined) (document s
 -- those of a schema of these definitions; or why they could not be read again
 abbrev pub IsJudged : List Source → Joined → SourceSchema → List Fault → List Fault → Type 0
 IsJudged sources joined schema old new =
-    ((document : List TypeSystemDefinition) × (standard : List TypeSystemDefinition) × AddsTypeSystemFaults sources joined document standard schema old new)
+    ((document : List TypeSystemDefinition) × (standard : List TypeSystemDefinition)
+        × AddsTypeSystemFaults sources joined document standard schema old new)
     ⊎ ((error : SchemaReadError) × AddsFaultsOf sources joined error old new)

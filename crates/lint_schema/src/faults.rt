@@ -1,7 +1,8 @@
 //! Faults of a schema's files.
 ghost use Rattle.std.specs.Prelude.{◌≡◌, [], IfOk, None, OnOk};
 ghost use Rattle.lint_report.specs.Faults.{IsFault};
-ghost use Rattle.lint_schema.specs.Told.{AddsFault, AddsFaults, AddsFaultsOf, HasFurther, IsInLine, IsToldAt, IsToldInLine};
+ghost use Rattle.lint_schema.specs.Told.{AddsFault, AddsFaults, AddsFaultsOf, HasFurther, IsInLine, IsToldAt};
+ghost use Rattle.lint_schema.specs.Told.{IsToldInLine};
 
 use language::error::OutOfMemory;
 use language::position::SourcePosition;

@@ -22,9 +22,9 @@ type SourceSchema = SchemaTypeOf<SourceScalar, SourceCheck>;
 type TypeSystem<'t> = Vec<TypeSystemDefinition<'t>>;
 
 /// The schema of these files in this dialect, or `None` if there are faults. Those of the files are added to `faults`:
-/// what is no type definitions by itself; if there is no such file and no earlier fault, why the definitions of all make
-/// no schema and what else is wrong with them for which none is needed; and if they make one, what is wrong with it as a
-/// type system.
+/// what is no type definitions by itself; if there is no such file and no earlier fault, why the definitions of all
+/// make no schema and what else is wrong with them for which none is needed; and if they make one, what is wrong with
+/// it as a type system.
 ///
 /// # Errors
 ///

@@ -34,7 +34,8 @@ module _ {S C : Type 0} where
       -- the fault of what is left of a part
       abbrev pub Left : Begun S C → Option (List ℕ) → Type 0
       Left (b.Items inner rest) fault = FirstFault (λ x. Judged schema may shown x.item (expected_type inner)) IsNone rest.now fault
-      Left (b.Entries meta key all rest) fault = FirstFault (EntryFault schema may shown meta.now) (LacksFields meta.now (keys_of all.now)) rest.now fault
+      Left (b.Entries meta key all rest) fault =
+          FirstFault (EntryFault schema may shown meta.now) (LacksFields meta.now (keys_of all.now)) rest.now fault
 
       -- the fault of a part: that of the value which is judged, or else that of what is left
       abbrev pub After : Begun S C → Option (List ℕ) → Option (List ℕ) → Type 0
@@ -49,7 +50,8 @@ module _ {S C : Type 0} where
       -- with this fault found amid the new parts, there is such a one amid the old ones
       abbrev pub Leads : List (Begun S C) → Option (List ℕ) → (Option (List ℕ) → Type 0) → List (Begun S C) → Type 0
       Leads new found Told old =
-          (fault : Option (List ℕ)) → AfterAll (reverse new) found fault → (mid : Option (List ℕ)) × Told mid × AfterAll (reverse old) mid fault
+          (fault : Option (List ℕ)) → AfterAll (reverse new) found fault → (mid : Option (List ℕ)) × Told mid
+              × AfterAll (reverse old) mid fault
 
       -- with this fault found amid the new parts, it is that of what is left of the old ones
       abbrev pub GoesOn : List (Begun S C) → Option (List ℕ) → List (Begun S C) → Type 0

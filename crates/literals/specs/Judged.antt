@@ -1,5 +1,7 @@
--- A value against a type, case by case: `None` if it conforms, else the text of its first fault (sections 5.6.1, 3.10 and 3.11).
-use Rattle.std.specs.Prelude.{◌≡◌, ℕ, List, [], ◌∷◌, length, reverse, map, Bool, true, false, Option, Some, None, option_map, unwrap_or, string_bytes, nat_eq, if◌then◌else◌}
+-- A value against a type, case by case: `None` if it conforms, else the text of its first fault (sections 5.6.1, 3.10
+-- and 3.11).
+use Rattle.std.specs.Prelude.{◌≡◌, ℕ, List, [], ◌∷◌, length, reverse, map, Bool, true, false, Option, Some, None}
+use Rattle.std.specs.Prelude.{option_map, unwrap_or, string_bytes, nat_eq, if◌then◌else◌}
 use Rattle.language.specs.declared.types.TypeModifier.{TypeModifier}
 use Rattle.language.specs.declared.types.TypeModifier.TheVariants as m
 use Rattle.language.specs.declared.value.InputValue.{InputValue}
@@ -17,7 +19,8 @@ use Rattle.schema.specs.Wrapped.{WrappedMeta, wrapped_shape}
 use Rattle.literals.specs.AnyLiteral.{takes_any}
 use Rattle.literals.specs.FirstFault.{FirstFault}
 use Rattle.literals.specs.Missing.{missing, missing_fault}
-use Rattle.literals.specs.Texts.{null_text, enum_text, value_text, no_check_text, list_text, no_object_text, field_text, unknown_text, length_text}
+use Rattle.literals.specs.Texts.{null_text, enum_text, value_text, no_check_text, list_text, no_object_text, field_text}
+use Rattle.literals.specs.Texts.{unknown_text, length_text}
 
 -- whether this is the fault of a value against a type; `None` means that it conforms
 abbrev pub Judge : Type 0 → Type 0 → Type 1
@@ -84,7 +87,8 @@ module _ {S C : Type 0} where
     abbrev pub checked : Option C → InputValue S → MetaTypeOf S C → Option (List ℕ) → Type 0
     checked None value meta fault = Is (no_check_text (printed_name meta)) fault
     checked (Some c) value meta None = Accepts may c value
-    checked (Some c) value meta (Some said) = (said ≡ value_text (shown value) (printed_name meta)) × (m : List ℕ) × RefusesWith may c value m
+    checked (Some c) value meta (Some said) =
+        (said ≡ value_text (shown value) (printed_name meta)) × (m : List ℕ) × RefusesWith may c value m
 
     -- a scalar is no enum value
     abbrev pub unless_enum : Bool → InputValue S → MetaTypeOf S C → Option (List ℕ) → Type 0
@@ -131,7 +135,9 @@ module _ {S C : Type 0} where
       against_name (v.Scalar s) value meta fault = unless_enum may shown (is_enum_meta meta) value meta fault
       against_name (v.Enum n) value meta fault = checked may shown (check_of_meta meta) value meta fault
       against_name (v.List xs) value meta fault = unless_any may shown (takes_any schema meta) value meta fault (Is list_text fault)
-      against_name (v.Object es) value meta fault = unless_any may shown (takes_any schema meta) value meta fault (object (is_input_object_meta meta) meta es.items fault)
+      against_name (v.Object es) value meta fault =
+          unless_any may shown (takes_any schema meta) value meta fault
+          (object (is_input_object_meta meta) meta es.items fault)
 
       -- a value against a name with modifiers, outermost first
       abbrev pub against : v.InputValue-F S X → InputValue S → List TypeModifier → MetaTypeOf S C → Option (List ℕ) → Type 0

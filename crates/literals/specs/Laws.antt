@@ -20,8 +20,10 @@ module _ {S C : Type 0} where
   module _ (schema : Catalog S C) (may : Answers (InputValue S) C) (shown : InputValue S → List ℕ) where
     -- at most one fault, or none, is that of a value against a type
     abbrev pub OneFault : Type 0
-    OneFault = (value : InputValue S) (w : WrappedMeta S C) (f g : Option (List ℕ)) → Judged schema may shown value w f → Judged schema may shown value w g → f ≡ g
+    OneFault = (value : InputValue S) (w : WrappedMeta S C) (f g : Option (List ℕ)) → Judged schema may shown value w f
+        → Judged schema may shown value w g → f ≡ g
 
     -- and one is, against each type of the schema
     abbrev pub SomeFault : Type 0
-    SomeFault = (value : InputValue S) (w : WrappedMeta S C) → IsInSchema schema w → (f : Option (List ℕ)) × Judged schema may shown value w f
+    SomeFault = (value : InputValue S) (w : WrappedMeta S C) → IsInSchema schema w → (f : Option (List ℕ))
+        × Judged schema may shown value w f

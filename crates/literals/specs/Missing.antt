@@ -1,5 +1,6 @@
 -- The input fields that an object lacks (section 5.6.4).
-use Rattle.std.specs.Prelude.{ℕ, List, [], ◌∷◌, ◌++◌, Option, Some, None, is_some, Bool, not, ◌&&◌, fold, string_bytes, if◌then◌else◌}
+use Rattle.std.specs.Prelude.{ℕ, List, [], ◌∷◌, ◌++◌, Option, Some, None, is_some, Bool, not, ◌&&◌, fold, string_bytes}
+use Rattle.std.specs.Prelude.{if◌then◌else◌}
 pub use Rattle.language.specs.Types.{is_never_null}
 use Rattle.language.specs.Types.{shape}
 use Rattle.meta.specs.declared.arguments.Argument.{Argument}

@@ -75,4 +75,5 @@ module _ {S C : Type 0} where
     -- and one against the type which the value comes to is one against the whole type
     abbrev pub IsStepOf : InputValue S → WrappedMeta S C → Step S C → Option (List ℕ) → Type 0
     IsStepOf value w (s.Decides row) fault = IsRowOf value w row fault
-    IsStepOf value w (s.Passes inner) fault = Judged schema may shown value (expected_type inner) fault → Judged schema may shown value w fault
+    IsStepOf value w (s.Passes inner) fault =
+        Judged schema may shown value (expected_type inner) fault → Judged schema may shown value w fault

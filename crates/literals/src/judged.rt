@@ -1,5 +1,6 @@
 //! The first fault of a value against a type.
-ghost use Rattle.std.specs.Prelude.{◌≡◌, ◌∷◌, IfOk, List, None, OnOk, Option, Some, option_map, reverse, string_bytes, ℕ};
+ghost use Rattle.std.specs.Prelude.{◌≡◌, ◌∷◌, IfOk, List, None, OnOk, Option, Some, option_map, reverse, string_bytes};
+ghost use Rattle.std.specs.Prelude.{ℕ};
 ghost use Rattle.std.specs.List.{All};
 ghost use Rattle.language.specs.ValuesPrinted.{printed_value};
 ghost use Rattle.meta.specs.Kinds.{check_of_meta};
@@ -9,7 +10,8 @@ ghost use Rattle.literals.specs.Begun.{AfterAll, GoesOn, IsKnown, Leads, Left, t
 ghost use Rattle.literals.specs.Expected.{expected_type};
 ghost use Rattle.literals.specs.FirstFault.{FirstFault};
 ghost use Rattle.literals.specs.InSchema.{IsInSchema};
-ghost use Rattle.literals.specs.Judged.{EntryFault, Is, IsNone, Judged, LacksFields, checked, is_enum_meta, is_input_object_meta, keys_of, unless_any, unless_enum};
+ghost use Rattle.literals.specs.Judged.{EntryFault, Is, IsNone, Judged, LacksFields, checked, is_enum_meta};
+ghost use Rattle.literals.specs.Judged.{is_input_object_meta, keys_of, unless_any, unless_enum};
 ghost use Rattle.literals.specs.Texts.{list_text};
 
 use crate::begun::{Begun, text_within};

@@ -6,7 +6,8 @@ ghost use Rattle.language.specs.ValuesPrinted.{printed_value};
 ghost use Rattle.schema.specs.Catalog.{Catalog};
 ghost use Rattle.literals.specs.Expected.{expected_type};
 ghost use Rattle.literals.specs.Judged.{other_length};
-ghost use Rattle.literals.specs.Rows.{IsRowOf, IsStepOf, IsShorter, item_count, HasMeta, HasStepMeta, IsListRow, IsListStep};
+ghost use Rattle.literals.specs.Rows.{IsRowOf, IsStepOf, IsShorter, item_count, HasMeta, HasStepMeta, IsListRow};
+ghost use Rattle.literals.specs.Rows.{IsListStep};
 
 use crate::expected::{Expected, Layer};
 use language::value::InputValue;

@@ -5,7 +5,8 @@ use Rattle.merge_search.specs.declared.state.Finding.{Finding}
 use Rattle.merge_search.specs.declared.state.Finding.TheVariants.{Direct, Nested}
 use Rattle.merge_field_pairs.specs.Entries.{PlainEntry}
 
--- Some conflicts, one after the other: of two fields by themselves, under a flag, or of two fields by the conflicts below them.
+-- Some conflicts, one after the other: of two fields by themselves, under a flag, or of two fields by the conflicts
+-- below them.
 pub data Reports (X : Type 0) : Type 0 where
   none : Reports X
   direct : X → X → Bool → Reports X → Reports X

@@ -9,7 +9,8 @@ use Rattle.merge_field_pairs.specs.DirectReason.{direct_of}
 use Rattle.merge_field_pairs.specs.Texts.{direct_text, nested_text, joined, message_text}
 use Rattle.merge_conflicts.specs.Reports.{Reports, none, direct, nested}
 
--- of two fields: their response name, the reason, and the places of the first and of the second with those of their sides below
+-- of two fields: their response name, the reason, and the places of the first and of the second with those of their
+-- sides below
 pub record Told : Type 0 where
   pub response : List ℕ
   pub reason : List ℕ
@@ -38,7 +39,9 @@ module _ {S C : Type 0} (E : S → S → Bool) (schema : Catalog S C) where
 
   -- of two fields that fail by themselves, under a flag
   abbrev pub told_directly : Bool → PlainEntry S C → PlainEntry S C → Told
-  told_directly e a b = record { response = response_of a; reason = reason_between e a b; lefts = place_of a ∷ []; rights = place_of b ∷ [] }
+  told_directly e a b =
+      record { response = response_of a; reason = reason_between e a b; lefts = place_of a ∷ [];
+      rights = place_of b ∷ [] }
 
   -- of two fields by the texts for the conflicts below them
   abbrev pub told_over : PlainEntry S C → PlainEntry S C → List Told → Told

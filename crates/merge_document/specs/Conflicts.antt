@@ -16,9 +16,12 @@ module _ {S C : Type 0} where
   -- Two fields fail by themselves in some conflict, at the top or below, under the flag.
   pub data Tells : Reports (PlainEntry S C) → Bool → PlainEntry S C → PlainEntry S C → Type 0 where
     this : {a b : PlainEntry S C} {e : Bool} {rest : Reports (PlainEntry S C)} → Tells (direct a b e rest) e a b
-    after_direct : {a b c d : PlainEntry S C} {e f : Bool} {rest : Reports (PlainEntry S C)} → Tells rest e a b → Tells (direct c d f rest) e a b
-    inside : {a b c d : PlainEntry S C} {e : Bool} {below rest : Reports (PlainEntry S C)} → Tells below e a b → Tells (nested c d below rest) e a b
-    after_nested : {a b c d : PlainEntry S C} {e : Bool} {below rest : Reports (PlainEntry S C)} → Tells rest e a b → Tells (nested c d below rest) e a b
+    after_direct : {a b c d : PlainEntry S C} {e f : Bool} {rest : Reports (PlainEntry S C)} → Tells rest e a b
+        → Tells (direct c d f rest) e a b
+    inside : {a b c d : PlainEntry S C} {e : Bool} {below rest : Reports (PlainEntry S C)} → Tells below e a b
+        → Tells (nested c d below rest) e a b
+    after_nested : {a b c d : PlainEntry S C} {e : Bool} {below rest : Reports (PlainEntry S C)} → Tells rest e a b
+        → Tells (nested c d below rest) e a b
 
   -- The same, in either order.
   abbrev pub TellsEither : Reports (PlainEntry S C) → Bool → PlainEntry S C → PlainEntry S C → Type 0
@@ -29,17 +32,20 @@ module _ {S C : Type 0} where
   AtTheTop reports a b = Contains (roots reports) (a, b) ⊎ Contains (roots reports) (b, a)
 
 module _ {S C : Type 0} (E : S → S → Bool) (schema : Catalog S C) (document : List (Definition S)) where
-  -- Each conflict is true of its two fields: the first of their own faults, or where they have none some pairs below them, in either order.
+  -- Each conflict is true of its two fields: the first of their own faults, or where they have none some pairs below
+  -- them, in either order.
   pub data AreTrue : Bool → Reports (PlainEntry S C) → Type 0 where
     true_none : {e : Bool} → AreTrue e none
-    true_direct : {e : Bool} {a b : PlainEntry S C} {rest : Reports (PlainEntry S C)} → Fails E schema e a b → AreTrue e rest → AreTrue e (direct a b e rest)
+    true_direct : {e : Bool} {a b : PlainEntry S C} {rest : Reports (PlainEntry S C)} → Fails E schema e a b
+        → AreTrue e rest → AreTrue e (direct a b e rest)
     true_nested : {e : Bool} {a b : PlainEntry S C} {below rest : Reports (PlainEntry S C)} → Passes E schema e a b
         → All (λ r. Below E schema document a b r.0 r.1 ⊎ Below E schema document a b r.1 r.0) (roots below)
         → (below ≡ none → ⊥) → AreTrue (exclusive_of e a b) below → AreTrue e rest → AreTrue e (nested a b below rest)
 
   -- Two places of one set of the document, of one response name.
   abbrev pub AreInOneSet : PlainEntry S C → PlainEntry S C → Type 0
-  AreInOneSet a b = (p : Option (MetaTypeOf S C)) × (set : List (Selection S)) × IsSetIn schema document p set × Apart schema document p set a b × Same a b
+  AreInOneSet a b = (p : Option (MetaTypeOf S C)) × (set : List (Selection S)) × IsSetIn schema document p set
+      × Apart schema document p set a b × Same a b
 
   -- Every conflict that is reported is a true one, of two places of one written-out set.
   pub record AreReal (reports : Reports (PlainEntry S C)) : Type 0 where
@@ -53,7 +59,8 @@ module _ {S C : Type 0} (E : S → S → Bool) (schema : Catalog S C) (document 
 
   -- Two fields of one response name in one written-out set of the document; they may be one field.
   abbrev pub Meet : PlainEntry S C → PlainEntry S C → Type 0
-  Meet a b = (p : Option (MetaTypeOf S C)) × (set : List (Selection S)) × IsSetIn schema document p set × Stands schema document p set a × Stands schema document p set b × Same a b
+  Meet a b = (p : Option (MetaTypeOf S C)) × (set : List (Selection S)) × IsSetIn schema document p set
+      × Stands schema document p set a × Stands schema document p set b × Same a b
 
   -- What two fields of one set have between them is reported.
   pub record AreTold (reports : Reports (PlainEntry S C)) : Type 0 where

@@ -14,9 +14,11 @@ use Rattle.merge_conflicts.specs.Reports.{Reports, postfix, AreReportsOf}
 use Rattle.merge_document.specs.Conflicts.{AreReal, AreTold, AreAll, IsTidyDocument}
 use Rattle.merge_document.specs.declared.search.FoundConflicts.{FoundConflicts}
 
--- What was found are conflicts of the document, each a true one. Where no field repeats an argument, nor a key in one, what
--- two fields of one set have between them is told; and none is missed, if the conditions of inline fragments are known, too.
-pub record IsJudged {S C : Type 0} (E : S → S → Bool) (schema : Catalog S C) (document : List (Definition S)) (f : FoundConflicts S C) : Type 0 where
+-- What was found are conflicts of the document, each a true one. Where no field repeats an argument, nor a key in one,
+-- what two fields of one set have between them is told; and none is missed, if the conditions of inline fragments are
+-- known, too.
+pub record IsJudged {S C : Type 0} (E : S → S → Bool) (schema : Catalog S C) (document : List (Definition S))
+    (f : FoundConflicts S C) : Type 0 where
   pub numbered : Reports Entry
   pub reports : Reports (PlainEntry S C)
   pub found : f.found.items ≡ postfix numbered

@@ -19,7 +19,8 @@ module _ {S C : Type 0} where
   Same a b = response_of a ≡ response_of b
 
 module _ {S C : Type 0} (E : S → S → Bool) (schema : Catalog S C) where
-  -- The two fail by themselves: by names, arguments or types; the flag says that they stand where no object is asked for both.
+  -- The two fail by themselves: by names, arguments or types; the flag says that they stand where no object is asked
+  -- for both.
   abbrev pub Fails : Bool → PlainEntry S C → PlainEntry S C → Type 0
   Fails e a b = is_some (direct_of E schema e a b) ≡ true
 
@@ -32,7 +33,8 @@ module _ {S C : Type 0} (E : S → S → Bool) (schema : Catalog S C) (document 
   pub data Below (a b : PlainEntry S C) : PlainEntry S C → PlainEntry S C → Type 0 where
     below : {c d : PlainEntry S C} {v w : Vec (Selection S) Global}
         → a.field.item.selection_set ≡ Some v → b.field.item.selection_set ≡ Some w
-        → Stands schema document (type_below schema a) v.items c → Stands schema document (type_below schema b) w.items d → Same c d → Below a b c d
+        → Stands schema document (type_below schema a) v.items c
+            → Stands schema document (type_below schema b) w.items d → Same c d → Below a b c d
 
   -- They pass, and so do all pairs below them, no less excluded.
   pub data Merges : Bool → PlainEntry S C → PlainEntry S C → Type 0 where

@@ -1,5 +1,5 @@
--- Selection sets written out: the own fields of a set, and for each spread the written-out set of the fragment's last definition (section 5.3.2).
--- A spread of an unknown fragment gives nothing.
+-- Selection sets written out: the own fields of a set, and for each spread the written-out set of the fragment's last
+-- definition (section 5.3.2). A spread of an unknown fragment gives nothing.
 use Rattle.std.specs.Prelude.{◌≡◌, ℕ, List, Option, Some, slice_get}
 use Rattle.std.specs.List.{Contains}
 use Rattle.language.specs.declared.tree.Selection.{Selection}

@@ -28,7 +28,8 @@ module _ {S C : Type 0} (rules : Rules S C) where
   -- So the fields of a document merge where the rules of the first stage find nothing.
   abbrev pub CleanMergesFairly : Type 0
   CleanMergesFairly =
-      (schema : Catalog S C) (t : Typing S C) (document : List (Definition S)) → rules.first_stage.find_nothing (scope_of schema document) t document
+      (schema : Catalog S C) (t : Typing S C) (document : List (Definition S))
+          → rules.first_stage.find_nothing (scope_of schema document) t document
       → MergesFairly rules.same schema document
 
   -- And each field of a valid document merges with itself.

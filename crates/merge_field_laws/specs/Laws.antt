@@ -14,11 +14,15 @@ use Rattle.merge_document.specs.WrittenOut.{Stands}
 use Rattle.merge_document.specs.Merging.{Merges, SetMerges, DocumentMerges}
 use Rattle.merge_document.specs.Conflicts.{IsTidyDocument}
 
--- The sets below a field, at any depth: that of the field itself, and those below each field that stands there written out.
-pub data IsBelow {S C : Type 0} (schema : Catalog S C) (document : List (Definition S)) : PlainEntry S C → Option (MetaTypeOf S C) → List (Selection S) → Type 0 where
-  next : {a : PlainEntry S C} {w : Vec (Selection S) Global} → a.field.item.selection_set ≡ Some w → IsBelow schema document a (type_below schema a) w.items
+-- The sets below a field, at any depth: that of the field itself, and those below each field that stands there written
+-- out.
+pub data IsBelow {S C : Type 0} (schema : Catalog S C) (document : List (Definition S)) : PlainEntry S C
+    → Option (MetaTypeOf S C) → List (Selection S) → Type 0 where
+  next : {a : PlainEntry S C} {w : Vec (Selection S) Global} → a.field.item.selection_set ≡ Some w
+      → IsBelow schema document a (type_below schema a) w.items
   deeper : {a b : PlainEntry S C} {w : Vec (Selection S) Global} {p : Option (MetaTypeOf S C)} {set : List (Selection S)}
-      → a.field.item.selection_set ≡ Some w → Stands schema document (type_below schema a) w.items b → IsBelow schema document b p set → IsBelow schema document a p set
+      → a.field.item.selection_set ≡ Some w → Stands schema document (type_below schema a) w.items b
+          → IsBelow schema document b p set → IsBelow schema document a p set
 
 module _ (S C : Type 0) (E : S → S → Bool) where
   -- Two fields of a tidy document merge just if they do in the other order.
@@ -42,8 +46,10 @@ module _ (S C : Type 0) (E : S → S → Bool) where
       → ((p : Option (MetaTypeOf S C)) (set : List (Selection S)) → IsBelow schema document a p set → SetMerges E schema document p set)
       → (e : Bool) → Merges E schema document e a a
 
-  -- So where the document merges, and the conditions of its inline fragments are known, each of its fields merges with itself.
+  -- So where the document merges, and the conditions of its inline fragments are known, each of its fields merges with
+  -- itself.
   abbrev pub EachMergesWithItself : Type 0
   EachMergesWithItself =
-      (schema : Catalog S C) (document : List (Definition S)) → IsTidyDocument schema document → HasKnownConditions schema document → HasNoCycle document → DocumentMerges E schema document
+      (schema : Catalog S C) (document : List (Definition S)) → IsTidyDocument schema document
+          → HasKnownConditions schema document → HasNoCycle document → DocumentMerges E schema document
       → (a : PlainEntry S C) → IsFieldIn schema document a → (e : Bool) → Merges E schema document e a a

@@ -6,8 +6,9 @@ use meta::check::CheckedScalar;
 use validation::AllRules;
 use validation::laws::clean_documents;
 
-/// Laws of the fields of a document in which the rules of the first stage find nothing. Two of them merge if and only if they merge in
-/// the other order. Two that merge also merge where no object is asked for both. A field merges with itself if all sets below it merge.
+/// Laws of the fields of a document in which the rules of the first stage find nothing. Two of them merge if and only
+/// if they merge in the other order. Two that merge also merge where no object is asked for both. A field merges with
+/// itself if all sets below it merge.
 pub fn merges_where_clean<'a, S: CheckedScalar + 'a>()
     ensures { CleanMergesFairly ⟦<S as AllRules<'a>>⟧.rules }
 {

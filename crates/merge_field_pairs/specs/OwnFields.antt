@@ -1,4 +1,5 @@
--- The own fields of a selection set, and the names that it spreads itself: inline fragments are opened, in order (section 5.3.2).
+-- The own fields of a selection set, and the names that it spreads itself: inline fragments are opened, in order
+-- (section 5.3.2).
 use Rattle.std.specs.Prelude.{ℕ, List, [], ◌∷◌, Option, option_and_then}
 use Rattle.std.specs.List.{flat_map}
 use Rattle.std.specs.Option.{option_or}
@@ -42,17 +43,20 @@ module _ {S C : Type 0} where
   type_below schema a = option_and_then (λ m. type_in (shape m.field_type).name schema) a.metadata
 
   -- one level of each kind of node, with what each node inside has
-  abbrev pub selection_step : opened.Selection-F S (Selection S × OwnUnder S C) (Field S × OwnUnder S C) (InlineFragment S × OwnUnder S C) → OwnUnder S C
+  abbrev pub selection_step : opened.Selection-F S (Selection S × OwnUnder S C) (Field S × OwnUnder S C)
+      (InlineFragment S × OwnUnder S C) → OwnUnder S C
   selection_step (opened.Field f) parent = entry_under parent (record { item = f.item.0; span = f.span }) ∷ []
   selection_step (opened.FragmentSpread s) parent = []
   selection_step (opened.InlineFragment i) parent = i.item.1 parent
 
   -- what stands below a field is not its set's own
-  abbrev pub field_step : opened.Field-F S (Selection S × OwnUnder S C) (Field S × OwnUnder S C) (InlineFragment S × OwnUnder S C) → OwnUnder S C
+  abbrev pub field_step : opened.Field-F S (Selection S × OwnUnder S C) (Field S × OwnUnder S C)
+      (InlineFragment S × OwnUnder S C) → OwnUnder S C
   field_step f parent = []
 
   -- an inline fragment has what its members have, under the type inside it
-  abbrev pub inline_step : Catalog S C → opened.InlineFragment-F S (Selection S × OwnUnder S C) (Field S × OwnUnder S C) (InlineFragment S × OwnUnder S C) → OwnUnder S C
+  abbrev pub inline_step : Catalog S C → opened.InlineFragment-F S (Selection S × OwnUnder S C) (Field S × OwnUnder S C)
+      (InlineFragment S × OwnUnder S C) → OwnUnder S C
   inline_step schema i parent = flat_map (λ c. c.1 (type_inside schema parent i.type_condition)) i.selection_set.items
 
   -- The own fields of a selection under a type. By cases:

@@ -39,4 +39,5 @@ joined reasons = join_by (λ t. t) (codes " and ") reasons
 -- of the error, by the response name and the reason of the two fields
 abbrev pub message_text : List ℕ → List ℕ → List ℕ
 message_text response reason =
-    codes "Fields \"" ++ (response ++ (codes "\" conflict because " ++ (reason ++ codes ". Use different aliases on the fields to fetch both if this was intentional")))
+    codes "Fields \"" ++ (response ++ (codes "\" conflict because "
+        ++ (reason ++ codes ". Use different aliases on the fields to fetch both if this was intentional")))

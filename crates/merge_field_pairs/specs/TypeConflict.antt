@@ -1,5 +1,6 @@
 -- Whether two types can't stand in one place of a response (section 5.3.2).
-use Rattle.std.specs.Prelude.{ℕ, List, [], ◌∷◌, reverse, Bool, true, false, not, ◌&&◌, ◌||◌, nat_eq, Option, Some, None, if◌then◌else◌}
+use Rattle.std.specs.Prelude.{ℕ, List, [], ◌∷◌, reverse, Bool, true, false, not, ◌&&◌, ◌||◌, nat_eq, Option, Some, None}
+use Rattle.std.specs.Prelude.{if◌then◌else◌}
 use Rattle.std.specs.Option.{option_map_or, option_eq}
 use Rattle.std.specs.Str.{bytes_eq}
 use Rattle.language.specs.Types.{TypeShape, outermost, inner_of}
@@ -49,4 +50,5 @@ module _ {S C : Type 0} (schema : Catalog S C) where
   -- by the outermost modifiers, in the words of the rule
   abbrev pub conflict_by_outermost : TypeShape → TypeShape → Bool
   conflict_by_outermost t u =
-      by_settled (do_names_conflict t.name u.name) (do_types_conflict (inner_of t) (inner_of u)) (settled_of (outermost t.modifiers) (outermost u.modifiers))
+      by_settled (do_names_conflict t.name u.name) (do_types_conflict (inner_of t) (inner_of u))
+          (settled_of (outermost t.modifiers) (outermost u.modifiers))

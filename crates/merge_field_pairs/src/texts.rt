@@ -2,7 +2,8 @@
 ghost use Rattle.std.specs.Prelude.{◌≡◌, IfOk, codes, map, string_bytes};
 ghost use Rattle.language.specs.Types.{shape};
 ghost use Rattle.merge_field_pairs.specs.Entries.{plain};
-ghost use Rattle.merge_field_pairs.specs.Texts.{direct_text, names_text, arguments_text, types_text, nested_text, joined, message_text};
+ghost use Rattle.merge_field_pairs.specs.Texts.{direct_text, names_text, arguments_text, types_text, nested_text};
+ghost use Rattle.merge_field_pairs.specs.Texts.{joined, message_text};
 
 use crate::direct::DirectReason;
 use crate::entry::Entry;

@@ -10,5 +10,6 @@ use Rattle.merge_field_pairs.proofs.AlikeLaws.{alike_at}
 use Rattle.merge_search.specs.Judgement.{AlikeAgree}
 use Rattle.merge_graph.specs.Judging.{judgement_by}
 
-pub alike_agree : {S C : Type 0} (E : S → S → Bool) (schema : Catalog S C) (fields : List (PlainEntry S C)) → AlikeAgree (judgement_by E schema fields) (AreAlikeAt fields)
+pub alike_agree : {S C : Type 0} (E : S → S → Bool) (schema : Catalog S C) (fields : List (PlainEntry S C))
+    → AlikeAgree (judgement_by E schema fields) (AreAlikeAt fields)
 alike_agree E schema fields e one a b p q = ap (λ (o : Option DirectReason). is_some o) (alike_at E schema fields e one a b p q)

@@ -31,14 +31,17 @@ module _ {S C : Type 0} where
 
   -- The place of each fragment whose set isn't there yet is free.
   abbrev pub AreFree : List (Definition S) → (List ℕ → Option ℕ) → Building S C → Type 0
-  AreFree document numbers b = (name : List ℕ) (g place : ℕ) → numbers name ≡ Some g → length b.fragments.items ≤ g → IsLast document name place → IsFree place b
+  AreFree document numbers b =
+      (name : List ℕ) (g place : ℕ) → numbers name ≡ Some g → length b.fragments.items ≤ g → IsLast document name place
+      → IsFree place b
 
   -- The sets of the definition at the place are there.
   abbrev pub HasSetAt : Catalog S C → List (Definition S) → (List ℕ → Option ℕ) → ℕ → Building S C → Type 0
   HasSetAt schema document numbers place b = (d : Definition S) → slice_get document place ≡ Some d → AreSetsAt schema numbers place d b
 
   -- The sets of the definition at the place are there now.
-  pub record AddsMissing (schema : Catalog S C) (document : List (Definition S)) (numbers : List ℕ → Option ℕ) (place : ℕ) (b b' : Building S C) : Type 0 where
+  pub record AddsMissing (schema : Catalog S C) (document : List (Definition S)) (numbers : List ℕ → Option ℕ)
+      (place : ℕ) (b b' : Building S C) : Type 0 where
     pub built : Built schema document numbers b'
     pub extends : Extends (numbered b.table) (numbered b'.table)
     pub fragments : b'.fragments.items ≡ b.fragments.items
@@ -46,13 +49,15 @@ module _ {S C : Type 0} where
     pub has : HasSetAt schema document numbers place b'
 
   -- The sets of the definitions before the place are there now.
-  pub record AddsOthers (schema : Catalog S C) (document : List (Definition S)) (numbers : List ℕ → Option ℕ) (place : ℕ) (b b' : Building S C) : Type 0 where
+  pub record AddsOthers (schema : Catalog S C) (document : List (Definition S)) (numbers : List ℕ → Option ℕ)
+      (place : ℕ) (b b' : Building S C) : Type 0 where
     pub built : Built schema document numbers b'
     pub fragments : b'.fragments.items ≡ b.fragments.items
     pub has : (p : ℕ) → p < place → HasSetAt schema document numbers p b'
 
   -- All sets of the document are there.
-  pub record IsComplete (schema : Catalog S C) (document : List (Definition S)) (numbers : List ℕ → Option ℕ) (b : Building S C) : Type 0 where
+  pub record IsComplete (schema : Catalog S C) (document : List (Definition S)) (numbers : List ℕ → Option ℕ)
+      (b : Building S C) : Type 0 where
     pub built : Built schema document numbers b
     pub all : KnowsAll numbers b.fragments.items
     pub has : (d : Definition S) → Contains document d → (p : ℕ) × AreSetsAt schema numbers p d b

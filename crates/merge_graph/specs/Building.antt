@@ -1,5 +1,6 @@
 -- How the sets of a document are added, definition by definition.
-use Rattle.std.specs.Prelude.{◌≡◌, ◌<◌, ◌≤◌, ◌+◌, ℕ, List, [], ◌∷◌, ◌++◌, map, Option, Some, None, length, get_or, slice_get, slice_set, slice_range, true, option_and_then}
+use Rattle.std.specs.Prelude.{◌≡◌, ◌<◌, ◌≤◌, ◌+◌, ℕ, List, [], ◌∷◌, ◌++◌, map, Option, Some, None, length, get_or}
+use Rattle.std.specs.Prelude.{slice_get, slice_set, slice_range, true, option_and_then}
 use Rattle.std.specs.List.{flat_map}
 use Rattle.std.specs.declared.vec.Vec.{Vec}
 use Rattle.std.specs.declared.alloc.Global.{Global}
@@ -62,7 +63,8 @@ module _ {S C : Type 0} where
       → (k : ℕ) × (is_among (order_at b place) k ≡ true) × IsPartAt schema numbers (numbered b.table) k q inner
 
   -- The fragment of the number has the set of its last definition.
-  pub record IsFragment (schema : Catalog S C) (document : List (Definition S)) (numbers : List ℕ → Option ℕ) (m : Numbered S C) (fragments : List ℕ) (name : List ℕ) (g : ℕ) : Type 0 where
+  pub record IsFragment (schema : Catalog S C) (document : List (Definition S)) (numbers : List ℕ → Option ℕ)
+      (m : Numbered S C) (fragments : List ℕ) (name : List ℕ) (g : ℕ) : Type 0 where
     pub set : ℕ
     pub stored : slice_get fragments g ≡ Some set
     pub place : ℕ
@@ -80,13 +82,15 @@ module _ {S C : Type 0} where
     pub size : table_size b'.table + length b.table.order.items ≡ table_size b.table
 
   -- The set of a definition was added, with all sets in it.
-  pub record AddsDefinition (schema : Catalog S C) (names : List ℕ → Option ℕ) (d : Definition S) (place n : ℕ) (b b' : Building S C) : Type 0 where
+  pub record AddsDefinition (schema : Catalog S C) (names : List ℕ → Option ℕ) (d : Definition S) (place n : ℕ)
+      (b b' : Building S C) : Type 0 where
     pub grown : Table S C
     pub adds : AddsSet schema names (type_round schema d) (selections_of d) n b.table grown
     pub notes : NotesOrder place (record b { table = grown }) b'
 
   -- The definition's set was added as that of the next fragment.
-  pub record AddsFragment (schema : Catalog S C) (names : List ℕ → Option ℕ) (d : Definition S) (place : ℕ) (b b' : Building S C) : Type 0 where
+  pub record AddsFragment (schema : Catalog S C) (names : List ℕ → Option ℕ) (d : Definition S) (place : ℕ)
+      (b b' : Building S C) : Type 0 where
     pub middle : Building S C
     pub set : ℕ
     pub adds : AddsDefinition schema names d place set b middle
@@ -107,10 +111,13 @@ module _ {S C : Type 0} where
 
   -- The set of the number is that of one of the document, under the type around it.
   abbrev pub HasOrigin : Catalog S C → List (Definition S) → (List ℕ → Option ℕ) → Numbered S C → ℕ → Type 0
-  HasOrigin schema document numbers m k = (p : Option (MetaTypeOf S C)) × (set : List (Selection S)) × IsSetIn schema document p set × IsSetOf schema numbers m k p set
+  HasOrigin schema document numbers m k =
+      (p : Option (MetaTypeOf S C)) × (set : List (Selection S)) × IsSetIn schema document p set
+      × IsSetOf schema numbers m k p set
 
-  -- What was added is right: each place with a stretch has the sets of its definition, and each set stands at some place where
-  -- conditions are known. The fragments that are there have their numbers and their sets, which stand at some place.
+  -- What was added is right: each place with a stretch has the sets of its definition, and each set stands at some
+  -- place where conditions are known. The fragments that are there have their numbers and their sets, which stand at
+  -- some place.
   pub record Built (schema : Catalog S C) (document : List (Definition S)) (numbers : List ℕ → Option ℕ) (b : Building S C) : Type 0 where
     pub apart : AreApart b.table.responses
     pub order : b.table.order.items ≡ []
@@ -121,7 +128,8 @@ module _ {S C : Type 0} where
     pub whole : HasKnownConditions schema document → (k : ℕ) → k < length b.table.sets.items → (p : ℕ) × (is_among (order_at b p) k ≡ true)
     pub added : (p : ℕ) (ends : ℕ × ℕ) (d : Definition S) → slice_get b.stretches.items p ≡ Some (Some ends) → slice_get document p ≡ Some d
         → AreSetsAt schema numbers p d b
-    pub fragments : (name : List ℕ) (g : ℕ) → numbers name ≡ Some g → g < length b.fragments.items → IsFragment schema document numbers (numbered b.table) b.fragments.items name g
+    pub fragments : (name : List ℕ) (g : ℕ) → numbers name ≡ Some g → g < length b.fragments.items
+        → IsFragment schema document numbers (numbered b.table) b.fragments.items name g
     -- each number of a fragment is that of a name
     pub named : (g : ℕ) → g < length b.fragments.items → (name : List ℕ) × (numbers name ≡ Some g)
     pub listed : (g : ℕ) → g < length b.fragments.items → (p : ℕ) × (is_among (order_at b p) (get_or b.fragments.items g 0) ≡ true)
@@ -129,4 +137,6 @@ module _ {S C : Type 0} where
     pub sets_from : (k p : ℕ) → is_among (order_at b p) k ≡ true → HasOrigin schema document numbers (numbered b.table) k
     pub fields_from : (k : ℕ) (a : PlainEntry S C) → slice_get (map plain b.table.fields.items) k ≡ Some a → IsNodeIn schema document a
     -- where conditions are known, they take no more than their share
-    pub size : HasKnownConditions schema document → table_size b.table + length (flat_map (stretch_of b.order.items) b.stretches.items) ≤ share_taken b.stretches.items document
+    pub size : HasKnownConditions schema document
+        → table_size b.table + length (flat_map (stretch_of b.order.items) b.stretches.items)
+        ≤ share_taken b.stretches.items document

@@ -1,5 +1,6 @@
 -- The definitions of a document: the set of each, the type around it, and the last of a name.
-use Rattle.std.specs.Prelude.{◌≡◌, ◌≤◌, ℕ, List, length, Bool, true, false, Option, Some, None, slice_get, slice_set, option_and_then}
+use Rattle.std.specs.Prelude.{◌≡◌, ◌≤◌, ℕ, List, length, Bool, true, false, Option, Some, None, slice_get, slice_set}
+use Rattle.std.specs.Prelude.{option_and_then}
 use Rattle.std.specs.List.{filter}
 use Rattle.language.specs.declared.tree.Selection.{Selection}
 use Rattle.language.specs.declared.tree.Definition.{Definition}

@@ -19,7 +19,8 @@ use Rattle.merge_graph.specs.Sizes.{graph_size, document_share}
 use Rattle.merge_graph.specs.TableGraph.{IsGraphOfTable}
 
 -- Where sets and fields of the graph come from, and how many fragments it has.
-pub record AreOrigins {S C : Type 0} (schema : Catalog S C) (document : List (Definition S)) (numbers : List ℕ → Option ℕ) (table : Numbered S C) (fragment_sets order : List ℕ) : Type 0 where
+pub record AreOrigins {S C : Type 0} (schema : Catalog S C) (document : List (Definition S))
+    (numbers : List ℕ → Option ℕ) (table : Numbered S C) (fragment_sets order : List ℕ) : Type 0 where
   -- each set of the order is that of one of the document, under the type around it
   pub sets : (k : ℕ) → Contains order k → HasOrigin schema document numbers table k
   -- each field is one of the document
@@ -29,7 +30,8 @@ pub record AreOrigins {S C : Type 0} (schema : Catalog S C) (document : List (De
   -- each set stands in the order where conditions are known
   pub whole : HasKnownConditions schema document → (k : ℕ) → k < length table.sets → Contains order k
 
--- Each fragment has a number of its own and the set of its last definition, and each set of the document stands in the order, or is a part of one there.
+-- Each fragment has a number of its own and the set of its last definition, and each set of the document stands in the
+-- order, or is a part of one there.
 pub record IsGraphOf {S C : Type 0} (schema : Catalog S C) (document : List (Definition S)) (g : Graph (FieldJudge S C)) : Type 0 where
   pub table : Numbered S C
   pub numbers : List ℕ → Option ℕ
@@ -40,7 +42,8 @@ pub record IsGraphOf {S C : Type 0} (schema : Catalog S C) (document : List (Def
   pub defined : (name : List ℕ) → ((f : ℕ) × (numbers name ≡ Some f)) ↔ Defines document name
   pub single : (name other : List ℕ) (f : ℕ) → numbers name ≡ Some f → numbers other ≡ Some f → name ≡ other
   pub fragments : (name : List ℕ) (f : ℕ) → numbers name ≡ Some f → IsFragment schema document numbers table fragment_sets name f
-  pub sets : (p : Option (MetaTypeOf S C)) (set : List (Selection S)) → IsSetIn schema document p set → (s : ℕ) × Contains order s × IsPartAt schema numbers table s p set
+  pub sets : (p : Option (MetaTypeOf S C)) (set : List (Selection S)) → IsSetIn schema document p set → (s : ℕ)
+      × Contains order s × IsPartAt schema numbers table s p set
   pub origins : AreOrigins schema document numbers table fragment_sets order
   -- where conditions are known it is linear in the document
   pub size : HasKnownConditions schema document → graph_size g ≤ document_share document

@@ -18,7 +18,8 @@ module _ {S C : Type 0} (schema : Catalog S C) (document : List (Definition S)) 
 
   -- The field stands in some set of the document.
   abbrev pub IsFieldIn : PlainEntry S C → Type 0
-  IsFieldIn a = (p : Option (MetaTypeOf S C)) × (set : List (Selection S)) × IsSetIn p set × Contains set (selection.Field a.field) × (a ≡ entry_under p a.field)
+  IsFieldIn a = (p : Option (MetaTypeOf S C)) × (set : List (Selection S)) × IsSetIn p set
+      × Contains set (selection.Field a.field) × (a ≡ entry_under p a.field)
 
   -- The field stands in some set of the document, under whatever type.
   abbrev pub IsNodeIn : PlainEntry S C → Type 0

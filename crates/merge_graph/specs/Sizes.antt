@@ -28,4 +28,5 @@ set_size s = 1 + (length s.own + length s.spreads)
 
 -- A graph: its fields, its order, its inner sets and the spreads as they are written, and its sets.
 abbrev pub graph_size : {S C : Type 0} → Graph (FieldJudge S C) → ℕ
-graph_size g = length g.judge.fields.items + length g.order.items + length g.inner.items + length g.written.items + sum_by (λ n. set_size (plain_node n)) g.sets.items
+graph_size g = length g.judge.fields.items + length g.order.items + length g.inner.items + length g.written.items +
+    sum_by (λ n. set_size (plain_node n)) g.sets.items

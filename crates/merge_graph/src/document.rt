@@ -1,5 +1,6 @@
 //! The graph of a document.
-ghost use Rattle.std.specs.Prelude.{◌≡◌, ◌<◌, ◌+◌, ◌↔◌, ℕ, List, [], Some, Option, OnOk, IfOk, IfSome, IsSome, length, map, option_and_then, slice_get};
+ghost use Rattle.std.specs.Prelude.{◌≡◌, ◌<◌, ◌+◌, ◌↔◌, ℕ, List, [], Some, Option, OnOk, IfOk, IfSome, IsSome, length};
+ghost use Rattle.std.specs.Prelude.{map, option_and_then, slice_get};
 ghost use Rattle.std.specs.List.{flat_map};
 ghost use Rattle.fragment_graph.specs.DocumentCycles.{HasNoCycle, SearchedDocument};
 ghost use Rattle.merge_field_pairs.specs.Entries.{plain};
@@ -14,7 +15,8 @@ ghost use Rattle.merge_graph.specs.Building.{rank_in, AreKnown, AreStretches, st
 ghost use Rattle.merge_graph.specs.TableGraph.{IsGraphOfTable};
 ghost use Rattle.merge_graph.specs.Judging.{judgement_of};
 ghost use Rattle.merge_graph.specs.DocumentGraph.{IsGraphOf};
-ghost use Rattle.merge_graph.specs.Assembly.{AreRanked, AreInPlaces, joined_order, AreFree, KnowsAll, AddsMissing, AddsOthers, IsComplete};
+ghost use Rattle.merge_graph.specs.Assembly.{AreRanked, AreInPlaces, joined_order, AreFree, KnowsAll, AddsMissing};
+ghost use Rattle.merge_graph.specs.Assembly.{AddsOthers, IsComplete};
 
 use crate::building::{Building, add_definition, add_fragment, no_building};
 use crate::definitions::last_places;

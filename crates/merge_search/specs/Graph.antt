@@ -17,7 +17,9 @@ height a = option_map_or (λ s. suc s) a.below 0
 
 -- Each set refers to smaller sets alone, and spreads fragments that there are.
 abbrev pub Falling : List SetNode → List ℕ → Type 0
-Falling sets fragments = (s : ℕ) → All (λ a. height a ≤ s) (own_at sets s) × All (λ f. (f < length fragments) × (get_or fragments f 0 < s)) (spreads_at sets s)
+Falling sets fragments =
+    (s : ℕ) → All (λ a. height a ≤ s) (own_at sets s)
+    × All (λ f. (f < length fragments) × (get_or fragments f 0 < s)) (spreads_at sets s)
 
 -- The set of each fragment stands in the order.
 abbrev pub AreListed : List ℕ → List ℕ → Type 0

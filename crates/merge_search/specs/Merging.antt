@@ -49,7 +49,8 @@ SetMerges w s = (a b : Entry) → Apart w s a b → Same a b → Merges w false 
 
 -- Two own fields, the first before the second.
 abbrev pub OwnWithin : World → Search → ℕ → Type 0
-OwnWithin w M s = (k l : ℕ) (a b : Entry) → k < l → slice_get (own_of w s) k ≡ Some a → slice_get (own_of w s) l ≡ Some b → Same a b → Done w M false a b
+OwnWithin w M s = (k l : ℕ) (a b : Entry) → k < l → slice_get (own_of w s) k ≡ Some a
+    → slice_get (own_of w s) l ≡ Some b → Same a b → Done w M false a b
 
 -- The own fields of a set, and a fragment written out.
 abbrev pub OwnWritten : World → Search → ℕ → ℕ → Type 0
@@ -57,7 +58,9 @@ OwnWritten w M s f = (a b : Entry) → Contains (own_of w s) a → Stands w (set
 
 -- Each two fragments that a set spreads.
 abbrev pub SpreadsWithin : World → Search → ℕ → Type 0
-SpreadsWithin w M s = (k l f g : ℕ) → k < l → slice_get (spreads_of w s) k ≡ Some f → slice_get (spreads_of w s) l ≡ Some g → Pair M false f g
+SpreadsWithin w M s =
+    (k l f g : ℕ) → k < l → slice_get (spreads_of w s) k ≡ Some f → slice_get (spreads_of w s) l ≡ Some g
+    → Pair M false f g
 
 -- What the search asks of one set.
 abbrev pub Top : World → Search → ℕ → Type 0

@@ -21,7 +21,8 @@ WasSearched s (Below i e) g = Searched s e i g
 abbrev pub ReachedFrom : World → List ℕ → ℕ → Type 0
 ReachedFrom w gs h = (g : ℕ) × Contains gs g × Reaches w g h
 
--- Fragments that some reach, these among them, and no more of them than there are; all of them but for what is passed and what that spreads.
+-- Fragments that some reach, these among them, and no more of them than there are; all of them but for what is passed
+-- and what that spreads.
 pub record Opens (w : World) (IsPassed : ℕ → Type 0) (gs hs : List ℕ) : Type 0 where
   pub first : All (λ g. Contains hs g) gs
   pub followed : (h k : ℕ) → Contains hs h → Contains (spreads_of w (set_of w h)) k → Contains hs k ⊎ IsPassed h

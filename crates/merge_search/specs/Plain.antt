@@ -1,4 +1,5 @@
--- Sets in which nothing can fail: each field in them, and below, has a response name under which all fields of the graph agree.
+-- Sets in which nothing can fail: each field in them, and below, has a response name under which all fields of the
+-- graph agree.
 use Rattle.std.specs.Prelude.{ℕ, Bool, Some, false, true, ◌≡◌, ◌⊎◌}
 use Rattle.std.specs.List.{Contains}
 use Rattle.bit_matrix.specs.Set.{has}
@@ -14,7 +15,8 @@ Occurs w a = (s : ℕ) × Contains (own_of w s) a
 abbrev pub IsPlainName : World → ℕ → Type 0
 IsPlainName w n = (e : Bool) (a b : Entry) → Occurs w a → Occurs w b → a.response ≡ n → b.response ≡ n → conflict_of w e a b ≡ false
 
--- The names of its own fields are plain, and so are all names in the sets below them and in the fragments that it spreads.
+-- The names of its own fields are plain, and so are all names in the sets below them and in the fragments that it
+-- spreads.
 pub data IsPlain (w : World) : ℕ → Type 0 where
   plain : {s : ℕ} → ((a : Entry) → Contains (own_of w s) a → IsPlainName w a.response)
       → ((a : Entry) (t : ℕ) → Contains (own_of w s) a → a.below ≡ Some t → IsPlain w t)

@@ -98,15 +98,18 @@ AtSearched w order r = (s : ℕ) × Contains order s × AtPlaces w s r
 abbrev pub Real : World → List ℕ → List Finding → Type 0
 Real w order found = Adds w false (AtSearched w order) [] found
 
--- Nothing is missed: no report where all sets of the order merge, each failing pair of such a set is reported, and at the top where one of the two is an own field of the set.
--- Where each set stands in the order, there is no report only if every set merges, and each way to a fault passes a report.
+-- Nothing is missed: no report where all sets of the order merge, each failing pair of such a set is reported, and at
+-- the top where one of the two is an own field of the set. Where each set stands in the order, there is no report only
+-- if every set merges, and each way to a fault passes a report.
 pub record Complete (w : World) (order : List ℕ) (found : List Finding) (roots : List Root) : Type 0 where
   pub exact : IsWhole w.sets order → found ≡ [] → (s : ℕ) (a b : Entry) → Stands w s a → Stands w s b → Same a b → Merges w false a b
   pub merges : IsWhole w.sets order → found ≡ [] → (s : ℕ) → SetMerges w s
   pub refuses : 0 < length found → ((s : ℕ) → Contains order s → SetMerges w s) → ⊥
   pub ways : IsWhole w.sets order → (s : ℕ) (a b : Entry) → Stands w s a → Stands w s b → Same a b → (v : Way w false a b) → Passes found v
-  pub failing : (s : ℕ) (a b : Entry) → Contains order s → Stands w s a → Stands w s b → Same a b → conflict_of w false a b ≡ true → Told w found a b
-  pub at_the_top : (s : ℕ) (a b : Entry) → Contains order s → Contains (own_of w s) a → Stands w s b → Same a b → conflict_of w false a b ≡ true → IsRoot roots a b
+  pub failing : (s : ℕ) (a b : Entry) → Contains order s → Stands w s a → Stands w s b → Same a b
+      → conflict_of w false a b ≡ true → Told w found a b
+  pub at_the_top : (s : ℕ) (a b : Entry) → Contains order s → Contains (own_of w s) a → Stands w s b → Same a b
+      → conflict_of w false a b ≡ true → IsRoot roots a b
 
 -- What was found is true, and where the judgement keeps its laws nothing is missed.
 pub record Judged (w : World) (order : List ℕ) (found : List Finding) : Type 0 where

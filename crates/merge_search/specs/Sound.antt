@@ -38,4 +38,5 @@ pub record Sound (w : World) (IsPassed : ℕ → Type 0) (gs : List ℕ) (o : Op
   pub reached : All (ReachedFrom w gs) o.order.items
   pub below : All (λ h. h < length w.fragments) o.order.items
   pub waiting : All (λ h. Contains o.order.items h) o.waiting.items
-  pub followed : (h : ℕ) → Contains o.order.items h → Contains o.waiting.items h ⊎ (All (λ k. Contains o.order.items k) (spreads_of w (set_of w h)) ⊎ IsPassed h)
+  pub followed : (h : ℕ) → Contains o.order.items h → Contains o.waiting.items h
+      ⊎ (All (λ k. Contains o.order.items k) (spreads_of w (set_of w h)) ⊎ IsPassed h)

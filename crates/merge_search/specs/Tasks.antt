@@ -1,5 +1,6 @@
 -- What the tasks of a search make of its state.
-use Rattle.std.specs.Prelude.{ℕ, ◌<◌, ◌≤◌, ◌-◌, List, [], ◌∷◌, length, drop, reverse, Bool, Some, false, ◌≡◌, ◌⊎◌, slice_get}
+use Rattle.std.specs.Prelude.{ℕ, ◌<◌, ◌≤◌, ◌-◌, List, [], ◌∷◌, length, drop, reverse, Bool, Some, false, ◌≡◌, ◌⊎◌}
+use Rattle.std.specs.Prelude.{slice_get}
 use Rattle.std.specs.Option.{option_map_or}
 use Rattle.std.specs.List.{All, Contains}
 use Rattle.merge_search.specs.declared.node.Entry.{Entry}
@@ -16,13 +17,15 @@ use Rattle.merge_search.specs.World.{World, own_of, spreads_of, set_of, conflict
 use Rattle.merge_search.specs.Opening.{Reaches}
 use Rattle.merge_search.specs.State.{Keeps, Reports}
 use Rattle.merge_search.specs.Work.{Did, Owes, Done, Searched, Pair, SetsDone}
-use Rattle.merge_search.specs.Reports.{Root, Finds, FindsAll, AtFields, AtWith, AtNamed, AtOwn, AtSearch, AtFragments, AtFirst, AtBelow}
+use Rattle.merge_search.specs.Reports.{Root, Finds, FindsAll, AtFields, AtWith, AtNamed, AtOwn, AtSearch, AtFragments}
+use Rattle.merge_search.specs.Reports.{AtFirst, AtBelow}
 
 -- The first own field of each response name of a set.
 abbrev pub firsts_at : List SetNode → ℕ → List Entry
 firsts_at sets s = option_map_or (λ n. firsts_of n.own.items n.index) (slice_get sets s) []
 
--- From old to new D was done, what was found stands at P, and each pair of Q that fails of itself has a report of its own.
+-- From old to new D was done, what was found stands at P, and each pair of Q that fails of itself has a report of its
+-- own.
 pub record Compares (w : World) (e : Bool) (D : Search → Type 0) (P Q : Root → Type 0) (old new : Search) : Type 0 where
   pub done : Did w D old new
   pub real : FindsAll w e P Q old new
@@ -38,7 +41,8 @@ pub record SearchesOwing (w : World) (e : Bool) (O D : Search → Type 0) (P : R
   pub real : Finds w e P old new
 
 -- The same of each of some fields.
-abbrev pub ComparesEach : World → Bool → (Entry → Search → Type 0) → (Root → Type 0) → (Entry → Root → Type 0) → List Entry → Search → Search → Type 0
+abbrev pub ComparesEach : World → Bool → (Entry → Search → Type 0) → (Root → Type 0) → (Entry → Root → Type 0)
+    → List Entry → Search → Search → Type 0
 ComparesEach w e D P Q items = Compares w e (λ M. All (λ x. D x M) items) P (λ r. (x : Entry) × Contains items x × Q x r)
 
 abbrev pub MeetsFields : World → Bool → Entry → Entry → Search → Search → Type 0
@@ -73,7 +77,8 @@ abbrev pub MeetsSearch : World → Bool → ℕ → ℕ → Search → Search �
 MeetsSearch w e i g = Searches w e (λ M. Searched M e i g) (AtSearch w i g)
 
 abbrev pub MeetsFragments : World → Bool → ℕ → ℕ → Search → Search → Type 0
-MeetsFragments w e f g old new = f < length w.fragments → g < length w.fragments → Searches w e (λ M. Pair M e f g) (AtFragments w f g) old new
+MeetsFragments w e f g old new =
+    f < length w.fragments → g < length w.fragments → Searches w e (λ M. Pair M e f g) (AtFragments w f g) old new
 
 -- A fragment that is a partner is one of the graph.
 abbrev pub IsThere : World → Partner → Type 0
@@ -109,15 +114,24 @@ Closes a b start old new =
 
 -- What a task makes of the state.
 abbrev pub Meets : World → Task → Search → Search → Type 0
-Meets w (With a j e n) old new = ComparesEach w e (λ b M. Done w M e a b) (AtWith w a j) (λ b. AtFields a b) (drop n (named a.response (own_of w j))) old new
-Meets w (Named i j name e m) old new = ComparesEach w e (WithDone w e j) (AtNamed w i j name) (λ a. AtWith w a j) (drop m (named name (own_of w i))) old new
-Meets w (Own i j e k) old new = ComparesEach w e (NameDone w e i j) (AtOwn w i j) (λ f. AtNamed w i j f.response) (drop k (firsts_at w.sets i)) old new
+Meets w (With a j e n) old new =
+    ComparesEach w e (λ b M. Done w M e a b) (AtWith w a j) (λ b. AtFields a b)
+    (drop n (named a.response (own_of w j))) old new
+Meets w (Named i j name e m) old new =
+    ComparesEach w e (WithDone w e j) (AtNamed w i j name) (λ a. AtWith w a j)
+    (drop m (named name (own_of w i))) old new
+Meets w (Own i j e k) old new =
+    ComparesEach w e (NameDone w e i j) (AtOwn w i j) (λ f. AtNamed w i j f.response)
+    (drop k (firsts_at w.sets i)) old new
 Meets w (Close a b start) old new = Closes a b start old new
 Meets w (Opened i g e opening k) old new =
     All (Reaches w g) opening.order.items
-    → SearchesOwing w e (λ M. All (SpreadsSearched w M e i) opening.order.items) (λ M. All (λ h. Searched M e i h) (drop k opening.order.items)) (AtSearch w i g) old new
+    → SearchesOwing w e (λ M. All (SpreadsSearched w M e i) opening.order.items)
+        (λ M. All (λ h. Searched M e i h) (drop k opening.order.items)) (AtSearch w i g) old new
 Meets w (Mark i start) old new = Keeps old new
-Meets w (Spreads s p e k) old new = IsThere w p → Searches w e (λ M. All (λ h. PartnerDone w e p h M) (drop k (spreads_of w s))) (AtPartners w s p) old new
+Meets w (Spreads s p e k) old new =
+    IsThere w p → Searches w e (λ M. All (λ h. PartnerDone w e p h M) (drop k (spreads_of w s)))
+    (AtPartners w s p) old new
 
 -- What the tasks make of it one after the other, the first one next.
 abbrev pub MeetsAll : World → List Task → Search → Search → Type 0

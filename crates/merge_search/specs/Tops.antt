@@ -72,7 +72,8 @@ SamePair p q = ((p.0 ≡ q.0) × (p.1 ≡ q.1)) ⊎ ((p.0 ≡ q.1) × (p.1 ≡ q
 
 -- Two different fragments that one set of the order spreads.
 abbrev pub SpreadTogether : World → List ℕ → ℕ × ℕ → Type 0
-SpreadTogether w order p = (p.0 ≡ p.1 → ⊥) × ((s : ℕ) × Contains order s × Contains (spreads_of w s) (p.0) × Contains (spreads_of w s) (p.1))
+SpreadTogether w order p =
+    (p.0 ≡ p.1 → ⊥) × ((s : ℕ) × Contains order s × Contains (spreads_of w s) (p.0) × Contains (spreads_of w s) (p.1))
 
 -- Pairs of fragments that some set of the order spreads together, each once.
 pub record Together (w : World) (order : List ℕ) (ps : List (ℕ × ℕ)) : Type 0 where

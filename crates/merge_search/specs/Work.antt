@@ -68,7 +68,8 @@ pub record Grows (old new : Search) : Type 0 where
   pub more_searched : (x : Bool) (i g : ℕ) → search_in old x i g ≡ true → search_in new x i g ≡ true
   pub more_found : (y : Finding) → Contains old.found.items y → Contains new.found.items y
 
--- A piece of work from old to new, after which P holds at any later state; what it recorded is followed up where the later state has O.
+-- A piece of work from old to new, after which P holds at any later state; what it recorded is followed up where the
+-- later state has O.
 pub record Owes (w : World) (O P : Search → Type 0) (old new : Search) : Type 0 where
   pub grows : Grows old new
   pub holds : (M : Search) → Grows new M → P M

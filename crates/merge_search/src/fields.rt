@@ -120,7 +120,8 @@ pub(crate) fn next_named<J: Judge>(
     search: &mut Search,
 ) -> Result<(), AllocError>
     ensures { let w = world J.judgement graph.now in
-        OnOk result (Turns w (Meets w (Task.Named i j name e m)) tasks.old.items tasks.new.items search.old search.new) }
+        OnOk result (Turns w (Meets w (Task.Named i j name e m)) tasks.old.items tasks.new.items
+        search.old search.new) }
 {
     let fields = group(graph, i, name);
     if m >= fields.len() {

@@ -1,5 +1,6 @@
 -- What each step adds to a table.
-use Rattle.std.specs.Prelude.{◌≡◌, ◌⊎◌, ◌<◌, ◌≤◌, ◌+◌, ◌*◌, ℕ, List, [], ◌∷◌, ◌++◌, map, Option, Some, length, slice_get, slice_set, true, option_to_list}
+use Rattle.std.specs.Prelude.{◌≡◌, ◌⊎◌, ◌<◌, ◌≤◌, ◌+◌, ◌*◌, ℕ, List, [], ◌∷◌, ◌++◌, map, Option, Some, length}
+use Rattle.std.specs.Prelude.{slice_get, slice_set, true, option_to_list}
 use Rattle.std.specs.List.{All, Contains}
 use Rattle.language.specs.declared.tree.Selection.{Selection}
 use Rattle.language.specs.SelectionsInside.{all_inside}
@@ -98,21 +99,28 @@ module _ {S C : Type 0} where
   pub record Keeps (numbers : List ℕ → Option ℕ) (t t' : Table S C) : Type 0 where
     pub extends : Extends (numbered t) (numbered t')
     pub apart : AreApart t.responses → AreApart t'.responses
-    pub falls : (fragments : List ℕ) → AreWithin numbers fragments (length t.sets.items) → Falling t.sets.items fragments → Falling t'.sets.items fragments
+    pub falls : (fragments : List ℕ) → AreWithin numbers fragments (length t.sets.items)
+        → Falling t.sets.items fragments → Falling t'.sets.items fragments
 
   -- The fields that were added stand in sets inside.
   abbrev pub FieldsFrom : Catalog S C → Option (MetaTypeOf S C) → List (Selection S) → Table S C → Table S C → Type 0
-  FieldsFrom schema p set t t' = (k : ℕ) (a : PlainEntry S C) → length t.fields.items ≤ k → slice_get (map plain t'.fields.items) k ≡ Some a → IsFieldInside schema p set a
+  FieldsFrom schema p set t t' =
+      (k : ℕ) (a : PlainEntry S C) → length t.fields.items ≤ k → slice_get (map plain t'.fields.items) k ≡ Some a
+      → IsFieldInside schema p set a
 
-  -- What was added is from the set under the type: each set of the order is one inside it, and so is each set where conditions are known; each field stands in one.
-  pub record ComesFrom (schema : Catalog S C) (numbers : List ℕ → Option ℕ) (p : Option (MetaTypeOf S C)) (set : List (Selection S)) (more : List ℕ) (t t' : Table S C) : Type 0 where
+  -- What was added is from the set under the type: each set of the order is one inside it, and so is each set where
+  -- conditions are known; each field stands in one.
+  pub record ComesFrom (schema : Catalog S C) (numbers : List ℕ → Option ℕ) (p : Option (MetaTypeOf S C))
+      (set : List (Selection S)) (more : List ℕ) (t t' : Table S C) : Type 0 where
     pub sets : (k : ℕ) → is_among more k ≡ true
-        → (q : Option (MetaTypeOf S C)) × (inner : List (Selection S)) × IsInside schema p set q inner × IsSetOf schema numbers (numbered t') k q inner
+        → (q : Option (MetaTypeOf S C)) × (inner : List (Selection S)) × IsInside schema p set q inner
+            × IsSetOf schema numbers (numbered t') k q inner
     pub fields : FieldsFrom schema p set t t'
     pub whole : AreConditionsKnown schema p set → (k : ℕ) → length t.sets.items ≤ k → k < length t'.sets.items → is_among more k ≡ true
 
   -- Own fields and spreads of the selections were added to a set.
-  pub record AddsParts (schema : Catalog S C) (numbers : List ℕ → Option ℕ) (p : Option (MetaTypeOf S C)) (xs : List (Selection S)) (part part' : NumberedSet) (t t' : Table S C) : Type 0 where
+  pub record AddsParts (schema : Catalog S C) (numbers : List ℕ → Option ℕ) (p : Option (MetaTypeOf S C))
+      (xs : List (Selection S)) (part part' : NumberedSet) (t t' : Table S C) : Type 0 where
     pub own_more : List OwnField
     pub to_more : List ℕ
     pub own : part'.own.items ≡ part.own.items ++ own_more
@@ -123,26 +131,32 @@ module _ {S C : Type 0} where
     pub keeps : Keeps numbers t t'
 
   -- The set was stored.
-  pub record HasSet (schema : Catalog S C) (numbers : List ℕ → Option ℕ) (p : Option (MetaTypeOf S C)) (set : List (Selection S)) (n : ℕ) (t t' : Table S C) : Type 0 where
+  pub record HasSet (schema : Catalog S C) (numbers : List ℕ → Option ℕ) (p : Option (MetaTypeOf S C))
+      (set : List (Selection S)) (n : ℕ) (t t' : Table S C) : Type 0 where
     pub is : IsSetOf schema numbers (numbered t') n p set
     pub own : All (λ a. height a ≤ length t'.sets.items) is.row.own.items
     pub within : (fragments : List ℕ) (bound : ℕ) → AreWithin numbers fragments bound → All (IsWithin fragments bound) is.row.spreads.items
     pub keeps : Keeps numbers t t'
 
   -- Fields that stand in a set under whatever type were added to a set, and no set to the order.
-  pub record AddsFor (schema : Catalog S C) (numbers : List ℕ → Option ℕ) (p : Option (MetaTypeOf S C)) (xs : List (Selection S)) (part part' : NumberedSet) (t t' : Table S C) : Type 0 where
+  pub record AddsFor (schema : Catalog S C) (numbers : List ℕ → Option ℕ) (p : Option (MetaTypeOf S C))
+      (xs : List (Selection S)) (part part' : NumberedSet) (t t' : Table S C) : Type 0 where
     pub parts : AddsParts schema numbers p xs part part' t t'
     pub order : t'.order.items ≡ t.order.items
-    pub from : (p0 q : Option (MetaTypeOf S C)) (set0 whole : List (Selection S)) → IsInside schema p0 set0 q whole → ((x : Selection S) → Contains xs x → Contains whole x) → FieldsFrom schema p0 set0 t t'
+    pub from : (p0 q : Option (MetaTypeOf S C)) (set0 whole : List (Selection S)) → IsInside schema p0 set0 q whole
+        → ((x : Selection S) → Contains xs x → Contains whole x) → FieldsFrom schema p0 set0 t t'
 
   -- The set was stored, and got no place in the order.
-  pub record AddsSetFor (schema : Catalog S C) (numbers : List ℕ → Option ℕ) (p : Option (MetaTypeOf S C)) (set : List (Selection S)) (n : ℕ) (t t' : Table S C) : Type 0 where
+  pub record AddsSetFor (schema : Catalog S C) (numbers : List ℕ → Option ℕ) (p : Option (MetaTypeOf S C))
+      (set : List (Selection S)) (n : ℕ) (t t' : Table S C) : Type 0 where
     pub has : HasSet schema numbers p set n t t'
     pub order : t'.order.items ≡ t.order.items
     pub from : (q : Option (MetaTypeOf S C)) → FieldsFrom schema q set t t'
 
   -- The set is one that was added to the order, or a part of it.
-  pub record IsHeld (schema : Catalog S C) (numbers : List ℕ → Option ℕ) (t : Table S C) (more : List ℕ) (Stands : Option (MetaTypeOf S C) → List (Selection S) → Type 0) (q : Option (MetaTypeOf S C)) (inner : List (Selection S)) : Type 0 where
+  pub record IsHeld (schema : Catalog S C) (numbers : List ℕ → Option ℕ) (t : Table S C) (more : List ℕ)
+      (Stands : Option (MetaTypeOf S C) → List (Selection S) → Type 0) (q : Option (MetaTypeOf S C))
+      (inner : List (Selection S)) : Type 0 where
     pub number : ℕ
     pub among : is_among more number ≡ true
     pub type : Option (MetaTypeOf S C)
@@ -151,23 +165,30 @@ module _ {S C : Type 0} where
     pub stands : Stands type set
     pub part : IsPartOf schema q inner type set
 
-  -- Own fields and spreads of the selections were added to a set, and the sets in them to the order, but for those that are parts of the set itself.
-  pub record Adds (schema : Catalog S C) (numbers : List ℕ → Option ℕ) (p : Option (MetaTypeOf S C)) (xs : List (Selection S)) (part part' : NumberedSet) (t t' : Table S C) : Type 0 where
+  -- Own fields and spreads of the selections were added to a set, and the sets in them to the order, but for those that
+  -- are parts of the set itself.
+  pub record Adds (schema : Catalog S C) (numbers : List ℕ → Option ℕ) (p : Option (MetaTypeOf S C))
+      (xs : List (Selection S)) (part part' : NumberedSet) (t t' : Table S C) : Type 0 where
     pub parts : AddsParts schema numbers p xs part part' t t'
     pub more : List ℕ
     pub order : t'.order.items ≡ t.order.items ++ more
-    pub found : (q : Option (MetaTypeOf S C)) (inner : List (Selection S)) → IsDeeper schema p xs q inner → IsHeld schema numbers t' more (IsDeeper schema p xs) q inner ⊎ IsPartOf schema q inner p xs
-    pub from : (p0 : Option (MetaTypeOf S C)) (set0 whole : List (Selection S)) → IsInside schema p0 set0 p whole → ((x : Selection S) → Contains xs x → Contains whole x) → ComesFrom schema numbers p0 set0 more t t'
+    pub found : (q : Option (MetaTypeOf S C)) (inner : List (Selection S)) → IsDeeper schema p xs q inner
+        → IsHeld schema numbers t' more (IsDeeper schema p xs) q inner ⊎ IsPartOf schema q inner p xs
+    pub from : (p0 : Option (MetaTypeOf S C)) (set0 whole : List (Selection S)) → IsInside schema p0 set0 p whole
+        → ((x : Selection S) → Contains xs x → Contains whole x) → ComesFrom schema numbers p0 set0 more t t'
     -- where conditions are known the table takes so much for each selection
-    pub size : (p0 : Option (MetaTypeOf S C)) (set0 whole : List (Selection S)) → IsInside schema p0 set0 p whole → ((x : Selection S) → Contains xs x → Contains whole x) → AreConditionsKnown schema p0 set0
+    pub size : (p0 : Option (MetaTypeOf S C)) (set0 whole : List (Selection S)) → IsInside schema p0 set0 p whole
+        → ((x : Selection S) → Contains xs x → Contains whole x) → AreConditionsKnown schema p0 set0
         → table_size t' + part_size part' ≤ table_size t + part_size part + 4 * all_inside xs
 
   -- The set was added, and all sets in it, each with its place in the order or as a part of one.
-  pub record AddsSet (schema : Catalog S C) (numbers : List ℕ → Option ℕ) (p : Option (MetaTypeOf S C)) (set : List (Selection S)) (n : ℕ) (t t' : Table S C) : Type 0 where
+  pub record AddsSet (schema : Catalog S C) (numbers : List ℕ → Option ℕ) (p : Option (MetaTypeOf S C))
+      (set : List (Selection S)) (n : ℕ) (t t' : Table S C) : Type 0 where
     pub has : HasSet schema numbers p set n t t'
     pub more : List ℕ
     pub order : t'.order.items ≡ t.order.items ++ more
     pub listed : is_among more n ≡ true
-    pub found : (q : Option (MetaTypeOf S C)) (inner : List (Selection S)) → IsInside schema p set q inner → IsHeld schema numbers t' more (IsInside schema p set) q inner
+    pub found : (q : Option (MetaTypeOf S C)) (inner : List (Selection S)) → IsInside schema p set q inner
+        → IsHeld schema numbers t' more (IsInside schema p set) q inner
     pub from : ComesFrom schema numbers p set more t t'
     pub size : AreConditionsKnown schema p set → table_size t' ≤ table_size t + 4 * all_inside set + 2

@@ -14,12 +14,14 @@ use Rattle.schema.specs.Catalog.{Catalog, type_in}
 use Rattle.merge_field_pairs.specs.Entries.{PlainEntry}
 use Rattle.merge_field_pairs.specs.OwnFields.{Placed, entry_under, type_below}
 
--- The type under which a walk enters the set of an inline fragment: that of its condition, which may be unknown, or without one the type around it.
+-- The type under which a walk enters the set of an inline fragment: that of its condition, which may be unknown, or
+-- without one the type around it.
 abbrev pub type_entered : {S C : Type 0} → Catalog S C → Option (MetaTypeOf S C) → Option (Placed (Bor (List ℕ))) → Option (MetaTypeOf S C)
 type_entered schema parent condition = option_map_or (λ n. type_in n.item.now schema) condition parent
 
 -- Itself; and of each set inside, those below its fields and those of its inline fragments.
-pub data IsInside {S C : Type 0} (schema : Catalog S C) (p : Option (MetaTypeOf S C)) (set : List (Selection S)) : Option (MetaTypeOf S C) → List (Selection S) → Type 0 where
+pub data IsInside {S C : Type 0} (schema : Catalog S C) (p : Option (MetaTypeOf S C))
+    (set : List (Selection S)) : Option (MetaTypeOf S C) → List (Selection S) → Type 0 where
   itself : IsInside schema p set p set
   below_field : {q : Option (MetaTypeOf S C)} {inner : List (Selection S)} (f : Placed (Field S)) (w : Vec (Selection S) Global)
       → IsInside schema p set q inner → Contains inner (selection.Field f) → f.item.selection_set ≡ Some w
@@ -29,7 +31,8 @@ pub data IsInside {S C : Type 0} (schema : Catalog S C) (p : Option (MetaTypeOf 
       → IsInside schema p set (type_entered schema q i.item.type_condition) i.item.selection_set.items
 
 -- The field stands in some set inside, under whatever type.
-pub record IsFieldInside {S C : Type 0} (schema : Catalog S C) (p : Option (MetaTypeOf S C)) (set : List (Selection S)) (a : PlainEntry S C) : Type 0 where
+pub record IsFieldInside {S C : Type 0} (schema : Catalog S C) (p : Option (MetaTypeOf S C)) (set : List (Selection S))
+    (a : PlainEntry S C) : Type 0 where
   pub type : Option (MetaTypeOf S C)
   pub inner : List (Selection S)
   pub inside : IsInside schema p set type inner
@@ -37,7 +40,9 @@ pub record IsFieldInside {S C : Type 0} (schema : Catalog S C) (p : Option (Meta
 
 -- The condition names a type of the schema, if there is one.
 abbrev pub IsConditionKnown : {S C : Type 0} → Catalog S C → Option (Placed (Bor (List ℕ))) → Type 0
-IsConditionKnown {S} {C} schema condition = (name : Placed (Bor (List ℕ))) → condition ≡ Some name → (m : MetaTypeOf S C) × (type_in name.item.now schema ≡ Some m)
+IsConditionKnown {S} {C} schema condition =
+    (name : Placed (Bor (List ℕ))) → condition ≡ Some name → (m : MetaTypeOf S C)
+    × (type_in name.item.now schema ≡ Some m)
 
 -- So does that of each inline fragment inside.
 abbrev pub AreConditionsKnown : {S C : Type 0} → Catalog S C → Option (MetaTypeOf S C) → List (Selection S) → Type 0
@@ -46,7 +51,8 @@ AreConditionsKnown {S} {C} schema p set =
     → (i : Placed (InlineFragment S)) → Contains inner (selection.InlineFragment i) → IsConditionKnown schema i.item.type_condition
 
 -- The sets inside, but for the set itself: those of its fields and inline fragments.
-pub data IsDeeper {S C : Type 0} (schema : Catalog S C) (p : Option (MetaTypeOf S C)) (set : List (Selection S)) (q : Option (MetaTypeOf S C)) (inner : List (Selection S)) : Type 0 where
+pub data IsDeeper {S C : Type 0} (schema : Catalog S C) (p : Option (MetaTypeOf S C)) (set : List (Selection S))
+    (q : Option (MetaTypeOf S C)) (inner : List (Selection S)) : Type 0 where
   of_field : (f : Placed (Field S)) (w : Vec (Selection S) Global) → Contains set (selection.Field f) → f.item.selection_set ≡ Some w
       → IsInside schema (type_below schema (entry_under p f)) w.items q inner → IsDeeper schema p set q inner
   of_fragment : (i : Placed (InlineFragment S)) → Contains set (selection.InlineFragment i)

@@ -15,14 +15,17 @@ use Rattle.merge_set_table.specs.Represents.{IsSetOf}
 module _ {S C : Type 0} (schema : Catalog S C) (numbers : List ℕ → Option ℕ) (m : Numbered S C) where
   -- A field by number: the set below it, if there is one, is that of its selections under the field's type.
   pub data IsFieldOf : PlainEntry S C → OwnField → Type 0 where
-    without_set : {o : PlainEntry S C} {a : OwnField} → IsOwnField m o a → o.field.item.selection_set ≡ None → a.below ≡ None → IsFieldOf o a
-    with_set : {o : PlainEntry S C} {a : OwnField} (w : Vec (Selection S) Global) (n : ℕ) → IsOwnField m o a → o.field.item.selection_set ≡ Some w → a.below ≡ Some n
+    without_set : {o : PlainEntry S C} {a : OwnField} → IsOwnField m o a → o.field.item.selection_set ≡ None
+        → a.below ≡ None → IsFieldOf o a
+    with_set : {o : PlainEntry S C} {a : OwnField} (w : Vec (Selection S) Global) (n : ℕ) → IsOwnField m o a
+        → o.field.item.selection_set ≡ Some w → a.below ≡ Some n
         → IsSetOf schema numbers m n (type_below schema o) w.items → IsFieldOf o a
 
   -- One for one, in order.
   pub data AreFieldsOf : List (PlainEntry S C) → List OwnField → Type 0 where
     no_fields : AreFieldsOf [] []
-    more_fields : {o : PlainEntry S C} {a : OwnField} {os : List (PlainEntry S C)} {own : List OwnField} → IsFieldOf o a → AreFieldsOf os own → AreFieldsOf (o ∷ os) (a ∷ own)
+    more_fields : {o : PlainEntry S C} {a : OwnField} {os : List (PlainEntry S C)} {own : List OwnField} → IsFieldOf o a
+        → AreFieldsOf os own → AreFieldsOf (o ∷ os) (a ∷ own)
 
 -- The numbers of the names that have one, and no others.
 pub record AreNumbersOf (numbers : List ℕ → Option ℕ) (names : Names) (to : List ℕ) : Type 0 where

@@ -16,14 +16,17 @@ use Rattle.merge_set_table.specs.Once.{IsEachOnce, is_among}
 use Rattle.merge_set_table.specs.Table.{Numbered, IsOwnField}
 
 -- Under a type, the selections have these own fields, and spread these fragments. The sets below fields are stored.
-pub data Represents {S C : Type 0} (schema : Catalog S C) (numbers : List ℕ → Option ℕ) (m : Numbered S C) : Option (MetaTypeOf S C) → List (Selection S) → List OwnField → List ℕ → Type 0 where
+pub data Represents {S C : Type 0} (schema : Catalog S C) (numbers : List ℕ → Option ℕ) (m : Numbered S C) : Option
+    (MetaTypeOf S C) → List (Selection S) → List OwnField → List ℕ → Type 0 where
   nothing : {p : Option (MetaTypeOf S C)} → Represents schema numbers m p [] [] []
   join : {p : Option (MetaTypeOf S C)} {xs ys : List (Selection S)} {own own' : List OwnField} {to to' : List ℕ}
       → Represents schema numbers m p xs own to → Represents schema numbers m p ys own' to'
       → Represents schema numbers m p (xs ++ ys) (own ++ own') (to ++ to')
-  leaf : {p : Option (MetaTypeOf S C)} (f : Placed (Field S)) (a : OwnField) → IsOwnField m (entry_under p f) a → f.item.selection_set ≡ None → a.below ≡ None
+  leaf : {p : Option (MetaTypeOf S C)} (f : Placed (Field S)) (a : OwnField) → IsOwnField m (entry_under p f) a
+      → f.item.selection_set ≡ None → a.below ≡ None
       → Represents schema numbers m p (selection.Field f ∷ []) (a ∷ []) []
-  field : {p : Option (MetaTypeOf S C)} (f : Placed (Field S)) (a : OwnField) (w : Vec (Selection S) Global) (n : ℕ) (row : NumberedSet) (to : List ℕ)
+  field : {p : Option (MetaTypeOf S C)} (f : Placed (Field S)) (a : OwnField) (w : Vec (Selection S) Global) (n : ℕ)
+      (row : NumberedSet) (to : List ℕ)
       → IsOwnField m (entry_under p f) a → f.item.selection_set ≡ Some w → a.below ≡ Some n
       → slice_get m.sets n ≡ Some row → IsEachOnce to row.spreads.items
       → Represents schema numbers m (type_below schema (entry_under p f)) w.items row.own.items to
@@ -38,7 +41,8 @@ pub data Represents {S C : Type 0} (schema : Catalog S C) (numbers : List ℕ �
       → Represents schema numbers m p (selection.InlineFragment i ∷ []) own to'
 
 -- The set of the number is that of the selections under the type.
-pub record IsSetOf {S C : Type 0} (schema : Catalog S C) (numbers : List ℕ → Option ℕ) (m : Numbered S C) (n : ℕ) (p : Option (MetaTypeOf S C)) (set : List (Selection S)) : Type 0 where
+pub record IsSetOf {S C : Type 0} (schema : Catalog S C) (numbers : List ℕ → Option ℕ) (m : Numbered S C) (n : ℕ)
+    (p : Option (MetaTypeOf S C)) (set : List (Selection S)) : Type 0 where
   pub row : NumberedSet
   pub to : List ℕ
   pub stored : slice_get m.sets n ≡ Some row

@@ -55,7 +55,9 @@ module _ {S C : Type 0} (schema : Catalog S C) (numbers : List ℕ → Option �
   -- The tasks were done one after the other.
   abbrev pub MeetsAll : List (Task S C) → NumberedSet → NumberedSet → Table S C → Table S C → Type 0
   MeetsAll [] part part' t t' = (part ≡ part') × (t ≡ t')
-  MeetsAll (x ∷ xs) part part' t t' = (between : NumberedSet) × (middle : Table S C) × Meets x part between t middle × MeetsAll xs between part' middle t'
+  MeetsAll (x ∷ xs) part part' t t' =
+      (between : NumberedSet) × (middle : Table S C) × Meets x part between t middle
+      × MeetsAll xs between part' middle t'
 
   -- Who does the new tasks from here has done what was to be done, and then the others.
   abbrev pub Becomes : List (Task S C) → NumberedSet → Table S C → List (Task S C) → (NumberedSet → Table S C → Type 0) → Type 0

@@ -1,7 +1,8 @@
 //! The steps by which a table grows.
 ghost use Rattle.std.specs.Prelude.{◌≡◌, ◌+◌, OnOk, IfOk, length};
 ghost use Rattle.merge_field_pairs.specs.Entries.{plain};
-ghost use Rattle.merge_set_table.specs.Adding.{AddsSpread, PushesField, OpensSet, StoresSet, ClosesSet, HasSame, IsEmptySet, IsSameTable};
+ghost use Rattle.merge_set_table.specs.Adding.{AddsSpread, PushesField, OpensSet, StoresSet, ClosesSet, HasSame};
+ghost use Rattle.merge_set_table.specs.Adding.{IsEmptySet, IsSameTable};
 ghost use Rattle.merge_set_table.specs.Known.{known_rank};
 
 use crate::known::{KnownFragments, rank_of_name};

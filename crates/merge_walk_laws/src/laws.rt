@@ -1,6 +1,7 @@
 //! Laws of the fields and selection sets of a document.
 
-ghost use Rattle.merge_walk_laws.specs.Laws.{FieldsOccur, SetsOccur, InlinesOccur, FieldsAreTidy, SetsAgree, FieldsAgree, TidyArguments};
+ghost use Rattle.merge_walk_laws.specs.Laws.{FieldsOccur, SetsOccur, InlinesOccur, FieldsAreTidy, SetsAgree};
+ghost use Rattle.merge_walk_laws.specs.Laws.{FieldsAgree, TidyArguments};
 
 /// Each field of a document is met by a walk over it.
 pub fn fields_occur<S, C>()

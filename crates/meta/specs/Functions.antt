@@ -1,4 +1,5 @@
--- The functions of the caller that a check keeps. Its type carries their types F and T, and what calls of them may return.
+-- The functions of the caller that a check keeps. Its type carries their types F and T, and what calls of them may
+-- return.
 use Rattle.std.specs.Prelude.{ℕ, List, Option, Result}
 use Rattle.std.specs.declared.alloc.Global.{Global}
 use denote.Ref.{Bor}
@@ -10,7 +11,9 @@ use Rattle.language.specs.declared.error.ParseError.{ParseError}
 use Rattle.meta.specs.declared.default_check.DefaultCheck.{DefaultCheck}
 use Rattle.meta.specs.declared.default_check.ScalarTokenKind.{ScalarTokenKind}
 
-module _ {F T : Type 0} {Calls : Mut F (Global × (Bor (InputValue DefaultScalarValue) × Unit {0})) (Result (Unit {0}) CheckError)} {Tokens : Mut T (Global × (ScalarTokenKind × (Bor (List ℕ) × Unit {0}))) (Result DefaultScalarValue ParseError)} where
+module _ {F T : Type 0} {Calls : Mut F (Global × (Bor (InputValue DefaultScalarValue) × Unit {0}))
+    (Result (Unit {0}) CheckError)} {Tokens : Mut T (Global × (ScalarTokenKind × (Bor (List ℕ) × Unit {0})))
+    (Result DefaultScalarValue ParseError)} where
   -- the function that the check calls
   abbrev pub function_of : DefaultCheck F T Calls Tokens → F
   function_of c = c.run

@@ -1,5 +1,6 @@
 //! Fields of objects and interfaces.
-ghost use Rattle.std.specs.Prelude.{◌≡◌, IfOk, IsOk, None, Some, true, codes, nat_eq, option_map, string_bytes, ◌∷◌, [], ◌++◌, option_copied};
+ghost use Rattle.std.specs.Prelude.{◌≡◌, IfOk, IsOk, None, Some, true, codes, nat_eq, option_map, string_bytes, ◌∷◌};
+ghost use Rattle.std.specs.Prelude.{[], ◌++◌, option_copied};
 ghost use Rattle.std.specs.List.{starts_with};
 ghost use Rattle.meta.specs.Deprecation.{is_deprecated_status, reason_of};
 ghost use Rattle.meta.specs.Arguments.{arguments_of};

@@ -1,7 +1,10 @@
 //! Metadata of types of any kind.
 ghost use Rattle.std.specs.Prelude.{◌≡◌, IfOk, IsSome, Some, option_copied};
 ghost use Rattle.language.specs.Types.{shape};
-ghost use Rattle.meta.specs.Kinds.{name_of_meta, description_of_meta, url_of_meta, kind_of_meta, field_named, input_field_named, type_of_meta, check_of_meta, is_composite_meta, is_leaf_meta, is_abstract_meta, is_input_meta, is_any_literal_meta, is_builtin_meta, is_builtin_name, list_type_of};
+ghost use Rattle.meta.specs.Kinds.{name_of_meta, description_of_meta, url_of_meta, kind_of_meta, field_named};
+ghost use Rattle.meta.specs.Kinds.{input_field_named, type_of_meta, check_of_meta, is_composite_meta, is_leaf_meta};
+ghost use Rattle.meta.specs.Kinds.{is_abstract_meta, is_input_meta, is_any_literal_meta, is_builtin_meta};
+ghost use Rattle.meta.specs.Kinds.{is_builtin_name, list_type_of};
 
 use crate::arguments::Argument;
 use crate::check::CheckedScalar;

@@ -13,7 +13,8 @@ or_else (Some x) o = Some x
 -- A new name gets the next index, with this value; a name that the map has changes nothing.
 pub record Adds {T : Type 0} (name : Bor (List ℕ)) (value : T) (old new : NameMap T) : Type 0 where
   pub entries : entries_of new ≡ (if is_some (index_of old name.now) then entries_of old else entries_of old ++ (name, value) ∷ [])
-  pub indices : (other : List ℕ) → index_of new other ≡ or_else (index_of old other) (if bytes_eq name.now other then Some (length (entries_of old)) else None)
+  pub indices : (other : List ℕ) → index_of new other
+      ≡ or_else (index_of old other) (if bytes_eq name.now other then Some (length (entries_of old)) else None)
 
 -- The map has the same names, with the same indices and values.
 pub record IsUnchanged {T : Type 0} (old new : NameMap T) : Type 0 where

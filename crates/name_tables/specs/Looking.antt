@@ -1,5 +1,6 @@
 -- How a name is looked up: in its slot, and if another name took that, in the ordered map.
-use Rattle.std.specs.Prelude.{ℕ, zero, suc, List, length, ◌≡◌, ◌<◌, Option, None, Some, Bool, false, slice_get, if◌then◌else◌}
+use Rattle.std.specs.Prelude.{ℕ, zero, suc, List, length, ◌≡◌, ◌<◌, Option, None, Some, Bool, false, slice_get}
+use Rattle.std.specs.Prelude.{if◌then◌else◌}
 use Rattle.std.specs.BTreeMap.{BTreeMap, get_by}
 use Rattle.std.specs.Cmp.Lexicographic.{slice_cmp}
 use Rattle.std.specs.Ordering.{nat_cmp}

@@ -24,7 +24,8 @@ pub struct NameMap<'a, T> {
 }
 
 impl<'a, T: Copy> NameMap<'a, T> {
-    ghost use Rattle.std.specs.Prelude.{◌≡◌, ◌↔◌, ◌≤◌, ◌*◌, [], ℕ, min, List, None, Some, IsOk, IsTrue, OnErr, OnOk, IfOk, length, slice_get, if◌then◌else◌};
+    ghost use Rattle.std.specs.Prelude.{◌≡◌, ◌↔◌, ◌≤◌, ◌*◌, [], ℕ, min, List, None, Some, IsOk, IsTrue, OnErr, OnOk};
+    ghost use Rattle.std.specs.Prelude.{IfOk, length, slice_get, if◌then◌else◌};
     ghost use Rattle.std.specs.Str.{bytes_eq};
     ghost use Rattle.name_tables.specs.Adding.{or_else, Adds, IsUnchanged};
     ghost use Rattle.name_tables.specs.Looking.{held_by, index_held, is_named, other_index};

@@ -1,5 +1,6 @@
 -- The index of the scopes of a document.
-use Rattle.std.specs.Prelude.{ℕ, ◌≡◌, List, [], ◌∷◌, ◌++◌, Option, None, Some, Vec, length, map, option_map, slice_get, if◌then◌else◌}
+use Rattle.std.specs.Prelude.{ℕ, ◌≡◌, List, [], ◌∷◌, ◌++◌, Option, None, Some, Vec, length, map, option_map, slice_get}
+use Rattle.std.specs.Prelude.{if◌then◌else◌}
 use Rattle.std.specs.declared.alloc.Global.{Global}
 use Rattle.language.specs.declared.position.Span.{Span}
 use Rattle.language.specs.declared.position.Spanning.{Spanning}
@@ -30,11 +31,14 @@ pub record HasSpreads {S : Type 0} (document : List (Definition S)) (n : Numbers
 
 -- The operations of each name have the places in its list.
 abbrev pub HasOperations : {S : Type 0} → List (Definition S) → List (Option (List ℕ)) → List (Vec ℕ Global) → Type 0
-HasOperations document names lists = (name : Option (List ℕ)) (k : ℕ) → slice_get names k ≡ Some name → numbered_places lists k ≡ places_of document (operation name)
+HasOperations document names lists =
+    (name : Option (List ℕ)) (k : ℕ) → slice_get names k ≡ Some name
+    → numbered_places lists k ≡ places_of document (operation name)
 
 -- The definitions of each fragment have the places in the list of its number.
 abbrev pub HasFragments : {S : Type 0} → List (Definition S) → Numbers → List (Vec ℕ Global) → Type 0
-HasFragments document n lists = (name : List ℕ) (k : ℕ) → number_of n name ≡ Some k → numbered_places lists k ≡ places_of document (fragment name)
+HasFragments document n lists =
+    (name : List ℕ) (k : ℕ) → number_of n name ≡ Some k → numbered_places lists k ≡ places_of document (fragment name)
 
 -- There is a list for each number.
 abbrev pub HasLists : Numbers → List (Vec ℕ Global) → Type 0
@@ -52,11 +56,14 @@ pub record IsIndexOf {S : Type 0} (document : List (Definition S)) (index : Scop
 abbrev pub AddsPlace : Option (List ℕ) → ℕ → Option ℕ → ScopeIndex → ScopeIndex → Type 0
 AddsPlace name place (Some k) old new = (new.names ≡ old.names) × AddsAt k place old.operations.items new.operations.items
 AddsPlace name place None old new =
-    (operation_names new ≡ operation_names old ++ name ∷ []) × (v : Vec ℕ Global) × (v.items ≡ place ∷ []) × (new.operations.items ≡ old.operations.items ++ v ∷ [])
+    (operation_names new ≡ operation_names old ++ name ∷ []) × (v : Vec ℕ Global) × (v.items ≡ place ∷ [])
+        × (new.operations.items ≡ old.operations.items ++ v ∷ [])
 
 -- An operation of this name was added, at this place.
 pub record AddsOperation (name : Option (List ℕ)) (place : ℕ) (n n' : OperationNumbers) (old new : ScopeIndex) : Type 0 where
-  pub numbers : (other : Option (List ℕ)) → number_at n' other ≡ or_else (number_at n other) (if same_name name other then Some (length (operation_names old)) else None)
+  pub numbers : (other : Option (List ℕ))
+      → number_at n' other ≡ or_else (number_at n other)
+      (if same_name name other then Some (length (operation_names old)) else None)
   pub places : AddsPlace name place (number_at n name) old new
   pub fragments : new.fragments ≡ old.fragments
   pub graph : new.graph ≡ old.graph
@@ -71,7 +78,8 @@ pub record AddsFragment (number : Option ℕ) (place : ℕ) (old new : ScopeInde
   pub spreads : new.spreads ≡ old.spreads
 
 -- A definition was added, with the number of its name and its place.
-abbrev pub AddsDefinition : {S : Type 0} → Definition S → Option ℕ → ℕ → OperationNumbers → OperationNumbers → ScopeIndex → ScopeIndex → Type 0
+abbrev pub AddsDefinition : {S : Type 0} → Definition S → Option ℕ → ℕ → OperationNumbers → OperationNumbers
+    → ScopeIndex → ScopeIndex → Type 0
 AddsDefinition (definition.Operation o) number place n n' old new = AddsOperation (operation_name o) place n n' old new
 AddsDefinition (definition.Fragment f) number place n n' old new = (n' ≡ n) × AddsFragment number place old new
 

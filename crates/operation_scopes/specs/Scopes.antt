@@ -56,4 +56,5 @@ module _ {S : Type 0} where
     pub named : operation_name o ≡ name
     pub place : ℕ
     pub stands : slice_get document place ≡ Some (definition.Operation o)
-    pub last : (i : ℕ) (x : Spanning (Operation S) Span) → slice_get document i ≡ Some (definition.Operation x) → operation_name x ≡ name → i ≤ place
+    pub last : (i : ℕ) (x : Spanning (Operation S) Span) → slice_get document i ≡ Some (definition.Operation x)
+        → operation_name x ≡ name → i ≤ place

@@ -1,5 +1,6 @@
 //! The index of the scopes of a document: their spreads and the places of their definitions.
-ghost use Rattle.std.specs.Prelude.{◌≡◌, ◌-◌, Option, Some, List, ℕ, IfOk, IfSome, IfNone, OnOk, length, slice_get, option_copied};
+ghost use Rattle.std.specs.Prelude.{◌≡◌, ◌-◌, Option, Some, List, ℕ, IfOk, IfSome, IfNone, OnOk, length, slice_get};
+ghost use Rattle.std.specs.Prelude.{option_copied};
 ghost use Rattle.fragment_graph.specs.Numbers.{NumberedDefinitions};
 ghost use Rattle.fragment_reach.specs.Reach.{operation};
 ghost use Rattle.operation_scopes.specs.Scopes.{IsLastOf, IsOperationName, operation_name};

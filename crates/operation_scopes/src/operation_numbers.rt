@@ -1,5 +1,6 @@
 //! The numbering of the names of operations.
-ghost use Rattle.std.specs.Prelude.{◌≡◌, ◌≤◌, ◌*◌, ℕ, List, min, None, Option, Some, IfOk, OnOk, if◌then◌else◌, option_copied};
+ghost use Rattle.std.specs.Prelude.{◌≡◌, ◌≤◌, ◌*◌, ℕ, List, min, None, Option, Some, IfOk, OnOk, if◌then◌else◌};
+ghost use Rattle.std.specs.Prelude.{option_copied};
 ghost use Rattle.name_tables.specs.Maps.{slots_in};
 ghost use Rattle.fragment_graph.specs.Numbers.{or_else};
 ghost use Rattle.fragment_reach.specs.Reach.{same_name};

@@ -7,8 +7,8 @@ use literals::validate_written_value;
 use sdl_reader::read_schema;
 use std::alloc::{AllocError, Global};
 
-/// Appends the first fault of each value against the schema's type `O`, a line each. The values stand after a line `---`,
-/// and before it the schema's definitions, or an introspection result.
+/// Appends the first fault of each value against the schema's type `O`, a line each. The values stand after a line
+/// `---`, and before it the schema's definitions, or an introspection result.
 ///
 /// # Errors
 ///

@@ -6,8 +6,8 @@ use sdl_reader::{PlacedFault, SchemaReadError, SourceScalar, read_schema};
 use sdl_scalars::check::{SourceCheck, accepts};
 use std::alloc::{AllocError, Global};
 
-/// Appends what the schema of a text answers to the questions that stand after a line `---`, a line each. Or else appends
-/// each fault of the text, with its place: line, column and index.
+/// Appends what the schema of a text answers to the questions that stand after a line `---`, a line each. Or else
+/// appends each fault of the text, with its place: line, column and index.
 ///
 /// # Errors
 ///

@@ -1,4 +1,5 @@
-//! All that a schema says, as a text: its description, its roots, each type with what it is made of, and each directive.
+//! All that a schema says, as a text: its description, its roots, each type with what it is made of, and each
+//! directive.
 use crate::shown::SourceSchema;
 use introspection::schema_text;
 use meta::arguments::Argument;
@@ -10,8 +11,8 @@ use sdl_reader::{SourceScalar, read_schema};
 use sdl_scalars::check::SourceCheck;
 use std::alloc::{AllocError, Global};
 
-/// Appends whether the schema of a text is that of the introspection result that stands after a line `---`, or else what
-/// each of both says.
+/// Appends whether the schema of a text is that of the introspection result that stands after a line `---`, or else
+/// what each of both says.
 ///
 /// # Errors
 ///

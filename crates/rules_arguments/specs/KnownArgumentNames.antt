@@ -1,5 +1,6 @@
 -- Arguments that their field or their directive does not define (section 5.4.1).
-use Rattle.std.specs.Prelude.{◌≡◌, ℕ, List, [], ◌∷◌, ◌++◌, Bool, true, Option, Some, None, is_some, find, if◌then◌else◌, codes, string_bytes}
+use Rattle.std.specs.Prelude.{◌≡◌, ℕ, List, [], ◌∷◌, ◌++◌, Bool, true, Option, Some, None, is_some, find, if◌then◌else◌}
+use Rattle.std.specs.Prelude.{codes, string_bytes}
 use Rattle.std.specs.List.{Contains, flat_map}
 use Rattle.std.specs.Option.{option_map, option_map_or}
 use Rattle.std.specs.Str.{bytes_eq}
@@ -23,7 +24,8 @@ unknown_on_field_message name parent argument =
     (((((codes "Unknown argument \"" ++ argument) ++ codes "\" on field \"") ++ name) ++ codes "\" of type \"") ++ parent) ++ codes "\""
 
 abbrev pub unknown_on_directive_message : List ℕ → List ℕ → List ℕ
-unknown_on_directive_message name argument = (((codes "Unknown argument \"" ++ argument) ++ codes "\" on directive \"") ++ name) ++ codes "\""
+unknown_on_directive_message name argument =
+    (((codes "Unknown argument \"" ++ argument) ++ codes "\" on directive \"") ++ name) ++ codes "\""
 
 abbrev pub unknown_message : Bearer → List ℕ → List ℕ
 unknown_message (bearer.Field name parent) = unknown_on_field_message name.now parent.now
@@ -66,7 +68,8 @@ module _ {S C : Type 0} where
   -- of a field that the type has, each argument that the field does not define
   abbrev pub unknown_on_field : Option (MetaTypeOf S C) → Field S → List ErrorValue
   unknown_on_field parent f =
-      unknown_where_known (unknown_on_field_message f.name.item.now (name_of_known parent)) (known_on_field parent f.name.item.now) f.arguments
+      unknown_where_known (unknown_on_field_message f.name.item.now (name_of_known parent))
+          (known_on_field parent f.name.item.now) f.arguments
 
   -- of a directive that is known, each argument that is none of its own
   abbrev pub unknown_on_directive : Catalog S C → Directive S → List ErrorValue

@@ -14,7 +14,8 @@ use Rattle.schema_validation.specs.declared.directives.DirectiveLocation.TheVari
 use Rattle.schema_validation.specs.declared.directives.DirectiveType.{DirectiveType}
 use Rattle.walk.specs.ContextState.{DocumentScope}
 use Rattle.walk.specs.ErrorValue.{ErrorValue}
-use Rattle.events.specs.Node.{Node, Placed, operation_definition, fragment_definition, variable_definition, field, fragment_spread, inline_fragment}
+use Rattle.events.specs.Node.{Node, Placed, operation_definition, fragment_definition, variable_definition, field}
+use Rattle.events.specs.Node.{fragment_spread, inline_fragment}
 use Rattle.events.specs.Occurrence.{Occurrence}
 
 abbrev pub unknown_directive_message : List ℕ → List ℕ
@@ -42,7 +43,9 @@ module _ {S : Type 0} where
   abbrev pub unsuitable_by : DirectiveLocation → Placed (Directive S) → Option (DirectiveType S) → List ErrorValue
   unsuitable_by place d None = record { locations = d.span.start ∷ []; message = unknown_directive_message d.item.name.item.now } ∷ []
   unsuitable_by place d (Some known) =
-      if is_listed place known.locations.items then [] else record { locations = d.span.start ∷ []; message = misplaced_message d.item.name.item.now (location_words place) } ∷ []
+      if is_listed place known.locations.items then [] else record
+          { locations = d.span.start ∷ []; message = misplaced_message d.item.name.item.now (location_words place) } ∷
+          []
 
 module _ {S C : Type 0} where
   -- a directive at a place: it is known, and the place is listed
@@ -70,7 +73,9 @@ module _ {S C : Type 0} where
 
   -- the directive is known, and may stand at the place
   abbrev pub IsSuitable : Catalog S C → DirectiveLocation → Placed (Directive S) → Type 0
-  IsSuitable schema place d = (known : DirectiveType S) × (directive_in d.item.name.item.now schema ≡ Some known) × Contains known.locations.items place
+  IsSuitable schema place d =
+      (known : DirectiveType S) × (directive_in d.item.name.item.now schema ≡ Some known)
+      × Contains known.locations.items place
 
   -- each directive of a list, if there is one
   abbrev pub AreSuitable : Catalog S C → DirectiveLocation → Option (Vec (Placed (Directive S)) Global) → Type 0

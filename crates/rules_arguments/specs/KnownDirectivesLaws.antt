@@ -13,10 +13,13 @@ use Rattle.schema_validation.specs.declared.directives.DirectiveLocation.{Direct
 use Rattle.schema_validation.specs.declared.directives.DirectiveLocation.TheVariants as l
 use Rattle.schema_validation.specs.declared.directives.DirectiveType.{DirectiveType}
 use Rattle.walk.specs.ContextState.{DocumentScope}
-use Rattle.events.specs.Node.{Node, Placed, operation_definition, fragment_definition, variable_definition, field, fragment_spread, inline_fragment}
+use Rattle.events.specs.Node.{Node, Placed, operation_definition, fragment_definition, variable_definition, field}
+use Rattle.events.specs.Node.{fragment_spread, inline_fragment}
 use Rattle.events.specs.Occurrence.{Occurrence}
 use Rattle.rules_support.specs.FoundLaws.{none_among, none_unless}
-use Rattle.rules_arguments.specs.KnownDirectives.{is_listed, is_one_place, operation_place, unsuitable, unsuitable_by, unsuitable_among, unsuitable_at, unsuitable_directives, IsSuitable, AreSuitable, HasSuitable}
+use Rattle.rules_arguments.specs.KnownDirectives.{is_listed, is_one_place, operation_place, unsuitable, unsuitable_by}
+use Rattle.rules_arguments.specs.KnownDirectives.{unsuitable_among, unsuitable_at, unsuitable_directives, IsSuitable}
+use Rattle.rules_arguments.specs.KnownDirectives.{AreSuitable, HasSuitable}
 
 -- places of one name are the same
 one_place : (a b : DirectiveLocation) → is_one_place a b ≡ true → a ≡ b
@@ -41,7 +44,8 @@ one_place l.InputObject l.InputObject e = refl
 one_place l.InputFieldDefinition l.InputFieldDefinition e = refl
 one_place _ _ e = absurd cc
 
-listed_first : (b : Bool) (x place : DirectiveLocation) (ls : List DirectiveLocation) → is_one_place x place ≡ b → (b || is_listed place ls) ≡ true
+listed_first : (b : Bool) (x place : DirectiveLocation) (ls : List DirectiveLocation) → is_one_place x place ≡ b
+    → (b || is_listed place ls) ≡ true
     → (is_listed place ls ≡ true → Contains ls place) → Contains (x ∷ ls) place
 listed_first true x place ls h e rest = (0, omega arith, one_place x place h)
 listed_first false x place ls h e rest = Contains-append_right (x ∷ []) ls place (rest e)
@@ -65,17 +69,23 @@ same_known : {T : Type 0} (k known : T) → Some known ≡ Some k → k ≡ know
 same_known k known is = cc
 
 module _ {S C : Type 0} (schema : Catalog S C) where
-  none_by : (place : DirectiveLocation) (d : Placed (Directive S)) (known : Option (DirectiveType S)) → (unsuitable_by place d known ≡ []) ↔ ((k : DirectiveType S) × (known ≡ Some k) × Contains k.locations.items place)
+  none_by : (place : DirectiveLocation) (d : Placed (Directive S)) (known : Option (DirectiveType S))
+      → (unsuitable_by place d known ≡ []) ↔ ((k : DirectiveType S) × (known ≡ Some k)
+      × Contains k.locations.items place)
   none_by place d None = (λ e. absurd cc, λ (k, is, there). absurd cc)
   none_by place d (Some known) =
       let unless = none_unless (is_listed place known.locations.items) _ in (
         λ e. (known, refl, listed_stands place known.locations.items (unless.0 e)),
-        λ (k, is, there). unless.1 (stands_listed place known.locations.items (subst (λ z. Contains z.locations.items place) (same_known k known is) there)),
+        λ (k, is, there). unless.1 (stands_listed place known.locations.items
+            (subst (λ z. Contains z.locations.items place) (same_known k known is) there)),
       )
 
-  none_of : (place : DirectiveLocation) (written : Option (Vec (Placed (Directive S)) Global)) → (unsuitable_among schema place written ≡ []) ↔ AreSuitable schema place written
+  none_of : (place : DirectiveLocation) (written : Option (Vec (Placed (Directive S)) Global))
+      → (unsuitable_among schema place written ≡ []) ↔ AreSuitable schema place written
   none_of place None = (λ e. tt, λ u. refl)
-  none_of place (Some ds) = none_among (unsuitable schema place) (IsSuitable schema place) (λ d. none_by place d (directive_in d.item.name.item.now schema)) ds.items
+  none_of place (Some ds) =
+      none_among (unsuitable schema place) (IsSuitable schema place)
+      (λ d. none_by place d (directive_in d.item.name.item.now schema)) ds.items
 
   none_at : (n : Node S) → (unsuitable_at schema n ≡ []) ↔ HasSuitable schema n
   none_at (operation_definition o) = none_of (operation_place o.item.operation_type) o.item.directives
@@ -87,5 +97,6 @@ module _ {S C : Type 0} (schema : Catalog S C) where
   none_at _ = (λ e. tt, λ u. refl)
 
 -- nothing is found at an occurrence if and only if the directives there are suitable
-pub none_unsuitable : {S C : Type 0} (scope : DocumentScope S C) (o : Occurrence S C) → (unsuitable_directives scope o ≡ []) ↔ HasSuitable scope.schema o.node
+pub none_unsuitable : {S C : Type 0} (scope : DocumentScope S C) (o : Occurrence S C)
+    → (unsuitable_directives scope o ≡ []) ↔ HasSuitable scope.schema o.node
 none_unsuitable scope o = none_at scope.schema o.node

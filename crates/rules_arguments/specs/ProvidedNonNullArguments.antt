@@ -1,5 +1,6 @@
 -- Required arguments that are not given (section 5.4.2.1).
-use Rattle.std.specs.Prelude.{◌≡◌, true, ℕ, List, [], ◌∷◌, ◌++◌, Bool, false, ◌&&◌, not, Option, Some, None, is_some, is_none, if◌then◌else◌, codes, string_bytes}
+use Rattle.std.specs.Prelude.{◌≡◌, true, ℕ, List, [], ◌∷◌, ◌++◌, Bool, false, ◌&&◌, not, Option, Some, None, is_some}
+use Rattle.std.specs.Prelude.{is_none, if◌then◌else◌, codes, string_bytes}
 use Rattle.std.specs.List.{Contains, flat_map}
 use Rattle.language.specs.Pairs.{first_of_name}
 use Rattle.language.specs.Types.{shape, is_never_null, printed}
@@ -51,10 +52,13 @@ module _ {S : Type 0} where
   -- a required argument that is not among those that were written, reported at a place
   abbrev pub missing_argument : (Argument S → Bool) → List ℕ → SourcePosition → Option (Placed (Arguments S)) → Argument S → List ErrorValue
   missing_argument required words place written a =
-      if required a && not (is_given written (string_bytes a.name)) then record { locations = place ∷ []; message = missing_message words (string_bytes a.name) (printed (shape a.arg_type)) } ∷ [] else []
+      if required a && not (is_given written (string_bytes a.name)) then record
+          { locations = place ∷ []; message = missing_message words (string_bytes a.name) (printed (shape a.arg_type)) }
+          ∷ [] else []
 
   -- each of the known arguments, where a list of them is known
-  abbrev pub missing_where_known : (Argument S → Bool) → List ℕ → SourcePosition → Option (List (Argument S)) → Option (Placed (Arguments S)) → List ErrorValue
+  abbrev pub missing_where_known : (Argument S → Bool) → List ℕ → SourcePosition → Option (List (Argument S))
+      → Option (Placed (Arguments S)) → List ErrorValue
   missing_where_known required words place None written = []
   missing_where_known required words place (Some known) written = flat_map (missing_argument required words place written) known
 
@@ -65,18 +69,21 @@ module _ {S : Type 0} where
   -- each required argument is given, where a list of the known ones is known
   abbrev pub AreGiven : (Argument S → Bool) → Option (List (Argument S)) → Option (Placed (Arguments S)) → Type 0
   AreGiven required None written = Unit {0}
-  AreGiven required (Some known) written = (a : Argument S) → Contains known a → required a ≡ true → is_given written (string_bytes a.name) ≡ true
+  AreGiven required (Some known) written =
+      (a : Argument S) → Contains known a → required a ≡ true → is_given written (string_bytes a.name) ≡ true
 
 module _ {S C : Type 0} where
   -- the missing arguments of a field
   abbrev pub missing_on_field : Option (MetaTypeOf S C) → Placed (Field S) → List ErrorValue
   missing_on_field parent f =
-      missing_where_known required_on_field (on_field f.item.name.item.now) f.span.start (field_arguments parent f.item.name.item.now) f.item.arguments
+      missing_where_known required_on_field (on_field f.item.name.item.now) f.span.start
+          (field_arguments parent f.item.name.item.now) f.item.arguments
 
   -- the missing arguments of a directive
   abbrev pub missing_on_directive : Catalog S C → Placed (Directive S) → List ErrorValue
   missing_on_directive schema d =
-      missing_where_known required_on_directive (on_directive d.item.name.item.now) d.span.start (directive_arguments schema d.item.name.item.now) d.item.arguments
+      missing_where_known required_on_directive (on_directive d.item.name.item.now) d.span.start
+          (directive_arguments schema d.item.name.item.now) d.item.arguments
 
   -- at a node: a field or a directive
   abbrev pub missing_at : Catalog S C → Option (MetaTypeOf S C) → Node S → List ErrorValue
@@ -91,5 +98,6 @@ module _ {S C : Type 0} where
   -- at a node: the required arguments of a field, and of a directive
   abbrev pub HasRequired : Catalog S C → Option (MetaTypeOf S C) → Node S → Type 0
   HasRequired schema parent (field f) = AreGiven required_on_field (field_arguments parent f.item.name.item.now) f.item.arguments
-  HasRequired schema parent (directive d) = AreGiven required_on_directive (directive_arguments schema d.item.name.item.now) d.item.arguments
+  HasRequired schema parent (directive d) =
+      AreGiven required_on_directive (directive_arguments schema d.item.name.item.now) d.item.arguments
   HasRequired schema parent _ = Unit {0}

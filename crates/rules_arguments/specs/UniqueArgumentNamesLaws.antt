@@ -6,7 +6,8 @@ use Rattle.walk.specs.ContextState.{DocumentScope}
 use Rattle.events.specs.Node.{Node, Placed, field, directive}
 use Rattle.events.specs.Occurrence.{Occurrence}
 use Rattle.rules_support.specs.RepeatsLaws.{none_repeat_in}
-use Rattle.rules_arguments.specs.UniqueArgumentNames.{repeated_argument_message, repeated_in, repeated_at, repeated_arguments, AreDistinctArguments, HasDistinctArguments}
+use Rattle.rules_arguments.specs.UniqueArgumentNames.{repeated_argument_message, repeated_in, repeated_at}
+use Rattle.rules_arguments.specs.UniqueArgumentNames.{repeated_arguments, AreDistinctArguments, HasDistinctArguments}
 
 module _ {S : Type 0} where
   none_among : (written : Option (Placed (Arguments S))) → (repeated_in written ≡ []) ↔ AreDistinctArguments written
@@ -19,5 +20,6 @@ module _ {S : Type 0} where
   none_at _ = (λ e. tt, λ u. refl)
 
 -- nothing is found at an occurrence if and only if the arguments there are distinct
-pub none_repeated : {S C : Type 0} (scope : DocumentScope S C) (o : Occurrence S C) → (repeated_arguments scope o ≡ []) ↔ HasDistinctArguments o.node
+pub none_repeated : {S C : Type 0} (scope : DocumentScope S C) (o : Occurrence S C) → (repeated_arguments scope o ≡ [])
+    ↔ HasDistinctArguments o.node
 none_repeated scope o = none_at o.node

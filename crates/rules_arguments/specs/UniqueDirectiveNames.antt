@@ -1,5 +1,6 @@
 -- Later directives of a name, where the name may stand once (section 5.7.3).
-use Rattle.std.specs.Prelude.{◌≡◌, ℕ, List, [], ◌∷◌, ◌++◌, Bool, true, false, not, Option, Some, None, if◌then◌else◌, codes, map}
+use Rattle.std.specs.Prelude.{◌≡◌, ℕ, List, [], ◌∷◌, ◌++◌, Bool, true, false, not, Option, Some, None, if◌then◌else◌}
+use Rattle.std.specs.Prelude.{codes, map}
 use Rattle.std.specs.declared.alloc.Global.{Global}
 use Rattle.std.specs.declared.vec.Vec.{Vec}
 use Rattle.std.specs.List.{filter, flat_map}
@@ -9,7 +10,8 @@ use Rattle.schema.specs.Catalog.{Catalog, directive_in}
 use Rattle.schema_validation.specs.declared.directives.DirectiveType.{DirectiveType}
 use Rattle.walk.specs.ContextState.{DocumentScope}
 use Rattle.walk.specs.ErrorValue.{ErrorValue}
-use Rattle.events.specs.Node.{Node, Placed, operation_definition, fragment_definition, variable_definition, field, fragment_spread, inline_fragment}
+use Rattle.events.specs.Node.{Node, Placed, operation_definition, fragment_definition, variable_definition, field}
+use Rattle.events.specs.Node.{fragment_spread, inline_fragment}
 use Rattle.events.specs.Occurrence.{Occurrence}
 use Rattle.rules_support.specs.Names.{Named}
 use Rattle.rules_support.specs.Repeats.{repeats}

@@ -12,12 +12,15 @@ use Rattle.events.specs.Occurrence.{Occurrence}
 use Rattle.rules_support.specs.Names.{Named}
 use Rattle.rules_support.specs.Repeats.{repeats}
 use Rattle.rules_support.specs.RepeatsLaws.{none_repeats}
-use Rattle.rules_arguments.specs.UniqueDirectiveNames.{is_once, once_among, once_names, repeated_directive_message, repeated_in, repeated_directives, directives_at, AreDistinctDirectives}
+use Rattle.rules_arguments.specs.UniqueDirectiveNames.{is_once, once_among, once_names, repeated_directive_message}
+use Rattle.rules_arguments.specs.UniqueDirectiveNames.{repeated_in, repeated_directives, directives_at}
+use Rattle.rules_arguments.specs.UniqueDirectiveNames.{AreDistinctDirectives}
 
 -- one more directive, by whether it may stand once
 one_more : {S : Type 0} (once : Bool) (d : Placed (Directive S)) (names : List Named) (ds : List (Placed (Directive S)))
     → map (λ n. n.0) names ≡ map (λ x. x.item.name.item.now) ds
-    → map (λ n. n.0) ((if once then (d.item.name.item.now, d.span.start) ∷ [] else []) ++ names) ≡ map (λ x. x.item.name.item.now) (if once then d ∷ ds else ds)
+    → map (λ n. n.0) ((if once then (d.item.name.item.now, d.span.start) ∷ [] else []) ++ names)
+        ≡ map (λ x. x.item.name.item.now) (if once then d ∷ ds else ds)
 one_more true d names ds e = ap (λ z. d.item.name.item.now ∷ z) e
 one_more false d names ds e = e
 
@@ -26,10 +29,12 @@ module _ {S C : Type 0} (schema : Catalog S C) where
   same_names [] = refl
   same_names (d ∷ ds) = one_more (is_once schema d) d (once_among schema ds) _ (same_names ds)
 
-  none_in : (written : Option (Vec (Placed (Directive S)) Global)) → (repeated_in schema written ≡ []) ↔ AreDistinctDirectives schema written
+  none_in : (written : Option (Vec (Placed (Directive S)) Global)) → (repeated_in schema written ≡ [])
+      ↔ AreDistinctDirectives schema written
   none_in None = (λ e. tt, λ u. refl)
   none_in (Some ds) =
-      subst (λ names. (repeats repeated_directive_message (once_among schema ds.items) ≡ []) ↔ (are_distinct names ≡ true)) (same_names ds.items)
+      subst (λ names. (repeats repeated_directive_message (once_among schema ds.items) ≡ [])
+          ↔ (are_distinct names ≡ true)) (same_names ds.items)
       (none_repeats repeated_directive_message (once_among schema ds.items))
 
 -- nothing is found at an occurrence if and only if the directives there that may stand once are distinct

@@ -4,7 +4,8 @@ use Rattle.walk.specs.ContextState.{DocumentScope}
 use Rattle.events.specs.Node.{Node, object_value}
 use Rattle.events.specs.Occurrence.{Occurrence}
 use Rattle.rules_support.specs.RepeatsLaws.{none_repeat_of}
-use Rattle.rules_arguments.specs.UniqueInputFieldNames.{repeated_key_message, repeated_in_object, repeated_keys, HasDistinctKeys}
+use Rattle.rules_arguments.specs.UniqueInputFieldNames.{repeated_key_message, repeated_in_object, repeated_keys}
+use Rattle.rules_arguments.specs.UniqueInputFieldNames.{HasDistinctKeys}
 
 none_at : {S : Type 0} (n : Node S) → (repeated_in_object n ≡ []) ↔ HasDistinctKeys n
 none_at (object_value v) = none_repeat_of repeated_key_message v.item

@@ -8,7 +8,9 @@ ghost use Rattle.walk.specs.Rule.{always, any_value, exactly};
 ghost use Rattle.walk.specs.RuleLaws.{everywhere_silent};
 ghost use Rattle.walk.specs.Step.{KeepsPlace};
 ghost use Rattle.walk.proofs.Entering.{finding_keeps};
-ghost use Rattle.rules_arguments.specs.KnownArgumentNames.{is_known, known_on_field, unknown_message, unknown_name, unknown_argument, unknown_arguments, unknown_where_known, unknown_on_field, unknown_on_directive, HasKnown};
+ghost use Rattle.rules_arguments.specs.KnownArgumentNames.{is_known, known_on_field, unknown_message, unknown_name};
+ghost use Rattle.rules_arguments.specs.KnownArgumentNames.{unknown_argument, unknown_arguments, unknown_where_known};
+ghost use Rattle.rules_arguments.specs.KnownArgumentNames.{unknown_on_field, unknown_on_directive, HasKnown};
 ghost use Rattle.rules_arguments.specs.KnownArgumentNamesLaws.{none_unknown};
 
 use crate::bearers::{Bearer, name_of_known};
@@ -94,7 +96,8 @@ fn report_on_field<'a, S: CheckedScalar>(
     report(alloc, ctx, bearer, known, &field.arguments)
 }
 
-// The arguments of the parent type's first field of the name, where there is such a field: none where it has no list of them.
+// The arguments of the parent type's first field of the name, where there is such a field: none where it has no list of
+// them.
 fn known_on_field<'a, S, C>(
     parent: Option<&'a MetaTypeOf<S, C>>,
     name: &str,

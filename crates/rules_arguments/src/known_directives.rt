@@ -1,4 +1,5 @@
-//! Each directive is defined by the schema, and is allowed where it stands (GraphQL, October 2021, sections 5.7.1 and 5.7.2).
+//! Each directive is defined by the schema, and is allowed where it stands (GraphQL, October 2021, sections 5.7.1 and
+//! 5.7.2).
 
 ghost use Rattle.std.specs.Prelude.{◌≡◌, IfOk, OnOk, OnErr, string_bytes};
 ghost use Rattle.std.specs.List.{flat_map};
@@ -9,7 +10,9 @@ ghost use Rattle.walk.specs.Rule.{always, any_value, exactly};
 ghost use Rattle.walk.specs.RuleLaws.{everywhere_silent};
 ghost use Rattle.walk.specs.Step.{KeepsPlace};
 ghost use Rattle.walk.proofs.Entering.{finding_keeps};
-ghost use Rattle.rules_arguments.specs.KnownDirectives.{is_listed, is_one_place, misplaced_message, operation_place, unknown_directive_message, unsuitable, unsuitable_among, unsuitable_directives, HasSuitable};
+ghost use Rattle.rules_arguments.specs.KnownDirectives.{is_listed, is_one_place, misplaced_message, operation_place};
+ghost use Rattle.rules_arguments.specs.KnownDirectives.{unknown_directive_message, unsuitable, unsuitable_among};
+ghost use Rattle.rules_arguments.specs.KnownDirectives.{unsuitable_directives, HasSuitable};
 ghost use Rattle.rules_arguments.specs.KnownDirectivesLaws.{none_unsuitable};
 
 use language::error::OutOfMemory;
@@ -21,7 +24,8 @@ use schema::model::DirectiveLocation;
 use std::alloc::{AllocError, Global};
 use walk::{Criterion, Event, Fresh, Machine, Rule, SettledRule, ValidatorContext, Visitor};
 
-/// Reports each directive that the schema does not define, and each that is not allowed at its node, at the directive's start.
+/// Reports each directive that the schema does not define, and each that is not allowed at its node, at the directive's
+/// start.
 #[derive(Drop)]
 pub struct KnownDirectives {
     alloc: Global,

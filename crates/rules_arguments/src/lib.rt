@@ -1,5 +1,5 @@
-//! The rules on arguments, on keys of input objects and on directives (GraphQL, October 2021, sections 5.4, 5.6.3, 5.7.1 to
-//! 5.7.3), each in a module of its own.
+//! The rules on arguments, on keys of input objects and on directives (GraphQL, October 2021, sections 5.4, 5.6.3,
+//! 5.7.1 to 5.7.3), each in a module of its own.
 #![tactic(auto)]
 
 mod bearers;

@@ -9,7 +9,10 @@ ghost use Rattle.walk.specs.Rule.{always, any_value, exactly};
 ghost use Rattle.walk.specs.RuleLaws.{everywhere_silent};
 ghost use Rattle.walk.specs.Step.{KeepsPlace};
 ghost use Rattle.walk.proofs.Entering.{finding_keeps};
-ghost use Rattle.rules_arguments.specs.ProvidedNonNullArguments.{is_given, is_required, missing_argument, missing_where_known, missing_message, missing_on_field, missing_on_directive, missing_arguments, words_before, HasRequired};
+ghost use Rattle.rules_arguments.specs.ProvidedNonNullArguments.{is_given, is_required, missing_argument};
+ghost use Rattle.rules_arguments.specs.ProvidedNonNullArguments.{missing_where_known, missing_message};
+ghost use Rattle.rules_arguments.specs.ProvidedNonNullArguments.{missing_on_field, missing_on_directive};
+ghost use Rattle.rules_arguments.specs.ProvidedNonNullArguments.{missing_arguments, words_before, HasRequired};
 ghost use Rattle.rules_arguments.specs.ProvidedNonNullArgumentsLaws.{none_missing};
 
 use crate::bearers::{Bearer, name_of_known};
@@ -26,7 +29,8 @@ use walk::{Criterion, Event, Fresh, Machine, Rule, SettledRule, ValidatorContext
 
 /// Reports each required argument that is not given, at the start of its field or of its directive.
 ///
-/// An argument of a non-null type is required. On a field a default value makes it optional; on a directive it does not.
+/// An argument of a non-null type is required. On a field a default value makes it optional; on a directive it does
+/// not.
 #[derive(Drop)]
 pub struct ProvidedNonNullArguments {
     alloc: Global,

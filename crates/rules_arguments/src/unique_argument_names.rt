@@ -18,7 +18,8 @@ use rules_support::repeats::report_repeats;
 use std::alloc::Global;
 use walk::{Criterion, Event, Fresh, Machine, Rule, SettledRule, ValidatorContext, Visitor};
 
-/// Reports each argument whose name an earlier argument of its list has: at the first argument of the name, and at its own.
+/// Reports each argument whose name an earlier argument of its list has: at the first argument of the name, and at its
+/// own.
 #[derive(Drop)]
 pub struct UniqueArgumentNames {
     alloc: Global,

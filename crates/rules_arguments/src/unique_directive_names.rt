@@ -1,5 +1,5 @@
-//! No two directives of a node have the same name, unless it is that of a repeatable directive (GraphQL, October 2021, section
-//! 5.7.3).
+//! No two directives of a node have the same name, unless it is that of a repeatable directive (GraphQL, October 2021,
+//! section 5.7.3).
 
 ghost use Rattle.std.specs.Prelude.{◌≡◌, IfOk, OnOk, OnErr, map};
 ghost use Rattle.walk.specs.ContextState.{with_errors};
@@ -9,7 +9,9 @@ ghost use Rattle.walk.specs.RuleLaws.{everywhere_silent};
 ghost use Rattle.walk.specs.Step.{KeepsPlace};
 ghost use Rattle.walk.proofs.Entering.{finding_keeps};
 ghost use Rattle.rules_support.specs.Repeats.{repeats};
-ghost use Rattle.rules_arguments.specs.UniqueDirectiveNames.{is_once, once_among, repeated_directive_message, repeated_directives, repeated_in, whole_name, directives_at, AreDistinctDirectives};
+ghost use Rattle.rules_arguments.specs.UniqueDirectiveNames.{is_once, once_among, repeated_directive_message};
+ghost use Rattle.rules_arguments.specs.UniqueDirectiveNames.{repeated_directives, repeated_in, whole_name};
+ghost use Rattle.rules_arguments.specs.UniqueDirectiveNames.{directives_at, AreDistinctDirectives};
 ghost use Rattle.rules_arguments.specs.UniqueDirectiveNamesLaws.{none_repeated};
 
 use language::error::OutOfMemory;
@@ -22,8 +24,8 @@ use std::alloc::{AllocError, Global};
 use std::marker::PhantomData;
 use walk::{Criterion, Event, Fresh, Machine, Rule, SettledRule, ValidatorContext, Visitor};
 
-/// Reports each directive whose name an earlier directive of its node has, at the start of the first one of the name and at its own
-/// start.
+/// Reports each directive whose name an earlier directive of its node has, at the start of the first one of the name
+/// and at its own start.
 ///
 /// It reports nothing of an unknown directive, nor of a repeatable one.
 #[derive(Drop)]

@@ -20,7 +20,8 @@ abbrev pub at_document : {S V : Type 0} → (List (Definition S) → V → List 
 at_document gives (document doc) a b es = gives doc b es
 at_document gives _ a b es = Idle a b es
 
-abbrev pub document_side : {S V : Type 0} → (List (Definition S) → V → List ErrorValue → Type 0) → Side → Node S → V → V → List ErrorValue → Type 0
+abbrev pub document_side : {S V : Type 0} → (List (Definition S) → V → List ErrorValue → Type 0) → Side → Node S → V → V
+    → List ErrorValue → Type 0
 document_side gives entering node a b es = Idle a b es
 document_side gives leaving node a b es = at_document gives node a b es
 

@@ -20,7 +20,8 @@ name_and_span f = (f.item.name.item.now, f.span)
 
 -- by name, then by where the definition starts and ends
 abbrev pub name_and_span_cmp : NameAndSpan → NameAndSpan → Ordering
-name_and_span_cmp = then_cmp (then_cmp (on (λ p. p.0) (slice_cmp nat_cmp)) (on (λ p. p.1.start) position_cmp)) (on (λ p. p.1.end) position_cmp)
+name_and_span_cmp = then_cmp (then_cmp (on (λ p. p.0) (slice_cmp nat_cmp)) (on (λ p. p.1.start) position_cmp))
+    (on (λ p. p.1.end) position_cmp)
 
 -- those that were met and aren't the first of their name, as they are kept
 abbrev pub Others : Type 0

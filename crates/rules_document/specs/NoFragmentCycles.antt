@@ -18,8 +18,8 @@ cycle_error r = record { locations = r.1 ∷ []; message = cycle_message r.0 }
 abbrev pub KeepsFound : {S : Type 0} → List (Definition S) → NoFragmentCycles → Type 0
 KeepsFound document end = (c : DocumentCycles) × (end.found ≡ Some c) × SearchedDocument document c
 
--- fragments on cycles, each at a spread inside it on the way back, at least one for every cycle; each spread inside a definition of a
--- fragment was looked at once
+-- fragments on cycles, each at a spread inside it on the way back, at least one for every cycle; each spread inside a
+-- definition of a fragment was looked at once
 pub record CycleErrors {S : Type 0} (document : List (Definition S)) (end : NoFragmentCycles) (es : List ErrorValue) : Type 0 where
   pub reports : List NameAndPlace
   pub found : FindsCycles document reports
@@ -33,4 +33,5 @@ cycle_errors scope document end es = CycleErrors document end es
 -- there are none if and only if no fragment leads back to itself, whatever the schema
 abbrev pub CyclesAreTold : Type 0 → Type 0
 CyclesAreTold S =
-    (document : List (Definition S)) (end : NoFragmentCycles) (es : List ErrorValue) → CycleErrors document end es → (es ≡ []) ↔ HasNoCycle document
+    (document : List (Definition S)) (end : NoFragmentCycles) (es : List ErrorValue) → CycleErrors document end es
+        → (es ≡ []) ↔ HasNoCycle document

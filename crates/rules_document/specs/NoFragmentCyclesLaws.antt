@@ -2,7 +2,8 @@
 use Rattle.std.proofs.Common.{◌≡◌, ℕ, List, [], ◌∷◌, inl, inr, map, sym, ◌∙◌, refl, arith}
 use Rattle.language.specs.declared.tree.Definition.{Definition}
 use Rattle.walk.specs.Rule.{SilentIff}
-use Rattle.fragment_graph.specs.DocumentCycles.{NameAndPlace, NamePath, name_step, name_more, IsTrueOf, SomeReported, HasNoCycle, FindsCycles}
+use Rattle.fragment_graph.specs.DocumentCycles.{NameAndPlace, NamePath, name_step, name_more, IsTrueOf, SomeReported}
+use Rattle.fragment_graph.specs.DocumentCycles.{HasNoCycle, FindsCycles}
 use Rattle.rules_document.specs.AtDocument.{given_at_end}
 use Rattle.rules_document.specs.NoFragmentCycles.{CyclesAreTold, cycle_error, cycle_errors}
 

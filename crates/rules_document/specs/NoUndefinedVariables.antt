@@ -7,7 +7,8 @@ use Rattle.rules_document.specs.declared.no_undefined_variables.NoUndefinedVaria
 
 abbrev pub undefined_message : List ℕ → Option (List ℕ) → List ℕ
 undefined_message name None = (codes "Variable \"$" ++ name) ++ codes "\" is not defined"
-undefined_message name (Some called) = codes "Variable \"$" ++ (name ++ (codes "\" is not defined by operation \"" ++ (called ++ codes "\"")))
+undefined_message name (Some called) =
+    codes "Variable \"$" ++ (name ++ (codes "\" is not defined by operation \"" ++ (called ++ codes "\"")))
 
 -- at the argument's value, and at the operation
 abbrev pub undefined_error : Undefined → ErrorValue

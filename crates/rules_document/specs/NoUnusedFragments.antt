@@ -32,7 +32,9 @@ module _ {S : Type 0} where
 
   -- there is no fragment that no operation reaches
   abbrev pub NoneUnused : List (Definition S) → Type 0
-  NoneUnused document = (f : Placed (Fragment S)) → Contains document (definition.Fragment f) → ¬ (¬ (IsReached document f.item.name.item.now))
+  NoneUnused document =
+      (f : Placed (Fragment S)) → Contains document (definition.Fragment f)
+      → ¬ (¬ (IsReached document f.item.name.item.now))
 
   -- of the fragments among these definitions, each name and span that no operation of the document reaches, once
   pub record UnusedAmong (document definitions : List (Definition S)) (fs : List NameAndSpan) : Type 0 where
@@ -58,7 +60,8 @@ UnusedAreTold S = (document : List (Definition S)) (es : List ErrorValue) → Un
 -- a fragment is added where it has no mark and was not met; what is added is met from then on
 pub record AddsFragment (r : ReachedFragments) (old new : MetFragments) (p : NameAndSpan) (fs : List NameAndSpan) : Type 0 where
   pub met : (q : NameAndSpan) → IsMet r.graph.now.numbers new q ↔ (IsMet r.graph.now.numbers old q ⊎ Contains fs q)
-  pub added : ((IsNameMarked r p.0 ⊎ IsMet r.graph.now.numbers old p) × (fs ≡ [])) ⊎ ((IsNameMarked r p.0 → ⊥) × (IsMet r.graph.now.numbers old p → ⊥) × (fs ≡ p ∷ []))
+  pub added : ((IsNameMarked r p.0 ⊎ IsMet r.graph.now.numbers old p) × (fs ≡ []))
+      ⊎ ((IsNameMarked r p.0 → ⊥) × (IsMet r.graph.now.numbers old p → ⊥) × (fs ≡ p ∷ []))
 
 abbrev pub AddsUnused : {S : Type 0} → ReachedFragments → MetFragments → MetFragments → Definition S → List NameAndSpan → Type 0
 AddsUnused r old new (definition.Operation o) fs = (new ≡ old) × (fs ≡ [])

@@ -8,7 +8,8 @@ use Rattle.walk.specs.Rule.{SilentIff}
 use Rattle.rules_document.specs.AtDocument.{given_at_end}
 use Rattle.rules_document.specs.AtDocumentLaws.{lists_silent, map_none}
 use Rattle.rules_document.specs.MetFragments.{NameAndSpan, name_and_span}
-use Rattle.rules_document.specs.NoUnusedFragments.{unused_error, unused_errors, IsSame, NoneUnused, UnusedAmong, UnusedAreTold, UnusedOf}
+use Rattle.rules_document.specs.NoUnusedFragments.{unused_error, unused_errors, IsSame, NoneUnused, UnusedAmong}
+use Rattle.rules_document.specs.NoUnusedFragments.{UnusedAreTold, UnusedOf}
 
 module _ {S : Type 0} (document : List (Definition S)) where
   used_where_none : (fs : List NameAndSpan) → UnusedAmong document document fs → fs ≡ [] → NoneUnused document
@@ -18,7 +19,8 @@ module _ {S : Type 0} (document : List (Definition S)) where
 
   used_at : NoneUnused document → (d : Definition S) (p : NameAndSpan) → Contains document d → IsSame d p → (IsReached document p.0 → ⊥) → ⊥
   used_at used (definition.Operation o) p there same unreached = same
-  used_at used (definition.Fragment f) p there same unreached = used f there (λ reached. unreached (subst (IsReached document) (ap (λ q. q.0) same) reached))
+  used_at used (definition.Fragment f) p there same unreached =
+      used f there (λ reached. unreached (subst (IsReached document) (ap (λ q. q.0) same) reached))
 
   none_where_used : (fs : List NameAndSpan) → UnusedAmong document document fs → NoneUnused document → fs ≡ []
   none_where_used [] u used = refl

@@ -7,7 +7,8 @@ use Rattle.rules_document.specs.declared.no_unused_variables.NoUnusedVariables.{
 
 abbrev pub unused_variable_message : List ℕ → Option (List ℕ) → List ℕ
 unused_variable_message name None = (codes "Variable \"$" ++ name) ++ codes "\" is not used"
-unused_variable_message name (Some called) = codes "Variable \"$" ++ (name ++ (codes "\" is not used by operation \"" ++ (called ++ codes "\"")))
+unused_variable_message name (Some called) =
+    codes "Variable \"$" ++ (name ++ (codes "\" is not used by operation \"" ++ (called ++ codes "\"")))
 
 -- at its name in the definition
 abbrev pub unused_variable_error : Unused → ErrorValue

@@ -6,8 +6,8 @@ ghost use Rattle.rules_document.specs.ScopeOrder.{AreOrdered};
 
 use operation_scopes::scope::Scope;
 
-/// Of the lists of errors that `NoFragmentCycles` may report of a document, each is empty if and only if no fragment leads
-/// back to itself.
+/// Of the lists of errors that `NoFragmentCycles` may report of a document, each is empty if and only if no fragment
+/// leads back to itself.
 pub fn cycles_are_told<S>()
     ensures { CyclesAreTold S }
 {}
@@ -18,7 +18,8 @@ pub fn unused_are_told<S>()
     ensures { UnusedAreTold S }
 {}
 
-/// The order of scopes is total, and two scopes compare as equal if and only if they have the same kind and the same name.
+/// The order of scopes is total, and two scopes compare as equal if and only if they have the same kind and the same
+/// name.
 pub fn scopes_are_ordered<'a>()
     ensures { AreOrdered ⟦<Scope<'a> as Ord>⟧.cmp }
 {}

@@ -45,7 +45,8 @@ pub fn none_met<'a>(alloc: Global, numbers: &Numbers<'_>) -> Result<MetFragments
     })
 }
 
-// Notes that a fragment was met that isn't the first of its name, and returns whether it is the first of its name and span.
+// Notes that a fragment was met that isn't the first of its name, and returns whether it is the first of its name and
+// span.
 fn meet_other<'a, S>(
     others: &mut BTreeSet<(&'a str, SourcePosition, SourcePosition)>,
     fragment: &Spanning<Fragment<'a, S>>,

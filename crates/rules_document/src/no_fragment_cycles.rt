@@ -19,7 +19,8 @@ use meta::check::CheckedScalar;
 use std::alloc::{AllocError, Global};
 use walk::{Criterion, Event, Fresh, Machine, Rule, SettledRule, ValidatorContext, Visitor};
 
-/// Reports, where the document ends, at least one fragment of each cycle of spreads, at a spread inside it on the way back to it.
+/// Reports, where the document ends, at least one fragment of each cycle of spreads, at a spread inside it on the way
+/// back to it.
 ///
 /// It keeps what its search found, for what looks at the fragments after it.
 #[derive(Drop)]

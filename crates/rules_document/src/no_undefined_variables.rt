@@ -22,7 +22,8 @@ use variable_usages::document_index::{DocumentIndex, index_document};
 use variable_usages::undefined::{UndefinedVariable, undefined_in};
 use walk::{Criterion, Event, Fresh, Machine, Rule, SettledRule, ValidatorContext, Visitor};
 
-/// Reports, where the document ends, each use of a variable that is not defined: at the argument's value, and at the operation.
+/// Reports, where the document ends, each use of a variable that is not defined: at the argument's value, and at the
+/// operation.
 ///
 /// Operations of the same name count as one: it reaches all that they reach, and has the variables of the last of them.
 #[derive(Drop)]

@@ -11,7 +11,8 @@ ghost use Rattle.rules_document.specs.AtDocument.{document_step, given_at_end};
 ghost use Rattle.rules_document.specs.AtDocumentLaws.{document_keeps};
 ghost use Rattle.rules_document.specs.NoUnusedFragmentsLaws.{unused_silent};
 ghost use Rattle.rules_document.specs.MetFragments.{name_and_span, IsKeptFor, NameAndSpan};
-ghost use Rattle.rules_document.specs.NoUnusedFragments.{unused_error, unused_errors, NoneUnused, unused_message, AddsFragment, AddsUnused, UnusedAmong};
+ghost use Rattle.rules_document.specs.NoUnusedFragments.{unused_error, unused_errors, NoneUnused, unused_message};
+ghost use Rattle.rules_document.specs.NoUnusedFragments.{AddsFragment, AddsUnused, UnusedAmong};
 
 use crate::met_fragments::{MetFragments, meet, none_met};
 use fragment_reach::reached::{ReachedFragments, is_reached, reached_fragments};
@@ -23,7 +24,8 @@ use operation_scopes::index::{ScopeIndex, index_scopes};
 use std::alloc::{AllocError, Global};
 use walk::{Criterion, Event, Fresh, Machine, Rule, SettledRule, ValidatorContext, Visitor};
 
-/// Reports, where the document ends, each definition of a fragment that no operation reaches, at the definition's start.
+/// Reports, where the document ends, each definition of a fragment that no operation reaches, at the definition's
+/// start.
 #[derive(Drop)]
 pub struct NoUnusedFragments {
     alloc: Global,
@@ -88,7 +90,8 @@ fn report_fragment<'a, S: CheckedScalar>(
     ctx.report_error(message.as_str(), &[fragment.span.start])
 }
 
-// Reports a fragment that no operation reaches, by the number of its name, the first time that its name and span are met.
+// Reports a fragment that no operation reaches, by the number of its name, the first time that its name and span are
+// met.
 fn report_once<'a, 'd, S: CheckedScalar>(
     alloc: Global,
     ctx: &mut ValidatorContext<'a, S>,

@@ -9,7 +9,8 @@ ghost use Rattle.variable_usages.specs.Unused.{Unused, UnusedVariables, unused_o
 ghost use Rattle.rules_document.specs.AtDocument.{document_step, given_at_end};
 ghost use Rattle.rules_document.specs.AtDocumentLaws.{document_keeps};
 ghost use Rattle.rules_document.specs.NoUnusedVariablesLaws.{unused_variables_silent};
-ghost use Rattle.rules_document.specs.NoUnusedVariables.{unused_variable_error, unused_variable_errors, unused_variable_message};
+ghost use Rattle.rules_document.specs.NoUnusedVariables.{unused_variable_error, unused_variable_errors};
+ghost use Rattle.rules_document.specs.NoUnusedVariables.{unused_variable_message};
 ghost use Rattle.rules_document.specs.UsedVariables.{AllUsed};
 
 use language::error::OutOfMemory;

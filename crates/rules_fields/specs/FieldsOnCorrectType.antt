@@ -1,5 +1,6 @@
 -- Fields that the type around them does not have (sections 5.3.1 and 5.2.3.1).
-use Rattle.std.specs.Prelude.{◌≡◌, ℕ, List, [], ◌∷◌, ◌++◌, Bool, true, false, ◌||◌, ◌&&◌, Option, Some, None, is_some, if◌then◌else◌, codes}
+use Rattle.std.specs.Prelude.{◌≡◌, ℕ, List, [], ◌∷◌, ◌++◌, Bool, true, false, ◌||◌, ◌&&◌, Option, Some, None, is_some}
+use Rattle.std.specs.Prelude.{if◌then◌else◌, codes}
 use Rattle.std.specs.List.{Contains, flat_map}
 use Rattle.std.specs.Option.{option_map_or, unwrap_or}
 use Rattle.std.specs.Str.{bytes_eq}
@@ -68,13 +69,15 @@ module _ {S C : Type 0} where
   wrong_type_at parent (operation_definition o) = root_typenames o.item.operation_type o.item.selection_set.items
   wrong_type_at parent _ = []
 
-  -- at a field: its name, if the type around it is known and doesn't have it; at a subscription: each `__typename` of its own set
+  -- at a field: its name, if the type around it is known and doesn't have it; at a subscription: each `__typename` of
+  -- its own set
   abbrev pub fields_of_wrong_type : DocumentScope S C → Occurrence S C → List ErrorValue
   fields_of_wrong_type scope o = wrong_type_at o.types.parent o.node
 
 -- no member of a subscription's own set is the field `__typename`
 abbrev pub HasNoRootTypename : {S : Type 0} → OperationType → List (Selection S) → Type 0
-HasNoRootTypename {S} kind.Subscription set = (f : Placed (Field S)) → Contains set (selection.Field f) → is_typename f.item.name.item.now ≡ false
+HasNoRootTypename {S} kind.Subscription set =
+    (f : Placed (Field S)) → Contains set (selection.Field f) → is_typename f.item.name.item.now ≡ false
 HasNoRootTypename _ set = Unit {0}
 
 module _ {S C : Type 0} where

@@ -19,13 +19,16 @@ use Rattle.walk.specs.RuleLaws.{none_each, none_all}
 use Rattle.events.specs.Node.{Node, Name, Placed, field, operation_definition}
 use Rattle.events.specs.Occurrence.{Occurrence}
 use Rattle.rules_support.specs.FoundLaws.{none_unless, none_where}
-use Rattle.rules_fields.specs.FieldsOnCorrectType.{is_typename, typename_layer, root_typename, root_typenames, has_field, unknown_field, wrong_type_at, fields_of_wrong_type, HasNoRootTypename, HasRightFields}
+use Rattle.rules_fields.specs.FieldsOnCorrectType.{is_typename, typename_layer, root_typename, root_typenames}
+use Rattle.rules_fields.specs.FieldsOnCorrectType.{has_field, unknown_field, wrong_type_at, fields_of_wrong_type}
+use Rattle.rules_fields.specs.FieldsOnCorrectType.{HasNoRootTypename, HasRightFields}
 
 module _ {S : Type 0} where
   out_field : (f : Placed (Field S)) → out-Selection S (selection.Field f) ≡ opened.Field f
   out_field f = ap (out-Selection S) (sym (selection.rolls-Field f)) ∙ out-roll-Selection S (opened.Field f)
 
-  none_in : (set : List (Selection S)) → flat_map root_typename set ≡ [] → (f : Placed (Field S)) → Contains set (selection.Field f) → is_typename f.item.name.item.now ≡ false
+  none_in : (set : List (Selection S)) → flat_map root_typename set ≡ [] → (f : Placed (Field S))
+      → Contains set (selection.Field f) → is_typename f.item.name.item.now ≡ false
   none_in set e f there =
       let none = none_each root_typename set e (selection.Field f) there in
       (none_where (is_typename f.item.name.item.now) _).0 (ap typename_layer (sym (out_field f)) ∙ none)
@@ -36,7 +39,8 @@ module _ {S : Type 0} where
   out_inline : (i : Placed (InlineFragment S)) → out-Selection S (selection.InlineFragment i) ≡ opened.InlineFragment i
   out_inline i = ap (out-Selection S) (sym (selection.rolls-InlineFragment i)) ∙ out-roll-Selection S (opened.InlineFragment i)
 
-  none_of : (set : List (Selection S)) → ((f : Placed (Field S)) → Contains set (selection.Field f) → is_typename f.item.name.item.now ≡ false)
+  none_of : (set : List (Selection S)) → ((f : Placed (Field S)) → Contains set (selection.Field f)
+      → is_typename f.item.name.item.now ≡ false)
       → (s : Selection S) → Contains set s → root_typename s ≡ []
   none_of set h = selection_induction (λ s. Contains set s → root_typename s ≡ [])
       (λ f below there. ap typename_layer (out_field f) ∙ (none_where (is_typename f.item.name.item.now) _).1 (h f there))
@@ -52,7 +56,8 @@ module _ {S : Type 0} where
 
 module _ {S C : Type 0} where
   -- nothing is found of a field if and only if the type around it has it, or is not known
-  pub none_if_known : (parent : Option (MetaTypeOf S C)) (name : Name) → (unknown_field parent name ≡ []) ↔ (option_map_or (λ t. has_field t name.item.now) parent true ≡ true)
+  pub none_if_known : (parent : Option (MetaTypeOf S C)) (name : Name) → (unknown_field parent name ≡ [])
+      ↔ (option_map_or (λ t. has_field t name.item.now) parent true ≡ true)
   none_if_known None name = (λ e. refl, λ e. refl)
   none_if_known (Some t) name = none_unless (has_field t name.item.now) _
 
@@ -62,5 +67,6 @@ module _ {S C : Type 0} where
   none_at parent _ = (λ e. tt, λ u. refl)
 
 -- nothing is found at an occurrence if and only if the fields there are right
-pub none_of_wrong_type : {S C : Type 0} (scope : DocumentScope S C) (o : Occurrence S C) → (fields_of_wrong_type scope o ≡ []) ↔ HasRightFields o.types.parent o.node
+pub none_of_wrong_type : {S C : Type 0} (scope : DocumentScope S C) (o : Occurrence S C)
+    → (fields_of_wrong_type scope o ≡ []) ↔ HasRightFields o.types.parent o.node
 none_of_wrong_type scope o = none_at o.types.parent o.node

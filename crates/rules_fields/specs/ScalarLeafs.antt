@@ -10,7 +10,8 @@ use Rattle.events.specs.Node.{Node, Placed, field}
 use Rattle.events.specs.Occurrence.{Occurrence}
 
 abbrev pub no_subfields_message : List ℕ → List ℕ → List ℕ
-no_subfields_message name t = (((codes "Field \"" ++ name) ++ codes "\" must not have a selection since type ") ++ t) ++ codes " has no subfields"
+no_subfields_message name t =
+    (((codes "Field \"" ++ name) ++ codes "\" must not have a selection since type ") ++ t) ++ codes " has no subfields"
 
 abbrev pub subfields_needed_message : List ℕ → List ℕ → List ℕ
 subfields_needed_message name t =

@@ -1,4 +1,5 @@
-//! No field asks for the schema itself (GraphQL, October 2021, section 4.2): a rule for services that do not show their schema.
+//! No field asks for the schema itself (GraphQL, October 2021, section 4.2): a rule for services that do not show their
+//! schema.
 
 ghost use Rattle.std.specs.Prelude.{◌≡◌, IfOk, OnErr, OnOk, string_bytes};
 ghost use Rattle.walk.specs.ContextState.{with_errors};

@@ -1,5 +1,5 @@
-//! Each field is a field of the type around it (GraphQL, October 2021, section 5.3.1), and no subscription selects `__typename`
-//! itself (section 5.2.3.1).
+//! Each field is a field of the type around it (GraphQL, October 2021, section 5.3.1), and no subscription selects
+//! `__typename` itself (section 5.2.3.1).
 
 ghost use Rattle.std.specs.Prelude.{◌≡◌, IfOk, OnOk, OnErr, string_bytes};
 ghost use Rattle.walk.specs.ContextState.{typing, with_errors};
@@ -9,7 +9,9 @@ ghost use Rattle.walk.specs.RuleLaws.{everywhere_silent};
 ghost use Rattle.walk.specs.Step.{KeepsPlace};
 ghost use Rattle.walk.proofs.Entering.{finding_keeps};
 ghost use Rattle.std.specs.List.{flat_map};
-ghost use Rattle.rules_fields.specs.FieldsOnCorrectType.{has_field, is_union_meta, root_typename, root_typenames, unknown_field, unknown_field_message, fields_of_wrong_type, HasRightFields};
+ghost use Rattle.rules_fields.specs.FieldsOnCorrectType.{has_field, is_union_meta, root_typename, root_typenames};
+ghost use Rattle.rules_fields.specs.FieldsOnCorrectType.{unknown_field, unknown_field_message, fields_of_wrong_type};
+ghost use Rattle.rules_fields.specs.FieldsOnCorrectType.{HasRightFields};
 ghost use Rattle.rules_fields.specs.FieldsOnCorrectTypeLaws.{none_of_wrong_type};
 
 use language::error::OutOfMemory;
@@ -21,7 +23,8 @@ use rules_support::texts::between;
 use std::alloc::{AllocError, Global};
 use walk::{Criterion, Event, Fresh, Machine, Rule, SettledRule, ValidatorContext, Visitor};
 
-/// Reports each field that the type around it does not have, at the field's name. Under an unknown type it reports nothing.
+/// Reports each field that the type around it does not have, at the field's name. Under an unknown type it reports
+/// nothing.
 ///
 /// `__typename` is accepted on a union. In a subscription's own selection set it is reported.
 #[derive(Drop)]

@@ -1,5 +1,5 @@
-//! The rules on fields (GraphQL, October 2021, sections 5.3.1 and 5.3.3) and the rule against introspection, each in a module
-//! of its own.
+//! The rules on fields (GraphQL, October 2021, sections 5.3.1 and 5.3.3) and the rule against introspection, each in a
+//! module of its own.
 #![tactic(auto)]
 
 pub mod disable_introspection;

@@ -1,4 +1,5 @@
-//! A field of a leaf type has no selection set, and a field of any other type has one (GraphQL, October 2021, section 5.3.3).
+//! A field of a leaf type has no selection set, and a field of any other type has one (GraphQL, October 2021, section
+//! 5.3.3).
 
 ghost use Rattle.std.specs.Prelude.{◌≡◌, IfOk, OnOk, OnErr, is_some, string_bytes};
 ghost use Rattle.language.specs.Types.{borrowed_shape, printed};
@@ -8,7 +9,8 @@ ghost use Rattle.walk.specs.Rule.{always, any_value, exactly};
 ghost use Rattle.walk.specs.RuleLaws.{everywhere_silent};
 ghost use Rattle.walk.specs.Step.{KeepsPlace};
 ghost use Rattle.walk.proofs.Entering.{finding_keeps};
-ghost use Rattle.rules_fields.specs.ScalarLeafs.{wrong_set, wrong_set_of, wrong_sets, no_subfields_message, subfields_needed_message, HasRightSet};
+ghost use Rattle.rules_fields.specs.ScalarLeafs.{wrong_set, wrong_set_of, wrong_sets, no_subfields_message};
+ghost use Rattle.rules_fields.specs.ScalarLeafs.{subfields_needed_message, HasRightSet};
 ghost use Rattle.rules_fields.specs.ScalarLeafsLaws.{none_wrong_set};
 
 use language::error::OutOfMemory;
@@ -20,7 +22,8 @@ use rules_support::texts::between;
 use std::alloc::{AllocError, Global};
 use walk::{Criterion, Event, Fresh, Machine, Rule, SettledRule, ValidatorContext, Visitor};
 
-/// Reports each field of a leaf type that has a selection set, and each field of another known type that has none, at its start.
+/// Reports each field of a leaf type that has a selection set, and each field of another known type that has none, at
+/// its start.
 #[derive(Drop)]
 pub struct ScalarLeafs {
     alloc: Global,

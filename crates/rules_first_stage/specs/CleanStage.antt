@@ -10,7 +10,8 @@ use Rattle.language.specs.declared.tree.FragmentSpread.{FragmentSpread}
 use Rattle.language.specs.declared.tree.Operation.{Operation}
 use Rattle.meta.specs.declared.kinds.MetaTypeOf.{MetaTypeOf}
 use Rattle.schema.specs.Catalog.{Catalog, type_in}
-use Rattle.events.specs.Node.{Node, Name, Placed, ArgumentEntry, ObjectEntry, directive, field, fragment_definition, fragment_spread, inline_fragment, object_value}
+use Rattle.events.specs.Node.{Node, Name, Placed, ArgumentEntry, ObjectEntry, directive, field, fragment_definition}
+use Rattle.events.specs.Node.{fragment_spread, inline_fragment, object_value}
 use Rattle.events.specs.Occurrence.{Occurrence, occurrences}
 use Rattle.events.specs.Typing.{Typing}
 use Rattle.walk.specs.ContextState.{scope_of}
@@ -71,7 +72,8 @@ module _ {S C : Type 0} (schema : Catalog S C) where
       pub operations : are_distinct (operation_names doc) ≡ true
       pub fragments : are_distinct (fragment_names doc) ≡ true
       -- and the variables of an operation, the arguments of a node, the keys of an object
-      pub variables : (o : Placed (Operation S)) → Contains doc (definition.Operation o) → are_distinct (names_in (definitions_of o.item)) ≡ true
+      pub variables : (o : Placed (Operation S)) → Contains doc (definition.Operation o)
+          → are_distinct (names_in (definitions_of o.item)) ≡ true
       pub arguments : (node : Node S) → Occurs node → are_distinct (names_in (arguments_of node)) ≡ true
       pub keys : (v : Placed (List (ObjectEntry S))) → Occurs (object_value v) → are_distinct (keys_of v.item) ≡ true
       -- so the value of no argument repeats a key, at any depth

@@ -26,7 +26,8 @@ use walk::{
     ValidatorContext, Visitor,
 };
 
-/// The five rules that look at the whole document where it is left. Of the events before, only the rule on positions asks.
+/// The five rules that look at the whole document where it is left. Of the events before, only the rule on positions
+/// asks.
 #[derive(Drop)]
 pub struct AcrossDocument<'a> {
     alloc: Global,

@@ -1,5 +1,5 @@
-//! The first stage of validation: every rule except the one on fields that can be merged, in one walk (GraphQL, October 2021,
-//! section 5).
+//! The first stage of validation: every rule except the one on fields that can be merged, in one walk (GraphQL, October
+//! 2021, section 5).
 #![tactic(auto)]
 
 pub mod across;

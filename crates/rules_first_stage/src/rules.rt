@@ -51,8 +51,8 @@ use walk::{
     Criterion, Fresh, MultiVisitorCons, MultiVisitorNil, Rule, ValidatorContext, visit_settled,
 };
 
-// The rules come in groups, the newest first: one long list of all rules takes long to prove. Groups in which no rule differs from
-// that of another dialect are public, since each dialect has them.
+// The rules come in groups, the newest first: one long list of all rules takes long to prove. Groups in which no rule
+// differs from that of another dialect are public, since each dialect has them.
 
 /// The rules on operations and their variables, the newest first (GraphQL, October 2021, sections 5.2 and 5.8).
 pub type OfOperations<'a> = MultiVisitorCons<
@@ -72,7 +72,8 @@ type OfFields = MultiVisitorCons<
     MultiVisitorCons<FieldsOnCorrectType, MultiVisitorNil>,
 >;
 
-/// The rules on arguments, keys of objects and directives, the newest first (GraphQL, October 2021, sections 5.4, 5.6.3 and 5.7).
+/// The rules on arguments, keys of objects and directives, the newest first (GraphQL, October 2021, sections 5.4, 5.6.3
+/// and 5.7).
 pub type OfArguments<'a> = MultiVisitorCons<
     UniqueDirectiveNames<'a>,
     MultiVisitorCons<
@@ -193,11 +194,11 @@ fn of_values(alloc: Global) -> OfValues
         .with_rule(default_values_of_correct_type::factory(alloc))
 }
 
-/// Tries every rule of the first stage on a document, in one walk, and appends their errors. Returns what the rule on cycles found of
-/// the document's fragments.
+/// Tries every rule of the first stage on a document, in one walk, and appends their errors. Returns what the rule on
+/// cycles found of the document's fragments.
 ///
-/// In a context that was made for the document it appends no error if and only if each rule of the list finds nothing. In any other
-/// context it only appends errors.
+/// In a context that was made for the document it appends no error if and only if each rule of the list finds nothing.
+/// In any other context it only appends errors.
 ///
 /// # Errors
 ///

@@ -19,9 +19,11 @@ module _ {S C : Type 0} where
   abbrev pub not_composite : Option (MetaTypeOf S C) → Option (List ℕ) → Name → List ErrorValue
   not_composite None name condition = []
   not_composite (Some t) name condition =
-      if is_composite_meta t then [] else record { locations = condition.span.start ∷ []; message = not_composite_message name condition.item.now } ∷ []
+      if is_composite_meta t then [] else record
+          { locations = condition.span.start ∷ []; message = not_composite_message name condition.item.now } ∷ []
 
-  -- the condition of a fragment with this name, or of an inline one: it is the name of a type, and that is not composite
+  -- the condition of a fragment with this name, or of an inline one: it is the name of a type, and that is not
+  -- composite
   abbrev pub on_other_type : Catalog S C → Option (List ℕ) → Option Name → List ErrorValue
   on_other_type schema name None = []
   on_other_type schema name (Some condition) = not_composite (type_in condition.item.now schema) name condition

@@ -9,14 +9,18 @@ use Rattle.walk.specs.ContextState.{DocumentScope}
 use Rattle.events.specs.Node.{Node, Name, fragment_definition, inline_fragment}
 use Rattle.events.specs.Occurrence.{Occurrence}
 use Rattle.rules_support.specs.FoundLaws.{none_unless}
-use Rattle.rules_fragments.specs.FragmentsOnCompositeTypes.{not_composite, on_other_type, on_other_type_at, fragments_on_other_types, IsCompositeCondition, IsOnComposite}
+use Rattle.rules_fragments.specs.FragmentsOnCompositeTypes.{not_composite, on_other_type, on_other_type_at}
+use Rattle.rules_fragments.specs.FragmentsOnCompositeTypes.{fragments_on_other_types, IsCompositeCondition}
+use Rattle.rules_fragments.specs.FragmentsOnCompositeTypes.{IsOnComposite}
 
 module _ {S C : Type 0} where
-  none_if_known : (t : Option (MetaTypeOf S C)) (name : Option (List ℕ)) (condition : Name) → (not_composite t name condition ≡ []) ↔ (option_map_or is_composite_meta t true ≡ true)
+  none_if_known : (t : Option (MetaTypeOf S C)) (name : Option (List ℕ)) (condition : Name)
+      → (not_composite t name condition ≡ []) ↔ (option_map_or is_composite_meta t true ≡ true)
   none_if_known None name condition = (λ e. refl, λ e. refl)
   none_if_known (Some t) name condition = none_unless (is_composite_meta t) _
 
-  none_if_there : (schema : Catalog S C) (name : Option (List ℕ)) (condition : Option Name) → (on_other_type schema name condition ≡ []) ↔ IsCompositeCondition schema condition
+  none_if_there : (schema : Catalog S C) (name : Option (List ℕ)) (condition : Option Name)
+      → (on_other_type schema name condition ≡ []) ↔ IsCompositeCondition schema condition
   none_if_there schema name None = (λ e. tt, λ u. refl)
   none_if_there schema name (Some condition) = none_if_known (type_in condition.item.now schema) name condition
 
@@ -26,5 +30,6 @@ module _ {S C : Type 0} where
   none_at schema _ = (λ e. tt, λ u. refl)
 
 -- nothing is found at an occurrence if and only if the fragment there is on a composite type
-pub none_on_other_type : {S C : Type 0} (scope : DocumentScope S C) (o : Occurrence S C) → (fragments_on_other_types scope o ≡ []) ↔ IsOnComposite scope.schema o.node
+pub none_on_other_type : {S C : Type 0} (scope : DocumentScope S C) (o : Occurrence S C)
+    → (fragments_on_other_types scope o ≡ []) ↔ IsOnComposite scope.schema o.node
 none_on_other_type scope o = none_at scope.schema o.node

@@ -12,5 +12,6 @@ none_at known (fragment_spread s) = none_unless (is_among known s.item.name.item
 none_at known _ = (λ e. tt, λ u. refl)
 
 -- nothing is found at an occurrence if and only if what is spread there is known
-pub none_unknown : {S C : Type 0} (scope : DocumentScope S C) (o : Occurrence S C) → (unknown_fragments scope o ≡ []) ↔ SpreadsKnown scope.known o.node
+pub none_unknown : {S C : Type 0} (scope : DocumentScope S C) (o : Occurrence S C) → (unknown_fragments scope o ≡ [])
+    ↔ SpreadsKnown scope.known o.node
 none_unknown scope o = none_at scope.known o.node

@@ -14,7 +14,9 @@ unknown_type_message name = (codes "Unknown type \"" ++ name) ++ codes "\""
 module _ {S C : Type 0} where
   -- a name of a type at a place: it is reported where no type of the schema has it
   abbrev pub unknown_type : Catalog S C → List ℕ → SourcePosition → List ErrorValue
-  unknown_type schema name place = if is_some (type_in name schema) then [] else record { locations = place ∷ []; message = unknown_type_message name } ∷ []
+  unknown_type schema name place =
+      if is_some (type_in name schema) then [] else record
+      { locations = place ∷ []; message = unknown_type_message name } ∷ []
 
   -- a type condition, if there is one
   abbrev pub unknown_condition : Catalog S C → Option Name → List ErrorValue
@@ -28,7 +30,8 @@ module _ {S C : Type 0} where
   unknown_type_at schema (variable_definition v) = unknown_type schema (shape v.1.var_type.item).name v.1.var_type.span.start
   unknown_type_at schema _ = []
 
-  -- at a fragment and an inline fragment its type condition, at a definition of a variable the innermost name of the type
+  -- at a fragment and an inline fragment its type condition, at a definition of a variable the innermost name of the
+  -- type
   abbrev pub unknown_types : DocumentScope S C → Occurrence S C → List ErrorValue
   unknown_types scope o = unknown_type_at scope.schema o.node
 

@@ -8,7 +8,8 @@ use Rattle.walk.specs.ContextState.{DocumentScope}
 use Rattle.events.specs.Node.{Node, Name, fragment_definition, inline_fragment, variable_definition}
 use Rattle.events.specs.Occurrence.{Occurrence}
 use Rattle.rules_support.specs.FoundLaws.{none_unless}
-use Rattle.rules_fragments.specs.KnownTypeNames.{unknown_type, unknown_condition, unknown_type_at, unknown_types, IsKnown, IsKnownCondition, NamesKnown}
+use Rattle.rules_fragments.specs.KnownTypeNames.{unknown_type, unknown_condition, unknown_type_at, unknown_types}
+use Rattle.rules_fragments.specs.KnownTypeNames.{IsKnown, IsKnownCondition, NamesKnown}
 
 module _ {S C : Type 0} (schema : Catalog S C) where
   none_named : (name : List ℕ) (place : SourcePosition) → (unknown_type schema name place ≡ []) ↔ IsKnown schema name
@@ -25,5 +26,6 @@ module _ {S C : Type 0} (schema : Catalog S C) where
   none_at _ = (λ e. tt, λ u. refl)
 
 -- nothing is found at an occurrence if and only if the types named there are known
-pub none_unknown : {S C : Type 0} (scope : DocumentScope S C) (o : Occurrence S C) → (unknown_types scope o ≡ []) ↔ NamesKnown scope.schema o.node
+pub none_unknown : {S C : Type 0} (scope : DocumentScope S C) (o : Occurrence S C) → (unknown_types scope o ≡ [])
+    ↔ NamesKnown scope.schema o.node
 none_unknown scope o = none_at scope.schema o.node

@@ -1,5 +1,6 @@
 -- Spreads of fragments where no object of their type is possible (section 5.5.2.3).
-use Rattle.std.specs.Prelude.{◌≡◌, true, ℕ, List, [], ◌∷◌, ◌++◌, Bool, false, ◌||◌, Option, Some, None, option_and_then, if◌then◌else◌, map, string_bytes, codes}
+use Rattle.std.specs.Prelude.{◌≡◌, true, ℕ, List, [], ◌∷◌, ◌++◌, Bool, false, ◌||◌, Option, Some, None, option_and_then}
+use Rattle.std.specs.Prelude.{if◌then◌else◌, map, string_bytes, codes}
 use Rattle.std.specs.Option.{option_map_or, unwrap_or}
 use Rattle.std.specs.Str.{bytes_eq}
 use Rattle.language.specs.declared.position.SourcePosition.{SourcePosition}
@@ -45,7 +46,8 @@ module _ {S C : Type 0} where
   -- with the type of a fragment's condition, where it is known
   abbrev pub with_definition : Catalog S C → TypesByName S C → Definition S → TypesByName S C
   with_definition schema types (definition.Operation o) = types
-  with_definition schema types (definition.Fragment f) = with_type types f.item.name.item.now (type_in f.item.type_condition.item.now schema)
+  with_definition schema types (definition.Fragment f) =
+      with_type types f.item.name.item.now (type_in f.item.type_condition.item.now schema)
 
   -- of several fragments of a name the last whose condition is known
   abbrev pub conditions_in : Catalog S C → TypesByName S C → List (Definition S) → TypesByName S C
@@ -70,15 +72,18 @@ module _ {S C : Type 0} where
   may_stand schema parent t = is_interface_below (name_of_meta parent) t || do_overlap schema.types parent t
 
   -- of a fragment with this name, or an inline one, at its place: both types are known, and it may not stand there
-  abbrev pub impossible : Catalog S C → Option (MetaTypeOf S C) → Option (MetaTypeOf S C) → Option (List ℕ) → SourcePosition → List ErrorValue
+  abbrev pub impossible : Catalog S C → Option (MetaTypeOf S C) → Option (MetaTypeOf S C) → Option (List ℕ)
+      → SourcePosition → List ErrorValue
   impossible schema None t name place = []
   impossible schema (Some parent) None name place = []
   impossible schema (Some parent) (Some t) name place =
-      if may_stand schema parent t then [] else record { locations = place ∷ []; message = impossible_message name (type_name parent) (type_name t) } ∷ []
+      if may_stand schema parent t then [] else record
+          { locations = place ∷ []; message = impossible_message name (type_name parent) (type_name t) } ∷ []
 
   -- at a spread by the type of its fragment, at an inline fragment by its condition
   abbrev pub impossible_at : Catalog S C → TypesByName S C → Option (MetaTypeOf S C) → Node S → List ErrorValue
-  impossible_at schema types parent (fragment_spread s) = impossible schema parent (types s.item.name.item.now) (Some s.item.name.item.now) s.span.start
+  impossible_at schema types parent (fragment_spread s) =
+      impossible schema parent (types s.item.name.item.now) (Some s.item.name.item.now) s.span.start
   impossible_at schema types parent (inline_fragment i) = impossible schema parent (inline_type schema i.item) None i.span.start
   impossible_at schema types parent _ = []
 

@@ -14,8 +14,8 @@ use meta::MetaTypeOf;
 use schema::model::SchemaTypeOf;
 use std::alloc::Global;
 
-/// The type condition of the fragments of each name, by the number of the name. Of several fragments of a name, the last one whose
-/// condition is a known type counts.
+/// The type condition of the fragments of each name, by the number of the name. Of several fragments of a name, the
+/// last one whose condition is a known type counts.
 #[derive(Drop)]
 pub(crate) struct Conditions<'a, S, C> {
     numbers: Option<Numbers<'a>>,

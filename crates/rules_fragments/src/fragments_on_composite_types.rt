@@ -7,7 +7,8 @@ ghost use Rattle.walk.specs.Rule.{always, any_value, exactly};
 ghost use Rattle.walk.specs.RuleLaws.{everywhere_silent};
 ghost use Rattle.walk.specs.Step.{KeepsPlace};
 ghost use Rattle.walk.proofs.Entering.{finding_keeps};
-ghost use Rattle.rules_fragments.specs.FragmentsOnCompositeTypes.{fragments_on_other_types, not_composite_message, on_other_type, IsOnComposite};
+ghost use Rattle.rules_fragments.specs.FragmentsOnCompositeTypes.{fragments_on_other_types, not_composite_message};
+ghost use Rattle.rules_fragments.specs.FragmentsOnCompositeTypes.{on_other_type, IsOnComposite};
 ghost use Rattle.rules_fragments.specs.FragmentsOnCompositeTypesLaws.{none_on_other_type};
 
 use language::error::OutOfMemory;

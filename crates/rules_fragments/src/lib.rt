@@ -1,5 +1,5 @@
-//! The rules on fragments and on the types that a document names (GraphQL, October 2021, sections 5.5 and 5.8.2), each in a
-//! module of its own.
+//! The rules on fragments and on the types that a document names (GraphQL, October 2021, sections 5.5 and 5.8.2), each
+//! in a module of its own.
 #![tactic(auto)]
 
 mod conditions;

@@ -10,7 +10,9 @@ ghost use Rattle.walk.specs.RuleLaws.{everywhere_by_silent};
 ghost use Rattle.walk.specs.Step.{KeepsPlace};
 ghost use Rattle.walk.proofs.Entering.{prepared_keeps};
 ghost use Rattle.rules_fragments.specs.Conditions.{conditions_of};
-ghost use Rattle.rules_fragments.specs.PossibleFragmentSpreads.{conditions, impossible_spreads, impossible, impossible_message, impossible_words, inline_type, is_interface_below, may_stand, IsPossibleAt};
+ghost use Rattle.rules_fragments.specs.PossibleFragmentSpreads.{conditions, impossible_spreads, impossible};
+ghost use Rattle.rules_fragments.specs.PossibleFragmentSpreads.{impossible_message, impossible_words, inline_type};
+ghost use Rattle.rules_fragments.specs.PossibleFragmentSpreads.{is_interface_below, may_stand, IsPossibleAt};
 ghost use Rattle.rules_fragments.specs.PossibleFragmentSpreadsLaws.{none_impossible};
 
 use crate::conditions::Conditions;
@@ -24,11 +26,11 @@ use schema::model::SchemaTypeOf;
 use std::alloc::{AllocError, Global};
 use walk::{Criterion, Event, Fresh, Machine, Rule, SettledRule, ValidatorContext, Visitor};
 
-/// Reports each spread, and each inline fragment with a condition, at its start, if no object has both the type around it and the
-/// fragment's type.
+/// Reports each spread, and each inline fragment with a condition, at its start, if no object has both the type around
+/// it and the fragment's type.
 ///
-/// A fragment on an interface that implements the type around it is not reported. Of several fragments of the same name, the last
-/// one whose condition is a type of the schema counts.
+/// A fragment on an interface that implements the type around it is not reported. Of several fragments of the same
+/// name, the last one whose condition is a type of the schema counts.
 #[derive(Drop)]
 pub struct PossibleFragmentSpreads<'a, S: CheckedScalar> {
     alloc: Global,

@@ -17,11 +17,13 @@ use Rattle.rules_merge.specs.declared.overlapping_fields_can_be_merged.Overlappi
 abbrev pub error_value : ConflictValue → ErrorValue
 error_value c = record { locations = c.places; message = c.message }
 
--- The errors of conflicts, each of them a true one. If the fragments form a cycle there are none, and nothing was compared. If they form
--- no cycle, and no field repeats an argument or a key in one, what two fields of one set have between them is told; and no conflict is
--- missed if the conditions of inline fragments are known, too. At most n (n - 1) pairs of n definitions of fragments were compared, and at
--- least those that some set spreads both of. No search opened more than n.
-pub record MergeErrors {S C : Type 0} (E : S → S → Bool) (schema : Catalog S C) (document : List (Definition S)) (end : OverlappingFieldsCanBeMerged) (es : List ErrorValue) : Type 0 where
+-- The errors of conflicts, each of them a true one. If the fragments form a cycle there are none, and nothing was
+-- compared. If they form no cycle, and no field repeats an argument or a key in one, what two fields of one set have
+-- between them is told; and no conflict is missed if the conditions of inline fragments are known, too. At most n (n -
+-- 1) pairs of n definitions of fragments were compared, and at least those that some set spreads both of. No search
+-- opened more than n.
+pub record MergeErrors {S C : Type 0} (E : S → S → Bool) (schema : Catalog S C) (document : List (Definition S))
+    (end : OverlappingFieldsCanBeMerged) (es : List ErrorValue) : Type 0 where
   pub reports : Reports (PlainEntry S C)
   pub told : IsPermutation (map error_value (errors_of E schema reports)) es
   pub real : AreReal E schema document reports
@@ -32,5 +34,6 @@ pub record MergeErrors {S C : Type 0} (E : S → S → Bool) (schema : Catalog S
   pub enough : HasNoCycle document → (ps : List (List ℕ × List ℕ)) → AreTogether schema document ps → length ps ≤ end.compared
   pub opened : end.opened ≤ fragment_count document * end.lists
 
-abbrev pub merge_errors : {S C : Type 0} → (S → S → Bool) → DocumentScope S C → List (Definition S) → OverlappingFieldsCanBeMerged → List ErrorValue → Type 0
+abbrev pub merge_errors : {S C : Type 0} → (S → S → Bool) → DocumentScope S C → List (Definition S)
+    → OverlappingFieldsCanBeMerged → List ErrorValue → Type 0
 merge_errors E scope document end es = MergeErrors E scope.schema document end es

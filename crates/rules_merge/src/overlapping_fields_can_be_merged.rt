@@ -1,5 +1,5 @@
-//! Two fields of one response name in one selection set, with its spreads written out, can be merged (GraphQL, October 2021,
-//! section 5.3.2).
+//! Two fields of one response name in one selection set, with its spreads written out, can be merged (GraphQL, October
+//! 2021, section 5.3.2).
 
 ghost use Rattle.std.specs.Prelude.{◌≡◌, ◌∷◌, [], List, IfOk, OnErr, OnOk, map};
 ghost use Rattle.walk.specs.ContextState.{with_errors};
@@ -26,7 +26,8 @@ use meta::check::CheckedScalar;
 use std::alloc::Global;
 use walk::{Event, Fresh, Machine, Rule, ValidatorContext, Visitor};
 
-/// Reports, where the document is left, fields of one response name that can't be merged. The error of a conflict has all its places.
+/// Reports, where the document is left, fields of one response name that can't be merged. The error of a conflict has
+/// all its places.
 ///
 /// No fragment is written out: with `n` definitions of fragments at most `n (n - 1)` pairs are compared.
 #[derive(Drop)]

@@ -7,7 +7,8 @@ use Rattle.events.specs.Node.{Node, Name, Placed, operation_definition}
 use Rattle.walk.specs.ContextState.{DocumentScope}
 use Rattle.events.specs.Occurrence.{Occurrence}
 use Rattle.rules_support.specs.RepeatsLaws.{none_repeat_in}
-use Rattle.rules_operations.specs.UniqueVariableNames.{repeated_variable_message, repeated_among, repeated_in_operation, repeated_variables, AreDistinctVariables, HasDistinctVariables}
+use Rattle.rules_operations.specs.UniqueVariableNames.{repeated_variable_message, repeated_among, repeated_in_operation}
+use Rattle.rules_operations.specs.UniqueVariableNames.{repeated_variables, AreDistinctVariables, HasDistinctVariables}
 
 module _ {S : Type 0} where
   none_among : (written : Option (Placed (VariableDefinitions S))) → (repeated_among written ≡ []) ↔ AreDistinctVariables written
@@ -19,5 +20,6 @@ module _ {S : Type 0} where
   none_at _ = (λ e. tt, λ u. refl)
 
 -- nothing is found at an occurrence if and only if the variables there are distinct
-pub none_repeated : {S C : Type 0} (scope : DocumentScope S C) (o : Occurrence S C) → (repeated_variables scope o ≡ []) ↔ HasDistinctVariables o.node
+pub none_repeated : {S C : Type 0} (scope : DocumentScope S C) (o : Occurrence S C) → (repeated_variables scope o ≡ [])
+    ↔ HasDistinctVariables o.node
 none_repeated scope o = none_at o.node

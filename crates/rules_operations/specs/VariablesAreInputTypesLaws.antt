@@ -22,5 +22,6 @@ module _ {S C : Type 0} where
   none_at schema _ = (λ e. tt, λ u. refl)
 
 -- nothing is found at an occurrence if and only if the type there is an input type
-pub none_non_input : {S C : Type 0} (scope : DocumentScope S C) (o : Occurrence S C) → (non_input_variables scope o ≡ []) ↔ HasInputType scope.schema o.node
+pub none_non_input : {S C : Type 0} (scope : DocumentScope S C) (o : Occurrence S C)
+    → (non_input_variables scope o ≡ []) ↔ HasInputType scope.schema o.node
 none_non_input scope o = none_at scope.schema o.node

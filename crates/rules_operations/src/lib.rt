@@ -1,5 +1,5 @@
-//! The rules on operations and their variables (GraphQL, October 2021, sections 5.2, 5.8.1 and 5.8.2), each in a module of its
-//! own.
+//! The rules on operations and their variables (GraphQL, October 2021, sections 5.2, 5.8.1 and 5.8.2), each in a module
+//! of its own.
 #![tactic(auto)]
 
 pub mod lone_anonymous_operation;

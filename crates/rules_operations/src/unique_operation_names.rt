@@ -18,7 +18,8 @@ use rules_support::first_places::FirstPlaces;
 use std::alloc::{AllocError, Global};
 use walk::{Criterion, Event, Fresh, Machine, Rule, SettledRule, ValidatorContext, Visitor};
 
-/// Reports each operation whose name an earlier operation has: at the start of the first operation of the name, and at its own.
+/// Reports each operation whose name an earlier operation has: at the start of the first operation of the name, and at
+/// its own.
 #[derive(Drop)]
 pub struct UniqueOperationNames<'a> {
     alloc: Global,

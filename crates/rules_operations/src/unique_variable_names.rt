@@ -19,7 +19,8 @@ use std::alloc::Global;
 use std::marker::PhantomData;
 use walk::{Criterion, Event, Fresh, Machine, Rule, SettledRule, ValidatorContext, Visitor};
 
-/// Reports each variable whose name an earlier variable of its operation has: at the first variable of the name, and at its own.
+/// Reports each variable whose name an earlier variable of its operation has: at the first variable of the name, and at
+/// its own.
 #[derive(Drop)]
 pub struct UniqueVariableNames<'a> {
     alloc: Global,

@@ -9,7 +9,8 @@ ghost use Rattle.walk.specs.Rule.{always, any_value, exactly};
 ghost use Rattle.walk.specs.RuleLaws.{everywhere_silent};
 ghost use Rattle.walk.specs.Step.{KeepsPlace};
 ghost use Rattle.walk.proofs.Entering.{finding_keeps};
-ghost use Rattle.rules_operations.specs.VariablesAreInputTypes.{non_input, non_input_message, non_input_variables, HasInputType};
+ghost use Rattle.rules_operations.specs.VariablesAreInputTypes.{non_input, non_input_message, non_input_variables};
+ghost use Rattle.rules_operations.specs.VariablesAreInputTypes.{HasInputType};
 ghost use Rattle.rules_operations.specs.VariablesAreInputTypesLaws.{none_non_input};
 
 use language::error::OutOfMemory;

@@ -13,7 +13,8 @@ use Rattle.rules_positions.specs.DefinedVariables.{first_of, variables_of}
 use Rattle.rules_positions.specs.VariablesInAllowedPosition.{type_in_use}
 
 module _ {S C : Type 0} where
-  -- In each definition that the operations of a name reach: where a type is expected, a variable that they define has a subtype of it.
+  -- In each definition that the operations of a name reach: where a type is expected, a variable that they define has a
+  -- subtype of it.
   abbrev pub AllAllowed : Condition S C
   AllAllowed scope t document =
       (name : Option (List ℕ)) (d : Definition S) (o : Occurrence S C) (x : Placed (List ℕ)) (expected : TypeShape) (v : VariableEntry S)

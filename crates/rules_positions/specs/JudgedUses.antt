@@ -1,4 +1,5 @@
--- The uses of variables in a document, each judged by the first definition of its variable (section 5.8.5). How, the rule says.
+-- The uses of variables in a document, each judged by the first definition of its variable (section 5.8.5). How, the
+-- rule says.
 use Rattle.std.specs.Prelude.{◌≡◌, ℕ, List, [], Option, None, Some, map, slice_get}
 use Rattle.std.specs.Option.{unwrap_or}
 use Rattle.std.specs.declared.alloc.Global.{Global}
@@ -35,7 +36,8 @@ module _ {S C U : Type 0} (variable_of : U → List ℕ) (judged : Judgement S C
   UsesGive known us es = EachGives (λ u fs. JudgedIfDefined judged types (known (variable_of u)) u fs) us es
 
   module _ (document : List (Definition S)) (uses : List (List U)) where
-    -- the operations of a name: each use in each definition that they reach, by the first definition of its variable in all of them
+    -- the operations of a name: each use in each definition that they reach, by the first definition of its variable in
+    -- all of them
     abbrev pub OperationsGive : Option (List ℕ) → List ErrorValue → Type 0
     OperationsGive name es =
         (places : List ℕ) × InReach document name places

@@ -20,14 +20,17 @@ at_end gives (document doc) a b es = gives doc b es
 at_end gives _ a b es = (b ≡ a) × (es ≡ [])
 
 module _ {S C V : Type 0} where
-  abbrev pub recording_side : (Occurrence S C → V → V → Type 0) → (List (Definition S) → V → V → List ErrorValue → Type 0) → Side → Node S → Typing S C → V → V → List ErrorValue → Type 0
+  abbrev pub recording_side : (Occurrence S C → V → V → Type 0)
+      → (List (Definition S) → V → V → List ErrorValue → Type 0) → Side → Node S → Typing S C → V → V → List ErrorValue
+      → Type 0
   recording_side keeps gives entering node types a b es = keeps (record { node = node; types = types }) a b × (es ≡ [])
   recording_side keeps gives leaving node types a b es = at_end (λ doc c fs. gives doc a c fs) node a b es
 
 module _ {S C V K : Type 0} where
   abbrev pub recording_step : (V → K) → (DocumentScope S C → Occurrence S C → K → K) → GivesBy S C K V → StepOf S C V
   recording_step kept next gives scope event a b es =
-      recording_side (λ o c d. kept d ≡ next scope o (kept c)) (λ doc c d fs. gives scope doc (kept c) d fs) event.side event.node event.types a b es
+      recording_side (λ o c d. kept d ≡ next scope o (kept c))
+          (λ doc c d fs. gives scope doc (kept c) d fs) event.side event.node event.types a b es
 
   -- what is given of the document by what was kept of all its occurrences
   abbrev pub recorded : (DocumentScope S C → Occurrence S C → K → K) → GivesBy S C K V → K → V → Allowance S C

@@ -53,7 +53,8 @@ with_use_if_expected made (Some t) uses = with_use (made t) uses
 abbrev pub recorded_at : {S : Type 0} → Node S → Option TypeShape → List (List UseValue) → List (List UseValue)
 recorded_at (operation_definition o) expected uses = uses ++ [] ∷ []
 recorded_at (fragment_definition f) expected uses = uses ++ [] ∷ []
-recorded_at (variable_value v) expected uses = with_use_if_expected (λ t. record { variable = v.item; place = v.span.start; expected = t }) expected uses
+recorded_at (variable_value v) expected uses =
+    with_use_if_expected (λ t. record { variable = v.item; place = v.span.start; expected = t }) expected uses
 recorded_at _ expected uses = uses
 
 -- a list more at each definition, and a use more in the last list

@@ -10,7 +10,8 @@ ghost use Rattle.operation_scopes.specs.Index.{IsIndexOf, operation_names};
 ghost use Rattle.operation_scopes.specs.Places.{places_of};
 ghost use Rattle.operation_scopes.specs.Searches.{IsReady};
 ghost use Rattle.rules_positions.specs.FirstVariables.{kept_first};
-ghost use Rattle.rules_positions.specs.JudgedUses.{uses_in, values_in, DocumentGives, JudgedIfDefined, Judgement, OperationsGive, UsesGive};
+ghost use Rattle.rules_positions.specs.JudgedUses.{uses_in, values_in, DocumentGives, JudgedIfDefined, Judgement};
+ghost use Rattle.rules_positions.specs.JudgedUses.{OperationsGive, UsesGive};
 
 use crate::first_variables::{FirstVariables, VariableEntry};
 use language::error::OutOfMemory;

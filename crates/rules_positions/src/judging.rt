@@ -29,8 +29,8 @@ fn type_in_use<S>(definition: &VariableDefinition<'_, S>) -> Result<Type, OutOfM
     }
 }
 
-// Whether the type that a variable has where it is used is a subtype of the expected one. Without a default value it is the
-// type as it is written, which needs no copy.
+// Whether the type that a variable has where it is used is a subtype of the expected one. Without a default value it is
+// the type as it is written, which needs no copy.
 fn is_below<S, C>(
     schema: &SchemaTypeOf<S, C>,
     definition: &VariableDefinition<'_, S>,

@@ -9,7 +9,8 @@ ghost use Rattle.rules_positions.specs.VariablesInAllowedPositionLaws.{positions
 ghost use Rattle.rules_positions.specs.AllowedPositions.{AllAllowed};
 ghost use Rattle.rules_positions.specs.Recording.{recording_step};
 ghost use Rattle.rules_positions.specs.TypedUses.{next_uses, use_values, with_use_if_expected};
-ghost use Rattle.rules_positions.specs.VariablesInAllowedPosition.{given_by_uses, misplaced_variables, recorded_uses, DocumentGives};
+ghost use Rattle.rules_positions.specs.VariablesInAllowedPosition.{given_by_uses, misplaced_variables, recorded_uses};
+ghost use Rattle.rules_positions.specs.VariablesInAllowedPosition.{DocumentGives};
 
 use crate::judged_uses::report_document;
 use crate::judging::BySubtype;
@@ -24,8 +25,8 @@ pub use operation_scopes::scope::Scope;
 use std::alloc::Global;
 use walk::{Criterion, Event, Fresh, Machine, Rule, SettledRule, ValidatorContext, Visitor};
 
-/// Reports, where the document ends, each use of a variable whose type is not a subtype of the expected one: at the name of the
-/// variable's first definition, and at the use. The uses are recorded during the walk.
+/// Reports, where the document ends, each use of a variable whose type is not a subtype of the expected one: at the
+/// name of the variable's first definition, and at the use. The uses are recorded during the walk.
 #[derive(Drop)]
 pub struct VariableInAllowedPosition<'a> {
     alloc: Global,

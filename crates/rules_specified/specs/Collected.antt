@@ -1,5 +1,6 @@
 -- The fields that are collected from a selection set at a root, with no values of variables (section 6.3.2).
-use Rattle.std.specs.Prelude.{◌≡◌, ℕ, List, [], ◌∷◌, ◌++◌, Bool, true, false, ◌&&◌, ◌||◌, Option, Some, None, if◌then◌else◌, option_and_then, codes}
+use Rattle.std.specs.Prelude.{◌≡◌, ℕ, List, [], ◌∷◌, ◌++◌, Bool, true, false, ◌&&◌, ◌||◌, Option, Some, None}
+use Rattle.std.specs.Prelude.{if◌then◌else◌, option_and_then, codes}
 use Rattle.std.specs.List.{list_any}
 use Rattle.std.specs.Option.{option_map_or, option_or}
 use Rattle.std.specs.Str.{bytes_eq}
@@ -25,7 +26,8 @@ use Rattle.language.specs.Position.{Placed}
 abbrev pub Directives : Type 0 → Type 0
 Directives S = Option (Vec (Placed (Directive S)) Global)
 
--- What a selection gives: nothing, a field, or the set of a fragment, with the names of the fragments that are opened from then on.
+-- What a selection gives: nothing, a field, or the set of a fragment, with the names of the fragments that are opened
+-- from then on.
 pub data Part (S : Type 0) : Type 0 where
   nothing : Part S
   field : Placed (Field S) → Part S
@@ -102,8 +104,8 @@ module _ {S : Type 0} where
       abbrev pub part : List (List ℕ) → Selection S → Part S
       part names s = of_layer names (out-Selection S s)
 
-      -- These fields are collected from a set in this order, where fragments of the first names were opened before, and of the last
-      -- names after.
+      -- These fields are collected from a set in this order, where fragments of the first names were opened before, and
+      -- of the last names after.
       pub data Collects : List (List ℕ) → List (Selection S) → List (Placed (Field S)) → List (List ℕ) → Type 0 where
         at_end : {names : List (List ℕ)} → Collects names [] [] names
         at_nothing : {names after : List (List ℕ)} {s : Selection S} {set : List (Selection S)} {fs : List (Placed (Field S))}

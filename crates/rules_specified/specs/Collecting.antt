@@ -59,9 +59,11 @@ module _ {S : Type 0} where
     CollectsAll names (set ∷ sets) fs after = (first : List (Placed (Field S))) × (rest : List (Placed (Field S))) × (mid : List (List ℕ))
         × CollectsAt names set first mid × CollectsAll mid sets rest after × (fs ≡ first ++ rest)
 
-    -- Some fields are added, and the sets that wait and the fragments that are opened are new: what is collected from here on comes after
-    -- these fields in what is collected from the old ones.
-    pub record Leads (bits : BitSet) (old new : List (List (Selection S))) (added : List (Placed (Field S))) (names : List (List ℕ)) : Type 0 where
+    -- Some fields are added, and the sets that wait and the fragments that are opened are new: what is collected from
+    -- here on comes after these fields in what is collected from the old ones.
+    pub record Leads (bits : BitSet) (old new : List (List (Selection S))) (added : List (Placed (Field S)))
+        (names : List (List ℕ)) : Type 0 where
       pub opened : List (List ℕ)
       pub marks : Marks root.numbers bits opened
-      pub leads : (fs : List (Placed (Field S))) (after : List (List ℕ)) → CollectsAll opened new fs after → CollectsAll names old (added ++ fs) after
+      pub leads : (fs : List (Placed (Field S))) (after : List (List ℕ)) → CollectsAll opened new fs after
+          → CollectsAll names old (added ++ fs) after

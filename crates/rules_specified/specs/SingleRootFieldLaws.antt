@@ -1,5 +1,6 @@
 -- When the rule finds nothing. In specs/, since ghost members of an impl cite nothing else.
-use Rattle.std.proofs.Common.{◌≡◌, ◌↔◌, ℕ, List, [], ◌∷◌, ◌++◌, Bool, true, false, Option, Some, None, map, sym, ap, ◌∙◌, refl, subst}
+use Rattle.std.proofs.Common.{◌≡◌, ◌↔◌, ℕ, List, [], ◌∷◌, ◌++◌, Bool, true, false, Option, Some, None, map, sym, ap}
+use Rattle.std.proofs.Common.{◌∙◌, refl, subst}
 use Rattle.std.specs.Prelude.{cond}
 use Rattle.std.specs.List.{All, filter}
 use Rattle.std.proofs.lemmas.List.Elements.{All-nil, All-cons, All-head, All-tail}
@@ -17,8 +18,12 @@ use Rattle.schema.specs.Catalog.{Catalog}
 use Rattle.walk.specs.ErrorValue.{ErrorValue}
 use Rattle.walk.specs.Rule.{SilentIff}
 use Rattle.rules_document.specs.AtDocument.{given_at_end}
-use Rattle.rules_specified.specs.Collected.{Collects, Part, at_end, at_field, at_nothing, at_set, field, inside, nothing, part}
-use Rattle.rules_specified.specs.SingleRootField.{AreCollected, IsSingle, IsSingleRoot, SelectOne, SelectsOne, Tells, TellsEach, TellsRoot, at_places, has_other_name, introspections, is_introspection, others, places, response_name, root_errors, root_name, single_root_errors}
+use Rattle.rules_specified.specs.Collected.{Collects, Part, at_end, at_field, at_nothing, at_set, field, inside}
+use Rattle.rules_specified.specs.Collected.{nothing, part}
+use Rattle.rules_specified.specs.SingleRootField.{AreCollected, IsSingle, IsSingleRoot, SelectOne, SelectsOne, Tells}
+use Rattle.rules_specified.specs.SingleRootField.{TellsEach, TellsRoot, at_places, has_other_name, introspections}
+use Rattle.rules_specified.specs.SingleRootField.{is_introspection, others, places, response_name, root_errors}
+use Rattle.rules_specified.specs.SingleRootField.{root_name, single_root_errors}
 
 -- both parts of an empty list are empty
 both_empty : {X : Type 0} (xs ys : List X) → xs ++ ys ≡ [] → (xs ≡ []) × (ys ≡ [])
@@ -57,14 +62,17 @@ module _ {S : Type 0} where
   -- nothing is reported at fields if and only if each fails the test
   silent_at_fields : (text : List ℕ) (p : Placed (Field S) → Bool) (fs : List (Placed (Field S)))
       → (at_places text (places (filter p fs)) ≡ []) ↔ All (λ f. p f ≡ false) fs
-  silent_at_fields text p fs = let at = at_no_place text (places (filter p fs)) in let mapped = map_empty (λ f. f.span.start) (filter p fs) in (
+  silent_at_fields text p fs =
+      let at = at_no_place text (places (filter p fs)) in let mapped = map_empty (λ f. f.span.start) (filter p fs) in (
     λ e. none_pass p fs (mapped.0 (at.0 e)),
     λ h. at.1 (mapped.1 (filter_none p fs h)),
   )
 
   single_iff : (o : Placed (Operation S)) (fs : List (Placed (Field S))) → (root_errors o fs ≡ []) ↔ IsSingle fs
   single_iff o [] = (λ e. cc, λ h. absurd h)
-  single_iff o (f ∷ fs) = let names = silent_at_fields _ (has_other_name (response_name f.item)) (f ∷ fs) in let inner = silent_at_fields _ (λ g. is_introspection g.item) (f ∷ fs) in (
+  single_iff o (f ∷ fs) =
+      let names = silent_at_fields _ (has_other_name (response_name f.item)) (f ∷ fs) in
+      let inner = silent_at_fields _ (λ g. is_introspection g.item) (f ∷ fs) in (
     λ e. let (a, b) = both_empty _ _ e in (names.0 a, inner.0 b),
     λ (a, b). empty_with _ _ (names.1 a) (inner.1 b),
   )
@@ -74,10 +82,12 @@ module _ {S C : Type 0} (print : InputValue S → List ℕ) (schema : Catalog S 
     abbrev From : List (List ℕ) → List (Selection S) → List (Placed (Field S)) → List (List ℕ) → Type 0
     From = Collects print schema document root
 
-    from_names : {a b after : List (List ℕ)} {set : List (Selection S)} {fs : List (Placed (Field S))} → a ≡ b → From a set fs after → From b set fs after
+    from_names : {a b after : List (List ℕ)} {set : List (Selection S)} {fs : List (Placed (Field S))} → a ≡ b
+        → From a set fs after → From b set fs after
     from_names {after = after} {set = set} {fs = fs} e c = subst (λ z. From z set fs after) e c
 
-    from_set : {names after : List (List ℕ)} {a b : List (Selection S)} {fs : List (Placed (Field S))} → a ≡ b → From names a fs after → From names b fs after
+    from_set : {names after : List (List ℕ)} {a b : List (Selection S)} {fs : List (Placed (Field S))} → a ≡ b
+        → From names a fs after → From names b fs after
     from_set {names = names} {after = after} {fs = fs} e c = subst (λ z. From names z fs after) e c
 
     -- the same fields are collected each time
@@ -113,13 +123,15 @@ module _ {S C : Type 0} (print : InputValue S → List ℕ) (schema : Catalog S 
   silent_of (definition.Operation o) es tells = root_silent (root_name schema) o.item.operation_type o es tells
   silent_of (definition.Fragment f) es tells = (λ e. tt, λ u. tells)
 
-  silent_of_each : (ds : List (Definition S)) (es : List ErrorValue) → TellsEach print schema document ds es → (es ≡ []) ↔ All (SelectsOne print schema document) ds
+  silent_of_each : (ds : List (Definition S)) (es : List ErrorValue) → TellsEach print schema document ds es → (es ≡ [])
+      ↔ All (SelectsOne print schema document) ds
   silent_of_each [] es is = (λ e. All-nil (SelectsOne print schema document), λ h. is)
   silent_of_each (d ∷ ds) es (first, rest, tells, more, is) =
       let one = silent_of d first tells in
       let each = silent_of_each ds rest more in (
         λ e. let (a, b) = both_empty first rest (sym is ∙ e) in All-cons (SelectsOne print schema document) d ds (one.0 a) (each.0 b),
-        λ h. is ∙ empty_with first rest (one.1 (All-head (SelectsOne print schema document) d ds h)) (each.1 (All-tail (SelectsOne print schema document) d ds h)),
+        λ h. is ∙ empty_with first rest (one.1 (All-head (SelectsOne print schema document) d ds h))
+            (each.1 (All-tail (SelectsOne print schema document) d ds h)),
       )
 
 -- nothing may be reported if and only if each subscription selects exactly one field at its root

@@ -1,15 +1,18 @@
 //! The fields that are collected from a selection set at a root, with no values of variables (GraphQL, October 2021,
 //! section 6.3.2).
 
-ghost use Rattle.std.specs.Prelude.{◌≡◌, ◌++◌, ◌∷◌, [], ℕ, List, Some, IfOk, OnOk, option_copied, option_and_then, reverse, slice_get};
+ghost use Rattle.std.specs.Prelude.{◌≡◌, ◌++◌, ◌∷◌, [], ℕ, List, Some, IfOk, OnOk, option_copied, option_and_then};
+ghost use Rattle.std.specs.Prelude.{reverse, slice_get};
 ghost use Rattle.std.specs.List.{list_any};
 ghost use Rattle.language.specs.References.{list_copied};
 ghost use Rattle.language.specs.ValuesPrinted.{printed_value};
 ghost use Rattle.language.specs.declared.tree.Field.{Field};
 ghost use Rattle.language.specs.Position.{Placed};
 ghost use Rattle.fragment_graph.specs.Numbers.{number_of, NumberedDefinitions};
-ghost use Rattle.rules_specified.specs.Collected.{are_leaving_out, given_if, is_given, is_not_included, last_fragment, leaves_out, of_inline, of_spread};
-ghost use Rattle.rules_specified.specs.Collecting.{fragment_in, part_at, placed, CollectsAt, IsPart, IsRoot, Leads, Marks};
+ghost use Rattle.rules_specified.specs.Collected.{are_leaving_out, given_if, is_given, is_not_included, last_fragment};
+ghost use Rattle.rules_specified.specs.Collected.{leaves_out, of_inline, of_spread};
+ghost use Rattle.rules_specified.specs.Collecting.{fragment_in, part_at, placed, CollectsAt, IsPart, IsRoot, Leads};
+ghost use Rattle.rules_specified.specs.Collecting.{Marks};
 
 use bit_matrix::set::BitSet;
 use fragment_graph::document_graph::graph_of;

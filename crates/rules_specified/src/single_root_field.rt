@@ -1,6 +1,7 @@
 //! A subscription selects exactly one field at its root (GraphQL, October 2021, section 5.2.3.1).
 
-ghost use Rattle.std.specs.Prelude.{◌≡◌, ◌++◌, ◌∷◌, [], ℕ, List, Some, IfOk, OnOk, OnErr, codes, option_map, string_bytes};
+ghost use Rattle.std.specs.Prelude.{◌≡◌, ◌++◌, ◌∷◌, [], ℕ, List, Some, IfOk, OnOk, OnErr, codes, option_map};
+ghost use Rattle.std.specs.Prelude.{string_bytes};
 ghost use Rattle.std.specs.List.{filter, list_any};
 ghost use Rattle.language.specs.References.{list_copied};
 ghost use Rattle.language.specs.ValuesPrinted.{printed_value};
@@ -14,7 +15,9 @@ ghost use Rattle.rules_document.specs.AtDocument.{document_step, given_at_end};
 ghost use Rattle.rules_document.specs.AtDocumentLaws.{document_keeps};
 ghost use Rattle.rules_specified.specs.Collecting.{CollectsAt, IsRoot};
 ghost use Rattle.rules_specified.specs.FoundAtRoot.{IsFound};
-ghost use Rattle.rules_specified.specs.SingleRootField.{at_places, has_other_name, introspections, is_subscription, message, places, response_name, root_errors, root_name, single_root_errors, SelectOne, Tells, TellsEach};
+ghost use Rattle.rules_specified.specs.SingleRootField.{at_places, has_other_name, introspections, is_subscription};
+ghost use Rattle.rules_specified.specs.SingleRootField.{message, places, response_name, root_errors, root_name};
+ghost use Rattle.rules_specified.specs.SingleRootField.{single_root_errors, SelectOne, Tells, TellsEach};
 ghost use Rattle.rules_specified.specs.SingleRootFieldLaws.{single_root_silent};
 
 use crate::collected::{Root, collected, root_of};

@@ -7,10 +7,12 @@ use Rattle.walk.specs.ErrorValue.{ErrorValue}
 use Rattle.events.specs.Node.{Node, field}
 use Rattle.events.specs.Occurrence.{Occurrence}
 use Rattle.rules_fields.specs.FieldsOnCorrectTypeLaws.{none_if_known}
-use Rattle.rules_specified_fields.specs.FieldsOnCorrectType.{is_composite, unknown_field_at, unknown_fields, HasKnownField}
+use Rattle.rules_specified_fields.specs.FieldsOnCorrectType.{is_composite, unknown_field_at, unknown_fields}
+use Rattle.rules_specified_fields.specs.FieldsOnCorrectType.{HasKnownField}
 
 -- errors of a composite type's field
-none_if_composite : {P : Type 0} (composite : Bool) (es : List ErrorValue) → (es ≡ []) ↔ P → ((if composite then es else []) ≡ []) ↔ (composite ≡ true → P)
+none_if_composite : {P : Type 0} (composite : Bool) (es : List ErrorValue) → (es ≡ []) ↔ P
+    → ((if composite then es else []) ≡ []) ↔ (composite ≡ true → P)
 none_if_composite true es law = (λ e is. law.0 e, λ h. law.1 (h refl))
 none_if_composite false es law = (λ e is. absurd cc, λ h. refl)
 
@@ -19,5 +21,6 @@ none_at parent (field f) = none_if_composite (is_composite parent) _ (none_if_kn
 none_at parent _ = (λ e. tt, λ u. refl)
 
 -- nothing is found at an occurrence if and only if the field there is known
-pub none_unknown : {S C : Type 0} (scope : DocumentScope S C) (o : Occurrence S C) → (unknown_fields scope o ≡ []) ↔ HasKnownField o.types.parent o.node
+pub none_unknown : {S C : Type 0} (scope : DocumentScope S C) (o : Occurrence S C) → (unknown_fields scope o ≡ [])
+    ↔ HasKnownField o.types.parent o.node
 none_unknown scope o = none_at o.types.parent o.node

@@ -1,5 +1,6 @@
 -- The field `__typename`, where metadata does not list it, with a selection set (sections 4.1 and 5.3.3).
-use Rattle.std.specs.Prelude.{◌≡◌, ℕ, List, [], ◌∷◌, Bool, true, false, ◌&&◌, Option, Some, None, is_some, codes, if◌then◌else◌}
+use Rattle.std.specs.Prelude.{◌≡◌, ℕ, List, [], ◌∷◌, Bool, true, false, ◌&&◌, Option, Some, None, is_some, codes}
+use Rattle.std.specs.Prelude.{if◌then◌else◌}
 use Rattle.language.specs.Types.{TypeShape, non_null_named, printed}
 use Rattle.language.specs.declared.tree.Field.{Field}
 use Rattle.meta.specs.declared.kinds.MetaTypeOf.{MetaTypeOf}
@@ -42,5 +43,6 @@ module _ {S C : Type 0} where
 
   -- at a node: such a `__typename` has no selection set
   abbrev pub HasNoTypenameSet : Option (MetaTypeOf S C) → Option TypeShape → Node S → Type 0
-  HasNoTypenameSet parent written (field f) = is_implicit_typename parent written f.item.name.item.now ≡ true → is_some f.item.selection_set ≡ false
+  HasNoTypenameSet parent written (field f) =
+      is_implicit_typename parent written f.item.name.item.now ≡ true → is_some f.item.selection_set ≡ false
   HasNoTypenameSet parent written _ = Unit {0}

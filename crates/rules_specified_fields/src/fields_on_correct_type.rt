@@ -8,7 +8,8 @@ ghost use Rattle.walk.specs.Rule.{always, any_value, exactly};
 ghost use Rattle.walk.specs.RuleLaws.{everywhere_silent};
 ghost use Rattle.walk.specs.Step.{KeepsPlace};
 ghost use Rattle.walk.proofs.Entering.{finding_keeps};
-ghost use Rattle.rules_specified_fields.specs.FieldsOnCorrectType.{is_composite, unknown_field_of, unknown_fields, HasKnownField};
+ghost use Rattle.rules_specified_fields.specs.FieldsOnCorrectType.{is_composite, unknown_field_of, unknown_fields};
+ghost use Rattle.rules_specified_fields.specs.FieldsOnCorrectType.{HasKnownField};
 ghost use Rattle.rules_specified_fields.specs.FieldsOnCorrectTypeLaws.{none_unknown};
 
 use language::error::OutOfMemory;

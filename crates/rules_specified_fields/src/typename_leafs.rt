@@ -1,5 +1,6 @@
-//! `__typename` has the type `String!`, so it has no selection set (GraphQL, October 2021, sections 4.1 and 5.3.3). Where the
-//! metadata of a type lists the field, as that of objects and interfaces does, `ScalarLeafs` says so; this rule says it elsewhere.
+//! `__typename` has the type `String!`, so it has no selection set (GraphQL, October 2021, sections 4.1 and 5.3.3).
+//! Where the metadata of a type lists the field, as that of objects and interfaces does, `ScalarLeafs` says so; this
+//! rule says it elsewhere.
 
 ghost use Rattle.std.specs.Prelude.{◌≡◌, OnOk, OnErr, is_some, option_copied, option_map};
 ghost use Rattle.language.specs.Types.{borrowed_shape};
@@ -9,7 +10,8 @@ ghost use Rattle.walk.specs.Rule.{always, any_value, exactly};
 ghost use Rattle.walk.specs.RuleLaws.{everywhere_silent};
 ghost use Rattle.walk.specs.Step.{KeepsPlace};
 ghost use Rattle.walk.proofs.Entering.{finding_keeps};
-ghost use Rattle.rules_specified_fields.specs.TypenameLeafs.{is_implicit_typename, set_of_leaf, typename_set, typename_sets, HasNoTypenameSet};
+ghost use Rattle.rules_specified_fields.specs.TypenameLeafs.{is_implicit_typename, set_of_leaf, typename_set};
+ghost use Rattle.rules_specified_fields.specs.TypenameLeafs.{typename_sets, HasNoTypenameSet};
 ghost use Rattle.rules_specified_fields.specs.TypenameLeafsLaws.{none_of_typename};
 
 use language::error::OutOfMemory;
@@ -20,8 +22,8 @@ use meta::MetaTypeOf;
 use meta::check::CheckedScalar;
 use walk::{Criterion, Event, Fresh, Machine, Rule, SettledRule, ValidatorContext, Visitor};
 
-/// Reports each `__typename` of an object, an interface or a union that has a selection set, at its start, where the metadata of the
-/// type does not list the field.
+/// Reports each `__typename` of an object, an interface or a union that has a selection set, at its start, where the
+/// metadata of the type does not list the field.
 #[derive(Drop)]
 pub struct TypenameLeafs;
 

@@ -1,4 +1,5 @@
--- Whether a variable may stand where it is used, as IsVariableUsageAllowed and AreTypesCompatible have it (section 5.8.5).
+-- Whether a variable may stand where it is used, as IsVariableUsageAllowed and AreTypesCompatible have it (section
+-- 5.8.5).
 use Rattle.std.specs.Prelude.{◌≡◌, ◌⊎◌, List, [], ◌∷◌, Bool, true, false, not, ◌&&◌, ◌||◌, if◌then◌else◌}
 use Rattle.std.specs.Option.{option_map_or}
 use Rattle.language.specs.Types.{TypeShape, inner_of, is_never_null, printed, shape}
@@ -32,10 +33,11 @@ module _ {S : Type 0} where
   -- the error at a use of a variable that may not stand there
   abbrev pub usage_error : VariableEntry S → UseValue → ErrorValue
   usage_error d u =
-      record { locations = d.0.span.start ∷ u.place ∷ []; message = position_message u.variable (printed (shape d.1.var_type.item)) (printed u.at.expected) }
+      record { locations = d.0.span.start ∷ u.place ∷ [];
+          message = position_message u.variable (printed (shape d.1.var_type.item)) (printed u.at.expected) }
 
--- The type that a variable's type has to fit at a place. Where a default value stands for `null`, a variable that may be null has to
--- fit the type without its outer non-null.
+-- The type that a variable's type has to fit at a place. Where a default value stands for `null`, a variable that may
+-- be null has to fit the type without its outer non-null.
 abbrev pub type_to_fit : Bool → TypeShape → TypeShape → TypeShape
 type_to_fit has_default variable place =
     if has_default && (is_never_null place && not (is_never_null variable)) then inner_of place else place

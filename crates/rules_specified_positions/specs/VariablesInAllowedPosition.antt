@@ -22,7 +22,8 @@ module _ {S C : Type 0} where
   DocumentGives types document uses es = judged_uses.DocumentGives (λ (u : UseValue). u.variable) Judged types document uses es
 
   -- what is given by the uses that were recorded
-  abbrev pub given_by_uses : DocumentScope S C → List (Definition S) → List (List UseValue) → VariableInAllowedPosition → List ErrorValue → Type 0
+  abbrev pub given_by_uses : DocumentScope S C → List (Definition S) → List (List UseValue) → VariableInAllowedPosition
+      → List ErrorValue → Type 0
   given_by_uses scope document uses end es = DocumentGives scope.schema.types document uses es
 
   -- what is given of a document by its uses, definition by definition

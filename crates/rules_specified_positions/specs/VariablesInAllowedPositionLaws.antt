@@ -9,7 +9,8 @@ use Rattle.rules_specified_positions.specs.PlacedUses.{next_uses, placed_uses}
 use Rattle.rules_specified_uses.specs.ValueUses.{UseValue}
 use Rattle.rules_specified_positions.specs.Usages.{IsAllowed, Judged}
 use Rattle.rules_specified_positions.specs.UsesRecorded.{uses_recorded}
-use Rattle.rules_specified_positions.specs.VariablesInAllowedPosition.{AllAllowed, DocumentGives, given_by_uses, misplaced_variables, recorded_uses}
+use Rattle.rules_specified_positions.specs.VariablesInAllowedPosition.{AllAllowed, DocumentGives, given_by_uses}
+use Rattle.rules_specified_positions.specs.VariablesInAllowedPosition.{misplaced_variables, recorded_uses}
 
 some_none : {X : Type 0} (x : X) (xs : List X) → [] ≡ x ∷ xs → ⊥
 some_none x xs e = cc
@@ -22,10 +23,13 @@ gives_unless_allowed types d u es (inr b) = (λ e. absurd (some_none _ _ (sym e 
 -- nothing is reported if and only if each variable may stand where it is used
 pub positions_silent : {S C V : Type 0} → SilentIff {S = S} {C = C} {V = V} (always misplaced_variables) AllAllowed
 positions_silent end scope t document es p =
-    uses_silent (λ (u : UseValue). u.variable) Judged (λ types d u. IsAllowed types d u.at) scope.schema.types document (placed_uses scope.schema t) gives_unless_allowed es p
+    uses_silent (λ (u : UseValue). u.variable) Judged (λ types d u. IsAllowed types d u.at) scope.schema.types document
+        (placed_uses scope.schema t) gives_unless_allowed es p
 
 -- each run from a fresh value reports what is given of the document
-pub positions_keep : {S C : Type 0} → AllowsFrom (recording_step recorded_uses (next_uses {S = S} {C = C}) given_by_uses) (λ a. recorded_uses a ≡ []) (always misplaced_variables)
+pub positions_keep : {S C : Type 0} → AllowsFrom
+    (recording_step recorded_uses (next_uses {S = S} {C = C}) given_by_uses) (λ a. recorded_uses a ≡ [])
+    (always misplaced_variables)
 positions_keep start fresh schema t doc end es r =
     subst (λ uses. DocumentGives schema.types doc uses es) (uses_recorded (scope_of schema doc) t doc)
     (recording_keeps recorded_uses next_uses given_by_uses [] start fresh schema t doc end es r)

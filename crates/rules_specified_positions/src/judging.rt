@@ -3,7 +3,8 @@
 ghost use Rattle.std.specs.Prelude.{◌≡◌, ◌||◌, ◌↔◌, IsTrue};
 ghost use Rattle.language.specs.Types.{borrowed_shape, is_never_null};
 ghost use Rattle.rules_specified_uses.specs.ValueUses.{use_value, UseValue};
-ghost use Rattle.rules_specified_positions.specs.Usages.{has_usable_default, is_null, type_to_fit, Fits, IsAllowed, Judged};
+ghost use Rattle.rules_specified_positions.specs.Usages.{has_usable_default, is_null, type_to_fit, Fits, IsAllowed};
+ghost use Rattle.rules_specified_positions.specs.Usages.{Judged};
 
 use language::error::OutOfMemory;
 use language::tree::VariableDefinition;
@@ -54,7 +55,8 @@ fn is_never_null(t: BorrowedType<'_>) -> bool
     t.is_non_null()
 }
 
-// The type that a variable of a type has to fit at a place. Where a default value stands for `null`, the place may be non-null.
+// The type that a variable of a type has to fit at a place. Where a default value stands for `null`, the place may be
+// non-null.
 fn type_to_fit<'a>(
     has_default: bool,
     variable: BorrowedType<'_>,

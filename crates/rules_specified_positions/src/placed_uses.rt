@@ -48,7 +48,8 @@ fn add_each<'a, S, C>(
     Ok(())
 }
 
-/// Adds the uses in the arguments of a field or a directive to the definition that began last, by the arguments that it defines.
+/// Adds the uses in the arguments of a field or a directive to the definition that began last, by the arguments that it
+/// defines.
 ///
 /// # Errors
 ///

@@ -9,7 +9,8 @@ ghost use Rattle.operation_scopes.specs.Index.{IsIndexOf};
 ghost use Rattle.rules_positions.specs.Recording.{recording_step};
 ghost use Rattle.rules_specified_positions.specs.PlacedUses.{arguments_uses, next_uses};
 ghost use Rattle.rules_specified_uses.specs.ValueUses.{use_values, with_uses};
-ghost use Rattle.rules_specified_positions.specs.VariablesInAllowedPosition.{given_by_uses, misplaced_variables, recorded_uses, AllAllowed, DocumentGives};
+ghost use Rattle.rules_specified_positions.specs.VariablesInAllowedPosition.{given_by_uses, misplaced_variables};
+ghost use Rattle.rules_specified_positions.specs.VariablesInAllowedPosition.{recorded_uses, AllAllowed, DocumentGives};
 ghost use Rattle.rules_specified_positions.specs.VariablesInAllowedPositionLaws.{positions_keep, positions_silent};
 
 use crate::judging::ByDefaults;
@@ -25,11 +26,12 @@ use rules_specified_uses::value_uses::{PlacedUse, Uses, begin_definition};
 use std::alloc::Global;
 use walk::{Criterion, Event, Fresh, Machine, Rule, SettledRule, ValidatorContext, Visitor};
 
-/// Reports, where the document ends, each use of a variable whose type does not fit the place where it is used: at the name of the
-/// variable's first definition, and at the use. A default value of the variable that is not `null`, and any default value of the
-/// place, stand for `null`. The uses are recorded during the walk.
+/// Reports, where the document ends, each use of a variable whose type does not fit the place where it is used: at the
+/// name of the variable's first definition, and at the use. A default value of the variable that is not `null`, and any
+/// default value of the place, stand for `null`. The uses are recorded during the walk.
 ///
-/// An object where a list is expected stands for a list of it alone, so its fields have the types of the list's input object.
+/// An object where a list is expected stands for a list of it alone, so its fields have the types of the list's input
+/// object.
 #[derive(Drop)]
 pub struct VariableInAllowedPosition<'a> {
     alloc: Global,

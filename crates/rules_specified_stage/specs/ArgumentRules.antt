@@ -36,7 +36,9 @@ abbrev DirectiveRules : Type 0
 DirectiveRules = MultiVisitorCons KnownDirectives (MultiVisitorCons KnownArgumentNames MultiVisitorNil)
 
 abbrev OfArguments : Type 0
-OfArguments = MultiVisitorCons UniqueDirectiveNames (MultiVisitorCons UniqueInputFieldNames (MultiVisitorCons UniqueArgumentNames (MultiVisitorCons ProvidedNonNullArguments DirectiveRules)))
+OfArguments = MultiVisitorCons UniqueDirectiveNames
+    (MultiVisitorCons UniqueInputFieldNames
+    (MultiVisitorCons UniqueArgumentNames (MultiVisitorCons ProvidedNonNullArguments DirectiveRules)))
 
 module _ {S C : Type 0} where
   abbrev none : Listed S C MultiVisitorNil
@@ -48,9 +50,12 @@ module _ {S C : Type 0} where
     step = pair_step (finding_step finds) others.step;
     fresh = pair_fresh any_value others.fresh;
     allows = pair_allows (always (exactly (found finds))) others.allows;
-    keeps = pair_keeps (finding_step finds) others.step any_value others.fresh (always (exactly (found finds))) others.allows (finding_keeps finds) others.keeps;
+    keeps = pair_keeps (finding_step finds) others.step any_value others.fresh
+        (always (exactly (found finds))) others.allows (finding_keeps finds) others.keeps;
   }
 
   abbrev pub argument_rules : Listed S C OfArguments
   argument_rules =
-      before repeated_directives (before repeated_keys (before repeated_arguments (before missing_arguments (before unsuitable_directives (before unknown_arguments none)))))
+      before repeated_directives (before repeated_keys
+          (before repeated_arguments (before missing_arguments
+          (before unsuitable_directives (before unknown_arguments none)))))

@@ -1,5 +1,5 @@
-//! The rules on arguments, keys of objects and directives as one type: the type of a list of all rules is long, and takes
-//! long to compare.
+//! The rules on arguments, keys of objects and directives as one type: the type of a list of all rules is long, and
+//! takes long to compare.
 
 ghost use Rattle.rules_first_stage.specs.Along.{along, step_along};
 ghost use Rattle.rules_first_stage.specs.AlongLaws.{keeps_along, silent_along};
@@ -55,9 +55,12 @@ impl<'a, S: CheckedScalar> Criterion<S, S::Check> for ArgumentRules<'a> {
 impl<'a, S: CheckedScalar> SettledRule<S, S::Check> for ArgumentRules<'a> {
     ghost silent = { silent_along (λ a. a.rules) ⟦<OfArguments<'a> as Rule<S, S::Check>>⟧.allows
         ⟦<OfArguments<'a> as Criterion<S, S::Check>>⟧.finds_nothing
-        (pair_silent _ _ _ _ (everywhere_silent _ _ distinct_directives) (pair_silent _ _ _ _ (everywhere_silent _ _ distinct_keys)
-        (pair_silent _ _ _ _ (everywhere_silent _ _ distinct_arguments) (pair_silent _ _ _ _ (everywhere_silent _ _ given_where_required)
-        (pair_silent _ _ _ _ (everywhere_silent _ _ suitable_directives) (pair_silent _ _ _ _ (everywhere_silent _ _ known_arguments)
+        (pair_silent _ _ _ _ (everywhere_silent _ _ distinct_directives)
+        (pair_silent _ _ _ _ (everywhere_silent _ _ distinct_keys)
+        (pair_silent _ _ _ _ (everywhere_silent _ _ distinct_arguments)
+        (pair_silent _ _ _ _ (everywhere_silent _ _ given_where_required)
+        (pair_silent _ _ _ _ (everywhere_silent _ _ suitable_directives)
+        (pair_silent _ _ _ _ (everywhere_silent _ _ known_arguments)
         nil_silent)))))) };
 }
 

@@ -11,7 +11,9 @@ module _ {S C : Type 0} (schema : Catalog S C) where
   -- those in what is left of one
   abbrev pub left_uses : Waiting S → List UseValue
   left_uses (Items place items) = flat_map (value_uses schema (option_map place_value place)) items.now
-  left_uses (Entries place entries) = flat_map (λ e. value_uses schema (field_place schema (option_map place_value place) (string_bytes e.0.item)) e.1) entries.now
+  left_uses (Entries place entries) =
+      flat_map (λ e. value_uses schema (field_place schema (option_map place_value place) (string_bytes e.0.item)) e.1)
+      entries.now
 
   -- those in what waits, the last one first
   abbrev pub waiting_uses : List (Waiting S) → List UseValue

@@ -1,7 +1,8 @@
 //! Places where an input value is expected: the type, and whether a default value stands for a value that is not there.
 
 ghost use Rattle.std.specs.Prelude.{◌≡◌, option_copied, option_map};
-ghost use Rattle.rules_specified_uses.specs.InputPlaces.{argument_place, field_place, item_place, place_of, place_value};
+ghost use Rattle.rules_specified_uses.specs.InputPlaces.{argument_place, field_place, item_place, place_of};
+ghost use Rattle.rules_specified_uses.specs.InputPlaces.{place_value};
 
 use language::types::BorrowedType;
 use meta::Argument;
@@ -51,8 +52,8 @@ pub fn item_place<'a>(place: Option<InputPlace<'a>>) -> Option<InputPlace<'a>>
     }
 }
 
-/// The place of a field of an object that stands at a place: that of the input object which the type names. Where a list is
-/// expected, an object stands for the list of it alone.
+/// The place of a field of an object that stands at a place: that of the input object which the type names. Where a
+/// list is expected, an object stands for the list of it alone.
 pub fn field_place<'a, S, C>(
     schema: &'a SchemaTypeOf<S, C>,
     place: Option<InputPlace<'a>>,

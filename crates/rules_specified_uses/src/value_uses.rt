@@ -137,8 +137,8 @@ fn go_on<'a, S, C>(
     }
 }
 
-/// Adds the uses in a value at a place to the definition that began last. The lists and objects around the value at hand stand on a
-/// list in memory, so no depth is too deep.
+/// Adds the uses in a value at a place to the definition that began last. The lists and objects around the value at
+/// hand stand on a list in memory, so no depth is too deep.
 ///
 /// # Errors
 ///

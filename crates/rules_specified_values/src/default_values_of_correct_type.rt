@@ -1,5 +1,5 @@
-//! The default value of each variable conforms to the variable's type (GraphQL, October 2021, section 5.6.1), which may be
-//! non-null.
+//! The default value of each variable conforms to the variable's type (GraphQL, October 2021, section 5.6.1), which may
+//! be non-null.
 
 ghost use Rattle.std.specs.Prelude.{◌≡◌, Some, IfOk, OnOk, OnErr, option_map, string_bytes};
 ghost use Rattle.language.specs.Types.{borrowed_shape, printed, shape};
@@ -24,7 +24,8 @@ use meta::check::CheckedScalar;
 use std::alloc::{AllocError, Global};
 use walk::{Criterion, Event, Fresh, Machine, Rule, SettledRule, ValidatorContext, Visitor};
 
-/// Reports each default value of a variable that does not conform to the variable's type, at the value's start. For a non-null type
+/// Reports each default value of a variable that does not conform to the variable's type, at the value's start. For a
+/// non-null type
 /// `null` does not. It skips types whose name the schema does not know.
 ///
 /// A value that conforms takes no memory beyond what the checks of its scalars and enum values take.

@@ -1,6 +1,7 @@
 -- Nothing repeats if and only if the names are distinct. In specs/, since ghost members of an impl cite nothing else.
 use Rattle.std.proofs.Common.{◌≡◌, ◌↔◌, ℕ, List, [], ◌∷◌, ◌++◌, map, refl, ap, sym, ◌∙◌, subst}
-use Rattle.std.specs.Prelude.{Bool, true, false, not, ◌&&◌, ◌||◌, Option, Some, None, is_none, String, string_bytes, if◌then◌else◌, nat_eq}
+use Rattle.std.specs.Prelude.{Bool, true, false, not, ◌&&◌, ◌||◌, Option, Some, None, is_none, String, string_bytes}
+use Rattle.std.specs.Prelude.{if◌then◌else◌, nat_eq}
 use Rattle.std.specs.declared.alloc.Global.{Global}
 use Rattle.std.specs.Cmp.Lexicographic.{pointwise}
 use Rattle.std.specs.List.{list_all, list_any}
@@ -36,11 +37,13 @@ is_new earlier n = is_none (first_place earlier n.0)
 abbrev names_of : List Named → List (List ℕ)
 names_of names = map (λ n. n.0) names
 
-nothing_first : (message : List ℕ → List ℕ) (o : Option SourcePosition) (n : Named) (es : List ErrorValue) → is_nothing (repeat_at message o n ++ es) ≡ (is_none o && is_nothing es)
+nothing_first : (message : List ℕ → List ℕ) (o : Option SourcePosition) (n : Named) (es : List ErrorValue)
+    → is_nothing (repeat_at message o n ++ es) ≡ (is_none o && is_nothing es)
 nothing_first message None n es = refl
 nothing_first message (Some first) n es = refl
 
-none_noted : (o : Option SourcePosition) (b : Bool) (place : SourcePosition) → is_none (or_else o (if b then Some place else None)) ≡ (is_none o && not b)
+none_noted : (o : Option SourcePosition) (b : Bool) (place : SourcePosition)
+    → is_none (or_else o (if b then Some place else None)) ≡ (is_none o && not b)
 none_noted None true place = refl
 none_noted None false place = refl
 none_noted (Some p) b place = refl
@@ -73,14 +76,16 @@ none_repeats_after message earlier (n ∷ rest) =
     nothing_first message (first_place earlier n.0) n (repeats_after message (earlier ++ n ∷ []) rest)
     ∙ ap (λ z. is_new earlier n && z)
     (none_repeats_after message (earlier ++ n ∷ []) rest ∙ ap (λ z. z && are_distinct (names_of rest)) (new_after earlier n rest))
-    ∙ reorder (is_new earlier n) (list_all (is_new earlier) rest) (not (list_any (pointwise nat_eq n.0) (names_of rest))) (are_distinct (names_of rest))
+    ∙ reorder (is_new earlier n) (list_all (is_new earlier) rest)
+        (not (list_any (pointwise nat_eq n.0) (names_of rest))) (are_distinct (names_of rest))
 
 all_new : (names : List Named) → list_all (is_new []) names ≡ true
 all_new [] = refl
 all_new (n ∷ rest) = all_new rest
 
 -- no name stands again if and only if all are distinct
-pub none_repeats : (message : List ℕ → List ℕ) (names : List Named) → (repeats message names ≡ []) ↔ (are_distinct (map (λ n. n.0) names) ≡ true)
+pub none_repeats : (message : List ℕ → List ℕ) (names : List Named) → (repeats message names ≡ [])
+    ↔ (are_distinct (map (λ n. n.0) names) ≡ true)
 none_repeats message names =
     let is = nothing_is (repeats message names) in
     let same : is_nothing (repeats message names) ≡ are_distinct (names_of names) =
@@ -88,11 +93,17 @@ none_repeats message names =
     (λ e. sym same ∙ is.0 e, λ e. is.1 (same ∙ e))
 
 -- the same of entries that have a name first, and of entries of an object
-pub none_repeat_in : {T : Type 0} (message : List ℕ → List ℕ) (entries : List (Name × T)) → (repeats message (map text_name entries) ≡ []) ↔ (are_distinct (map (λ e. e.0.item.now) entries) ≡ true)
-none_repeat_in message entries = subst (λ z. (repeats message (map text_name entries) ≡ []) ↔ (are_distinct z ≡ true)) (map_map (λ n. n.0) text_name entries) (none_repeats message (map text_name entries))
+pub none_repeat_in : {T : Type 0} (message : List ℕ → List ℕ) (entries : List (Name × T))
+    → (repeats message (map text_name entries) ≡ []) ↔ (are_distinct (map (λ e. e.0.item.now) entries) ≡ true)
+none_repeat_in message entries =
+    subst (λ z. (repeats message (map text_name entries) ≡ []) ↔ (are_distinct z ≡ true))
+    (map_map (λ n. n.0) text_name entries) (none_repeats message (map text_name entries))
 
-pub none_repeat_of : {T : Type 0} (message : List ℕ → List ℕ) (entries : List (Placed (String Global) × T)) → (repeats message (map key_name entries) ≡ []) ↔ (are_distinct (map (λ e. string_bytes e.0.item) entries) ≡ true)
-none_repeat_of message entries = subst (λ z. (repeats message (map key_name entries) ≡ []) ↔ (are_distinct z ≡ true)) (map_map (λ n. n.0) key_name entries) (none_repeats message (map key_name entries))
+pub none_repeat_of : {T : Type 0} (message : List ℕ → List ℕ) (entries : List (Placed (String Global) × T))
+    → (repeats message (map key_name entries) ≡ []) ↔ (are_distinct (map (λ e. string_bytes e.0.item) entries) ≡ true)
+none_repeat_of message entries =
+    subst (λ z. (repeats message (map key_name entries) ≡ []) ↔ (are_distinct z ≡ true))
+    (map_map (λ n. n.0) key_name entries) (none_repeats message (map key_name entries))
 
 -- a rule that notes names reports nothing where those at the nodes are distinct
 pub repeated_silent : {S C V : Type 0} (message : List ℕ → List ℕ) (name : Node S → Option Named)

@@ -51,7 +51,8 @@ impl<T> HasName for (Spanning<String>, T) {
     }
 }
 
-/// Reports each entry whose name an earlier one has, by the name between these words: at the first of the name and at its own.
+/// Reports each entry whose name an earlier one has, by the name between these words: at the first of the name and at
+/// its own.
 ///
 /// # Errors
 ///

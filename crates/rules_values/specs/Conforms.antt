@@ -1,5 +1,6 @@
 -- Which values conform to a type (sections 3.9 to 3.12, 5.6.1 and 5.6.4).
-use Rattle.std.specs.Prelude.{◌≡◌, ℕ, List, [], ◌∷◌, length, reverse, Bool, true, false, Option, Some, String, Vec, is_some, nat_eq, option_and_then, string_bytes}
+use Rattle.std.specs.Prelude.{◌≡◌, ℕ, List, [], ◌∷◌, length, reverse, Bool, true, false, Option, Some, String, Vec}
+use Rattle.std.specs.Prelude.{is_some, nat_eq, option_and_then, string_bytes}
 use Rattle.std.specs.declared.alloc.Global.{Global}
 use Rattle.std.specs.List.{Contains}
 use Rattle.std.specs.Option.{option_map_or}
@@ -56,12 +57,16 @@ module _ {S C : Type 0} (schema : Catalog S C) (may : Answers (InputValue S) C) 
     -- any literal that the check of the type accepts, where the type takes any
     any_literal : (value : InputValue S) {c : C} {meta : MetaTypeOf S C}
         → takes_any schema meta ≡ true → check_of_meta meta ≡ Some c → Accepts may c value → Conforms value [] meta
-    -- an object: each key is that of an input field, each value conforms to the field's type, and no required field is left out
+    -- an object: each key is that of an input field, each value conforms to the field's type, and no required field is
+    -- left out
     object : (es : Vec (Entry (InputValue S)) Global) {meta : MetaTypeOf S C} → is_input_object_meta meta ≡ true
-        → ((e : Entry (InputValue S)) → Contains es.items e → is_some (option_and_then (field_type schema) (input_field_named (key_of e) meta)) ≡ true)
-        → ((e : Entry (InputValue S)) (a : Argument S) (t : MetaTypeOf S C) → Contains es.items e → input_field_named (key_of e) meta ≡ Some a
+        → ((e : Entry (InputValue S)) → Contains es.items e
+            → is_some (option_and_then (field_type schema) (input_field_named (key_of e) meta)) ≡ true)
+        → ((e : Entry (InputValue S)) (a : Argument S) (t : MetaTypeOf S C) → Contains es.items e
+            → input_field_named (key_of e) meta ≡ Some a
         → field_type schema a ≡ Some t → Conforms e.1.item (reverse (shape a.arg_type).modifiers) t)
-        → ((a : Argument S) → Contains (input_fields_of meta) a → is_required a ≡ true → is_among (keys_of es.items) (string_bytes a.name) ≡ true)
+        → ((a : Argument S) → Contains (input_fields_of meta) a → is_required a ≡ true
+            → is_among (keys_of es.items) (string_bytes a.name) ≡ true)
         → Conforms (v.Object es) [] meta
 
   -- it conforms to a type as it is written, if the schema has a type of its name

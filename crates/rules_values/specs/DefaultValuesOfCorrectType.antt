@@ -35,7 +35,8 @@ module _ {S C : Type 0} (may : Answers (InputValue S) C) (shown : InputValue S �
   wrong_default schema (variable_definition d) es = default_if_there schema d.0.item.now (shape d.1.var_type.item) d.1.default_value es
   wrong_default schema _ es = es ≡ []
 
-  -- at the definition of a variable: its type is never null and it has a default value, or its default value has a fault
+  -- at the definition of a variable: its type is never null and it has a default value, or its default value has a
+  -- fault
   abbrev pub wrong_defaults : DocumentScope S C → Occurrence S C → List ErrorValue → Type 0
   wrong_defaults scope o es = wrong_default scope.schema o.node es
 

@@ -16,7 +16,8 @@ right_none : {X : Type 0} (xs ys : List X) → xs ++ ys ≡ [] → ys ≡ []
 right_none [] ys e = e
 right_none (x ∷ xs) ys e = cc
 
-module _ {O R : Type 0} (gives : O → List R → Type 0) (IsRight : O → Type 0) (at : (o : O) (es : List R) → gives o es → (es ≡ []) ↔ IsRight o) where
+module _ {O R : Type 0} (gives : O → List R → Type 0) (IsRight : O → Type 0)
+    (at : (o : O) (es : List R) → gives o es → (es ≡ []) ↔ IsRight o) where
   right_each : (os : List O) (es : List R) → EachGives gives os es → es ≡ [] → (o : O) → Contains os o → IsRight o
   right_each [] es p e o (k, within, is) = absurd (omega (arith, within))
   right_each (p ∷ os) es (first, rest, g, gs, e') e o (zero, within, is) =
@@ -31,7 +32,8 @@ module _ {O R : Type 0} (gives : O → List R → Type 0) (IsRight : O → Type 
       ∙ each_right os rest gs (λ o there. h o (Contains-append_right (p ∷ []) os o there))
 
 -- a rule that gives nothing at an occurrence if and only if it is as it should be
-pub given_silent : {S C V : Type 0} (gives : DocumentScope S C → Occurrence S C → List ErrorValue → Type 0) (IsRight : DocumentScope S C → Occurrence S C → Type 0)
+pub given_silent : {S C V : Type 0} (gives : DocumentScope S C → Occurrence S C → List ErrorValue → Type 0)
+    (IsRight : DocumentScope S C → Occurrence S C → Type 0)
     → ((scope : DocumentScope S C) (o : Occurrence S C) (es : List ErrorValue) → gives scope o es → (es ≡ []) ↔ IsRight scope o)
     → SilentIff {V = V} (always (given gives)) (everywhere IsRight)
 given_silent gives IsRight at end scope t doc es p =

@@ -20,8 +20,8 @@ use meta::check::CheckedScalar;
 use std::alloc::{AllocError, Global};
 use walk::{Criterion, Event, Fresh, Machine, Rule, SettledRule, ValidatorContext, Visitor};
 
-/// Reports each argument's value that does not conform to its type, at the value's start. The type is that of the first argument
-/// of the name which the field or the directive defines; without such an argument nothing is reported.
+/// Reports each argument's value that does not conform to its type, at the value's start. The type is that of the first
+/// argument of the name which the field or the directive defines; without such an argument nothing is reported.
 ///
 /// A value that conforms takes no memory beyond what the checks of its scalars and enum values take.
 #[derive(Drop)]

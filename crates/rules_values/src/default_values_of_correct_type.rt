@@ -1,5 +1,5 @@
-//! The default value of each variable conforms to the variable's type (GraphQL, October 2021, section 5.6.1). As in juniper,
-//! only a variable whose type may be null has one.
+//! The default value of each variable conforms to the variable's type (GraphQL, October 2021, section 5.6.1). As in
+//! juniper, only a variable whose type may be null has one.
 
 ghost use Rattle.std.specs.Prelude.{◌≡◌, IfOk, OnOk, OnErr, string_bytes};
 ghost use Rattle.language.specs.Types.{is_never_null, printed, shape};
@@ -10,7 +10,8 @@ ghost use Rattle.walk.specs.Step.{KeepsPlace};
 ghost use Rattle.walk.proofs.Entering.{relating_keeps};
 ghost use Rattle.rules_values.specs.DefaultValuesOfCorrectTypeLaws.{defaults_right};
 ghost use Rattle.rules_values.specs.GivenLaws.{given_silent};
-ghost use Rattle.rules_values.specs.DefaultValuesOfCorrectType.{HasRightDefault, default_of, needless_default_message, wrong_default_message, wrong_defaults};
+ghost use Rattle.rules_values.specs.DefaultValuesOfCorrectType.{HasRightDefault, default_of, needless_default_message};
+ghost use Rattle.rules_values.specs.DefaultValuesOfCorrectType.{wrong_default_message, wrong_defaults};
 
 use crate::faults::fault_at;
 use language::error::OutOfMemory;
@@ -21,8 +22,8 @@ use meta::check::CheckedScalar;
 use std::alloc::{AllocError, Global};
 use walk::{Criterion, Event, Fresh, Machine, Rule, SettledRule, ValidatorContext, Visitor};
 
-/// Reports each default value of a variable with a non-null type, and each that does not conform to a nullable type, at the
-/// value's start. It skips nullable types whose name the schema does not know.
+/// Reports each default value of a variable with a non-null type, and each that does not conform to a nullable type, at
+/// the value's start. It skips nullable types whose name the schema does not know.
 ///
 /// A value that conforms takes no memory beyond what the checks of its scalars and enum values take.
 #[derive(Drop)]

@@ -130,8 +130,8 @@ no alias\n\
 name n7 293=14:2 295=14:4\n\
 end\n";
 
-/// A line: the kind of node, and the index, line and column of its start and of its end. A line that finds no memory is missed
-/// when the outlines are compared.
+/// A line: the kind of node, and the index, line and column of its start and of its end. A line that finds no memory is
+/// missed when the outlines are compared.
 fn print_span(out: &mut String, kind: &str, span: &Span) {
     let (first, last) = (span.start.index(), span.end.index());
     let _ = writeln!(out, "{kind} {first}={} {last}={}", span.start, span.end);

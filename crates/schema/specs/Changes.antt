@@ -33,5 +33,7 @@ module _ {S C : Type 0} where
   abbrev pub IsTrueOfArguments : List (MetaTypeOf S C) → List (List ℕ) → SchemaError → Type 0
   IsTrueOfArguments ts ns e.OutOfMemory = ⊤
   IsTrueOfArguments ts ns (e.UnknownType n) = Contains ns (string_bytes n) × (is_listed ts (string_bytes n) ≡ false)
-  IsTrueOfArguments ts ns (e.NotInputType n) = Contains ns (string_bytes n) × (is_listed ts (string_bytes n) ≡ true) × (is_input_listed ts (string_bytes n) ≡ false)
+  IsTrueOfArguments ts ns (e.NotInputType n) =
+      Contains ns (string_bytes n) × (is_listed ts (string_bytes n) ≡ true)
+      × (is_input_listed ts (string_bytes n) ≡ false)
   IsTrueOfArguments ts ns _ = ⊥

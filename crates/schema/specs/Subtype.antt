@@ -18,7 +18,8 @@ module _ {S C : Type 0} (ts : List (MetaTypeOf S C)) where
   abbrev pub is_name_below : List ℕ → List ℕ → Bool
   is_name_below sub super = bytes_eq sub super || (is_listed ts sub && may_be super sub)
 
--- The first type is a subtype of the second, or below it for short: the least relation that is closed under these rules.
+-- The first type is a subtype of the second, or below it for short: the least relation that is closed under these
+-- rules.
 pub data IsSubtype {S C : Type 0} (ts : List (MetaTypeOf S C)) : TypeShape → TypeShape → Type 0 where
   -- a type below itself
   equal : (t : TypeShape) → IsSubtype ts t t

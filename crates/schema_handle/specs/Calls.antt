@@ -1,5 +1,6 @@
 -- What is in a handle, and what calls of C do with it.
-use Rattle.std.specs.Prelude.{◌≡◌, ◌⊎◌, ◌<◌, ◌≤◌, ◌++◌, ℕ, List, [], Option, Some, None, drop, length, option_map, string_bytes}
+use Rattle.std.specs.Prelude.{◌≡◌, ◌⊎◌, ◌<◌, ◌≤◌, ◌++◌, ℕ, List, [], Option, Some, None, drop, length, option_map}
+use Rattle.std.specs.Prelude.{string_bytes}
 use Rattle.std.specs.Arc.{arc_value}
 use Rattle.schema.specs.Catalog.{Catalog}
 use Rattle.schema_handle.specs.declared.calls.Copied.{Copied}

@@ -2,7 +2,8 @@
 ghost use Rattle.std.specs.Prelude.{◌≡◌, [], IfOk, Some, is_some};
 ghost use Rattle.std.specs.Arc.{arc_value};
 ghost use Rattle.schema_handle.specs.declared.calls.Shared.TheVariants.{Done};
-ghost use Rattle.schema_handle.specs.Calls.{CopiesBytes, CopiesReport, Gives, Shares, report_in, report_of, schema_in, schema_of};
+ghost use Rattle.schema_handle.specs.Calls.{CopiesBytes, CopiesReport, Gives, Shares, report_in, report_of, schema_in};
+ghost use Rattle.schema_handle.specs.Calls.{schema_of};
 
 use crate::handle::Handle;
 use crate::slot::{Held, SourceSchema};

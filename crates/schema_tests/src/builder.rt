@@ -12,12 +12,13 @@ use schema::model::TypeType;
 use std::alloc::Global;
 use std::process::Abort;
 
-/// The list, the type that is left out, what is added, for which type, the names of the three roots, and the result: the
-/// error and how it prints, or the roots of the schema.
+/// The list, the type that is left out, what is added, for which type, the names of the three roots, and the result:
+/// the error and how it prints, or the roots of the schema.
 ///
-/// Added is `List`, a list type, which has no name; `Dog`, an object with a name; `DogForDog`, the same, where the field
-/// `name` takes a `Dog`; `Friends`, an interface and a union of it; or a union, an object, an interface or an input object
-/// that refers to the type.
+/// Added is `List`, a list type, which has no name; `Dog`, an object with a name; `DogForDog`, the same, where the
+/// field
+/// `name` takes a `Dog`; `Friends`, an interface and a union of it; or a union, an object, an interface or an input
+/// object that refers to the type.
 const ROWS: &str =
     r#"demo - Nothing - QueryRoot _EmptyMutation _EmptySubscription: QueryRoot none none
 demo - Nothing - QueryRoot Dog _EmptySubscription: QueryRoot Dog none

@@ -13,8 +13,8 @@ use std::process::Abort;
 
 type Directive = DirectiveType<DefaultScalarValue>;
 
-/// Steps in sequence, each with its result: a directive `flag` with an argument of the type is added, or a directive `skip`
-/// without arguments; how many arguments `skip` has; the directives; the description is set, or asked for.
+/// Steps in sequence, each with its result: a directive `flag` with an argument of the type is added, or a directive
+/// `skip` without arguments; how many arguments `skip` has; the directives; the description is set, or asked for.
 const STEPS: &str = r#"add_flag Dog: NotInputType("Dog")
 directives: deprecated include skip specifiedBy
 add_flag Nope: UnknownType("Nope")

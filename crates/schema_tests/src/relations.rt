@@ -110,8 +110,8 @@ fn is_sized_below(rt: &impl Abort, alloc: Global, schema: &Schema) -> bool {
     schema.is_subtype(two.as_borrowed(), three.as_borrowed())
 }
 
-/// The answer of a type that is made from a reference to a type: its printed form, that of a copy, or that of its items; or
-/// the innermost type, whether the type is non-null, and whether it has no modifiers.
+/// The answer of a type that is made from a reference to a type: its printed form, that of a copy, or that of its
+/// items; or the innermost type, whether the type is non-null, and whether it has no modifiers.
 fn show_made(rt: &impl Abort, asked: &str, made: &Shown<'_>, came: &mut String) {
     let shown = match asked {
         "make" => write!(came, " {made}"),

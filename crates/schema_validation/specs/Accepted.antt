@@ -1,5 +1,6 @@
 -- Which lists of types make a schema, and when a refusal applies to a list (sections 3.3 and 3.6 to 3.10).
-use Rattle.std.specs.Prelude.{◌≡◌, ⊤, ℕ, ◌≤◌, List, [], ◌∷◌, ◌++◌, Bool, true, false, ◌&&◌, Option, Some, None, codes, Contains, count_by, string_bytes, if◌then◌else◌}
+use Rattle.std.specs.Prelude.{◌≡◌, ⊤, ℕ, ◌≤◌, List, [], ◌∷◌, ◌++◌, Bool, true, false, ◌&&◌, Option, Some, None, codes}
+use Rattle.std.specs.Prelude.{Contains, count_by, string_bytes, if◌then◌else◌}
 use Rattle.std.specs.List.{list_any, list_all}
 use Rattle.std.specs.Option.{option_to_list}
 use Rattle.std.specs.Str.{bytes_eq}
@@ -28,7 +29,8 @@ pub record Roots : Type 0 where
 
 -- the roots that these three names ask for
 abbrev pub roots_of : List ℕ → List ℕ → List ℕ → Roots
-roots_of query mutation subscription = record { query = query; mutation = mutation_of mutation; subscription = subscription_of subscription }
+roots_of query mutation subscription =
+    record { query = query; mutation = mutation_of mutation; subscription = subscription_of subscription }
 
 -- those of the roots that there are
 abbrev pub root_names : Roots → List (List ℕ)
@@ -69,5 +71,9 @@ module _ {S C : Type 0} where
   IsTrueRefusal roots ts e.UnnamedType = are_named name_of_meta ts ≡ false
   IsTrueRefusal roots ts (e.RepeatedType n) = 2 ≤ count_by (is_named (string_bytes n)) ts
   IsTrueRefusal roots ts (e.UnknownType n) = Contains (all_names ts) (string_bytes n) × (is_listed ts (string_bytes n) ≡ false)
-  IsTrueRefusal roots ts (e.UnionMemberNotObject n) = Contains (all_members ts) (string_bytes n) × (is_listed ts (string_bytes n) ≡ true) × (is_object_listed ts (string_bytes n) ≡ false)
-  IsTrueRefusal roots ts (e.NotInputType n) = Contains (all_inputs ts) (string_bytes n) × (is_listed ts (string_bytes n) ≡ true) × (is_input_listed ts (string_bytes n) ≡ false)
+  IsTrueRefusal roots ts (e.UnionMemberNotObject n) =
+      Contains (all_members ts) (string_bytes n) × (is_listed ts (string_bytes n) ≡ true)
+      × (is_object_listed ts (string_bytes n) ≡ false)
+  IsTrueRefusal roots ts (e.NotInputType n) =
+      Contains (all_inputs ts) (string_bytes n) × (is_listed ts (string_bytes n) ≡ true)
+      × (is_input_listed ts (string_bytes n) ≡ false)

@@ -1,5 +1,6 @@
 -- What a schema adds to a list of types: two fields of the query root, and four directives (sections 3.13 and 4.1).
-use Rattle.std.specs.Prelude.{◌≡◌, ℕ, List, [], ◌∷◌, ◌++◌, Bool, false, Option, Some, None, is_some, codes, map, option_map, string_bytes}
+use Rattle.std.specs.Prelude.{◌≡◌, ℕ, List, [], ◌∷◌, ◌++◌, Bool, false, Option, Some, None, is_some, codes, map}
+use Rattle.std.specs.Prelude.{option_map, string_bytes}
 use Rattle.language.specs.Types.{TypeShape, shape, non_null_named}
 use Rattle.meta.specs.declared.arguments.Argument.{Argument}
 use Rattle.meta.specs.declared.fields.Field.{Field}
@@ -34,13 +35,17 @@ pub record DirectiveShape : Type 0 where
 
 module _ {S : Type 0} where
   abbrev pub argument_shape : Argument S → ArgumentShape
-  argument_shape a = record { name = string_bytes a.name; description = option_map string_bytes a.description; arg_type = shape a.arg_type; has_default = is_some a.default_value }
+  argument_shape a = record { name = string_bytes a.name; description = option_map string_bytes a.description;
+      arg_type = shape a.arg_type; has_default = is_some a.default_value }
 
   abbrev pub field_shape : Field S → FieldShape
-  field_shape f = record { name = string_bytes f.name; description = option_map string_bytes f.description; arguments = option_map (λ v. map argument_shape v.items) f.arguments; field_type = shape f.field_type; is_deprecated = is_deprecated_status f.deprecation_status }
+  field_shape f = record { name = string_bytes f.name; description = option_map string_bytes f.description;
+      arguments = option_map (λ v. map argument_shape v.items) f.arguments; field_type =
+      shape f.field_type; is_deprecated = is_deprecated_status f.deprecation_status }
 
   abbrev pub directive_shape : DirectiveType S → DirectiveShape
-  directive_shape d = record { name = string_bytes d.name; description = option_map string_bytes d.description; locations = d.locations.items; arguments = map argument_shape d.arguments.items; is_repeatable = d.is_repeatable }
+  directive_shape d = record { name = string_bytes d.name; description = option_map string_bytes d.description;
+      locations = d.locations.items; arguments = map argument_shape d.arguments.items; is_repeatable = d.is_repeatable }
 
 -- an argument of this name and this type, non-null
 abbrev pub required : List ℕ → List ℕ → ArgumentShape
@@ -48,7 +53,9 @@ required name type_name = record { name = name; description = None; arg_type = n
 
 -- a field of this name and this type, non-null
 abbrev pub always : List ℕ → Option (List ArgumentShape) → List ℕ → FieldShape
-always name arguments type_name = record { name = name; description = None; arguments = arguments; field_type = non_null_named type_name; is_deprecated = false }
+always name arguments type_name =
+    record { name = name; description = None; arguments = arguments; field_type = non_null_named type_name;
+    is_deprecated = false }
 
 -- `__schema: __Schema!`
 abbrev pub schema_field : FieldShape
@@ -60,7 +67,9 @@ type_field = always (codes "__type") (Some (required (codes "name") (codes "Stri
 
 -- a directive with one argument, which may be used once at a location
 abbrev pub with_argument : List ℕ → List DirectiveLocation → List ℕ → List ℕ → DirectiveShape
-with_argument name locations argument type_name = record { name = name; description = None; locations = locations; arguments = required argument type_name ∷ []; is_repeatable = false }
+with_argument name locations argument type_name =
+    record { name = name; description = None; locations = locations; arguments = required argument type_name ∷ [];
+    is_repeatable = false }
 
 -- `skip` and `include`, each with `if: Boolean!`
 abbrev pub conditional : List ℕ → DirectiveShape
@@ -82,7 +91,8 @@ pub record HasAddedFields {S : Type 0} (old new : ObjectMeta S) : Type 0 where
   pub name : new.name ≡ old.name
   pub description : new.description ≡ old.description
   pub interfaces : new.interface_names ≡ old.interface_names
-  pub fields : (f g : Field S) × (new.fields.items ≡ old.fields.items ++ f ∷ g ∷ []) × (field_shape f ≡ schema_field) × (field_shape g ≡ type_field)
+  pub fields : (f g : Field S) × (new.fields.items ≡ old.fields.items ++ f ∷ g ∷ []) × (field_shape f ≡ schema_field)
+      × (field_shape g ≡ type_field)
 
 -- The object of this name has two more fields, and the list is otherwise the same.
 pub record IsExtended {S C : Type 0} (query : List ℕ) (old new : List (MetaTypeOf S C)) : Type 0 where

@@ -1,7 +1,8 @@
 //! Whether a list of types makes a schema, and if not, why not (section 3.3).
 ghost use Rattle.std.specs.Prelude.{◌≡◌, IfErr, IfOk, OnOk, true, find, option_copied};
 ghost use Rattle.std.specs.List.{list_all};
-ghost use Rattle.schema_validation.specs.Accepted.{Roots, IsAccepted, IsTrueRefusal, is_listed, is_object_listed, is_input_listed, root_names};
+ghost use Rattle.schema_validation.specs.Accepted.{Roots, IsAccepted, IsTrueRefusal, is_listed, is_object_listed};
+ghost use Rattle.schema_validation.specs.Accepted.{is_input_listed, root_names};
 ghost use Rattle.meta.specs.Kinds.{name_of_meta};
 ghost use Rattle.schema_validation.specs.Named.{are_named, are_distinct};
 ghost use Rattle.schema_validation.specs.Names.{all_names, all_inputs, all_members};

@@ -1,6 +1,8 @@
 //! What a schema adds: two fields of the query root (section 4.1), and four directives (section 3.13).
 ghost use Rattle.std.specs.Prelude.{◌≡◌, IfOk, [], ◌∷◌, codes, map};
-ghost use Rattle.schema_validation.specs.Added.{argument_shape, field_shape, directive_shape, required, schema_field, type_field, with_argument, conditional, deprecated_shape, specified_by_shape, standard_directives};
+ghost use Rattle.schema_validation.specs.Added.{argument_shape, field_shape, directive_shape, required, schema_field};
+ghost use Rattle.schema_validation.specs.Added.{type_field, with_argument, conditional, deprecated_shape};
+ghost use Rattle.schema_validation.specs.Added.{specified_by_shape, standard_directives};
 
 use crate::directives::{DirectiveLocation, DirectiveType};
 use language::error::OutOfMemory;

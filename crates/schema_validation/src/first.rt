@@ -1,7 +1,8 @@
 //! The first faulty name among those in metadata.
 ghost use Rattle.std.specs.Prelude.{◌≡◌, ◌++◌, find, map, string_bytes, option_copied};
 ghost use Rattle.std.specs.List.{flat_map};
-ghost use Rattle.schema_validation.specs.Names.{argument_type, field_inputs, field_names, inputs_in, names_in, members_of, interfaces_of, added_inputs, added_names};
+ghost use Rattle.schema_validation.specs.Names.{argument_type, field_inputs, field_names, inputs_in, names_in};
+ghost use Rattle.schema_validation.specs.Names.{members_of, interfaces_of, added_inputs, added_names};
 ghost use Rattle.meta.specs.Kinds.{fields_of, input_fields_of};
 
 use crate::listed::NameTest;

@@ -1,5 +1,6 @@
 //! Maps by name that keep the order of a list.
-ghost use Rattle.std.specs.Prelude.{◌≡◌, ℕ, List, Option, IfErr, IfOk, IfSome, IsSome, OnOk, None, true, [], ◌∷◌, ◌++◌, string_bytes, option_copied};
+ghost use Rattle.std.specs.Prelude.{◌≡◌, ℕ, List, Option, IfErr, IfOk, IfSome, IsSome, OnOk, None, true, [], ◌∷◌, ◌++◌};
+ghost use Rattle.std.specs.Prelude.{string_bytes, option_copied};
 ghost use Rattle.indexmap.specs.IndexMap.{values, get_by_text};
 ghost use Rattle.schema_validation.specs.Directives.{directive_name};
 ghost use Rattle.meta.specs.Kinds.{name_of_meta};

@@ -1,5 +1,5 @@
--- The graph of references, by numbers: its nodes are the definitions of a document. Each name has the place of its first
--- definition or extension, and an edge leads from there to the place of each name to which one of them refers.
+-- The graph of references, by numbers: its nodes are the definitions of a document. Each name has the place of its
+-- first definition or extension, and an edge leads from there to the place of each name to which one of them refers.
 use Rattle.std.specs.Prelude.{◌≡◌, ◌<◌, ◌⊎◌, ℕ, List, [], ◌∷◌, Option, None, Some, length, slice_get}
 use Rattle.std.specs.List.{Contains, flat_map}
 use Rattle.std.specs.Option.{option_map_or}

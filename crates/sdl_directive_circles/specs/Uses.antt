@@ -1,7 +1,7 @@
 -- What refers to what in a type system document (section 3.13), by names of directives and of types. A directive refers
 -- to the directives on its arguments and to the types of these. A type refers to each directive that stands in its
--- definition or in an extension of it, and an input object to the types of its fields, too. The types of other fields do
--- not count, since objects and interfaces are no types of arguments. Where a name is defined several times, each
+-- definition or in an extension of it, and an input object to the types of its fields, too. The types of other fields
+-- do not count, since objects and interfaces are no types of arguments. Where a name is defined several times, each
 -- definition counts.
 use denote.Ref.{Bor}
 use Rattle.std.specs.Prelude.{◌≡◌, ℕ, List, [], ◌∷◌, ◌++◌, Option, Some, None, map}

@@ -5,7 +5,8 @@ ghost use Rattle.std.specs.List.{flat_map};
 ghost use Rattle.graph_ways.specs.Onward.{LeadBack};
 ghost use Rattle.language.specs.References.{list_copied};
 ghost use Rattle.sdl_directives.specs.Known.{directive_of};
-ghost use Rattle.sdl_directive_circles.specs.Circles.{AddsCircles, AreCircles, HasNoDirectiveCircle, IsToldOf, circle_text, circle_value, circle_values, steps_text};
+ghost use Rattle.sdl_directive_circles.specs.Circles.{AddsCircles, AreCircles, HasNoDirectiveCircle, IsToldOf};
+ghost use Rattle.sdl_directive_circles.specs.Circles.{circle_text, circle_value, circle_values, steps_text};
 ghost use Rattle.sdl_directive_circles.specs.Graph.{HasReferences, definition_told, link_told, place_of};
 ghost use Rattle.sdl_directive_circles.specs.Uses.{directive_name};
 

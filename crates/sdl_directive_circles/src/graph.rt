@@ -2,7 +2,8 @@
 //! the first of a name to which one of the former refers.
 ghost use Rattle.std.specs.Prelude.{◌<◌, ◌∷◌, [], IfOk, OnOk, Some, length};
 ghost use Rattle.std.specs.List.{flat_map};
-ghost use Rattle.sdl_directive_circles.specs.Graph.{AddsLinks, AreBare, AreWithin, HasReferences, link, links_between, links_of, place_of};
+ghost use Rattle.sdl_directive_circles.specs.Graph.{AddsLinks, AreBare, AreWithin, HasReferences, link, links_between};
+ghost use Rattle.sdl_directive_circles.specs.Graph.{links_of, place_of};
 ghost use Rattle.sdl_directive_circles.specs.Uses.{name_value};
 
 use crate::names::Name;

@@ -2,7 +2,8 @@
 ghost use Rattle.std.specs.Prelude.{◌≡◌, ◌++◌, IfOk, OnOk};
 ghost use Rattle.std.specs.List.{flat_map};
 ghost use Rattle.sdl_directives.specs.Sites.{site_value};
-ghost use Rattle.sdl_directive_circles.specs.Uses.{directive_used, directives_used, input_values, name_values, type_used, uses_of};
+ghost use Rattle.sdl_directive_circles.specs.Uses.{directive_used, directives_used, input_values, name_values};
+ghost use Rattle.sdl_directive_circles.specs.Uses.{type_used, uses_of};
 
 use crate::names::{Name, NameOf};
 use graphql_reader::SourceScalar;

@@ -10,7 +10,8 @@ use Rattle.sdl_directive_values.specs.Given.{GivenAt, document_values}
 use Rattle.sdl_scalars.specs.declared.check.SourceCheck.{SourceCheck}
 use Rattle.sdl_scalars.specs.declared.scalar.SourceScalar.{SourceScalar}
 
-module _ (schema : Catalog SourceScalar SourceCheck) (may : Answers (InputValue SourceScalar) SourceCheck) (shown : InputValue SourceScalar → List ℕ) where
+module _ (schema : Catalog SourceScalar SourceCheck) (may : Answers (InputValue SourceScalar) SourceCheck)
+    (shown : InputValue SourceScalar → List ℕ) where
   -- the value has no fault against its type
   abbrev pub IsConforming : GivenAt → Type 0
   IsConforming d = WrittenFault schema may shown d.value d.expected None

@@ -31,7 +31,8 @@ abbrev pub fault_at : GivenAt → Option (List ℕ) → List ValueFaultAt
 fault_at d None = []
 fault_at d (Some reason) = record { name = d.name; position = d.position; reason = reason } ∷ []
 
-module _ (schema : Catalog SourceScalar SourceCheck) (may : Answers (InputValue SourceScalar) SourceCheck) (shown : InputValue SourceScalar → List ℕ) where
+module _ (schema : Catalog SourceScalar SourceCheck) (may : Answers (InputValue SourceScalar) SourceCheck)
+    (shown : InputValue SourceScalar → List ℕ) where
   -- the fault of a value against its type, if it has one
   abbrev pub IsFaultOf : GivenAt → List ValueFaultAt → Type 0
   IsFaultOf d fs = (fault : Option (List ℕ)) × WrittenFault schema may shown d.value d.expected fault × (fs ≡ fault_at d fault)
@@ -39,7 +40,9 @@ module _ (schema : Catalog SourceScalar SourceCheck) (may : Answers (InputValue 
   -- the faults of values, in their order
   abbrev pub AreFaults : List GivenAt → List ValueFaultAt → Type 0
   AreFaults [] fs = fs ≡ []
-  AreFaults (d ∷ ds) fs = (first : List ValueFaultAt) × (rest : List ValueFaultAt) × IsFaultOf d first × AreFaults ds rest × (fs ≡ first ++ rest)
+  AreFaults (d ∷ ds) fs =
+      (first : List ValueFaultAt) × (rest : List ValueFaultAt) × IsFaultOf d first × AreFaults ds rest
+      × (fs ≡ first ++ rest)
 
   -- the fault of a value comes after those that were found before
   abbrev pub AddsFaults : GivenAt → List ValueFaultAt → List ValueFaultAt → Type 0

@@ -3,7 +3,8 @@ ghost use Rattle.std.specs.Prelude.{◌≡◌, ◌++◌, OnOk, option_copied};
 ghost use Rattle.std.specs.List.{flat_map};
 ghost use Rattle.sdl_directives.specs.Known.{definitions_of};
 ghost use Rattle.sdl_directives.specs.Sites.{site_value};
-ghost use Rattle.sdl_directive_values.specs.Given.{argument_values, directive_values, given_values, parameter_named, site_given, values_by};
+ghost use Rattle.sdl_directive_values.specs.Given.{argument_values, directive_values, given_values, parameter_named};
+ghost use Rattle.sdl_directive_values.specs.Given.{site_given, values_by};
 
 use graphql_reader::SourceScalar;
 use graphql_reader::type_system::InputValueDefinition;

@@ -23,7 +23,8 @@ has_name n xs = list_any (λ x. bytes_eq (applied_name x) n) xs
 
 -- a directive at a location that is none of its own
 abbrev pub misplaced : DirectiveDefinition → DirectivePlace → Applied → List FaultValue
-misplaced defined location x = fault_if (not (is_listed location defined.locations.items)) x.span.start (k.Misplaced (applied_name x) location)
+misplaced defined location x =
+    fault_if (not (is_listed location defined.locations.items)) x.span.start (k.Misplaced (applied_name x) location)
 
 -- one that is not repeatable, behind another of its name
 abbrev pub is_repeated : DirectiveDefinition → List Applied → List ℕ → Bool

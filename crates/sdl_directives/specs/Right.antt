@@ -24,7 +24,8 @@ pub record SuitsDefinition (defined : DirectiveDefinition) (location : Directive
   pub required : All (λ a. is_missing a (arguments_of x.item) ≡ false) defined.arguments.items
 
 -- it has a definition, and suits it
-pub record IsRightDirective (known : List DirectiveDefinition) (location : DirectivePlace) (before : List Applied) (x : Applied) : Type 0 where
+pub record IsRightDirective (known : List DirectiveDefinition) (location : DirectivePlace) (before : List Applied)
+    (x : Applied) : Type 0 where
   pub defined : DirectiveDefinition
   pub is_defined : directive_named known (applied_name x) ≡ Some defined
   pub suits : SuitsDefinition defined location before x

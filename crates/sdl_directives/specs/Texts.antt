@@ -12,4 +12,5 @@ kind_text (k.Repeated n) = codes "Directive \"" ++ (n ++ codes "\" may be used o
 kind_text (k.UnknownArgument a n) = codes "Unknown argument \"" ++ (a ++ (codes "\" on directive \"" ++ (n ++ codes "\"")))
 kind_text (k.RepeatedArgument a) = codes "There can only be one argument named \"" ++ (a ++ codes "\"")
 kind_text (k.MissingArgument n a t) =
-    (codes "Directive \"@" ++ (n ++ (codes "\" argument \"" ++ (a ++ codes "\"")))) ++ (codes " of type \"" ++ (printed t ++ codes "\" is required but not provided"))
+    (codes "Directive \"@" ++ (n ++ (codes "\" argument \"" ++ (a ++ codes "\""))))
+        ++ (codes " of type \"" ++ (printed t ++ codes "\" is required but not provided"))

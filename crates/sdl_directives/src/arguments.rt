@@ -1,7 +1,10 @@
 //! The faults of the arguments of a directive.
 ghost use Rattle.std.specs.Prelude.{◌≡◌, ◌++◌, IsTrue, OnOk};
 ghost use Rattle.std.specs.List.{flat_map};
-ghost use Rattle.sdl_directives.specs.Arguments.{argument_faults, argument_judged, arguments_of, has_argument, is_missing, is_parameter, is_required, listed_faults, missing_argument, missing_arguments, repeated_argument, unknown_argument};
+ghost use Rattle.sdl_directives.specs.Arguments.{argument_faults, argument_judged, arguments_of, has_argument};
+ghost use Rattle.sdl_directives.specs.Arguments.{is_missing, is_parameter, is_required, listed_faults};
+ghost use Rattle.sdl_directives.specs.Arguments.{missing_argument, missing_arguments, repeated_argument};
+ghost use Rattle.sdl_directives.specs.Arguments.{unknown_argument};
 ghost use Rattle.sdl_directives.specs.Fault.{fault_values};
 
 use crate::fault::{DirectiveFaultOf, PlacedDirectiveFault, report};

@@ -3,7 +3,8 @@ ghost use Rattle.std.specs.Prelude.{◌≡◌, ◌++◌, ◌↔◌, [], IfOk, On
 ghost use Rattle.std.specs.List.{flat_map};
 ghost use Rattle.sdl_directives.specs.Earlier.{each_after};
 ghost use Rattle.sdl_directives.specs.Fault.{fault_values};
-ghost use Rattle.sdl_directives.specs.Judged.{document_faults, has_name, is_repeated, judged, judged_known, misplaced, repeated, site_faults};
+ghost use Rattle.sdl_directives.specs.Judged.{document_faults, has_name, is_repeated, judged, judged_known, misplaced};
+ghost use Rattle.sdl_directives.specs.Judged.{repeated, site_faults};
 ghost use Rattle.sdl_directives.specs.Known.{definitions_of};
 ghost use Rattle.sdl_directives.specs.Right.{HasRightDirectives};
 ghost use Rattle.sdl_directives.specs.Sites.{site_value};

@@ -2,7 +2,8 @@
 ghost use Rattle.std.specs.Prelude.{◌≡◌, ◌++◌, IfOk, OnOk};
 ghost use Rattle.std.specs.List.{flat_map};
 ghost use Rattle.sdl_directives.specs.Locations.{body_location};
-ghost use Rattle.sdl_directives.specs.Sites.{body_sites, definition_sites, enum_value_sites, field_sites, parameter_sites, site_at, site_values};
+ghost use Rattle.sdl_directives.specs.Sites.{body_sites, definition_sites, enum_value_sites, field_sites};
+ghost use Rattle.sdl_directives.specs.Sites.{parameter_sites, site_at, site_values};
 
 use crate::locations::body_location;
 use graphql_reader::SourceScalar;

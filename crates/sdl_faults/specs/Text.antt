@@ -17,7 +17,8 @@ use Rattle.sdl_scalars.specs.Checks.{MayAnswer}
 use Rattle.sdl_scalars.specs.SourceScalar.{source_str, source_text}
 use Rattle.sdl_faults.specs.declared.located.LocatedFault.{LocatedFault}
 use Rattle.sdl_faults.specs.Schema.{AreSchemaFaults, SourceSchema}
-use Rattle.sdl_faults.specs.Told.{ToldFault, place_index, told_directive_circle, told_given, told_own, told_use, told_values}
+use Rattle.sdl_faults.specs.Told.{ToldFault, place_index, told_directive_circle, told_given, told_own, told_use}
+use Rattle.sdl_faults.specs.Told.{told_values}
 
 module _ (document standard : List TypeSystemDefinition) where
   -- what is told of the directives that stand in a document

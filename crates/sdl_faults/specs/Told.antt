@@ -38,7 +38,8 @@ abbrev pub place_index : LocatedFault → ℕ
 place_index f = option_map_or index_of f.position 0
 
 -- a fault with these places was appended, and with this text where that is known
-pub record Tells (position : Option SourcePosition) (others : List SourcePosition) (said : Option (List ℕ)) (old new : List LocatedFault) : Type 0 where
+pub record Tells (position : Option SourcePosition) (others : List SourcePosition) (said : Option (List ℕ))
+    (old new : List LocatedFault) : Type 0 where
   pub fault : LocatedFault
   pub position_is : fault.position ≡ position
   pub others_are : fault.others.items ≡ others

@@ -45,8 +45,8 @@ pub fn text_faults<'d, 't>(
 }
 
 /// The faults of a document for which no schema is needed, as where the document makes none: those of its definitions
-/// that hang on no other definition, and those of its directives, each at its place, in the order of the text. Values of
-/// arguments of directives are not judged.
+/// that hang on no other definition, and those of its directives, each at its place, in the order of the text. Values
+/// of arguments of directives are not judged.
 ///
 /// # Errors
 ///

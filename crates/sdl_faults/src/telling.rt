@@ -6,7 +6,8 @@ ghost use Rattle.sdl_directives.specs.Fault.{fault_value as use_value};
 ghost use Rattle.type_system_report.specs.Fault.{fault_value};
 ghost use Rattle.type_system_defaults.specs.Faults.{default_fault};
 ghost use Rattle.sdl_own_faults.specs.Fault.{placed_value};
-ghost use Rattle.sdl_faults.specs.Told.{ToldFault, told_circle, told_default, told_directive_circle, told_fault, told_given, told_own, told_use, told_values};
+ghost use Rattle.sdl_faults.specs.Told.{ToldFault, told_circle, told_default, told_directive_circle, told_fault};
+ghost use Rattle.sdl_faults.specs.Told.{told_given, told_own, told_use, told_values};
 
 use crate::located::{LocatedFault, tell, tell_at, tell_there};
 use crate::places::{place_of_field, places_of};

@@ -1,4 +1,5 @@
--- What a type lists that it may not: interfaces and members of a union twice, an interface itself (sections 3.6 to 3.8).
+-- What a type lists that it may not: interfaces and members of a union twice, an interface itself (sections 3.6 to
+-- 3.8).
 use Rattle.std.specs.Prelude.{ℕ, List, [], ◌++◌, Bool, true, false, ◌&&◌}
 use Rattle.std.specs.Str.{bytes_eq}
 use Rattle.graphql_reader.specs.declared.type_system.TypeBody.{TypeBody}

@@ -21,8 +21,8 @@ use type_system_report::CoordinateOf;
 /// themselves, and required arguments and input fields that are deprecated.
 ///
 /// Each definition of a type is judged, also of a name that has several, with all extensions of its name and kind. It
-/// takes time in proportion to the length of the document, to the number of types times that of the extensions that list
-/// interfaces or members of unions, and to the number of types without members times that of all extensions.
+/// takes time in proportion to the length of the document, to the number of types times that of the extensions that
+/// list interfaces or members of unions, and to the number of types without members times that of all extensions.
 ///
 /// # Errors
 ///

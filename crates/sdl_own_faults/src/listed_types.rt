@@ -5,7 +5,8 @@ ghost use Rattle.language.specs.References.{list_copied};
 ghost use Rattle.sdl_directives.specs.Earlier.{each_after};
 ghost use Rattle.type_system_report.specs.Fault.{kind_value};
 ghost use Rattle.sdl_own_faults.specs.Fault.{reported};
-ghost use Rattle.sdl_own_faults.specs.ListedTypes.{is_interface, listed_again, own_interface, repeated_kind, wrong_entries, wrong_entry};
+ghost use Rattle.sdl_own_faults.specs.ListedTypes.{is_interface, listed_again, own_interface, repeated_kind};
+ghost use Rattle.sdl_own_faults.specs.ListedTypes.{wrong_entries, wrong_entry};
 ghost use Rattle.sdl_own_faults.specs.Parts.{definitions_of};
 
 use crate::fault::{OwnFault, report};

@@ -1,6 +1,7 @@
 //! Extensions of types, and which of them extend a definition (GraphQL, October 2021, section 3.4.3).
 ghost use Rattle.std.specs.Prelude.{◌≡◌, ◌++◌, IfOk, OnOk};
-ghost use Rattle.sdl_own_faults.specs.Parts.{definitions_of, extends, extension_in, extensions_in, is_same_kind, listed_by, listing_in, listing_of};
+ghost use Rattle.sdl_own_faults.specs.Parts.{definitions_of, extends, extension_in, extensions_in, is_same_kind};
+ghost use Rattle.sdl_own_faults.specs.Parts.{listed_by, listing_in, listing_of};
 
 use graphql_reader::type_system::{TypeBody, TypeDefinition, TypeSystemDefinition};
 use language::error::OutOfMemory;

@@ -3,7 +3,8 @@ ghost use Rattle.std.specs.Prelude.{◌≡◌, ◌++◌, OnOk};
 ghost use Rattle.sdl_directives.specs.Arguments.{is_required};
 ghost use Rattle.type_system_report.specs.Fault.{coordinate_value, kind_value};
 ghost use Rattle.sdl_own_faults.specs.Fault.{reported};
-ghost use Rattle.sdl_own_faults.specs.RequiredMembers.{deprecated_kind, deprecated_parameter, is_deprecated, is_required_deprecated};
+ghost use Rattle.sdl_own_faults.specs.RequiredMembers.{deprecated_kind, deprecated_parameter, is_deprecated};
+ghost use Rattle.sdl_own_faults.specs.RequiredMembers.{is_required_deprecated};
 
 use crate::fault::{OwnFault, report};
 use graphql_reader::type_system::InputValueDefinition;

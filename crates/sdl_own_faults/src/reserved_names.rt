@@ -3,7 +3,8 @@ ghost use Rattle.std.specs.Prelude.{◌≡◌, ◌++◌, OnOk};
 ghost use Rattle.type_system.specs.Introspected.{is_introspection_type, is_reserved};
 ghost use Rattle.type_system_report.specs.Fault.{coordinate_value};
 ghost use Rattle.sdl_own_faults.specs.Fault.{reported};
-ghost use Rattle.sdl_own_faults.specs.ReservedNames.{is_introspection_field, reserved_field, reserved_name, reserved_type};
+ghost use Rattle.sdl_own_faults.specs.ReservedNames.{is_introspection_field, reserved_field, reserved_name};
+ghost use Rattle.sdl_own_faults.specs.ReservedNames.{reserved_type};
 
 use crate::fault::{OwnFault, report};
 use graphql_reader::type_system::{FieldDefinition, TypeDefinition};

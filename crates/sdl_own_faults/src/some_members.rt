@@ -3,7 +3,8 @@
 ghost use Rattle.std.specs.Prelude.{◌≡◌, ◌++◌, OnOk};
 ghost use Rattle.type_system_report.specs.Fault.{kind_value};
 ghost use Rattle.sdl_own_faults.specs.Fault.{reported};
-ghost use Rattle.sdl_own_faults.specs.SomeMembers.{add_none, adds_none, are_typenames, lacks_members, missing_kind, missing_members};
+ghost use Rattle.sdl_own_faults.specs.SomeMembers.{add_none, adds_none, are_typenames, lacks_members, missing_kind};
+ghost use Rattle.sdl_own_faults.specs.SomeMembers.{missing_members};
 ghost use Rattle.sdl_own_faults.specs.Parts.{definitions_of};
 
 use crate::fault::{OwnFault, report};

@@ -2,7 +2,8 @@
 ghost use Rattle.std.specs.Prelude.{◌≡◌};
 ghost use Rattle.std.specs.Str.{bytes_eq};
 ghost use Rattle.type_system_report.specs.Fault.{coordinate_value};
-ghost use Rattle.sdl_places.specs.Places.{definition_place, directive_place, member_place, name_place, place_within, type_place};
+ghost use Rattle.sdl_places.specs.Places.{definition_place, directive_place, member_place, name_place, place_within};
+ghost use Rattle.sdl_places.specs.Places.{type_place};
 
 use crate::members::{argument_place, field_place, parameter_place, value_place};
 use graphql_reader::type_system::{DirectiveDefinition, TypeDefinition, TypeSystemDefinition};

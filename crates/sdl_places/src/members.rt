@@ -1,6 +1,7 @@
 //! The places of members of types.
 ghost use Rattle.std.specs.Prelude.{◌≡◌};
-ghost use Rattle.sdl_places.specs.Places.{argument_place, enum_value_place, field_place, first_in, named_field_place, named_value_place, own_argument_place, parameter_place};
+ghost use Rattle.sdl_places.specs.Places.{argument_place, enum_value_place, field_place, first_in, named_field_place};
+ghost use Rattle.sdl_places.specs.Places.{named_value_place, own_argument_place, parameter_place};
 
 use crate::definitions::name_place;
 use graphql_reader::type_system::{

@@ -16,8 +16,8 @@ use std::alloc::Global;
 /// A schema that is read from a text.
 pub type SourceSchema = SchemaTypeOf<SourceScalar, SourceCheck>;
 
-/// Adds directives to a schema, after `@deprecated` with its default reason (section 3.13.3), which the directives that each schema
-/// has lack. One of the name of a standard directive takes its place.
+/// Adds directives to a schema, after `@deprecated` with its default reason (section 3.13.3), which the directives that
+/// each schema has lack. One of the name of a standard directive takes its place.
 ///
 /// # Errors
 ///

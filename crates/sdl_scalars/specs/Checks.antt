@@ -1,5 +1,6 @@
 -- Which values the checks accept.
-use Rattle.std.specs.Prelude.{◌≡◌, ⊤, ℕ, List, [], Bool, true, Some, Float, Result, Ok, Err, string_bytes, codes, FitsSigned, String}
+use Rattle.std.specs.Prelude.{◌≡◌, ⊤, ℕ, List, [], Bool, true, Some, Float, Result, Ok, Err, string_bytes, codes}
+use Rattle.std.specs.Prelude.{FitsSigned, String}
 use Rattle.std.specs.declared.alloc.Global.{Global}
 use Rattle.std.specs.List.{list_any}
 use Rattle.std.specs.Str.{bytes_eq}

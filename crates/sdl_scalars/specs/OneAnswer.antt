@@ -9,7 +9,8 @@ use Rattle.sdl_scalars.specs.declared.scalar.SourceScalar.{SourceScalar}
 use Rattle.sdl_scalars.specs.declared.check.SourceCheck.{SourceCheck}
 use Rattle.sdl_scalars.specs.Checks.{MayAnswer}
 
-pub one_answer : (c : SourceCheck) (v : InputValue SourceScalar) (r s : Result (Unit {0}) CheckError) → MayAnswer c v r → MayAnswer c v s → SameAnswer r s
+pub one_answer : (c : SourceCheck) (v : InputValue SourceScalar) (r s : Result (Unit {0}) CheckError) → MayAnswer c v r
+    → MayAnswer c v s → SameAnswer r s
 one_answer c v (Ok a) (Ok b) p q = tt
 one_answer c v (Ok a) (Err (e.Refused m)) p q = absurd (q.0 p)
 one_answer c v (Ok a) (Err e.OutOfMemory) p q = tt

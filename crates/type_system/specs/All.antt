@@ -19,7 +19,8 @@ use Rattle.type_system.specs.SomeMembers.{missing_members}
 use Rattle.type_system.specs.SomeValues.{missing_values}
 use Rattle.type_system.specs.UniqueMembers.{repeated_members}
 
--- members of a union that stand twice, values of an enum that are no names of values, and required members that are deprecated
+-- members of a union that stand twice, values of an enum that are no names of values, and required members that are
+-- deprecated
 abbrev pub member_faults : {S C : Type 0} → MetaTypeOf S C → List FaultValue
 member_faults t = repeated_members t ++ reserved_values t ++ deprecated_members t
 

@@ -31,4 +31,5 @@ module _ {S C : Type 0} (schema : Catalog S C) where
   -- a field, if its type may not stand for that of the interface's field
   abbrev pub wrong_field_type : PairValue S → List FaultValue
   wrong_field_type p =
-      fault_if (not (is_field_type (shape p.given.field_type) (shape p.wanted.field_type))) (given_field p) (k.WrongFieldType (wanted_field p) (shape p.wanted.field_type) (shape p.given.field_type))
+      fault_if (not (is_field_type (shape p.given.field_type) (shape p.wanted.field_type))) (given_field p)
+          (k.WrongFieldType (wanted_field p) (shape p.wanted.field_type) (shape p.given.field_type))

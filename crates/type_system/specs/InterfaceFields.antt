@@ -26,7 +26,8 @@ unmet_pair schema p = wrong_field_type schema p ++ unmet_arguments p ++ added_ar
 module _ {S C : Type 0} (schema : Catalog S C) (t : MetaTypeOf S C) where
   -- a field of the interface of this name, beside the type's field of its name
   abbrev pub unmet_by : List ℕ → Field S → Option (Field S) → List FaultValue
-  unmet_by interface g None = record { coordinate = c.Type (name_in t); kind = k.MissingField (c.Field interface (string_bytes g.name)) } ∷ []
+  unmet_by interface g None =
+      record { coordinate = c.Type (name_in t); kind = k.MissingField (c.Field interface (string_bytes g.name)) } ∷ []
   unmet_by interface g (Some f) = unmet_pair schema (record { of = name_in t; given = f; interface = interface; wanted = g })
 
   -- a field of the interface of this name, other than `__typename`, which each type has

@@ -33,11 +33,14 @@ module _ {S : Type 0} where
 
   -- such an argument of a directive, and those of one
   abbrev pub deprecated_directive_argument : List ℕ → Argument S → List FaultValue
-  deprecated_directive_argument of a = fault_if (is_required_deprecated a) (c.DirectiveArgument of (string_bytes a.name)) k.DeprecatedArgument
+  deprecated_directive_argument of a =
+      fault_if (is_required_deprecated a) (c.DirectiveArgument of (string_bytes a.name)) k.DeprecatedArgument
 
   abbrev pub deprecated_directive_arguments : DirectiveType S → List FaultValue
   deprecated_directive_arguments d = flat_map (deprecated_directive_argument (string_bytes d.name)) d.arguments.items
 
 -- those of the members of a type
 abbrev pub deprecated_members : {S C : Type 0} → MetaTypeOf S C → List FaultValue
-deprecated_members t = flat_map (deprecated_arguments (name_in t)) (fields_of t) ++ flat_map (deprecated_input_field (name_in t)) (input_fields_of t)
+deprecated_members t =
+    flat_map (deprecated_arguments (name_in t)) (fields_of t)
+    ++ flat_map (deprecated_input_field (name_in t)) (input_fields_of t)

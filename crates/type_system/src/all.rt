@@ -5,7 +5,8 @@ ghost use Rattle.std.specs.List.Sorted.{IsPermutation, IsSorted};
 ghost use Rattle.language.specs.References.{list_copied};
 ghost use Rattle.schema.specs.Ordered.{directive_cmp};
 ghost use Rattle.schema_validation.specs.declared.directives.DirectiveType.{DirectiveType};
-ghost use Rattle.type_system.specs.All.{all_faults, directive_faults, interface_faults, member_faults, own_faults, type_faults};
+ghost use Rattle.type_system.specs.All.{all_faults, directive_faults, interface_faults, member_faults, own_faults};
+ghost use Rattle.type_system.specs.All.{type_faults};
 ghost use Rattle.type_system_report.specs.Fault.{reported};
 
 use crate::ancestors::report_wrong_ancestors;

@@ -2,7 +2,8 @@
 ghost use Rattle.std.specs.Prelude.{◌≡◌, ◌++◌, OnOk, map, option_copied, string_bytes};
 ghost use Rattle.std.specs.List.{flat_map};
 ghost use Rattle.type_system_report.specs.Fault.{kind_value, reported};
-ghost use Rattle.type_system.specs.Ancestors.{unnamed, wrong_ancestor, wrong_ancestors, wrong_ancestors_at, wrong_ancestors_by};
+ghost use Rattle.type_system.specs.Ancestors.{unnamed, wrong_ancestor, wrong_ancestors, wrong_ancestors_at};
+ghost use Rattle.type_system.specs.Ancestors.{wrong_ancestors_by};
 
 use crate::listed::is_text_among;
 use crate::members::{interface_names, type_name};

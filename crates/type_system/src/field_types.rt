@@ -2,7 +2,8 @@
 ghost use Rattle.std.specs.Prelude.{◌≡◌, ◌++◌, OnOk};
 ghost use Rattle.language.specs.Types.{shape};
 ghost use Rattle.type_system_report.specs.Fault.{reported};
-ghost use Rattle.type_system.specs.FieldTypes.{is_field_type, is_implementer_named, is_member_named, may_stand_for, wrong_field_type};
+ghost use Rattle.type_system.specs.FieldTypes.{is_field_type, is_implementer_named, is_member_named, may_stand_for};
+ghost use Rattle.type_system.specs.FieldTypes.{wrong_field_type};
 ghost use Rattle.type_system.specs.Pair.{pair_value};
 
 use crate::layers::are_layers_below;

@@ -1,7 +1,8 @@
 //! What a type implements is an interface, once, and not itself (GraphQL, October 2021, sections 3.6 and 3.7).
 ghost use Rattle.std.specs.Prelude.{◌≡◌, ◌++◌, OnOk, map, string_bytes};
 ghost use Rattle.type_system_report.specs.Fault.{reported};
-ghost use Rattle.type_system.specs.ImplementedTypes.{implemented_again, is_interface, is_interface_named, no_interface, own_interface, wrong_entry, wrong_interfaces};
+ghost use Rattle.type_system.specs.ImplementedTypes.{implemented_again, is_interface, is_interface_named, no_interface};
+ghost use Rattle.type_system.specs.ImplementedTypes.{own_interface, wrong_entry, wrong_interfaces};
 
 use crate::listed::is_text_among;
 use crate::members::{interface_names, type_name};

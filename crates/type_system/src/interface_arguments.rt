@@ -1,4 +1,5 @@
-//! A field has the arguments of the interface's field, with the same types (GraphQL, October 2021, sections 3.6 and 3.7).
+//! A field has the arguments of the interface's field, with the same types (GraphQL, October 2021, sections 3.6 and
+//! 3.7).
 ghost use Rattle.std.specs.Prelude.{◌≡◌, ◌++◌, OnOk};
 ghost use Rattle.language.specs.Types.{shape};
 ghost use Rattle.type_system_report.specs.Fault.{reported};

@@ -1,7 +1,8 @@
 //! A type has the fields of the interfaces that it implements (GraphQL, October 2021, sections 3.6 and 3.7).
 ghost use Rattle.std.specs.Prelude.{◌≡◌, ◌++◌, OnOk, map, option_copied, string_bytes};
 ghost use Rattle.type_system_report.specs.Fault.{reported};
-ghost use Rattle.type_system.specs.InterfaceFields.{unmet_entry, unmet_field, unmet_interfaces, unmet_named, unmet_pair};
+ghost use Rattle.type_system.specs.InterfaceFields.{unmet_entry, unmet_field, unmet_interfaces, unmet_named};
+ghost use Rattle.type_system.specs.InterfaceFields.{unmet_pair};
 ghost use Rattle.type_system.specs.Pair.{pair_value};
 
 use crate::added_arguments::report_added_arguments;

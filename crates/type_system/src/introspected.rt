@@ -1,6 +1,7 @@
 //! Names that introspection reserves (GraphQL, October 2021, sections 3.3 and 4.1).
 ghost use Rattle.std.specs.Prelude.{◌≡◌};
-ghost use Rattle.type_system.specs.Introspected.{is_introspection_field, is_introspection_type, is_query_root, is_reserved};
+ghost use Rattle.type_system.specs.Introspected.{is_introspection_field, is_introspection_type, is_query_root};
+ghost use Rattle.type_system.specs.Introspected.{is_reserved};
 
 use crate::root_types::query_name;
 use schema::model::SchemaTypeOf;

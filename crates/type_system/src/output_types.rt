@@ -1,7 +1,8 @@
 //! The type of a field is an output type (GraphQL, October 2021, sections 3.6 and 3.7).
 ghost use Rattle.std.specs.Prelude.{◌≡◌, ◌++◌, OnOk};
 ghost use Rattle.type_system_report.specs.Fault.{reported};
-ghost use Rattle.type_system.specs.OutputTypes.{is_input_object, is_input_object_named, wrong_output_type, wrong_output_types};
+ghost use Rattle.type_system.specs.OutputTypes.{is_input_object, is_input_object_named, wrong_output_type};
+ghost use Rattle.type_system.specs.OutputTypes.{wrong_output_types};
 
 use crate::members::{fields, type_name};
 use language::error::OutOfMemory;

@@ -2,7 +2,9 @@
 ghost use Rattle.std.specs.Prelude.{◌≡◌, ◌++◌, OnOk};
 ghost use Rattle.std.specs.List.{flat_map};
 ghost use Rattle.type_system_report.specs.Fault.{reported};
-ghost use Rattle.type_system.specs.RequiredMembers.{deprecated_argument, deprecated_arguments, deprecated_directive_argument, deprecated_directive_arguments, deprecated_input_field, deprecated_members, is_required_deprecated};
+ghost use Rattle.type_system.specs.RequiredMembers.{deprecated_argument, deprecated_arguments};
+ghost use Rattle.type_system.specs.RequiredMembers.{deprecated_directive_argument, deprecated_directive_arguments};
+ghost use Rattle.type_system.specs.RequiredMembers.{deprecated_input_field, deprecated_members, is_required_deprecated};
 
 use crate::added_arguments::is_required;
 use crate::members::{arguments, fields, input_fields, type_name};

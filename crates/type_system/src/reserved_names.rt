@@ -2,7 +2,9 @@
 ghost use Rattle.std.specs.Prelude.{◌≡◌, ◌++◌, OnOk};
 ghost use Rattle.std.specs.List.{flat_map};
 ghost use Rattle.type_system_report.specs.Fault.{coordinate_value, reported};
-ghost use Rattle.type_system.specs.ReservedNames.{reserved_argument, reserved_directive, reserved_directive_argument, reserved_field, reserved_input_field, reserved_name, reserved_names, reserved_value};
+ghost use Rattle.type_system.specs.ReservedNames.{reserved_argument, reserved_directive, reserved_directive_argument};
+ghost use Rattle.type_system.specs.ReservedNames.{reserved_field, reserved_input_field, reserved_name, reserved_names};
+ghost use Rattle.type_system.specs.ReservedNames.{reserved_value};
 
 use crate::introspected::{is_introspection_field, is_introspection_type, is_reserved};
 use crate::members::{arguments, enum_values, fields, input_fields, type_name};

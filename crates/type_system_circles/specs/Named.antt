@@ -28,8 +28,8 @@ module _ {F N : Type 0} (of : F → N) (Leads : F → N → Type 0) where
   BeginsFirstNamed NotAfter [] = Unit {0}
   BeginsFirstNamed NotAfter (f ∷ fs) = IsFirstNamed NotAfter f (f ∷ fs)
 
-  -- Each is a circle that passes nothing twice and begins at its first thing, and each circle has a field of one of them.
-  -- There is none if and only if nothing leads back to itself.
+  -- Each is a circle that passes nothing twice and begins at its first thing, and each circle has a field of one of
+  -- them. There is none if and only if nothing leads back to itself.
   pub record FindsNamedCircles (NotAfter : N → N → Type 0) (told : List (List F)) : Type 0 where
     pub real : All IsNamedCircle told
     pub simple : All IsSimpleNamed told

@@ -18,7 +18,8 @@ IsBelow cs u t = (s : ℕ) × (slice_get cs t ≡ Some (Finished s)) × ((r : �
 abbrev pub Settled : List Link → List Colour → List Circle → Link → Type 0
 Settled trail cs circles l = Told circles l ⊎ (Contains trail l ⊎ IsBelow cs l.from l.edge.target)
 
-pub record Sound (graph : List Node) (path : List ℕ) (trail : List Link) (cs : List Colour) (looked : List ℕ) (circles : List Circle) (count : ℕ) : Type 0 where
+pub record Sound (graph : List Node) (path : List ℕ) (trail : List Link) (cs : List Colour) (looked : List ℕ)
+    (circles : List Circle) (count : ℕ) : Type 0 where
   pub sized : length cs ≡ length graph
   pub counted : length looked ≡ length graph
   -- the nodes in work are those of the path
@@ -28,7 +29,8 @@ pub record Sound (graph : List Node) (path : List ℕ) (trail : List Link) (cs :
   pub bounded : (v n : ℕ) → slice_get looked v ≡ Some n → n ≤ length (edges_of graph v)
   -- of a finished node each edge was looked at, and each that was looked at is settled
   pub complete : (v r n : ℕ) → slice_get cs v ≡ Some (Finished r) → slice_get looked v ≡ Some n → length (edges_of graph v) ≤ n
-  pub settled : (v n k : ℕ) (e : Edge) → slice_get looked v ≡ Some n → k < n → slice_get (edges_of graph v) k ≡ Some e → Settled trail cs circles (record { from = v; edge = e })
+  pub settled : (v n k : ℕ) (e : Edge) → slice_get looked v ≡ Some n → k < n → slice_get (edges_of graph v) k ≡ Some e
+      → Settled trail cs circles (record { from = v; edge = e })
   pub real : All (λ c. IsCircle graph c.links.items) circles
   pub simple : All (λ c. IsSimple c.links.items) circles
   pub first : All (λ c. BeginsFirst c.links.items) circles

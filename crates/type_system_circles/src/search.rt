@@ -1,5 +1,6 @@
 //! A depth-first search for circles: each node is new, in work or finished.
-ghost use Rattle.std.specs.Prelude.{◌≡◌, ◌≢◌, ◌<◌, ◌≤◌, ◌++◌, ◌∷◌, [], length, Some, OnOk, IfOk, slice_get, drop, replicate, ℕ, ◌^◌};
+ghost use Rattle.std.specs.Prelude.{◌≡◌, ◌≢◌, ◌<◌, ◌≤◌, ◌++◌, ◌∷◌, [], length, Some, OnOk, IfOk, slice_get, drop};
+ghost use Rattle.std.specs.Prelude.{replicate, ℕ, ◌^◌};
 ghost use Rattle.type_system_circles.specs.Graph.{IsGraph, Searched, Stands, edges_of};
 ghost use Rattle.type_system_circles.specs.Sound.{At, Ends, Idle, Keeps, Settles};
 ghost use Rattle.type_system_circles.specs.declared.search.Colour.TheVariants.{New};

@@ -38,7 +38,9 @@ module _ {S C : Type 0} (schema : Catalog S C) (may : Answers (InputValue S) C) 
   -- the faults of default values, in their order
   abbrev pub AreFaults : List (Given S) → List DefaultFaultValue → Type 0
   AreFaults [] fs = fs ≡ []
-  AreFaults (d ∷ ds) fs = (first : List DefaultFaultValue) × (rest : List DefaultFaultValue) × IsFaultOf d first × AreFaults ds rest × (fs ≡ first ++ rest)
+  AreFaults (d ∷ ds) fs =
+      (first : List DefaultFaultValue) × (rest : List DefaultFaultValue) × IsFaultOf d first × AreFaults ds rest
+      × (fs ≡ first ++ rest)
 
   -- the fault of a default value comes after those that were found before
   abbrev pub AddsFaults : Given S → List DefaultFaultValue → List DefaultFaultValue → Type 0

@@ -3,7 +3,9 @@ ghost use Rattle.std.specs.Prelude.{◌≡◌, ◌++◌, OnOk};
 ghost use Rattle.std.specs.List.{flat_map};
 ghost use Rattle.language.specs.References.{list_copied};
 ghost use Rattle.type_system_report.specs.Fault.{coordinate_value};
-ghost use Rattle.type_system_defaults.specs.Given.{argument_default, default_at, directive_argument_default, directive_defaults, field_defaults, given_values, input_field_default, type_defaults};
+ghost use Rattle.type_system_defaults.specs.Given.{argument_default, default_at, directive_argument_default};
+ghost use Rattle.type_system_defaults.specs.Given.{directive_defaults, field_defaults, given_values};
+ghost use Rattle.type_system_defaults.specs.Given.{input_field_default, type_defaults};
 
 use language::error::OutOfMemory;
 use language::types::BorrowedType;

@@ -1,5 +1,6 @@
 -- The graph of input objects, by numbers: its nodes are the types of a list, and its edges their required fields.
-use Rattle.std.specs.Prelude.{◌≡◌, ◌<◌, ◌+◌, ℕ, List, [], ◌∷◌, ◌++◌, Option, None, Some, length, slice_get, string_bytes, if◌then◌else◌}
+use Rattle.std.specs.Prelude.{◌≡◌, ◌<◌, ◌+◌, ℕ, List, [], ◌∷◌, ◌++◌, Option, None, Some, length, slice_get}
+use Rattle.std.specs.Prelude.{string_bytes, if◌then◌else◌}
 use Rattle.std.specs.List.{All}
 use Rattle.std.specs.Option.{option_map_or}
 use Rattle.std.specs.Str.{bytes_eq}
@@ -54,7 +55,9 @@ module _ {S C : Type 0} where
 
   -- the place of an input object is noted, unless its name has one; of another type nothing is
   abbrev pub IsNoted : MetaTypeOf S C → ℕ → NameMap ℕ → NameMap ℕ → Type 0
-  IsNoted (m.InputObject x) place old new = (n : List ℕ) → value_of new n ≡ or_else (value_of old n) (if bytes_eq (string_bytes x.name) n then Some place else None)
+  IsNoted (m.InputObject x) place old new =
+      (n : List ℕ) → value_of new n ≡ or_else (value_of old n)
+      (if bytes_eq (string_bytes x.name) n then Some place else None)
   IsNoted _ place old new = new ≡ old
 
   -- the name of a type that has one

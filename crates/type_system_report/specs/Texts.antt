@@ -48,16 +48,25 @@ once_text n = codes " can only implement " ++ (n ++ codes " once")
 -- the bytes of a fault of this kind at this coordinate
 abbrev pub text_at : CoordinateValue → KindValue → List ℕ
 text_at at k.ReservedName = codes "Name \"" ++ (last_name at ++ codes "\" must not begin with \"__\", which is reserved by introspection")
-text_at at (k.SharedRoot a b) = (codes "All root types must be different: \"" ++ (coordinate_text at ++ codes "\"")) ++ (codes " is the root of " ++ (root_word a ++ (codes " and " ++ root_word b)))
+text_at at (k.SharedRoot a b) =
+    (codes "All root types must be different: \"" ++ (coordinate_text at ++ codes "\""))
+    ++ (codes " is the root of " ++ (root_word a ++ (codes " and " ++ root_word b)))
 text_at at k.NoFields = codes "Type " ++ (coordinate_text at ++ codes " must define one or more fields")
 text_at at k.NoValues = codes "Enum type " ++ (coordinate_text at ++ codes " must define one or more values")
 text_at at k.NoMembers = codes "Union type " ++ (coordinate_text at ++ codes " must define one or more member types")
 text_at at (k.NotOutputType t) = codes "The type of " ++ (coordinate_text at ++ (codes " must be an output type but got " ++ printed t))
-text_at at (k.NotInterface n) = codes "Type " ++ (coordinate_text at ++ (codes " must only implement interface types, it cannot implement " ++ n))
+text_at at (k.NotInterface n) =
+    codes "Type " ++ (coordinate_text at ++ (codes " must only implement interface types, it cannot implement " ++ n))
 text_at at (k.RepeatedInterface n) = (codes "Type " ++ coordinate_text at) ++ once_text n
-text_at at k.OwnInterface = codes "Type " ++ (coordinate_text at ++ codes " cannot implement itself because it would create a circular reference")
-text_at at (k.MissingAncestor n j) = (codes "Type " ++ (coordinate_text at ++ (codes " must implement " ++ n))) ++ (codes " because it is implemented by " ++ j)
-text_at at (k.CircularInterface n) = (codes "Type " ++ (coordinate_text at ++ (codes " cannot implement " ++ n))) ++ codes " because it would create a circular reference"
+text_at at k.OwnInterface =
+    codes "Type " ++ (coordinate_text at ++ codes
+    " cannot implement itself because it would create a circular reference")
+text_at at (k.MissingAncestor n j) =
+    (codes "Type " ++ (coordinate_text at ++ (codes " must implement " ++ n)))
+    ++ (codes " because it is implemented by " ++ j)
+text_at at (k.CircularInterface n) =
+    (codes "Type " ++ (coordinate_text at ++ (codes " cannot implement " ++ n)))
+    ++ codes " because it would create a circular reference"
 text_at at (k.MissingField w) = missing_text (codes "Interface field ") w at
 text_at at (k.WrongFieldType w t u) = expected_text (codes "Interface field ") w t ++ given_text at u
 text_at at (k.MissingArgument w) = missing_text (codes "Interface field argument ") w at

@@ -21,8 +21,8 @@ HasSameType a None = ⊥
 HasSameType a (Some b) = is_same_type (shape a.arg_type) (shape b.arg_type) ≡ true
 
 module _ {S C : Type 0} (schema : Catalog S C) where
-  -- A field may stand for the first one, which is an interface's: its type may stand for that one's, it has each argument
-  -- of that one, and an argument that only it has is not required.
+  -- A field may stand for the first one, which is an interface's: its type may stand for that one's, it has each
+  -- argument of that one, and an argument that only it has is not required.
   pub record Implements (wanted : Field S) (given : Field S) : Type 0 where
     pub type_suits : is_field_type schema (shape given.field_type) (shape wanted.field_type) ≡ true
     pub arguments : All (λ a. HasSameType a (argument_named (string_bytes a.name) given)) (arguments_of wanted)
@@ -37,7 +37,8 @@ module _ {S C : Type 0} (schema : Catalog S C) where
     -- the type implements each field of this interface but `__typename`, which each type has
     abbrev pub ImplementsFieldsOf : Option (MetaTypeOf S C) → Type 0
     ImplementsFieldsOf (Some (m.Interface x)) =
-        All (λ g. bytes_eq (string_bytes g.name) (codes "__typename") ≡ false → IsImplemented g (field_named (string_bytes g.name) t)) x.fields.items
+        All (λ g. bytes_eq (string_bytes g.name) (codes "__typename") ≡ false
+            → IsImplemented g (field_named (string_bytes g.name) t)) x.fields.items
     ImplementsFieldsOf _ = ⊤
 
     -- the same of each of its interfaces

@@ -11,7 +11,8 @@ use Rattle.type_system_defaults.specs.Conforming.{HasConformingDefaults}
 use Rattle.type_system_validity.specs.Deprecation.{DeprecatesOptionalMembers, IsCurrentIfRequired}
 use Rattle.type_system_validity.specs.Implementation.{ImplementsFields}
 use Rattle.type_system_validity.specs.Interfaces.{ImplementsAncestors, ImplementsInterfaces}
-use Rattle.type_system_validity.specs.Members.{AreDistinct, DefinesField, DefinesMember, DefinesValue, HasDistinctMembers, HasEnumNames, HasOutputTypes}
+use Rattle.type_system_validity.specs.Members.{AreDistinct, DefinesField, DefinesMember, DefinesValue}
+use Rattle.type_system_validity.specs.Members.{HasDistinctMembers, HasEnumNames, HasOutputTypes}
 use Rattle.type_system_validity.specs.Names.{HasUnreservedDirective, HasUnreservedNames}
 
 -- A type is as sections 3.6 to 3.10 ask.
@@ -41,6 +42,7 @@ pub record HasValidDefinitions {S C : Type 0} (schema : Catalog S C) : Type 0 wh
   pub directives : All IsValidDirective schema.directives
 
 -- A schema is a valid type system. What each `Catalog` has, such as input types of arguments, is not said again.
-pub record IsValidTypeSystem {S C : Type 0} (schema : Catalog S C) (may : Answers (InputValue S) C) (shown : InputValue S → List ℕ) : Type 0 where
+pub record IsValidTypeSystem {S C : Type 0} (schema : Catalog S C) (may : Answers (InputValue S) C)
+    (shown : InputValue S → List ℕ) : Type 0 where
   pub definitions : HasValidDefinitions schema
   pub defaults : HasConformingDefaults schema may shown

@@ -19,17 +19,21 @@ pub record Rules (S C : Type 0) : Type 1 where
   pub same : S → S → Bool
 
 module _ {S C : Type 0} (rules : Rules S C) where
-  -- In a context with these errors before, and with this number of pairs that were compared. If the context has an error after the
-  -- first stage, the errors are those of the first stage's rules, none if and only if these find nothing, and no pair was compared.
-  -- Otherwise they are those of fields that can't be merged, and no conflict is missed.
-  pub data Reported (before : List ErrorValue) (scope : DocumentScope S C) (t : Typing S C) (doc : List (Definition S)) : List ErrorValue → ℕ → Type 0 where
+  -- In a context with these errors before, and with this number of pairs that were compared. If the context has an
+  -- error after the first stage, the errors are those of the first stage's rules, none if and only if these find
+  -- nothing, and no pair was compared. Otherwise they are those of fields that can't be merged, and no conflict is
+  -- missed.
+  pub data Reported (before : List ErrorValue) (scope : DocumentScope S C) (t : Typing S C)
+      (doc : List (Definition S)) : List ErrorValue → ℕ → Type 0 where
     of_stage_one : {es : List ErrorValue}
-        → rules.first_stage.may_report scope t doc es → (es ≡ []) ↔ rules.first_stage.find_nothing scope t doc → (before ++ es ≡ [] → ⊥) → Reported before scope t doc es 0
+        → rules.first_stage.may_report scope t doc es → (es ≡ []) ↔ rules.first_stage.find_nothing scope t doc
+            → (before ++ es ≡ [] → ⊥) → Reported before scope t doc es 0
     of_stage_two : {es : List ErrorValue} {end : OverlappingFieldsCanBeMerged}
         → before ≡ [] → rules.first_stage.find_nothing scope t doc → (told : MergeErrors rules.same scope.schema doc end es)
         → AreAll rules.same scope.schema doc told.reports → Reported before scope t doc es end.compared
 
-  -- The document is valid: the rules of the first stage find nothing, and each of its selection sets merges, with its spreads written out.
+  -- The document is valid: the rules of the first stage find nothing, and each of its selection sets merges, with its
+  -- spreads written out.
   pub record IsValid (scope : DocumentScope S C) (t : Typing S C) (doc : List (Definition S)) : Type 0 where
     pub stage_one : rules.first_stage.find_nothing scope t doc
     pub merges : DocumentMerges rules.same scope.schema doc

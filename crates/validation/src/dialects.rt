@@ -29,7 +29,8 @@ impl<'a, S: CheckedScalar + 'a> DialectRules<'a> for S {
     ghost rules_of = { by_dialect ⟦<S as AllRules<'a>>⟧.rules ⟦<S as SpecifiedRules<'a>>⟧.specified_rules };
 }
 
-/// Tries every rule of the schema's dialect on a document, and appends the errors: as `visit_all_rules` for juniper's, and as
+/// Tries every rule of the schema's dialect on a document, and appends the errors: as `visit_all_rules` for juniper's,
+/// and as
 /// `visit_specified_rules` for October 2021. Returns what they return: how many pairs of fragments were compared.
 ///
 /// # Errors
@@ -40,7 +41,8 @@ pub fn visit_dialect_rules<'a, S: CheckedScalar>(
     document: &'a [Definition<'_, S>],
 ) -> Result<u128, OutOfMemory>
     ensures appended { IfOk result (λ pairs. IsMadeFor ctx.old document.now
-        → AppendsReported (⟦<S as DialectRules<'a>>⟧.rules_of ctx.old.schema.dialect) ctx.old ctx.new document.now pairs) }
+        → AppendsReported (⟦<S as DialectRules<'a>>⟧.rules_of ctx.old.schema.dialect)
+        ctx.old ctx.new document.now pairs) }
     ensures only { OnOk result (Appended any_value ctx.old ctx.new) }
     ensures err { OnErr result (KeepsPlace ctx.old ctx.new) }
     ensures failed { OnErr result (ctx.new.failed ≡ true) }
@@ -52,8 +54,8 @@ pub fn visit_dialect_rules<'a, S: CheckedScalar>(
     }
 }
 
-/// In each dialect a document in which the rules of the first stage find nothing has no cycle of fragments. The names in its lists
-/// are unique, its spreads and type conditions are known, and its variables have input types.
+/// In each dialect a document in which the rules of the first stage find nothing has no cycle of fragments. The names
+/// in its lists are unique, its spreads and type conditions are known, and its variables have input types.
 pub fn clean_by_each_dialect<'a, S: CheckedScalar + 'a>()
     ensures { (dialect : Dialect) → IsCleanWhere (⟦<S as DialectRules<'a>>⟧.rules_of dialect).first_stage.find_nothing }
 {

@@ -1,5 +1,5 @@
-//! Validation of documents against schemas (GraphQL, October 2021, section 5): the calls that try every rule, by juniper's
-//! dialect and by the specification's, and the names of the crates below under juniper's paths.
+//! Validation of documents against schemas (GraphQL, October 2021, section 5): the calls that try every rule, by
+//! juniper's dialect and by the specification's, and the names of the crates below under juniper's paths.
 //!
 //! It re-exports the crates below that its users name, too, with their laws. What stands above it, and the readers of
 //! texts, are re-exported by `graphql`.

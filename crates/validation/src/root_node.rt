@@ -53,7 +53,8 @@ impl<S, C> RootNodeOf<S, C> {
         }
     }
 
-    /// Has documents judged by this dialect, as their literals and the values of their variables are. It is juniper's at first.
+    /// Has documents judged by this dialect, as their literals and the values of their variables are. It is juniper's
+    /// at first.
     pub fn with_dialect(self, dialect: Dialect) -> RootNodeOf<S, C>
         ensures { result ≡ record self { schema = record self.schema { dialect = dialect } } }
     {
@@ -93,7 +94,8 @@ impl<S: CheckedScalar> RootNodeOf<S, S::Check> {
     /// Validates a document: by every rule of the schema's dialect, and by the rule on introspection where it is
     /// disabled. Returns the errors in ascending order. There are none if and only if the document is valid.
     ///
-    /// Where there are as many as `max_errors`, each is one of the document's, and there may be more. Else they are all.
+    /// Where there are as many as `max_errors`, each is one of the document's, and there may be more. Else they are
+    /// all.
     ///
     /// # Errors
     ///
@@ -120,7 +122,8 @@ impl<S: CheckedScalar> RootNodeOf<S, S::Check> {
     }
 }
 
-/// Tries every rule of juniper on a document, and the rule on introspection where it is disabled, and appends the errors.
+/// Tries every rule of juniper on a document, and the rule on introspection where it is disabled, and appends the
+/// errors.
 ///
 /// Returns what `visit_all_rules` returns: how many pairs of fragments were compared.
 ///

@@ -52,12 +52,12 @@ impl<'a, S: CheckedScalar + 'a> AllRules<'a> for S {
 
 /// Tries every rule on a document, in two stages, and appends the errors.
 ///
-/// The first stage is one walk with every rule except the one on fields that can be merged. If the context holds no error after it,
-/// the second stage tries that rule. Returns the number of pairs of fragments that it compared, or 0 if it didn't run: with `n`
-/// definitions of fragments at most `n (n - 1)` pairs.
+/// The first stage is one walk with every rule except the one on fields that can be merged. If the context holds no
+/// error after it, the second stage tries that rule. Returns the number of pairs of fragments that it compared, or 0 if
+/// it didn't run: with `n` definitions of fragments at most `n (n - 1)` pairs.
 ///
-/// In a fresh context for this document nothing is reported if and only if the document is valid. In a context that was made for
-/// another document errors alone are appended.
+/// In a fresh context for this document nothing is reported if and only if the document is valid. In a context that was
+/// made for another document errors alone are appended.
 ///
 /// # Errors
 ///

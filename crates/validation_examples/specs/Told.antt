@@ -21,7 +21,8 @@ pub record InOrder (found errors : List ErrorValue) : Type 0 where
   pub sorted : IsSorted error_cmp errors
 
 -- a text tells what all rules report of a document, and then how many pairs were compared
-pub record TellsAll {S C : Type 0} (rules : Rules S C) (schema : Catalog S C) (document : List (Definition S)) (text : List ℕ) : Type 0 where
+pub record TellsAll {S C : Type 0} (rules : Rules S C) (schema : Catalog S C) (document : List (Definition S))
+    (text : List ℕ) : Type 0 where
   pub found : List ErrorValue
   pub compared : ℕ
   pub reported : Reported rules [] (scope_of schema document) untyped document found compared
@@ -30,7 +31,8 @@ pub record TellsAll {S C : Type 0} (rules : Rules S C) (schema : Catalog S C) (d
   pub written : text ≡ error_lines errors ++ decimal compared
 
 -- a text tells what a visitor reports that hears of every event of a document
-pub record TellsVisit {S C V : Type 0} (step : StepOf S C V) (start : V) (schema : Catalog S C) (document : List (Definition S)) (text : List ℕ) : Type 0 where
+pub record TellsVisit {S C V : Type 0} (step : StepOf S C V) (start : V) (schema : Catalog S C)
+    (document : List (Definition S)) (text : List ℕ) : Type 0 where
   pub end : V
   pub found : List ErrorValue
   pub heard : Run (step (scope_of schema document)) (typed_events schema untyped document) start end found

@@ -20,7 +20,8 @@ abbrev pub first_operation : {S : Type 0} → List (Definition S) → Option (Sp
 first_operation (definition.Operation o ∷ rest) = Some o
 first_operation _ = None
 
-module _ {S C : Type 0} (rules : Rules S C) (may : Answers (InputValue S) C) (text : S → List ℕ) (str_of : S → Option (List ℕ)) (schema : Catalog S C) (document : List (Definition S)) where
+module _ {S C : Type 0} (rules : Rules S C) (may : Answers (InputValue S) C) (text : S → List ℕ)
+    (str_of : S → Option (List ℕ)) (schema : Catalog S C) (document : List (Definition S)) where
   -- the document is valid
   abbrev pub ValidDocument : Type 0
   ValidDocument = IsValid rules (scope_of schema document) untyped document

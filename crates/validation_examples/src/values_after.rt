@@ -14,7 +14,8 @@ use validation::laws::clean_documents;
 use validation::rules::visit_all_rules;
 use validation::{AllRules, RuleError, ValidatorContext, validate_input_values};
 
-/// The faults of the values for the first operation of a document, if the document has no errors and begins with an operation.
+/// The faults of the values for the first operation of a document, if the document has no errors and begins with an
+/// operation.
 ///
 /// # Errors
 ///

@@ -1,5 +1,6 @@
-//! What `validation` and `walk` report, beside the rows of `conformance`: events out of order, walks over every kind of node,
-//! and requests for memory that are refused in turn. And runs of the program `check` in which a read or a write fails.
+//! What `validation` and `walk` report, beside the rows of `conformance`: events out of order, walks over every kind of
+//! node, and requests for memory that are refused in turn. And runs of the program `check` in which a read or a write
+//! fails.
 #![tactic(auto)]
 
 #[cfg(test)]

@@ -9,8 +9,8 @@ use meta::MetaType;
 use std::alloc::AllocError;
 use walk::{Event, Machine, ValidatorContext, Visitor};
 
-/// Writes a line for each event: its name, of what node, and there the type, the type as it was written, the parent type and
-/// the input type as it was written.
+/// Writes a line for each event: its name, of what node, and there the type, the type as it was written, the parent
+/// type and the input type as it was written.
 #[derive(Drop)]
 pub struct Recorder {
     pub text: String,
@@ -36,7 +36,8 @@ impl<'a> Visitor<'a, DefaultScalarValue> for Recorder {
     }
 }
 
-/// Writes the type at hand, that type as it was written, the parent type and the input type as it was written, and ends the line.
+/// Writes the type at hand, that type as it was written, the parent type and the input type as it was written, and ends
+/// the line.
 pub fn show_types(
     out: &mut String,
     ctx: &ValidatorContext<'_, DefaultScalarValue>,

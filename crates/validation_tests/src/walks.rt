@@ -15,8 +15,8 @@ use validation_examples::told::lines;
 use walk::{MultiVisitorCons, MultiVisitorNil, RuleError, ValidatorContext, visit, visit_rules};
 use walk_examples::kept_fields::count_and_free;
 
-/// The walk over the sample. An event of a node is followed by the type at the node, that type as it is written, the parent
-/// type, and the type of the input as it is written; a stroke stands for none.
+/// The walk over the sample. An event of a node is followed by the type at the node, that type as it is written, the
+/// parent type, and the type of the input as it is written; a stroke stands for none.
 const WALK: &str = "enter_document() - - - -
 enter_operation_definition(Q) QueryRoot QueryRoot! - -
 enter_variable_definition(a) QueryRoot QueryRoot! - [Int]!
@@ -239,8 +239,8 @@ fn keeps_fields(rt: &impl Abort, alloc: Global, schema: &SchemaType<DefaultScala
     assert_eq!(rt; count, 12);
 }
 
-/// Writes the types at hand: with a type pushed, and with that type as the parent too; with an input type pushed; and with
-/// nothing.
+/// Writes the types at hand: with a type pushed, and with that type as the parent too; with an input type pushed; and
+/// with nothing.
 fn show_pushed(ctx: &mut Context<'_>, text: &mut String) -> Result<(), OutOfMemory> {
     let dog = Some(BorrowedType::non_null("Dog"));
     ctx.with_pushed_type(dog, |ctx| show_twice(ctx, text))??;

@@ -26,8 +26,8 @@ inside_string start n =
 abbrev pub IsInString : List ℕ → SourcePosition → SourcePosition → Type 0
 IsInString raw start place = (n : ℕ) × (expected : Bor (List ℕ)) × IsFaultPlace raw (Escape n expected) × (place ≡ inside_string start n)
 
--- The place that the error tells of a token: where it starts. Where a string may stand it is inside of one that stands for no text. Where
--- no token begins, the lexer says.
+-- The place that the error tells of a token: where it starts. Where a string may stand it is inside of one that stands
+-- for no text. Where no token begins, the lexer says.
 abbrev pub IsPlaceOf : Type 0 → token.Token → SourcePosition → SourcePosition → Type 0
 IsPlaceOf StringFits (token.punctuator p) start place = place ≡ start
 IsPlaceOf StringFits (token.name s) start place = place ≡ start
@@ -65,16 +65,19 @@ abbrev pub IsTextRefusal : Lexeme → ReadError → Type 0
 IsTextRefusal x (Syntax e) = ((text : List ℕ) → IsTextOf x.token text → ⊥) × IsPlaceOf (Unit {0}) x.token x.start e.position
 IsTextRefusal x OutOfMemory = Unit {0}
 
--- `before` begins some value, and with the next token, x, it begins none. There is such a token: the last one is in no value.
+-- `before` begins some value, and with the next token, x, it begins none. There is such a token: the last one is in no
+-- value.
 abbrev pub IsFaultAt : Rules → List Lexeme → Lexeme → SourcePosition → Type 0
 IsFaultAt rules before x place =
     GoesOn rules before × (GoesOn rules (before ++ x ∷ []) → ⊥)
     × IsPlaceOf (GoesOn rules (before ++ lexeme (token.string []) x.start x.stop ∷ [])) x.token x.start place
 
--- No first tokens of ts are those of a value. What is left begins with the first token at fault, and the error tells its place.
+-- No first tokens of ts are those of a value. What is left begins with the first token at fault, and the error tells
+-- its place.
 abbrev pub IsFirstFault : Rules → List Lexeme → List Lexeme → ReadError → Type 0
 IsFirstFault rules ts left (Syntax e) =
-    (before : List Lexeme) × (x : Lexeme) × (more : List Lexeme) × (left ≡ x ∷ more) × (ts ≡ before ++ x ∷ more) × IsFaultAt rules before x e.position
+    (before : List Lexeme) × (x : Lexeme) × (more : List Lexeme) × (left ≡ x ∷ more) × (ts ≡ before ++ x ∷ more)
+        × IsFaultAt rules before x e.position
 IsFirstFault rules ts left OutOfMemory = Unit {0}
 
 abbrev pub IsNone : Rules → List Lexeme → ReadError → Type 0

@@ -1,5 +1,5 @@
--- The tokens that a value is written with, production by production (GraphQL, October 2021, appendix B.2). A value starts where its
--- first token starts, and ends where its last one ends.
+-- The tokens that a value is written with, production by production (GraphQL, October 2021, appendix B.2). A value
+-- starts where its first token starts, and ends where its last one ends.
 use Rattle.std.specs.Prelude.{◌≡◌, ℕ, suc, Bool, true, false, List, [], ◌∷◌, ◌++◌, Option, Some, None, nat_lt, codes}
 use Rattle.language.specs.declared.position.SourcePosition.{SourcePosition}
 use Rattle.language.specs.declared.position.Span.{Span}
@@ -8,10 +8,13 @@ use Rattle.graphql_lexer.specs.Lexemes.{Lexeme}
 use Rattle.graphql_lexer.specs.Lexical as token
 use Rattle.graphql_lexer.specs.StringValues.{IsStringValue}
 use Rattle.graphql_lexer.specs.declared.lexer.Punctuator.{Punctuator}
-use Rattle.graphql_lexer.specs.declared.lexer.Punctuator.TheVariants.{Dollar, Colon, BracketOpen, BracketClose, BraceOpen, BraceClose}
-use Rattle.value_reader.specs.Values.{Plain, variable, int, float, string, boolean, null, enum, Value, plain, list, object, Items, no_items, item, Fields, no_fields, field}
+use Rattle.graphql_lexer.specs.declared.lexer.Punctuator.TheVariants.{Dollar, Colon, BracketOpen, BracketClose}
+use Rattle.graphql_lexer.specs.declared.lexer.Punctuator.TheVariants.{BraceOpen, BraceClose}
+use Rattle.value_reader.specs.Values.{Plain, variable, int, float, string, boolean, null, enum, Value, plain, list}
+use Rattle.value_reader.specs.Values.{object, Items, no_items, item, Fields, no_fields, field}
 
--- whether a value may be or hold variables, which a constant may not, and how deep lists and objects may nest, where a caller sets that
+-- whether a value may be or hold variables, which a constant may not, and how deep lists and objects may nest, where a
+-- caller sets that
 pub record Rules : Type 0 where
   pub variables : Bool
   pub limit : Option ℕ
@@ -55,7 +58,8 @@ null_name = codes "null"
 abbrev pub IsEnumName : List ℕ → Type 0
 IsEnumName n = (n ≡ boolean_name true → ⊥) × (n ≡ boolean_name false → ⊥) × (n ≡ null_name → ⊥)
 
--- Value[Const]: Variable, where it is no constant, IntValue, FloatValue, StringValue, BooleanValue, NullValue, EnumValue
+-- Value[Const]: Variable, where it is no constant, IntValue, FloatValue, StringValue, BooleanValue, NullValue,
+-- EnumValue
 abbrev pub SpellsPlain : Rules → Plain → Span → List Lexeme → Type 0
 SpellsPlain rules (variable n) span ts =
     (rules.variables ≡ true)
@@ -90,7 +94,8 @@ abbrev mutual
   SpellsFields rules depth no_fields ts = ts ≡ []
   SpellsFields rules depth (field k v fs) ts =
       (a : SourcePosition) × (b : SourcePosition) × (one : List Lexeme) × (more : List Lexeme)
-      × (ts ≡ lexeme (token.name k.name) k.span.start k.span.end ∷ sign Colon a b ∷ (one ++ more)) × Spells rules depth v one × SpellsFields rules depth fs more
+      × (ts ≡ lexeme (token.name k.name) k.span.start k.span.end ∷ sign Colon a b ∷ (one ++ more))
+          × Spells rules depth v one × SpellsFields rules depth fs more
 
 -- the first tokens are those of a value, and the rest stands behind them
 abbrev pub Begins : Rules → List Lexeme → Value → List Lexeme → Type 0

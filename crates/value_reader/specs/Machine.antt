@@ -1,6 +1,7 @@
--- Reading a value over a list of the parts that are begun, the innermost first: what the code does at each token. Nothing of this needs
--- to be believed: that it reads what the grammar spells is proved.
-use Rattle.std.specs.Prelude.{ℕ, zero, suc, Bool, true, false, if◌then◌else◌, List, [], ◌∷◌, ◌++◌, length, drop, Option, Some, None, option_map, Result, Ok, Err, bytes_eq}
+-- Reading a value over a list of the parts that are begun, the innermost first: what the code does at each token.
+-- Nothing of this needs to be believed: that it reads what the grammar spells is proved.
+use Rattle.std.specs.Prelude.{ℕ, zero, suc, Bool, true, false, if◌then◌else◌, List, [], ◌∷◌, ◌++◌, length, drop, Option}
+use Rattle.std.specs.Prelude.{Some, None, option_map, Result, Ok, Err, bytes_eq}
 use Rattle.std.specs.Char.{encode_utf8}
 use Rattle.language.specs.declared.position.SourcePosition.{SourcePosition}
 use Rattle.language.specs.declared.position.Span.{Span}
@@ -9,16 +10,18 @@ use Rattle.graphql_lexer.specs.Lexemes.{Lexeme}
 use Rattle.graphql_lexer.specs.Lexical as token
 use Rattle.graphql_lexer.specs.StringValues.{is_plain}
 use Rattle.graphql_lexer.specs.Unescaping.{escape_at}
-use Rattle.graphql_lexer.specs.declared.lexer.Punctuator.TheVariants.{Dollar, Colon, BracketOpen, BracketClose, BraceOpen, BraceClose}
+use Rattle.graphql_lexer.specs.declared.lexer.Punctuator.TheVariants.{Dollar, Colon, BracketOpen, BracketClose}
+use Rattle.graphql_lexer.specs.declared.lexer.Punctuator.TheVariants.{BraceOpen, BraceClose}
 use Rattle.value_reader.specs.Grammar.{Rules, may_nest, boolean_name, null_name}
-use Rattle.value_reader.specs.Values.{Plain, int, float, string, boolean, null, enum, variable, Key, Value, plain, list, object, Items, no_items, item, Fields, no_fields, field}
+use Rattle.value_reader.specs.Values.{Plain, int, float, string, boolean, null, enum, variable, Key, Value, plain, list}
+use Rattle.value_reader.specs.Values.{object, Items, no_items, item, Fields, no_fields, field}
 
 pub record Entry : Type 0 where
   pub key : Key
   pub value : Value
 
--- What is begun, from where on, and what it holds so far: a list; an object, where a key or its end comes next, the colon behind a key, or
--- the value of a key; a variable, whose name comes next.
+-- What is begun, from where on, and what it holds so far: a list; an object, where a key or its end comes next, the
+-- colon behind a key, or the value of a key; a variable, whose name comes next.
 pub data Frame : Type 0 where
   in_list : SourcePosition → List Value → Frame
   at_key : SourcePosition → List Entry → Frame
@@ -48,7 +51,8 @@ abbrev pub depth_of : List Frame → ℕ
 depth_of [] = 0
 depth_of (f ∷ fs) = suc (depth_of fs)
 
--- A value put into what is innermost, or the whole value where nothing is begun. Where no value may come next none is put.
+-- A value put into what is innermost, or the whole value where nothing is begun. Where no value may come next none is
+-- put.
 abbrev pub attach : Value → List Frame → Turn
 attach v [] = done v
 attach v (in_list start vs ∷ fs) = going (in_list start (vs ++ v ∷ []) ∷ fs)

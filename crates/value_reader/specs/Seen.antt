@@ -1,5 +1,6 @@
 -- What the code's values stand for.
-use Rattle.std.specs.Prelude.{◌≡◌, ◌≢◌, ℕ, Bool, true, false, List, map, reverse, Option, Some, None, Vec, String, string_bytes}
+use Rattle.std.specs.Prelude.{◌≡◌, ◌≢◌, ℕ, Bool, true, false, List, map, reverse, Option, Some, None, Vec, String}
+use Rattle.std.specs.Prelude.{string_bytes}
 use Rattle.std.specs.declared.alloc.Global.{Global}
 use Rattle.language.specs.declared.position.SourcePosition.{SourcePosition}
 use Rattle.language.specs.declared.position.Span.{Span}
@@ -14,8 +15,10 @@ use Rattle.graphql_lexer.specs.declared.error.ReadError.{ReadError}
 use Rattle.graphql_lexer.specs.declared.error.ReadError.TheVariants.{Syntax, OutOfMemory}
 use Rattle.value_reader.specs.Grammar.{Rules, IsTextOf}
 use Rattle.value_reader.specs.Faults.{IsPlaceOf}
-use Rattle.value_reader.specs.Machine.{Entry, Frame, in_list, at_key, at_colon, at_value, at_name, Turn, going, done, refused, items_of, fields_of, span_of, plain_of, takes_value}
-use Rattle.value_reader.specs.Values.{Plain, variable, int, float, string, boolean, null, enum, Key, Value, plain, list, object}
+use Rattle.value_reader.specs.Machine.{Entry, Frame, in_list, at_key, at_colon, at_value, at_name, Turn, going, done}
+use Rattle.value_reader.specs.Machine.{refused, items_of, fields_of, span_of, plain_of, takes_value}
+use Rattle.value_reader.specs.Values.{Plain, variable, int, float, string, boolean, null, enum, Key, Value, plain, list}
+use Rattle.value_reader.specs.Values.{object}
 use Rattle.value_reader.specs.declared.rules.Rules.{Rules as GivenRules}
 use Rattle.value_reader.specs.declared.rules.Variables.{Variables}
 use Rattle.value_reader.specs.declared.rules.Variables.TheVariants.{Allowed, Refused}

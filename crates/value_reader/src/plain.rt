@@ -5,7 +5,8 @@ ghost use Rattle.graphql_lexer.specs.Ahead.{ahead_of};
 ghost use Rattle.graphql_lexer.specs.Lexical as token;
 ghost use Rattle.value_reader.specs.Faults.{IsTextRefusal};
 ghost use Rattle.value_reader.specs.Machine.{named, plain_of, span_of};
-ghost use Rattle.value_reader.specs.Seen.{content_seen, value_seen, IsContentOf, IsPlainOf, IsPlainRefusal, IsStringContent, IsNameless};
+ghost use Rattle.value_reader.specs.Seen.{content_seen, value_seen, IsContentOf, IsPlainOf, IsPlainRefusal};
+ghost use Rattle.value_reader.specs.Seen.{IsStringContent, IsNameless};
 ghost use Rattle.value_reader.specs.Values.{plain};
 
 use crate::begun::Value;

@@ -4,7 +4,9 @@ ghost use Rattle.graphql_lexer.specs.Ahead.{ahead_of};
 ghost use Rattle.graphql_lexer.specs.Lexical.{punctuator};
 ghost use Rattle.value_reader.specs.Grammar.{may_nest};
 ghost use Rattle.value_reader.specs.Machine as spec;
-ghost use Rattle.value_reader.specs.Seen.{allows, begun_seen, stack_seen, value_seen, values_seen, entries_seen, key_seen, rules_seen, IsTurn, IsNameless, IsRefusal, IsFirstRefusal, IsRefusedAt, IsVariable};
+ghost use Rattle.value_reader.specs.Seen.{allows, begun_seen, stack_seen, value_seen, values_seen, entries_seen};
+ghost use Rattle.value_reader.specs.Seen.{key_seen, rules_seen, IsTurn, IsNameless, IsRefusal, IsFirstRefusal};
+ghost use Rattle.value_reader.specs.Seen.{IsRefusedAt, IsVariable};
 
 use crate::begun::{Begun, Entries, Turn, Value, attach, begin, depth, list, object, put_back};
 use crate::plain::{expected_value, name_ahead, plain_value};

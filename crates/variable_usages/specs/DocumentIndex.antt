@@ -15,7 +15,8 @@ pub record IsDocumentIndex {S : Type 0} (document : List (Definition S)) (index 
   pub uses : AllUses document index.uses.items
 
 -- What the operations of a name reach may be looked for, by their places.
-pub record MayReach {S : Type 0} (document : List (Definition S)) (all : DocumentIndex) (search : Search) (name : Option (List ℕ)) (places : List ℕ) : Type 0 where
+pub record MayReach {S : Type 0} (document : List (Definition S)) (all : DocumentIndex) (search : Search)
+    (name : Option (List ℕ)) (places : List ℕ) : Type 0 where
   pub index : IsDocumentIndex document all
   pub ready : IsReady all.scopes search
   pub own : places ≡ places_of document (operation name)

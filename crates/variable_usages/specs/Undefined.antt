@@ -23,7 +23,8 @@ pub record Undefined : Type 0 where
   pub operation_place : SourcePosition
 
 abbrev pub undefined_of : UndefinedVariable → Undefined
-undefined_of u = record { name = u.name.now; operation = option_map (λ n. n.now) u.operation; place = u.place; operation_place = u.operation_place }
+undefined_of u = record { name = u.name.now; operation = option_map (λ n. n.now) u.operation; place = u.place;
+    operation_place = u.operation_place }
 
 -- The report of a use, if its variable is not defined.
 abbrev pub told_undefined : (List ℕ → Bool) → Option (List ℕ) → SourcePosition → Use → List Undefined
@@ -31,7 +32,8 @@ told_undefined defined operation start u =
     if defined u.name then [] else record { name = u.name; operation = operation; place = u.place; operation_place = start } ∷ []
 
 -- A use was reported, if its variable is not defined.
-pub record TellsUndefined (defined : List ℕ → Bool) (operation : Option (List ℕ)) (start : SourcePosition) (u : VariableUse) (old new : List Undefined) : Type 0 where
+pub record TellsUndefined (defined : List ℕ → Bool) (operation : Option (List ℕ)) (start : SourcePosition)
+    (u : VariableUse) (old new : List Undefined) : Type 0 where
   pub told : new ≡ old ++ told_undefined defined operation start (use_of u)
 
 -- No definition uses a variable.
@@ -49,4 +51,5 @@ module _ {S : Type 0} where
 
   -- Those of each name of operations.
   abbrev pub UndefinedVariables : List (Definition S) → List Undefined → Type 0
-  UndefinedVariables document found = (names : List (Option (List ℕ))) × OperationNames document names × InTurn (UndefinedIn document) names found
+  UndefinedVariables document found =
+      (names : List (Option (List ℕ))) × OperationNames document names × InTurn (UndefinedIn document) names found

@@ -64,7 +64,8 @@ module _ {S : Type 0} where
 
   -- In a field: arguments, directives, selection set.
   abbrev pub field_step : open_tree.Field-F S Uses Uses Uses → Uses
-  field_step f = (arguments_uses f.arguments ++ directives_uses f.directives) ++ option_map_or (λ v. flat_map (λ us. us) v.items) f.selection_set []
+  field_step f = (arguments_uses f.arguments ++ directives_uses f.directives)
+      ++ option_map_or (λ v. flat_map (λ us. us) v.items) f.selection_set []
 
   -- In an inline fragment: directives, selection set.
   abbrev pub inline_step : open_tree.InlineFragment-F S Uses Uses Uses → Uses
@@ -88,5 +89,7 @@ module _ {S : Type 0} where
 
   -- Those in a definition, in the order of the document, with repeats.
   abbrev pub definition_uses : Definition S → Uses
-  definition_uses (definition.Operation o) = (variable_definitions_uses o.item.variable_definitions ++ directives_uses o.item.directives) ++ used_in_all o.item.selection_set.items
+  definition_uses (definition.Operation o) =
+      (variable_definitions_uses o.item.variable_definitions ++ directives_uses o.item.directives)
+      ++ used_in_all o.item.selection_set.items
   definition_uses (definition.Fragment f) = directives_uses f.item.directives ++ used_in_all f.item.selection_set.items

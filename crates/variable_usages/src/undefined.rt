@@ -6,7 +6,8 @@ ghost use Rattle.variable_usages.specs.DocumentIndex.{IsDocumentIndex, MayReach}
 ghost use Rattle.variable_usages.specs.InReachUses.{AddsPart};
 ghost use Rattle.variable_usages.specs.Names.{has_name};
 ghost use Rattle.variable_usages.specs.Uses.{use_of};
-ghost use Rattle.variable_usages.specs.Undefined.{TellsUndefined, UndefinedIn, UndefinedVariables, UsesNothing, told_undefined, undefined_of};
+ghost use Rattle.variable_usages.specs.Undefined.{TellsUndefined, UndefinedIn, UndefinedVariables, UsesNothing};
+ghost use Rattle.variable_usages.specs.Undefined.{told_undefined, undefined_of};
 
 use crate::document_index::{DocumentIndex, index_document};
 use crate::names::{is_named, name_set, variables};

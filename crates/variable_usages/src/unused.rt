@@ -7,7 +7,8 @@ ghost use Rattle.operation_scopes.specs.Searches.{IsReady};
 ghost use Rattle.variable_usages.specs.DocumentIndex.{IsDocumentIndex, MayReach};
 ghost use Rattle.variable_usages.specs.InReachUses.{AddsPart};
 ghost use Rattle.variable_usages.specs.Names.{has_name};
-ghost use Rattle.variable_usages.specs.Unused.{AddsVariable, DefinesNone, StartBy, UnusedAmong, UnusedIn, UnusedVariables, name_and_span, unused_by, unused_of, variable_at};
+ghost use Rattle.variable_usages.specs.Unused.{AddsVariable, DefinesNone, StartBy, UnusedAmong, UnusedIn};
+ghost use Rattle.variable_usages.specs.Unused.{UnusedVariables, name_and_span, unused_by, unused_of, variable_at};
 
 use crate::document_index::{DocumentIndex, index_document};
 use crate::names::{is_named, used_names, variables};

@@ -9,7 +9,9 @@ ghost use Rattle.operation_scopes.specs.Places.{places_of};
 ghost use Rattle.language.specs.Values.{variables_of};
 ghost use Rattle.operation_scopes.specs.Searches.{IsReady};
 ghost use Rattle.variable_usages.specs.InReachUses.{AllUses, UsedIn, kept_uses};
-ghost use Rattle.variable_usages.specs.Uses.{AddsUses, argument_uses, arguments_uses, at_place, definition_uses, directive_uses, directives_uses, selection_uses, use_of, used_in_all, variable_definition_uses, variable_definitions_uses};
+ghost use Rattle.variable_usages.specs.Uses.{AddsUses, argument_uses, arguments_uses, at_place, definition_uses};
+ghost use Rattle.variable_usages.specs.Uses.{directive_uses, directives_uses, selection_uses, use_of, used_in_all};
+ghost use Rattle.variable_usages.specs.Uses.{variable_definition_uses, variable_definitions_uses};
 
 use fragment_graph::preorder::Preorder;
 use language::error::OutOfMemory;

@@ -1,5 +1,6 @@
 -- The lists and objects around a value that is checked, and what is left of them.
-use Rattle.std.specs.Prelude.{◌≡◌, ◌⊎◌, ℕ, List, [], ◌∷◌, ◌++◌, length, reverse, drop, map, Option, Some, None, String, Vec, string_bytes, true}
+use Rattle.std.specs.Prelude.{◌≡◌, ◌⊎◌, ℕ, List, [], ◌∷◌, ◌++◌, length, reverse, drop, map, Option, Some, None, String}
+use Rattle.std.specs.Prelude.{Vec, string_bytes, true}
 use Rattle.std.specs.declared.alloc.Global.{Global}
 use Rattle.language.specs.declared.value.InputValue.{InputValue}
 use Rattle.language.specs.Types.{borrowed_shape, shape}
@@ -48,20 +49,26 @@ module _ {S C : Type 0} where
     -- what is told of an object where those of its check come last, and only where nothing else is told of it
     abbrev pub ByCheck : BegunObject S C → List ℕ → Telling
     ByCheck of before mid new =
-        ((length mid ≡ of.told) × Adds (Checked may (input_object_check of.object.now) of.value.now (input_text (string_bytes of.object.now.name) (printed_value text str_of of.value.now)) []) before mid new)
+        ((length mid ≡ of.told) × Adds (Checked may (input_object_check of.object.now) of.value.now
+            (input_text (string_bytes of.object.now.name) (printed_value text str_of of.value.now)) []) before mid new)
         ⊎ ((length mid ≡ of.told → ⊥) × (new ≡ mid))
 
     -- what is told of an object behind the faults of its fields
     abbrev pub EndsObject : BegunObject S C → List ℕ → Telling
     EndsObject of before old new =
-        (mid : List (List ℕ)) × (mid ≡ old ++ map (told_after before) (map unknown_field (unknown_keys (field_names of.object.now.input_fields.items) (keys_of of.entries.now))))
+        (mid : List (List ℕ)) × (mid ≡ old ++ map (told_after before)
+            (map unknown_field (unknown_keys (field_names of.object.now.input_fields.items) (keys_of of.entries.now))))
         × ByCheck of before mid new
 
   module _ (schema : Catalog S C) (may : Answers (InputValue S) C) (text : S → List ℕ) (str_of : S → Option (List ℕ)) where
     -- the faults of the items of a list from one on, and of the fields of an object
     abbrev pub LeftItems : Begun S C → List Fault → Type 0
-    LeftItems (b.Items inner items next) fs = InTurn (λ i x. Below schema may text str_of (element i) (borrowed_shape inner) x.item) next (drop next items.now) fs
-    LeftItems (b.Fields of next) fs = InTurn (λ i a. OfField schema may text str_of a (last_value (string_bytes a.name) of.entries.now)) next (drop next of.object.now.input_fields.items) fs
+    LeftItems (b.Items inner items next) fs =
+        InTurn (λ i x. Below schema may text str_of (element i) (borrowed_shape inner) x.item) next
+        (drop next items.now) fs
+    LeftItems (b.Fields of next) fs =
+        InTurn (λ i a. OfField schema may text str_of a (last_value (string_bytes a.name) of.entries.now)) next
+        (drop next of.object.now.input_fields.items) fs
 
     -- the faults at a field by its value, if it has one
     abbrev pub OfGiven : Option (InputValue S) → Argument S → List Fault → Type 0
@@ -71,7 +78,9 @@ module _ {S C : Type 0} where
     -- what is told of what is left of a part at a place
     abbrev pub Left : Begun S C → List ℕ → Telling
     Left (b.Items inner items next) before old new = Adds (LeftItems (b.Items inner items next)) before old new
-    Left (b.Fields of next) before old new = (mid : List (List ℕ)) × Adds (LeftItems (b.Fields of next)) before old mid × EndsObject may text str_of of before mid new
+    Left (b.Fields of next) before old new =
+        (mid : List (List ℕ)) × Adds (LeftItems (b.Fields of next)) before old mid
+        × EndsObject may text str_of of before mid new
 
     -- what is told of a value of which this is left, if anything is
     abbrev pub LeftOf : Option (Begun S C) → List ℕ → Telling
@@ -79,17 +88,22 @@ module _ {S C : Type 0} where
     LeftOf (Some part) before now end = Left part before now end
 
     -- who tells what is left has told the faults of which P holds
-    abbrev pub BeginsAt : (List Fault → Type 0) → Place → Option (Begun S C) → Vec (String Global) Global → Vec (String Global) Global → Type 0
-    BeginsAt P place part old new = (end : List (List ℕ)) → LeftOf part (before place) (texts_of new) end → Adds P (before place) (texts_of old) end
+    abbrev pub BeginsAt : (List Fault → Type 0) → Place → Option (Begun S C) → Vec (String Global) Global
+        → Vec (String Global) Global → Type 0
+    BeginsAt P place part old new =
+        (end : List (List ℕ)) → LeftOf part (before place) (texts_of new) end → Adds P (before place) (texts_of old) end
 
     module _ (variable : List ℕ) where
       -- what is told of what is left of parts, innermost first, the steps to the first one given in that order
       abbrev pub LeftOfAll : List (Begun S C) → List PathStep → Telling
       LeftOfAll [] steps now end = now ≡ end
-      LeftOfAll (p ∷ ps) steps now end = (mid : List (List ℕ)) × Left p (before_path variable (reverse steps)) now mid × LeftOfAll ps (all_but_first steps) mid end
+      LeftOfAll (p ∷ ps) steps now end =
+          (mid : List (List ℕ)) × Left p (before_path variable (reverse steps)) now mid
+          × LeftOfAll ps (all_but_first steps) mid end
 
       -- who tells what is left of the new parts has told this, and then what is left of the old ones
-      abbrev pub Leads : List (Begun S C) → List PathStep → List (List ℕ) → Telling → List (Begun S C) → List PathStep → List (List ℕ) → Type 0
+      abbrev pub Leads : List (Begun S C) → List PathStep → List (List ℕ) → Telling → List (Begun S C) → List PathStep
+          → List (List ℕ) → Type 0
       Leads parts steps now Tells old_parts old_steps old =
           (end : List (List ℕ)) → LeftOfAll (reverse parts) (reverse steps) now end
           → (mid : List (List ℕ)) × Tells old mid × LeftOfAll (reverse old_parts) (all_but_first (reverse old_steps)) mid end
@@ -97,4 +111,5 @@ module _ {S C : Type 0} where
       -- who tells what is left of the new parts has told what is left of the old ones
       abbrev pub GoesOn : List (Begun S C) → List PathStep → List (List ℕ) → List (Begun S C) → List PathStep → List (List ℕ) → Type 0
       GoesOn parts steps now old_parts old_steps old =
-          (end : List (List ℕ)) → LeftOfAll (reverse parts) (reverse steps) now end → LeftOfAll (reverse old_parts) (reverse old_steps) old end
+          (end : List (List ℕ)) → LeftOfAll (reverse parts) (reverse steps) now end
+              → LeftOfAll (reverse old_parts) (reverse old_steps) old end

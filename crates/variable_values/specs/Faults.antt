@@ -1,5 +1,6 @@
 -- The faults of a value that is handed in for a variable, row by row (section 6.1.2).
-use Rattle.std.specs.Prelude.{◌≡◌, ◌⊎◌, ℕ, List, [], ◌∷◌, ◌++◌, length, reverse, map, Option, Some, None, string_bytes, nat_eq, if◌then◌else◌}
+use Rattle.std.specs.Prelude.{◌≡◌, ◌⊎◌, ℕ, List, [], ◌∷◌, ◌++◌, length, reverse, map, Option, Some, None, string_bytes}
+use Rattle.std.specs.Prelude.{nat_eq, if◌then◌else◌}
 use Rattle.language.specs.declared.types.TypeModifier.{TypeModifier}
 use Rattle.language.specs.declared.types.TypeModifier.TheVariants as m
 use Rattle.language.specs.declared.value.InputValue.{InputValue}
@@ -20,7 +21,8 @@ use Rattle.schema.specs.Possible.{is_among}
 use Rattle.variable_values.specs.Dialects.{is_needed, takes_any_value}
 use Rattle.variable_values.specs.InTurn.{InTurn}
 use Rattle.variable_values.specs.Keys.{keys_of, field_names, unknown_keys}
-use Rattle.variable_values.specs.Texts.{null_text, length_text, scalar_text, list_text, object_text, enum_text, no_name_text, no_object_text, unknown_text, input_text}
+use Rattle.variable_values.specs.Texts.{null_text, length_text, scalar_text, list_text, object_text, enum_text}
+use Rattle.variable_values.specs.Texts.{no_name_text, no_object_text, unknown_text, input_text}
 
 -- a step into a value: to an item of a list, or to what stands under a key
 pub data Step : Type 0 where
@@ -112,7 +114,8 @@ module _ {S C : Type 0} (schema : Catalog S C) (may : Answers (InputValue S) C) 
     abbrev pub OfObject : InputObjectMetaOf S C → List (Entry X) → InputValue S → List Fault → Type 0
     OfObject o es value fs =
         (gs : List Fault) × AtFields o.input_fields.items es gs
-        × OrChecked may (gs ++ map unknown_field (unknown_keys (field_names o.input_fields.items) (keys_of es))) (input_object_check o) value (input_text (string_bytes o.name) (printed_value text str_of value)) fs
+        × OrChecked may (gs ++ map unknown_field (unknown_keys (field_names o.input_fields.items) (keys_of es)))
+            (input_object_check o) value (input_text (string_bytes o.name) (printed_value text str_of value)) fs
 
     -- of a value against an input object
     abbrev pub OfInput : v.InputValue-F S X → InputObjectMetaOf S C → InputValue S → List Fault → Type 0
@@ -121,7 +124,9 @@ module _ {S C : Type 0} (schema : Catalog S C) (may : Answers (InputValue S) C) 
 
     -- of a value that isn't null against a scalar, an enum or an input object; no other type has any
     abbrev pub OfMeta : v.InputValue-F S X → InputValue S → MetaTypeOf S C → List Fault → Type 0
-    OfMeta x value (k.Scalar s) fs = Checked may (scalar_check s) value (scalar_text (string_bytes s.name) (printed_value text str_of value)) (accepted_faults schema s x) fs
+    OfMeta x value (k.Scalar s) fs =
+        Checked may (scalar_check s) value (scalar_text (string_bytes s.name) (printed_value text str_of value))
+        (accepted_faults schema s x) fs
     OfMeta x value (k.Enum e) fs = fs ≡ enum_faults (string_bytes e.name) (map (λ n. string_bytes n.name) e.values.items) (name_in str_of x)
     OfMeta x value (k.InputObject o) fs = OfInput x o value fs
     OfMeta x value _ fs = ⊥
@@ -138,7 +143,8 @@ module _ {S C : Type 0} (schema : Catalog S C) (may : Answers (InputValue S) C) 
     Of v.Null value (m.NonNull ∷ ms) name fs = fs ≡ here (null_text (printed (within (m.NonNull ∷ ms) name))) ∷ []
     Of v.Null value (m.List size ∷ ms) name fs = fs ≡ []
     Of (v.List xs) value (m.List size ∷ ms) name fs =
-        (gs : List Fault) × InTurn (λ i x. Inside (element i) (within ms name) x.item) 0 xs.items gs × (fs ≡ wrong_length size (length xs.items) ++ gs)
+        (gs : List Fault) × InTurn (λ i x. Inside (element i) (within ms name) x.item) 0 xs.items gs
+            × (fs ≡ wrong_length size (length xs.items) ++ gs)
     Of x value (m.NonNull ∷ ms) name fs = Of x value ms name fs
     Of x value (m.List size ∷ ms) name fs = (gs : List Fault) × Of x value ms name gs × (fs ≡ wrong_length size 1 ++ gs)
 

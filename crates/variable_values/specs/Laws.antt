@@ -15,4 +15,5 @@ module _ {S C : Type 0} where
   -- a value has one list of faults against a type
   abbrev pub OneList : Catalog S C → Answers (InputValue S) C → (S → List ℕ) → (S → Option (List ℕ)) → Type 0
   OneList schema may text str_of =
-      (value : InputValue S) (t : TypeShape) (fs gs : List Fault) → Faults schema may text str_of value t fs → Faults schema may text str_of value t gs → fs ≡ gs
+      (value : InputValue S) (t : TypeShape) (fs gs : List Fault) → Faults schema may text str_of value t fs
+          → Faults schema may text str_of value t gs → fs ≡ gs

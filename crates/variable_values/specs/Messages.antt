@@ -1,5 +1,6 @@
 -- The errors for the faults of variables.
-use Rattle.std.specs.Prelude.{◌≡◌, ℕ, Bool, true, false, List, [], ◌∷◌, ◌++◌, map, Option, Some, None, String, Vec, codes, option_and_then, string_bytes}
+use Rattle.std.specs.Prelude.{◌≡◌, ℕ, Bool, true, false, List, [], ◌∷◌, ◌++◌, map, Option, Some, None, String, Vec}
+use Rattle.std.specs.Prelude.{codes, option_and_then, string_bytes}
 use Rattle.std.specs.BTreeMap.{BTreeMap, get_by_text}
 use Rattle.std.specs.declared.alloc.Global.{Global}
 use Rattle.std.specs.Fmt.{decimal}
@@ -75,7 +76,9 @@ module _ {S C : Type 0} (schema : Catalog S C) (may : Answers (InputValue S) C) 
   -- what is said of a variable by its value, if it has one that isn't null
   abbrev pub OfVariable : List ℕ → TypeShape → Option (InputValue S) → List (List ℕ) → Type 0
   OfVariable name t None messages = messages ≡ messages_without name t
-  OfVariable name t (Some value) messages = (fs : List Fault) × Faults schema may text str_of value t fs × (messages ≡ map (told_after (invalid_text name)) fs)
+  OfVariable name t (Some value) messages =
+      (fs : List Fault) × Faults schema may text str_of value t fs
+      × (messages ≡ map (told_after (invalid_text name)) fs)
 
   -- what is said of a variable by its definition and its value, if it has one: nothing where a default stands in
   abbrev pub OfDefined : List ℕ → VariableDefinition S → Option (InputValue S) → List (List ℕ) → Type 0
@@ -84,7 +87,8 @@ module _ {S C : Type 0} (schema : Catalog S C) (may : Answers (InputValue S) C) 
   -- the errors of a definition, each at its name
   abbrev pub OfDefinition : Values S → VariableEntry S → List ErrorValue → Type 0
   OfDefinition values d es =
-      (messages : List (List ℕ)) × OfDefined d.0.item.now d.1 (get_by_text values d.0.item.now) messages × (es ≡ map (error_at d.0.span.start) messages)
+      (messages : List (List ℕ)) × OfDefined d.0.item.now d.1 (get_by_text values d.0.item.now) messages
+          × (es ≡ map (error_at d.0.span.start) messages)
 
   -- the errors of an operation: those of each of its definitions
   abbrev pub OfOperation : Values S → Operation S → List ErrorValue → Type 0

@@ -1,5 +1,6 @@
 -- The rows of a value and a type, when its modifiers are taken off.
-use Rattle.std.specs.Prelude.{◌≡◌, ◌<◌, ⊤, ℕ, List, [], ◌∷◌, ◌++◌, length, map, is_some, Option, Some, None, reverse, true}
+use Rattle.std.specs.Prelude.{◌≡◌, ◌<◌, ⊤, ℕ, List, [], ◌∷◌, ◌++◌, length, map, is_some, Option, Some, None, reverse}
+use Rattle.std.specs.Prelude.{true}
 use Rattle.language.specs.declared.position.Span.{Span}
 use Rattle.language.specs.declared.position.Spanning.{Spanning}
 use Rattle.language.specs.declared.types.TypeModifier.{TypeModifier}
@@ -17,7 +18,8 @@ use Rattle.variable_values.specs.declared.rows.Row.{Row}
 use Rattle.variable_values.specs.declared.rows.Row.TheVariants as r
 use Rattle.variable_values.specs.declared.rows.Step.{Step as RowStep}
 use Rattle.variable_values.specs.declared.rows.Step.TheVariants as s
-use Rattle.variable_values.specs.Faults.{Fault, Faults, Step, AtField, AtFields, OfMeta, OfNamed, OfObject, element, here, judge_of, under, wrong_length}
+use Rattle.variable_values.specs.Faults.{Fault, Faults, Step, AtField, AtFields, OfMeta, OfNamed, OfObject, element}
+use Rattle.variable_values.specs.Faults.{here, judge_of, under, wrong_length}
 use Rattle.variable_values.specs.InTurn.{InTurn}
 use Rattle.variable_values.specs.Inputs.{is_input_in}
 use Rattle.variable_values.specs.Texts.{null_text}

@@ -8,11 +8,15 @@ null_text type = codes "Expected \"" ++ (type ++ codes "\", found null.")
 
 -- a list of another length than the expected one
 abbrev pub length_text : ℕ → ℕ → List ℕ
-length_text expected found = codes "Expected list of " ++ (decimal expected ++ (codes " elements, found " ++ (decimal found ++ codes " elements.")))
+length_text expected found =
+    codes "Expected list of " ++ (decimal expected
+    ++ (codes " elements, found " ++ (decimal found ++ codes " elements.")))
 
 -- what the check of a scalar refuses, and why
 abbrev pub scalar_text : List ℕ → List ℕ → List ℕ → List ℕ
-scalar_text name value why = codes "Expected input scalar `" ++ (name ++ (codes "`. Got: `" ++ (value ++ (codes "`. Details: " ++ (why ++ codes ".")))))
+scalar_text name value why =
+    codes "Expected input scalar `" ++ (name
+    ++ (codes "`. Got: `" ++ (value ++ (codes "`. Details: " ++ (why ++ codes ".")))))
 
 -- a list and an object that it accepts
 abbrev pub list_text : List ℕ → List ℕ
@@ -38,4 +42,6 @@ unknown_text = codes "Unknown field."
 
 -- what the check of an input object refuses, and why
 abbrev pub input_text : List ℕ → List ℕ → List ℕ → List ℕ
-input_text name value why = codes "Expected input of type `" ++ (name ++ (codes "`. Got: `" ++ (value ++ (codes "`. Details: " ++ (why ++ codes ".")))))
+input_text name value why =
+    codes "Expected input of type `" ++ (name
+    ++ (codes "`. Got: `" ++ (value ++ (codes "`. Details: " ++ (why ++ codes ".")))))

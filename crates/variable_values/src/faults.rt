@@ -1,5 +1,6 @@
 //! The faults of a value against a type.
-ghost use Rattle.std.specs.Prelude.{◌≡◌, ◌<◌, [], IfOk, IfSome, List, OnOk, Some, length, map, option_copied, option_map, reverse, string_bytes, true};
+ghost use Rattle.std.specs.Prelude.{◌≡◌, ◌<◌, [], IfOk, IfSome, List, OnOk, Some, length, map, option_copied};
+ghost use Rattle.std.specs.Prelude.{option_map, reverse, string_bytes, true};
 ghost use Rattle.std.specs.List.{All};
 ghost use Rattle.schema.specs.Possible.{is_among};
 ghost use Rattle.schema_validation.specs.Names.{argument_type};
@@ -9,13 +10,16 @@ ghost use Rattle.language.specs.ValuesPrinted.{printed_value};
 ghost use Rattle.language.specs.Values.{last_value};
 ghost use Rattle.meta.specs.Kept.{input_object_check, scalar_check};
 ghost use Rattle.meta.specs.Kinds.{is_input_meta};
-ghost use Rattle.variable_values.specs.Begun.{BeginsAt, EndsObject, GoesOn, IsBegunOf, IsKnown, Leads, Left, OfGiven, all_but_first};
+ghost use Rattle.variable_values.specs.Begun.{BeginsAt, EndsObject, GoesOn, IsBegunOf, IsKnown, Leads, Left, OfGiven};
+ghost use Rattle.variable_values.specs.Begun.{all_but_first};
 ghost use Rattle.variable_values.specs.Entries.{HasPlaces};
-ghost use Rattle.variable_values.specs.Faults.{Checked, Faults, accepted_faults, enum_faults, left_out, name_in, whole_faults, wrong_length};
+ghost use Rattle.variable_values.specs.Faults.{Checked, Faults, accepted_faults, enum_faults, left_out, name_in};
+ghost use Rattle.variable_values.specs.Faults.{whole_faults, wrong_length};
 ghost use Rattle.variable_values.specs.Inputs.{is_input_in};
 ghost use Rattle.variable_values.specs.Messages.{Adds, invalid_text, texts_of};
 ghost use Rattle.variable_values.specs.Places.{AddsAt, before_path};
-ghost use Rattle.variable_values.specs.Rows.{Answered, ByMeta, ByName, IsIn, Others, length_of_one, lengths_of, lengths_of_one};
+ghost use Rattle.variable_values.specs.Rows.{Answered, ByMeta, ByName, IsIn, Others, length_of_one, lengths_of};
+ghost use Rattle.variable_values.specs.Rows.{lengths_of_one};
 ghost use Rattle.variable_values.specs.Texts.{input_text, scalar_text};
 
 use crate::begun::{Begun, BegunObject};

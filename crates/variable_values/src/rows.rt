@@ -5,7 +5,8 @@ ghost use Rattle.schema_validation.specs.Names.{argument_type};
 ghost use Rattle.meta.specs.Kinds.{is_input_meta};
 ghost use Rattle.schema.specs.Catalog.{Catalog, type_in};
 ghost use Rattle.variable_values.specs.Faults.{Fault};
-ghost use Rattle.variable_values.specs.Rows.{HasName, HasStepName, IsIn, IsKnownRow, IsListRow, IsListStep, IsRowOf, IsShorter, IsStepOf};
+ghost use Rattle.variable_values.specs.Rows.{HasName, HasStepName, IsIn, IsKnownRow, IsListRow, IsListStep, IsRowOf};
+ghost use Rattle.variable_values.specs.Rows.{IsShorter, IsStepOf};
 ghost use Rattle.variable_values.specs.Inputs.{is_input_in};
 
 use language::types::{BorrowedType, TypeModifier};

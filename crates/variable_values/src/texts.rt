@@ -5,7 +5,8 @@ ghost use Rattle.language.specs.ValuesPrinted.{printed_value};
 ghost use Rattle.variable_values.specs.Faults.{here, unknown_field, under};
 ghost use Rattle.variable_values.specs.Messages.{required_text, told_after};
 ghost use Rattle.variable_values.specs.Places.{before};
-ghost use Rattle.variable_values.specs.Texts.{null_text, length_text, scalar_text, list_text, object_text, enum_text, no_name_text, no_object_text, input_text};
+ghost use Rattle.variable_values.specs.Texts.{null_text, length_text, scalar_text, list_text, object_text, enum_text};
+ghost use Rattle.variable_values.specs.Texts.{no_name_text, no_object_text, input_text};
 
 use crate::place::Place;
 use language::scalar::ScalarValue;

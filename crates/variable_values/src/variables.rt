@@ -1,5 +1,6 @@
 //! The values of an operation's variables.
-ghost use Rattle.std.specs.Prelude.{◌≡◌, ◌++◌, IfOk, IsPermutation, IsSorted, List, OnOk, map, option_copied, string_bytes, true};
+ghost use Rattle.std.specs.Prelude.{◌≡◌, ◌++◌, IfOk, IsPermutation, IsSorted, List, OnOk, map, option_copied};
+ghost use Rattle.std.specs.Prelude.{string_bytes, true};
 ghost use Rattle.std.specs.BTreeMap.{get_by_text};
 ghost use Rattle.language.specs.Types.{borrowed_shape, shape};
 ghost use Rattle.walk.specs.ErrorValue.{ErrorValue, error_cmp};
@@ -25,9 +26,9 @@ use walk::RuleError;
 ///
 /// The errors are in ascending order, each at the name of its variable. The type of each variable has to be a known
 /// input type, as in a document without errors. An input object is read by its `to_object_value`: of several entries
-/// of a key the last counts. The dialect is the schema's: in October 2021 a variable or an input field that has a default
-/// may be left out, and lists and objects may stand for a scalar that takes any literal. A value without a fault takes no memory
-/// for messages, and no stack for its depth: lists hold the parts of a value that are begun.
+/// of a key the last counts. The dialect is the schema's: in October 2021 a variable or an input field that has a
+/// default may be left out, and lists and objects may stand for a scalar that takes any literal. A value without a
+/// fault takes no memory for messages, and no stack for its depth: lists hold the parts of a value that are begun.
 ///
 /// # Errors
 ///

@@ -48,31 +48,40 @@ module _ {S C : Type 0} (schema : Catalog S C) (may : Answers (InputValue S) C) 
     nothing : (t : TypeShape) → ¬ (IsNonNull t) → Conforms None t
     null : (t : TypeShape) → ¬ (IsNonNull t) → Conforms (Some variant.Null) t
     -- any other value for a non-null type, where it conforms to the type inside
-    non_null : (value : InputValue S) (t : TypeShape) → ¬ (value ≡ variant.Null) → Conforms (Some value) t → Conforms (Some value) (wrapped_by m.NonNull t)
+    non_null : (value : InputValue S) (t : TypeShape) → ¬ (value ≡ variant.Null) → Conforms (Some value) t
+        → Conforms (Some value) (wrapped_by m.NonNull t)
     -- a list of the right length, where each item conforms to the type of items
     list : (value : InputValue S) (size : Option ℕ) (t : TypeShape) (xs : List (Spanning (InputValue S) Span))
-        → list_items value ≡ Some xs → HasLength xs size → ((x : Spanning (InputValue S) Span) → Contains xs x → Conforms (Some x.item) t) → Conforms (Some value) (list_of size t)
-    -- one value for a list, where one is the length that is asked for, if any is, and the value conforms to the type of items
+        → list_items value ≡ Some xs → HasLength xs size
+            → ((x : Spanning (InputValue S) Span) → Contains xs x → Conforms (Some x.item) t)
+            → Conforms (Some value) (list_of size t)
+    -- one value for a list, where one is the length that is asked for, if any is, and the value conforms to the type of
+    -- items
     single : (value : InputValue S) (size : Option ℕ) (t : TypeShape)
-        → ¬ (value ≡ variant.Null) → list_items value ≡ None → IsLength 1 size → Conforms (Some value) t → Conforms (Some value) (list_of size t)
+        → ¬ (value ≡ variant.Null) → list_items value ≡ None → IsLength 1 size → Conforms (Some value) t
+            → Conforms (Some value) (list_of size t)
     -- what the check of a scalar accepts, but for lists and objects, unless the scalar takes any value
     scalar : (value : InputValue S) (name : List ℕ) (s : ScalarMetaOf C) → type_in name schema ≡ Some (k.Scalar s)
-        → (takes_any_value schema s ≡ false → IsPlain value) → Accepts may (scalar_check s) value → Conforms (Some value) (nullable_named name)
+        → (takes_any_value schema s ≡ false → IsPlain value) → Accepts may (scalar_check s) value
+            → Conforms (Some value) (nullable_named name)
     -- a value of an enum, and a string of its name
     enum_value : (text : String Global) (name : List ℕ) (e : EnumMetaOf C) → type_in name schema ≡ Some (k.Enum e)
         → Contains (value_names e) (string_bytes text) → Conforms (Some (variant.Enum text)) (nullable_named name)
     enum_string : (s : S) (text name : List ℕ) (e : EnumMetaOf C) → type_in name schema ≡ Some (k.Enum e)
         → str_of s ≡ Some text → Contains (value_names e) text → Conforms (Some (variant.Scalar s)) (nullable_named name)
-    -- an object for an input object, where each key is the name of a field, no field that has to be given is left out, the last value of each
-    -- field conforms to the field's type, and the check accepts the object
+    -- an object for an input object, where each key is the name of a field, no field that has to be given is left out,
+    -- the last value of each field conforms to the field's type, and the check accepts the object
     input_object : (value : InputValue S) (name : List ℕ) (o : InputObjectMetaOf S C) (es : List (Entry (InputValue S)))
         → type_in name schema ≡ Some (k.InputObject o) → object_entries value ≡ Some es
         → ((key : List ℕ) → Contains (keys_of es) key → Contains (field_names o.input_fields.items) key)
         → ((a : Argument S) → Contains o.input_fields.items a → last_value (string_bytes a.name) es ≡ None → is_needed schema a ≡ false)
-        → ((a : Argument S) (x : InputValue S) → Contains o.input_fields.items a → last_value (string_bytes a.name) es ≡ Some x → Conforms (Some x) (shape a.arg_type))
+        → ((a : Argument S) (x : InputValue S) → Contains o.input_fields.items a
+            → last_value (string_bytes a.name) es ≡ Some x → Conforms (Some x) (shape a.arg_type))
         → Accepts may (input_object_check o) value → Conforms (Some value) (nullable_named name)
 
   -- the value of each variable of the operation conforms to the variable's type, unless a default stands in for it
   abbrev pub VariablesConform : Values S → Operation S → Type 0
-  VariablesConform values o = (d : VariableEntry S) → Contains (definitions_of o) d → stands_in schema d.1 (get_by_text values d.0.item.now) ≡ false
+  VariablesConform values o =
+      (d : VariableEntry S) → Contains (definitions_of o) d
+      → stands_in schema d.1 (get_by_text values d.0.item.now) ≡ false
       → Conforms (get_by_text values d.0.item.now) (shape d.1.var_type.item)

@@ -17,19 +17,24 @@ use Rattle.variable_values_laws.specs.Conforms.{Conforms, VariablesConform}
 module _ {S C : Type 0} (schema : Catalog S C) (may : Answers (InputValue S) C) (text : S → List ℕ) (str_of : S → Option (List ℕ)) where
   -- a value has no faults if and only if it conforms
   abbrev pub FaultlessIffConforms : Type 0
-  FaultlessIffConforms = (value : InputValue S) (t : TypeShape) → Faults schema may text str_of value t [] ↔ Conforms schema may str_of (Some value) t
+  FaultlessIffConforms =
+      (value : InputValue S) (t : TypeShape) → Faults schema may text str_of value t []
+      ↔ Conforms schema may str_of (Some value) t
 
   -- the list of a value's faults is empty if and only if it conforms
   abbrev pub NoneIffConforms : Type 0
-  NoneIffConforms = (value : InputValue S) (t : TypeShape) (fs : List Fault) → Faults schema may text str_of value t fs → (fs ≡ []) ↔ Conforms schema may str_of (Some value) t
+  NoneIffConforms = (value : InputValue S) (t : TypeShape) (fs : List Fault) → Faults schema may text str_of value t fs
+      → (fs ≡ []) ↔ Conforms schema may str_of (Some value) t
 
   -- an operation has one list of errors
   abbrev pub OneListOfErrors : Type 0
-  OneListOfErrors = (values : Values S) (o : Operation S) (es fs : List ErrorValue) → OfOperation schema may text str_of values o es → OfOperation schema may text str_of values o fs → es ≡ fs
+  OneListOfErrors = (values : Values S) (o : Operation S) (es fs : List ErrorValue)
+      → OfOperation schema may text str_of values o es → OfOperation schema may text str_of values o fs → es ≡ fs
 
   -- it is empty if and only if the values of all variables conform
   abbrev pub NoErrorIffConform : Type 0
-  NoErrorIffConform = (values : Values S) (o : Operation S) (es : List ErrorValue) → OfOperation schema may text str_of values o es → (es ≡ []) ↔ VariablesConform schema may str_of values o
+  NoErrorIffConform = (values : Values S) (o : Operation S) (es : List ErrorValue)
+      → OfOperation schema may text str_of values o es → (es ≡ []) ↔ VariablesConform schema may str_of values o
 
   -- where they conform, each check that is asked accepts what it is asked of
   abbrev pub AcceptedWhereConform : Type 0
@@ -47,4 +52,5 @@ module _ {S C : Type 0} (schema : Catalog S C) (may : Answers (InputValue S) C) 
   OneSortedAnswer = (values : Values S) (o : Operation S) (es fs : List ErrorValue) → IsAnswer values o es → IsAnswer values o fs → es ≡ fs
 
   abbrev pub EmptyIffConform : Type 0
-  EmptyIffConform = (values : Values S) (o : Operation S) (es : List ErrorValue) → IsAnswer values o es → (es ≡ []) ↔ VariablesConform schema may str_of values o
+  EmptyIffConform = (values : Values S) (o : Operation S) (es : List ErrorValue) → IsAnswer values o es → (es ≡ [])
+      ↔ VariablesConform schema may str_of values o

@@ -1,7 +1,8 @@
 //! Laws of values of variables.
 
 ghost use Rattle.schema.specs.Catalog.{Catalog};
-ghost use Rattle.variable_values_laws.specs.Laws.{AcceptedWhereConform, EmptyIffConform, FaultlessIffConforms, NoErrorIffConform, NoneIffConforms, OneSortedAnswer, OneListOfErrors};
+ghost use Rattle.variable_values_laws.specs.Laws.{AcceptedWhereConform, EmptyIffConform, FaultlessIffConforms};
+ghost use Rattle.variable_values_laws.specs.Laws.{NoErrorIffConform, NoneIffConforms, OneSortedAnswer, OneListOfErrors};
 
 use meta::check::CheckedScalar;
 

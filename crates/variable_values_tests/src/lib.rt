@@ -1,5 +1,5 @@
-//! Values of variables: the two dialects, and requests for memory refused in turn. What is said of values by juniper is in
-//! the rows of `conformance`.
+//! Values of variables: the two dialects, and requests for memory refused in turn. What is said of values by juniper is
+//! in the rows of `conformance`.
 #![tactic(auto)]
 
 #[cfg(test)]

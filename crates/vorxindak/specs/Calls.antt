@@ -17,7 +17,8 @@ use Rattle.vorxindak.specs.Statuses.{already_open, closed, faulty_schema, out_of
 
 -- what is answered of the texts of a schema, and what a handle without a schema has then
 pub data Opens (bytes : List ℕ) (dialect : Dialect) (status : ℕ) (new : Option Held) : Type 0 where
-  opened : (schema : SourceCatalog) → status ≡ valid → IsUtf8 bytes → IsSchemaIn dialect schema → schema_in new ≡ Some schema → report_in new ≡ [] → Opens bytes dialect status new
+  opened : (schema : SourceCatalog) → status ≡ valid → IsUtf8 bytes → IsSchemaIn dialect schema
+      → schema_in new ≡ Some schema → report_in new ≡ [] → Opens bytes dialect status new
   faulty : status ≡ faulty_schema → IsUtf8 bytes → schema_in new ≡ None → HasFaults (report_in new) → Opens bytes dialect status new
   no_text : status ≡ status_in NotUtf8 → schema_in new ≡ None → IsNotUtf8 bytes (report_in new) → Opens bytes dialect status new
   no_memory : status ≡ out_of_memory → new ≡ None → Opens bytes dialect status new

@@ -2,8 +2,8 @@
 //! stands in `include/vorxindak.h`.
 //!
 //! Proved: what each call answers and leaves in the handle. A document is answered with `VALID` exactly where the
-//! document that was read is valid, and a report's bytes are those of its errors. That a handle may go to another thread
-//! is proved in `schema_handle`.
+//! document that was read is valid, and a report's bytes are those of its errors. That a handle may go to another
+//! thread is proved in `schema_handle`.
 #![tactic(auto)]
 
 ghost use Rattle.std.specs.Prelude.{◌≡◌, ◌<◌, ◌≤◌, [], IfSome, None};
@@ -59,8 +59,8 @@ pub extern "C" fn vorxindak_open(
     open_closed(alloc, handle, texts, dialect)
 }
 
-/// Validates a document. The handle keeps the report, which has at most `max_errors` errors, or all for 0. The one known
-/// flag is `NO_INTROSPECTION`.
+/// Validates a document. The handle keeps the report, which has at most `max_errors` errors, or all for 0. The one
+/// known flag is `NO_INTROSPECTION`.
 #[unsafe(no_mangle)]
 pub extern "C" fn vorxindak_validate(
     alloc: Global,
@@ -71,7 +71,8 @@ pub extern "C" fn vorxindak_validate(
 ) -> u32
     ensures unknown { 1 < flags → (result ≡ unknown_flag) × (handle.new.slot.value ≡ handle.old.slot.value) }
     ensures told { flags ≤ 1 → TellsOnce (λ schema.
-        OfBytes (Answers ⟦<SourceScalar as AnswerRules>⟧.rules (choices_in flags max_errors) schema query.now) query.now)
+        OfBytes (Answers ⟦<SourceScalar as AnswerRules>⟧.rules (choices_in flags max_errors) schema query.now)
+        query.now)
         result
         (schema_in handle.old.slot.value) handle.old.slot.value handle.new.slot.value }
 {

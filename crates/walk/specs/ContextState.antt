@@ -1,14 +1,15 @@
 -- What a context holds, as callers see it.
 use Rattle.std.specs.Global.{Global}
-use Rattle.std.specs.Prelude.{◌≡◌, ◌==◌, ◌||◌, nat_lt, if◌then◌else◌, ℕ, ◌+◌, ◌-◌, ◌<◌, List, [], ◌∷◌, ◌++◌, Option, Some, None, Bool, true, false, slice_get, length, take}
+use Rattle.std.specs.Prelude.{◌≡◌, ◌==◌, ◌||◌, nat_lt, if◌then◌else◌, ℕ, ◌+◌, ◌-◌, ◌<◌, List, [], ◌∷◌, ◌++◌, Option}
+use Rattle.std.specs.Prelude.{Some, None, Bool, true, false, slice_get, length, take}
 use Rattle.language.specs.declared.tree.Definition.{Definition}
 use Rattle.schema.specs.Catalog.{Catalog}
 use Rattle.walk.specs.ErrorValue.{ErrorValue}
 use Rattle.walk.specs.Names.{fragment_names}
 use Rattle.events.specs.Typing.{Typing, untyped}
 
--- what it allocates by, the schema, the names of the document's fragments, the types that were pushed, what was reported, how
--- many errors it keeps (0: all), and whether it has failed
+-- what it allocates by, the schema, the names of the document's fragments, the types that were pushed, what was
+-- reported, how many errors it keeps (0: all), and whether it has failed
 pub record ContextState (S C : Type 0) : Type 0 where
   pub allocator : Global
   pub schema : Catalog S C
@@ -85,11 +86,13 @@ module _ {S C : Type 0} where
 
   -- a context that was made for a document: no types, and nothing reported
   abbrev pub fresh_context : Global → Catalog S C → List (Definition S) → ContextState S C
-  fresh_context alloc schema doc = record { allocator = alloc; schema = schema; known = fragment_names doc; typings = []; errors = []; limit = 0; failed = false }
+  fresh_context alloc schema doc =
+      record { allocator = alloc; schema = schema; known = fragment_names doc; typings = []; errors = []; limit = 0;
+      failed = false }
 
 module _ {S C : Type 0} where
-  -- types that are pushed and popped leave a context as it was, but for what was reported between; whatever is done between, the types
-  -- are those from before if it left them as it found them
+  -- types that are pushed and popped leave a context as it was, but for what was reported between; whatever is done
+  -- between, the types are those from before if it left them as it found them
   abbrev pub LeavesTypes : ContextState S C → Typing S C → Type 0
   LeavesTypes w t =
       (popped (pushed w t) ≡ w)

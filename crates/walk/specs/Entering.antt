@@ -18,7 +18,8 @@ made_at make _ k = k
 
 module _ {S C : Type 0} where
   -- what a rule does at an occurrence: its state before and after, and what it reports
-  abbrev pub at_side : {V : Type 0} → (Occurrence S C → V → V → List ErrorValue → Type 0) → Side → Node S → Typing S C → V → V → List ErrorValue → Type 0
+  abbrev pub at_side : {V : Type 0} → (Occurrence S C → V → V → List ErrorValue → Type 0) → Side → Node S → Typing S C
+      → V → V → List ErrorValue → Type 0
   at_side step entering node types a b es = step (record { node = node; types = types }) a b es
   at_side step leaving node types a b es = (b ≡ a) × (es ≡ [])
 
@@ -39,16 +40,19 @@ module _ {S C : Type 0} where
   relating_step gives = entering_step (λ scope o a b es. (b ≡ a) × gives scope o es)
 
   -- A rule that keeps something, which is replaced at each occurrence, as a list that is pushed on and reset.
-  abbrev pub keeping_step : {V K : Type 0} → (V → K) → (DocumentScope S C → Occurrence S C → K → K) → (DocumentScope S C → Occurrence S C → K → List ErrorValue) → StepOf S C V
+  abbrev pub keeping_step : {V K : Type 0} → (V → K) → (DocumentScope S C → Occurrence S C → K → K)
+      → (DocumentScope S C → Occurrence S C → K → List ErrorValue) → StepOf S C V
   keeping_step kept next finds = entering_step (λ scope o a b es. (kept b ≡ next scope o (kept a)) × (es ≡ finds scope o (kept a)))
 
   -- A rule that makes something of the document where it is entered, and reads it from then on.
-  abbrev pub prepared_step : {V K : Type 0} → (V → K) → (DocumentScope S C → List (Definition S) → K) → (DocumentScope S C → K → Occurrence S C → List ErrorValue) → StepOf S C V
+  abbrev pub prepared_step : {V K : Type 0} → (V → K) → (DocumentScope S C → List (Definition S) → K)
+      → (DocumentScope S C → K → Occurrence S C → List ErrorValue) → StepOf S C V
   prepared_step kept make finds =
       entering_step (λ scope o a b es. (kept b ≡ made_at (make scope) o.node (kept a)) × (es ≡ finds scope (kept b) o))
 
   -- what is found at each occurrence of the document by what is made of it
-  abbrev pub found_by : {K : Type 0} → (DocumentScope S C → List (Definition S) → K) → (DocumentScope S C → K → Occurrence S C → List ErrorValue) → Collection S C
+  abbrev pub found_by : {K : Type 0} → (DocumentScope S C → List (Definition S) → K)
+      → (DocumentScope S C → K → Occurrence S C → List ErrorValue) → Collection S C
   found_by make finds scope t doc = flat_map (finds scope (make scope doc)) (occurrences scope.schema t doc)
 
 -- each of the list in turn gives some part
@@ -72,11 +76,13 @@ module _ {S C : Type 0} where
   given gives scope t doc es = EachGives (gives scope) (occurrences scope.schema t doc) es
 
   -- what is found at the occurrences of a document by what is kept, at first k
-  abbrev pub kept_findings : {K : Type 0} → (DocumentScope S C → Occurrence S C → K → K) → (DocumentScope S C → Occurrence S C → K → List ErrorValue) → K → Collection S C
+  abbrev pub kept_findings : {K : Type 0} → (DocumentScope S C → Occurrence S C → K → K)
+      → (DocumentScope S C → Occurrence S C → K → List ErrorValue) → K → Collection S C
   kept_findings next finds k scope t doc = found_keeping (next scope) (finds scope) k (occurrences scope.schema t doc)
 
   -- the same, and what is kept at the end
-  abbrev pub kept_to : {V K : Type 0} → (V → K) → (DocumentScope S C → Occurrence S C → K → K) → (DocumentScope S C → Occurrence S C → K → List ErrorValue) → K → V → Allowance S C
+  abbrev pub kept_to : {V K : Type 0} → (V → K) → (DocumentScope S C → Occurrence S C → K → K)
+      → (DocumentScope S C → Occurrence S C → K → List ErrorValue) → K → V → Allowance S C
   kept_to kept next finds k end scope t doc es =
       (kept end ≡ kept_after (next scope) k (occurrences scope.schema t doc)) × exactly (kept_findings next finds k) scope t doc es
 
@@ -89,6 +95,7 @@ module _ {S C : Type 0} where
   everywhere IsRight scope t doc = (o : Occurrence S C) → Contains (occurrences scope.schema t doc) o → IsRight scope o
 
   -- each occurrence is as it should be, by what is made of the document
-  abbrev pub everywhere_by : {K : Type 0} → (DocumentScope S C → List (Definition S) → K) → (DocumentScope S C → K → Occurrence S C → Type 0) → Condition S C
+  abbrev pub everywhere_by : {K : Type 0} → (DocumentScope S C → List (Definition S) → K)
+      → (DocumentScope S C → K → Occurrence S C → Type 0) → Condition S C
   everywhere_by make IsRight scope t doc =
       (o : Occurrence S C) → Contains (occurrences scope.schema t doc) o → IsRight scope (make scope doc) o

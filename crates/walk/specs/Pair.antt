@@ -17,11 +17,14 @@ abbrev pub no_step : {S C : Type 0} → StepOf S C MultiVisitorNil
 no_step scope event a b es = (b ≡ a) × (es ≡ [])
 
 -- the other was not called, unless the newer one made its step
-abbrev pub StopsAtFirst : {S C V W : Type 0} → StepOf S C V → TypedEvent S C → MultiVisitorCons V W → MultiVisitorCons V W → ContextState S C → Type 0
+abbrev pub StopsAtFirst : {S C V W : Type 0} → StepOf S C V → TypedEvent S C → MultiVisitorCons V W
+    → MultiVisitorCons V W → ContextState S C → Type 0
 StopsAtFirst {S} {C} newer event a b old = (b.1 ≡ a.1) ⊎ (mid : ContextState S C) × Stepped newer event a.0 b.0 old mid
 
--- a run of the pair, taken apart: each of the two runs through the same events, and what the pair appended is what the two appended, in some order
-pub record SplitRun {S C V W : Type 0} (newer : StepOf S C V) (other : StepOf S C W) (scope : DocumentScope S C) (events : List (TypedEvent S C)) (a b : MultiVisitorCons V W) (es : List ErrorValue) : Type 0 where
+-- a run of the pair, taken apart: each of the two runs through the same events, and what the pair appended is what the
+-- two appended, in some order
+pub record SplitRun {S C V W : Type 0} (newer : StepOf S C V) (other : StepOf S C W) (scope : DocumentScope S C)
+    (events : List (TypedEvent S C)) (a b : MultiVisitorCons V W) (es : List ErrorValue) : Type 0 where
   pub by_newer : List ErrorValue
   pub by_other : List ErrorValue
   pub newer_runs : Run (newer scope) events a.0 b.0 by_newer

@@ -31,9 +31,9 @@ use std::marker::Model;
 
 /// The schema, the names of the document's fragments, the types at the current node, and the errors that were reported.
 ///
-/// A context fails if memory runs out in a call that changes it or in a walk over it, or if `fail` is called. From then on each call
-/// that reports, pushes or ends returns an error, and so does each walk. `numbered_names` leaves the context as it is: a rule that it
-/// refuses returns an error, and the walk makes the context fail.
+/// A context fails if memory runs out in a call that changes it or in a walk over it, or if `fail` is called. From then
+/// on each call that reports, pushes or ends returns an error, and so does each walk. `numbered_names` leaves the
+/// context as it is: a rule that it refuses returns an error, and the walk makes the context fail.
 #[derive(Drop)]
 pub struct ValidatorContextOf<'a, S, C> {
     pub schema: &'a SchemaTypeOf<S, C>,
@@ -109,8 +109,8 @@ impl<'a, S, C> ValidatorContextOf<'a, S, C> {
         self.fragment_names.has(name)
     }
 
-    /// The names of the fragments of a document, numbered. Those of the document that the context was made for are numbered once,
-    /// for all callers.
+    /// The names of the fragments of a document, numbered. Those of the document that the context was made for are
+    /// numbered once, for all callers.
     ///
     /// # Errors
     ///
@@ -237,7 +237,8 @@ impl<'a, S, C> ValidatorContextOf<'a, S, C> {
     ///
     /// # Errors
     ///
-    /// Out of memory, if there are errors to add, or the context has failed before. Nothing is added, and the context fails from then on.
+    /// Out of memory, if there are errors to add, or the context has failed before. Nothing is added, and the context
+    /// fails from then on.
     pub fn append_errors(&mut self, mut errors: Vec<RuleError>) -> Result<(), OutOfMemory>
         ensures ok { OnOk result (self.new ≡ with_errors self.old errors.items) }
         ensures err { OnErr result (self.new ≡ failing self.old) }
@@ -354,7 +355,8 @@ impl<'a, S, C> ValidatorContextOf<'a, S, C> {
     ///
     /// # Errors
     ///
-    /// Out of memory to push the type, or the context has failed before. `f` is not called, and the context fails from then on.
+    /// Out of memory to push the type, or the context has failed before. `f` is not called, and the context fails from
+    /// then on.
     pub fn with_pushed_type<R, F: FnOnce(&mut ValidatorContextOf<'a, S, C>) -> R + Drop>(
         &mut self,
         t: Option<BorrowedType<'a>>,
@@ -372,14 +374,15 @@ impl<'a, S, C> ValidatorContextOf<'a, S, C> {
         self.with_types(types, f)
     }
 
-    /// Calls `f` once, in the selection set of the current node, whose type is the parent type there, and returns what `f` returns.
-    /// The parent type is popped again.
+    /// Calls `f` once, in the selection set of the current node, whose type is the parent type there, and returns what
+    /// `f` returns. The parent type is popped again.
     ///
     /// If memory runs out in a call that `f` makes on the context, the context fails from then on.
     ///
     /// # Errors
     ///
-    /// Out of memory to push the type, or the context has failed before. `f` is not called, and the context fails from then on.
+    /// Out of memory to push the type, or the context has failed before. `f` is not called, and the context fails from
+    /// then on.
     pub fn with_pushed_parent_type<R, F: FnOnce(&mut ValidatorContextOf<'a, S, C>) -> R + Drop>(
         &mut self,
         f: F,
@@ -399,7 +402,8 @@ impl<'a, S, C> ValidatorContextOf<'a, S, C> {
     ///
     /// # Errors
     ///
-    /// Out of memory to push the type, or the context has failed before. `f` is not called, and the context fails from then on.
+    /// Out of memory to push the type, or the context has failed before. `f` is not called, and the context fails from
+    /// then on.
     pub fn with_pushed_input_type<R, F: FnOnce(&mut ValidatorContextOf<'a, S, C>) -> R + Drop>(
         &mut self,
         t: Option<BorrowedType<'a>>,

@@ -1,6 +1,7 @@
 //! Rules: visitors that say what they report.
 
-ghost use Rattle.walk.specs.Rule.{Allowance, AllowsFrom, Condition, SilentIff, always, anywhere, any_value, both_so, nothing, pair_allows, pair_fresh};
+ghost use Rattle.walk.specs.Rule.{Allowance, AllowsFrom, Condition, SilentIff, always, anywhere, any_value, both_so};
+ghost use Rattle.walk.specs.Rule.{nothing, pair_allows, pair_fresh};
 ghost use Rattle.walk.specs.RuleLaws.{nil_keeps, nil_silent, pair_keeps, pair_silent};
 
 use crate::multi_visitor::{MultiVisitorCons, MultiVisitorNil};

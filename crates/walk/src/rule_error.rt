@@ -18,8 +18,8 @@ use std::marker::Model;
 
 /// A message, and the places of the document that it is about.
 ///
-/// Errors are ordered by their places, one by one, where a list stands before a longer one that begins with it; errors at
-/// the same places are ordered by the bytes of their messages.
+/// Errors are ordered by their places, one by one, where a list stands before a longer one that begins with it; errors
+/// at the same places are ordered by the bytes of their messages.
 #[derive(Clone, Debug, Drop)]
 pub struct RuleError {
     locations: Vec<SourcePosition>,

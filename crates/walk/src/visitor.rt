@@ -20,7 +20,8 @@ pub trait Machine<S, C> {
 pub trait Visitor<'a, S: CheckedScalar>: Machine<S, S::Check> {
     /// Is called at an event, at the types that the context has.
     ///
-    /// It makes a step of the machine and appends the errors of that step to the context, which it leaves alone otherwise.
+    /// It makes a step of the machine and appends the errors of that step to the context, which it leaves alone
+    /// otherwise.
     ///
     /// # Errors
     ///

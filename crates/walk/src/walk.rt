@@ -162,8 +162,8 @@ pub fn visit<'a, 't, A: Visitor<'a, S>, B: Visitor<'a, S>, S: CheckedScalar>(
 
 /// Walks over a document with fresh rules.
 ///
-/// In a context that was made for this document the rules append what they are allowed to, in the states that they end in. In any
-/// other they only append errors. In both they go through the document's events, each by its step.
+/// In a context that was made for this document the rules append what they are allowed to, in the states that they end
+/// in. In any other they only append errors. In both they go through the document's events, each by its step.
 ///
 /// # Errors
 ///
@@ -185,8 +185,8 @@ pub fn visit_rules<'a, 't, S: CheckedScalar, R: Visitor<'a, S> + Rule<S, S::Chec
     walk_with(rules, ctx, shorten(document))
 }
 
-/// Walks over a document with fresh rules, as `visit_rules`. In a context that was made for this document they report nothing if and
-/// only if each of them finds nothing.
+/// Walks over a document with fresh rules, as `visit_rules`. In a context that was made for this document they report
+/// nothing if and only if each of them finds nothing.
 ///
 /// # Errors
 ///

@@ -10,7 +10,8 @@ use meta::check::CheckedScalar;
 use walk::laws::rules_append;
 use walk::{MultiVisitorNil, Rule, ValidatorContext, Visitor, visit};
 
-/// Tries a fresh rule on a document. In a context that was made for it the rule appends what it allows, in the state that it ends in.
+/// Tries a fresh rule on a document. In a context that was made for it the rule appends what it allows, in the state
+/// that it ends in.
 ///
 /// # Errors
 ///

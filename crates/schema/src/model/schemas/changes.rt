@@ -1,9 +1,11 @@
 //! Changes to a schema.
-ghost use Rattle.std.specs.Prelude.{◌≡◌, if◌then◌else◌, is_ok, IfErr, IsOkUnless, OnErr, OnOk, Some, not, true, map, string_bytes, option_copied};
+ghost use Rattle.std.specs.Prelude.{◌≡◌, if◌then◌else◌, is_ok, IfErr, IsOkUnless, OnErr, OnOk, Some, not, true, map};
+ghost use Rattle.std.specs.Prelude.{string_bytes, option_copied};
 ghost use Rattle.std.specs.List.{list_all};
 ghost use Rattle.indexmap.specs.IndexMap.{values};
 ghost use Rattle.schema_validation.specs.Accepted.{is_listed, is_input_listed};
-ghost use Rattle.schema.specs.Changes.{argument_types, directive_types, with_directive, AreInputTypes, IsTrueOfArguments};
+ghost use Rattle.schema.specs.Changes.{argument_types, directive_types, with_directive, AreInputTypes};
+ghost use Rattle.schema.specs.Changes.{IsTrueOfArguments};
 ghost use Rattle.schema_validation.specs.Directives.{directive_name};
 ghost use Rattle.schema_validation.specs.Named.{are_keyed};
 

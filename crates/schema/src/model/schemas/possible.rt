@@ -2,7 +2,8 @@
 ghost use Rattle.std.specs.Prelude.{◌≡◌, true, map, string_bytes};
 ghost use Rattle.std.specs.List.{list_any};
 ghost use Rattle.meta.specs.Kinds.{is_abstract_meta};
-ghost use Rattle.schema.specs.Possible.{is_among, do_meet, is_implementer, implementer_names, possible_names, is_possible_for, have_one_name, do_overlap};
+ghost use Rattle.schema.specs.Possible.{is_among, do_meet, is_implementer, implementer_names, possible_names};
+ghost use Rattle.schema.specs.Possible.{is_possible_for, have_one_name, do_overlap};
 
 use crate::model::schemas::SchemaTypeOf;
 use meta::kinds::MetaTypeOf;
