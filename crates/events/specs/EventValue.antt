@@ -39,40 +39,78 @@ module _ {S C : Type 0} where
   typed_event (event.ExitScalarValue v) t =
       record { side = leaving; node = Node.scalar_value (record { item = v.item.now; span = v.span.now }); types = t }
   typed_event (event.EnterEnumValue v) t =
-      record { side = entering; node = Node.enum_value (record { item = string_bytes v.item.now; span = v.span.now });
-      types = t }
+      record {
+        side = entering;
+        node = Node.enum_value (record { item = string_bytes v.item.now; span = v.span.now });
+        types = t;
+      }
   typed_event (event.ExitEnumValue v) t =
-      record { side = leaving; node = Node.enum_value (record { item = string_bytes v.item.now; span = v.span.now });
-      types = t }
+      record {
+        side = leaving;
+        node = Node.enum_value (record { item = string_bytes v.item.now; span = v.span.now });
+        types = t;
+      }
   typed_event (event.EnterVariableValue v) t =
-      record { side = entering; node = Node.variable_value
-      (record { item = string_bytes v.item.now; span = v.span.now }); types = t }
+      record {
+        side = entering;
+        node = Node.variable_value
+            (record { item = string_bytes v.item.now; span = v.span.now });
+        types = t;
+      }
   typed_event (event.ExitVariableValue v) t =
-      record { side = leaving; node = Node.variable_value
-      (record { item = string_bytes v.item.now; span = v.span.now }); types = t }
+      record {
+        side = leaving;
+        node = Node.variable_value
+            (record { item = string_bytes v.item.now; span = v.span.now });
+        types = t;
+      }
   typed_event (event.EnterListValue v) t =
-      record { side = entering; node = Node.list_value (record { item = v.item.now.items; span = v.span.now });
-      types = t }
+      record {
+        side = entering;
+        node = Node.list_value (record { item = v.item.now.items; span = v.span.now });
+        types = t;
+      }
   typed_event (event.ExitListValue v) t =
-      record { side = leaving; node = Node.list_value (record { item = v.item.now.items; span = v.span.now });
-      types = t }
+      record {
+        side = leaving;
+        node = Node.list_value (record { item = v.item.now.items; span = v.span.now });
+        types = t;
+      }
   typed_event (event.EnterObjectValue v) t =
-      record { side = entering; node = Node.object_value (record { item = v.item.now.items; span = v.span.now });
-      types = t }
+      record {
+        side = entering;
+        node = Node.object_value (record { item = v.item.now.items; span = v.span.now });
+        types = t;
+      }
   typed_event (event.ExitObjectValue v) t =
-      record { side = leaving; node = Node.object_value (record { item = v.item.now.items; span = v.span.now });
-      types = t }
+      record {
+        side = leaving;
+        node = Node.object_value (record { item = v.item.now.items; span = v.span.now });
+        types = t;
+      }
   typed_event (event.EnterObjectField k v) t =
-      record { side = entering; node = Node.object_field
-          (record { item = k.item.now; span = k.span.now }, record { item = v.item.now; span = v.span.now }); types =
-          t }
+      record {
+        side = entering;
+        node = Node.object_field
+            (record { item = k.item.now; span = k.span.now }, record { item = v.item.now; span = v.span.now });
+        types =
+            t;
+      }
   typed_event (event.ExitObjectField k v) t =
-      record { side = leaving; node = Node.object_field
-          (record { item = k.item.now; span = k.span.now }, record { item = v.item.now; span = v.span.now }); types =
-          t }
+      record {
+        side = leaving;
+        node = Node.object_field
+            (record { item = k.item.now; span = k.span.now }, record { item = v.item.now; span = v.span.now });
+        types =
+            t;
+      }
 
   -- types that are borrowed from the schema, as values
   abbrev pub typing_of : TypesOf S C → Typing S C
   typing_of t =
-      record { current = option_copied t.current; literal = option_map borrowed_shape t.literal;
-          parent = option_copied t.parent; input = option_map borrowed_shape t.input }
+      record {
+        current = option_copied t.current;
+        literal = option_map borrowed_shape t.literal;
+        parent = option_copied t.parent;
+        input = option_map borrowed_shape t.input;
+      }

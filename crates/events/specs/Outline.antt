@@ -83,7 +83,7 @@ module _ {S C : Type 0} where
   value_step schema (opened_value.Object es) p t =
       node_with (Node.object_value (record { item = map entry_of es.items; span = p })) t
       (each (λ e. let u = at_object_field schema t (string_bytes e.0.item) in
-          node_with (Node.object_field (entry_of e)) u (e.1.item.1 e.1.span u)) es.items)
+      node_with (Node.object_field (entry_of e)) u (e.1.item.1 e.1.span u)) es.items)
 
   -- a value, at the stretch where it stands
   unfoldable pub outline_of_bare_value : Catalog S C → InputValue S → BelowValue S C

@@ -146,7 +146,7 @@ block_string_at text =
     let body = drop 3 text in
     let n = block_length 0 body in
     if (nat_le n (length body) && is_utf8 (take n body))
-        && begins three_quotes (drop n body) then (block_string (take n body), n + 6) else (fault, 0)
+    && begins three_quotes (drop n body) then (block_string (take n body), n + 6) else (fault, 0)
 
 unfoldable pub any_string_at : List ℕ → Token × ℕ
 any_string_at text = if begins three_quotes text then block_string_at text else string_at text

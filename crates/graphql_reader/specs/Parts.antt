@@ -27,7 +27,7 @@ BeginsDefault rules ts v rest =
 abbrev pub IsDefaultFault : Rules → List Lexeme → List Lexeme → ReadError → Type 0
 IsDefaultFault rules ts left (Syntax e) =
     (a : SourcePosition) × (b : SourcePosition) × (more : List Lexeme) × (ts ≡ sign Equals a b ∷ more)
-        × IsFirstFault rules more left (Syntax e)
+    × IsFirstFault rules more left (Syntax e)
 IsDefaultFault rules ts left OutOfMemory = Unit {0}
 
 -- it is the only one that the tokens begin with, or none where no `=` comes next
@@ -42,5 +42,5 @@ abbrev pub IsDescription : Tokens → Tokens → Option (Spanning (String Global
 IsDescription old new None = ((text : List ℕ) → IsTextOf (ahead_of old).token text → ⊥) × (new ≡ old)
 IsDescription old new (Some d) =
     IsTextOf (ahead_of old).token (string_bytes d.item)
-        × ((text : List ℕ) → IsTextOf (ahead_of old).token text → text ≡ string_bytes d.item)
+    × ((text : List ℕ) → IsTextOf (ahead_of old).token text → text ≡ string_bytes d.item)
     × IsSpanOf (ahead_of old) d.span × (left new ≡ behind old)

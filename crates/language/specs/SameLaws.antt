@@ -144,18 +144,18 @@ module _ {S : Type 0} (E : S → S → Bool) where
     place_turns : (x : Entry (InputValue S)) → Turns same_place x
     place_turns x =
         both_turn (λ a b. pointwise nat_eq (string_bytes a.0.item) (string_bytes b.0.item))
-            (λ a b. same_span a.0.span b.0.span && same_span a.1.span b.1.span) x
+        (λ a b. same_span a.0.span b.0.span && same_span a.1.span b.1.span) x
         (λ y. text_laws.symm (string_bytes x.0.item) (string_bytes y.0.item))
         (both_turn (λ a b. same_span a.0.span b.0.span) (λ a b. same_span a.1.span b.1.span) x
-            (λ y. span_laws.symm x.0.span y.0.span) (λ y. span_laws.symm x.1.span y.1.span))
+        (λ y. span_laws.symm x.0.span y.0.span) (λ y. span_laws.symm x.1.span y.1.span))
 
     place_leads : (x : Entry (InputValue S)) → Leads same_place x
     place_leads x =
         both_lead (λ a b. pointwise nat_eq (string_bytes a.0.item) (string_bytes b.0.item))
-            (λ a b. same_span a.0.span b.0.span && same_span a.1.span b.1.span) x
+        (λ a b. same_span a.0.span b.0.span && same_span a.1.span b.1.span) x
         (λ y z. text_laws.trans (string_bytes x.0.item) (string_bytes y.0.item) (string_bytes z.0.item))
         (both_lead (λ a b. same_span a.0.span b.0.span) (λ a b. same_span a.1.span b.1.span) x
-            (λ y z. span_laws.trans x.0.span y.0.span z.0.span) (λ y z. span_laws.trans x.1.span y.1.span z.1.span))
+        (λ y z. span_laws.trans x.0.span y.0.span z.0.span) (λ y z. span_laws.trans x.1.span y.1.span z.1.span))
 
     entry_turns : (x : Entry (InputValue S)) → Symmetric x.1.item → Turns (same_entry (same_value E)) x
     entry_turns x h = both_turn same_place (λ a b. same_value E a.1.item b.1.item) x (place_turns x) (λ y. h y.1.item)
@@ -200,14 +200,14 @@ module _ {S : Type 0} (E : S → S → Bool) where
         let zs = map (bare Transitive) xs.items in
         items_layer-is zs us.items
         ∙ all_lead (same_item (same_value E)) zs ys.items us.items
-            (each_with item_leads zs (each_item Transitive xs.items)) (sym (items_layer-is zs ys.items) ∙ p)
-            (sym (items_layer-is ys.items us.items) ∙ q)
+        (each_with item_leads zs (each_item Transitive xs.items)) (sym (items_layer-is zs ys.items) ∙ p)
+        (sym (items_layer-is ys.items us.items) ∙ q)
     transitive_layer (open_value.Object es) (open_value.Object fs) (open_value.Object gs) p q =
         let zs = map (bare_entry Transitive) es.items in
         entries_layer-is zs gs.items
         ∙ all_lead (same_entry (same_value E)) zs fs.items gs.items
-            (each_with entry_leads zs (each_entry Transitive es.items)) (sym (entries_layer-is zs fs.items) ∙ p)
-            (sym (entries_layer-is fs.items gs.items) ∙ q)
+        (each_with entry_leads zs (each_entry Transitive es.items)) (sym (entries_layer-is zs fs.items) ∙ p)
+        (sym (entries_layer-is fs.items gs.items) ∙ q)
     transitive_layer (open_value.Scalar a) (open_value.Scalar b) _ p q = q
     transitive_layer (open_value.Enum a) (open_value.Enum b) _ p q = q
     transitive_layer (open_value.Variable a) (open_value.Variable b) _ p q = q
@@ -219,11 +219,11 @@ module _ {S : Type 0} (E : S → S → Bool) where
     transitive = ind-InputValue S Transitive
         (λ x y is. subst (λ z. Transitive (roll-InputValue S z)) is
         (by_layer (λ w. (u : InputValue S) → same_value E (roll-InputValue S (bared y)) w ≡ true
-            → same_value E w u ≡ true → same_value E (roll-InputValue S (bared y)) u ≡ true)
+        → same_value E w u ≡ true → same_value E (roll-InputValue S (bared y)) u ≡ true)
         (λ r. by_layer (λ u. same_value E (roll-InputValue S (bared y)) (roll-InputValue S r) ≡ true
-            → same_value E (roll-InputValue S r) u ≡ true → same_value E (roll-InputValue S (bared y)) u ≡ true)
+        → same_value E (roll-InputValue S r) u ≡ true → same_value E (roll-InputValue S (bared y)) u ≡ true)
         (λ t p q. same_value-roll (bared y) t ∙ transitive_layer y r t (sym (same_value-roll (bared y) r) ∙ p)
-            (sym (same_value-roll r t) ∙ q)))))
+        (sym (same_value-roll r t) ∙ q)))))
 
     pub same_value-laws : IsPartialEquivalence (same_value E)
     same_value-laws = record { symm = symmetric; trans = λ x y z. transitive x y z }

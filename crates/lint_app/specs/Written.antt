@@ -16,7 +16,7 @@ use Rattle.lint_args.specs.declared.task.Task.{Task}
 abbrev pub begins_request : List ℕ → Bool
 begins_request word =
     bytes_eq word (codes "--help") || bytes_eq word (codes "--version") || starts_with nat_eq word (codes "-h")
-        || starts_with nat_eq word (codes "-V")
+    || starts_with nat_eq word (codes "-V")
 
 abbrev pub asks_for_text : List (String Global) → Bool
 asks_for_text = list_any (λ word. begins_request (string_bytes word))

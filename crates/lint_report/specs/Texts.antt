@@ -40,7 +40,7 @@ told_column sources place = from_one (characters_before (text_in sources place.f
 abbrev pub told_place : Bool → List Source → Place → List ℕ
 told_place coloured sources place =
     bold coloured ++ path_in sources place.file ++ plain coloured ++ codes ":" ++ decimal (told_line place) ++ codes ":"
-        ++ decimal (told_column sources place) ++ codes ": "
+    ++ decimal (told_column sources place) ++ codes ": "
 
 -- a window of the line of a place, and a mark below the place
 pub record ShowsLine (coloured : Bool) (sources : List Source) (place : Place) (text : List ℕ) : Type 0 where

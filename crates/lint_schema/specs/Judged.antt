@@ -53,5 +53,5 @@ pub record AddsPlainFaults (sources : List Source) (joined : Joined) (document s
 abbrev pub IsJudged : List Source → Joined → SourceSchema → List Fault → List Fault → Type 0
 IsJudged sources joined schema old new =
     ((document : List TypeSystemDefinition) × (standard : List TypeSystemDefinition)
-        × AddsTypeSystemFaults sources joined document standard schema old new)
+    × AddsTypeSystemFaults sources joined document standard schema old new)
     ⊎ ((error : SchemaReadError) × AddsFaultsOf sources joined error old new)

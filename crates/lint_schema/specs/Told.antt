@@ -26,7 +26,7 @@ abbrev pub IsToldInLine : List Source → Place → Option (List ℕ) → Fault 
 IsToldInLine sources place said fault =
     (line : List ℕ) × IsLineOf (text_in sources place.file) place.position line
     × ((position : SourcePosition) × IsInLine place.position position
-        × IsFault (path_in sources place.file) line (Some position) said fault)
+    × IsFault (path_in sources place.file) line (Some position) said fault)
 
 -- the same; the definitions of an introspection result are not its text, so their faults have no place
 abbrev pub IsToldAt : List Source → Place → Option (List ℕ) → Fault → Type 0

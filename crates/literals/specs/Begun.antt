@@ -51,7 +51,7 @@ module _ {S C : Type 0} where
       abbrev pub Leads : List (Begun S C) → Option (List ℕ) → (Option (List ℕ) → Type 0) → List (Begun S C) → Type 0
       Leads new found Told old =
           (fault : Option (List ℕ)) → AfterAll (reverse new) found fault → (mid : Option (List ℕ)) × Told mid
-              × AfterAll (reverse old) mid fault
+          × AfterAll (reverse old) mid fault
 
       -- with this fault found amid the new parts, it is that of what is left of the old ones
       abbrev pub GoesOn : List (Begun S C) → Option (List ℕ) → List (Begun S C) → Type 0

@@ -24,7 +24,7 @@ abbrev pub IsLastPart : Reports Entry → Option (Bor (List Finding) × Part) �
 IsLastPart reports None = reports ≡ none
 IsLastPart reports (Some (found, part)) =
     (before : Reports Entry) × (found.now ≡ postfix before)
-        × ((parts : List Part) → ArePartsOf before parts → ArePartsOf reports (parts ++ part ∷ []))
+    × ((parts : List Part) → ArePartsOf before parts → ArePartsOf reports (parts ++ part ∷ []))
 
 -- how many findings there are of why two fields fail, with their own
 abbrev pub extent_of : Why → ℕ

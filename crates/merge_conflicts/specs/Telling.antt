@@ -41,7 +41,7 @@ module _ {S C : Type 0} (E : S → S → Bool) (schema : Catalog S C) (fields : 
   IsToldBy (why.Direct e) x y t = t ≡ told_directly E schema e x y
   IsToldBy (why.Below found) x y t =
       (rs : Reports Entry) × (ts : Reports (PlainEntry S C)) × (found.now ≡ postfix rs) × AreReportsOf fields rs ts
-          × (t ≡ told_over E schema x y (told E schema ts))
+      × (t ≡ told_over E schema x y (told E schema ts))
 
   -- the text for a part
   pub record IsToldOf (part : Part) (t : Told) : Type 0 where

@@ -40,8 +40,12 @@ module _ {S C : Type 0} (E : S → S → Bool) (schema : Catalog S C) where
   -- of two fields that fail by themselves, under a flag
   abbrev pub told_directly : Bool → PlainEntry S C → PlainEntry S C → Told
   told_directly e a b =
-      record { response = response_of a; reason = reason_between e a b; lefts = place_of a ∷ [];
-      rights = place_of b ∷ [] }
+      record {
+        response = response_of a;
+        reason = reason_between e a b;
+        lefts = place_of a ∷ [];
+        rights = place_of b ∷ [];
+      }
 
   -- of two fields by the texts for the conflicts below them
   abbrev pub told_over : PlainEntry S C → PlainEntry S C → List Told → Told

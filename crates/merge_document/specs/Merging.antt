@@ -34,7 +34,7 @@ module _ {S C : Type 0} (E : S → S → Bool) (schema : Catalog S C) (document 
     below : {c d : PlainEntry S C} {v w : Vec (Selection S) Global}
         → a.field.item.selection_set ≡ Some v → b.field.item.selection_set ≡ Some w
         → Stands schema document (type_below schema a) v.items c
-            → Stands schema document (type_below schema b) w.items d → Same c d → Below a b c d
+        → Stands schema document (type_below schema b) w.items d → Same c d → Below a b c d
 
   -- They pass, and so do all pairs below them, no less excluded.
   pub data Merges : Bool → PlainEntry S C → PlainEntry S C → Type 0 where

@@ -29,7 +29,7 @@ module _ {S C : Type 0} (rules : Rules S C) where
   abbrev pub CleanMergesFairly : Type 0
   CleanMergesFairly =
       (schema : Catalog S C) (t : Typing S C) (document : List (Definition S))
-          → rules.first_stage.find_nothing (scope_of schema document) t document
+      → rules.first_stage.find_nothing (scope_of schema document) t document
       → MergesFairly rules.same schema document
 
   -- And each field of a valid document merges with itself.

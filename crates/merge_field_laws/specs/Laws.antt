@@ -22,7 +22,7 @@ pub data IsBelow {S C : Type 0} (schema : Catalog S C) (document : List (Definit
       → IsBelow schema document a (type_below schema a) w.items
   deeper : {a b : PlainEntry S C} {w : Vec (Selection S) Global} {p : Option (MetaTypeOf S C)} {set : List (Selection S)}
       → a.field.item.selection_set ≡ Some w → Stands schema document (type_below schema a) w.items b
-          → IsBelow schema document b p set → IsBelow schema document a p set
+      → IsBelow schema document b p set → IsBelow schema document a p set
 
 module _ (S C : Type 0) (E : S → S → Bool) where
   -- Two fields of a tidy document merge just if they do in the other order.
@@ -51,5 +51,5 @@ module _ (S C : Type 0) (E : S → S → Bool) where
   abbrev pub EachMergesWithItself : Type 0
   EachMergesWithItself =
       (schema : Catalog S C) (document : List (Definition S)) → IsTidyDocument schema document
-          → HasKnownConditions schema document → HasNoCycle document → DocumentMerges E schema document
+      → HasKnownConditions schema document → HasNoCycle document → DocumentMerges E schema document
       → (a : PlainEntry S C) → IsFieldIn schema document a → (e : Bool) → Merges E schema document e a a

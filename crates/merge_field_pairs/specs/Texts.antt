@@ -40,4 +40,4 @@ joined reasons = join_by (λ t. t) (codes " and ") reasons
 abbrev pub message_text : List ℕ → List ℕ → List ℕ
 message_text response reason =
     codes "Fields \"" ++ (response ++ (codes "\" conflict because "
-        ++ (reason ++ codes ". Use different aliases on the fields to fetch both if this was intentional")))
+    ++ (reason ++ codes ". Use different aliases on the fields to fetch both if this was intentional")))

@@ -51,4 +51,4 @@ module _ {S C : Type 0} (schema : Catalog S C) where
   abbrev pub conflict_by_outermost : TypeShape → TypeShape → Bool
   conflict_by_outermost t u =
       by_settled (do_names_conflict t.name u.name) (do_types_conflict (inner_of t) (inner_of u))
-          (settled_of (outermost t.modifiers) (outermost u.modifiers))
+      (settled_of (outermost t.modifiers) (outermost u.modifiers))

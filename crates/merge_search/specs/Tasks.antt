@@ -127,7 +127,7 @@ Meets w (Close a b start) old new = Closes a b start old new
 Meets w (Opened i g e opening k) old new =
     All (Reaches w g) opening.order.items
     → SearchesOwing w e (λ M. All (SpreadsSearched w M e i) opening.order.items)
-        (λ M. All (λ h. Searched M e i h) (drop k opening.order.items)) (AtSearch w i g) old new
+    (λ M. All (λ h. Searched M e i h) (drop k opening.order.items)) (AtSearch w i g) old new
 Meets w (Mark i start) old new = Keeps old new
 Meets w (Spreads s p e k) old new =
     IsThere w p → Searches w e (λ M. All (λ h. PartnerDone w e p h M) (drop k (spreads_of w s)))

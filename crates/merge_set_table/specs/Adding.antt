@@ -114,7 +114,7 @@ module _ {S C : Type 0} where
       (set : List (Selection S)) (more : List ℕ) (t t' : Table S C) : Type 0 where
     pub sets : (k : ℕ) → is_among more k ≡ true
         → (q : Option (MetaTypeOf S C)) × (inner : List (Selection S)) × IsInside schema p set q inner
-            × IsSetOf schema numbers (numbered t') k q inner
+        × IsSetOf schema numbers (numbered t') k q inner
     pub fields : FieldsFrom schema p set t t'
     pub whole : AreConditionsKnown schema p set → (k : ℕ) → length t.sets.items ≤ k → k < length t'.sets.items → is_among more k ≡ true
 

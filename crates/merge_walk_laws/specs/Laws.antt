@@ -35,7 +35,7 @@ module _ (S C : Type 0) where
   InlinesOccur =
       (schema : Catalog S C) (t : Typing S C) (document : List (Definition S)) (parent : Option (MetaTypeOf S C)) (set : List (Selection S))
       → IsSetIn schema document parent set → (i : Placed (InlineFragment S)) → Contains set (selection.InlineFragment i)
-          → Occurs schema t document (inline_fragment i)
+      → Occurs schema t document (inline_fragment i)
 
   -- Where the fields that occur are tidy, all fields of the document are.
   abbrev pub FieldsAreTidy : Type 0
@@ -48,14 +48,14 @@ module _ (S C : Type 0) where
   SetsAgree =
       (schema : Catalog S C) (t : Typing S C) (document : List (Definition S))
       → (parent : Option (MetaTypeOf S C)) (set : List (Selection S)) → IsSetIn schema document parent set
-          ↔ OccursUnder schema t document parent (selection_set set)
+      ↔ OccursUnder schema t document parent (selection_set set)
 
   -- A field stands in the document, with what the schema says of it, if and only if it occurs under that parent.
   abbrev pub FieldsAgree : Type 0
   FieldsAgree =
       (schema : Catalog S C) (t : Typing S C) (document : List (Definition S))
       → (a : PlainEntry S C) → IsFieldIn schema document a
-          ↔ (OccursUnder schema t document a.parent (field a.field) × (a ≡ entry_under a.parent a.field))
+      ↔ (OccursUnder schema t document a.parent (field a.field) × (a ≡ entry_under a.parent a.field))
 
 -- Arguments are tidy if and only if their names differ, and no value repeats a key.
 abbrev pub TidyArguments : Type 0 → Type 0
@@ -63,4 +63,4 @@ TidyArguments S =
     (written : Option (Placed (Arguments S)))
     → (are_tidy written ≡ true)
     ↔ ((are_distinct (map given_name (given_in written)) ≡ true)
-        × ((g : Given S) → Contains (given_in written) g → has_unique_keys g.1.item ≡ true))
+    × ((g : Given S) → Contains (given_in written) g → has_unique_keys g.1.item ≡ true))

@@ -57,7 +57,7 @@ abbrev pub AddsPlace : Option (List ℕ) → ℕ → Option ℕ → ScopeIndex �
 AddsPlace name place (Some k) old new = (new.names ≡ old.names) × AddsAt k place old.operations.items new.operations.items
 AddsPlace name place None old new =
     (operation_names new ≡ operation_names old ++ name ∷ []) × (v : Vec ℕ Global) × (v.items ≡ place ∷ [])
-        × (new.operations.items ≡ old.operations.items ++ v ∷ [])
+    × (new.operations.items ≡ old.operations.items ++ v ∷ [])
 
 -- An operation of this name was added, at this place.
 pub record AddsOperation (name : Option (List ℕ)) (place : ℕ) (n n' : OperationNumbers) (old new : ScopeIndex) : Type 0 where

@@ -69,7 +69,7 @@ module _ {S C : Type 0} where
   abbrev pub unknown_on_field : Option (MetaTypeOf S C) → Field S → List ErrorValue
   unknown_on_field parent f =
       unknown_where_known (unknown_on_field_message f.name.item.now (name_of_known parent))
-          (known_on_field parent f.name.item.now) f.arguments
+      (known_on_field parent f.name.item.now) f.arguments
 
   -- of a directive that is known, each argument that is none of its own
   abbrev pub unknown_on_directive : Catalog S C → Directive S → List ErrorValue

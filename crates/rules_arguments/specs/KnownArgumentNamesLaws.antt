@@ -22,14 +22,14 @@ module _ {S : Type 0} (message : List ℕ → List ℕ) where
   none_unknown_of (Some known) None = (λ e. tt, λ u. refl)
   none_unknown_of (Some known) (Some written) =
       none_among (unknown_argument message known) (λ a. is_known known a.0.item.now ≡ true)
-          (λ a. none_unless (is_known known a.0.item.now) _) written.item.items.items
+      (λ a. none_unless (is_known known a.0.item.now) _) written.item.items.items
 
 module _ {S C : Type 0} where
   none_at : (schema : Catalog S C) (parent : Option (MetaTypeOf S C)) (n : Node S) → (unknown_at schema parent n ≡ [])
       ↔ HasKnown schema parent n
   none_at schema parent (field f) =
       none_unknown_of (unknown_on_field_message f.item.name.item.now (name_of_known parent))
-          (known_on_field parent f.item.name.item.now) f.item.arguments
+      (known_on_field parent f.item.name.item.now) f.item.arguments
   none_at schema parent (directive d) =
       none_unknown_of (unknown_on_directive_message d.item.name.item.now) (directive_arguments schema d.item.name.item.now) d.item.arguments
   none_at schema parent _ = (λ e. tt, λ u. refl)

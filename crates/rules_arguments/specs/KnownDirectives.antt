@@ -44,8 +44,8 @@ module _ {S : Type 0} where
   unsuitable_by place d None = record { locations = d.span.start ∷ []; message = unknown_directive_message d.item.name.item.now } ∷ []
   unsuitable_by place d (Some known) =
       if is_listed place known.locations.items then [] else record
-          { locations = d.span.start ∷ []; message = misplaced_message d.item.name.item.now (location_words place) } ∷
-          []
+      { locations = d.span.start ∷ []; message = misplaced_message d.item.name.item.now (location_words place) } ∷
+      []
 
 module _ {S C : Type 0} where
   -- a directive at a place: it is known, and the place is listed

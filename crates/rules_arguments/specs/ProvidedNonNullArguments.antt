@@ -53,8 +53,8 @@ module _ {S : Type 0} where
   abbrev pub missing_argument : (Argument S → Bool) → List ℕ → SourcePosition → Option (Placed (Arguments S)) → Argument S → List ErrorValue
   missing_argument required words place written a =
       if required a && not (is_given written (string_bytes a.name)) then record
-          { locations = place ∷ []; message = missing_message words (string_bytes a.name) (printed (shape a.arg_type)) }
-          ∷ [] else []
+      { locations = place ∷ []; message = missing_message words (string_bytes a.name) (printed (shape a.arg_type)) }
+      ∷ [] else []
 
   -- each of the known arguments, where a list of them is known
   abbrev pub missing_where_known : (Argument S → Bool) → List ℕ → SourcePosition → Option (List (Argument S))
@@ -77,13 +77,13 @@ module _ {S C : Type 0} where
   abbrev pub missing_on_field : Option (MetaTypeOf S C) → Placed (Field S) → List ErrorValue
   missing_on_field parent f =
       missing_where_known required_on_field (on_field f.item.name.item.now) f.span.start
-          (field_arguments parent f.item.name.item.now) f.item.arguments
+      (field_arguments parent f.item.name.item.now) f.item.arguments
 
   -- the missing arguments of a directive
   abbrev pub missing_on_directive : Catalog S C → Placed (Directive S) → List ErrorValue
   missing_on_directive schema d =
       missing_where_known required_on_directive (on_directive d.item.name.item.now) d.span.start
-          (directive_arguments schema d.item.name.item.now) d.item.arguments
+      (directive_arguments schema d.item.name.item.now) d.item.arguments
 
   -- at a node: a field or a directive
   abbrev pub missing_at : Catalog S C → Option (MetaTypeOf S C) → Node S → List ErrorValue

@@ -36,10 +36,10 @@ module _ {S C : Type 0} where
       ↔ HasRequired schema parent n
   none_at schema parent (field f) =
       none_missing_of required_on_field (on_field f.item.name.item.now) f.span.start
-          (field_arguments parent f.item.name.item.now) f.item.arguments
+      (field_arguments parent f.item.name.item.now) f.item.arguments
   none_at schema parent (directive d) =
       none_missing_of required_on_directive (on_directive d.item.name.item.now) d.span.start
-          (directive_arguments schema d.item.name.item.now) d.item.arguments
+      (directive_arguments schema d.item.name.item.now) d.item.arguments
   none_at schema parent _ = (λ e. tt, λ u. refl)
 
 -- nothing is found at an occurrence if and only if the required arguments there are given

@@ -20,7 +20,7 @@ use Rattle.rules_arguments.specs.UniqueDirectiveNames.{AreDistinctDirectives}
 one_more : {S : Type 0} (once : Bool) (d : Placed (Directive S)) (names : List Named) (ds : List (Placed (Directive S)))
     → map (λ n. n.0) names ≡ map (λ x. x.item.name.item.now) ds
     → map (λ n. n.0) ((if once then (d.item.name.item.now, d.span.start) ∷ [] else []) ++ names)
-        ≡ map (λ x. x.item.name.item.now) (if once then d ∷ ds else ds)
+    ≡ map (λ x. x.item.name.item.now) (if once then d ∷ ds else ds)
 one_more true d names ds e = ap (λ z. d.item.name.item.now ∷ z) e
 one_more false d names ds e = e
 
@@ -34,7 +34,7 @@ module _ {S C : Type 0} (schema : Catalog S C) where
   none_in None = (λ e. tt, λ u. refl)
   none_in (Some ds) =
       subst (λ names. (repeats repeated_directive_message (once_among schema ds.items) ≡ [])
-          ↔ (are_distinct names ≡ true)) (same_names ds.items)
+      ↔ (are_distinct names ≡ true)) (same_names ds.items)
       (none_repeats repeated_directive_message (once_among schema ds.items))
 
 -- nothing is found at an occurrence if and only if the directives there that may stand once are distinct

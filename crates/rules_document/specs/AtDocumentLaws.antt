@@ -30,7 +30,7 @@ module _ {S C V : Type 0} (gives : Gives S C V) (scope : DocumentScope S C) wher
   idle_inside (entry node types inside after) a b es (i, j, k) (mid, first, rest, s, r, e) =
       let leave : TypedEvent S C = record { side = leaving; node = node; types = types } in
       let (c, fs, gs, p, (d, none, hs, left, q, e'), e'') =
-          Run-split (document_step gives scope) (events_of inside) (leave ∷ events_of after) mid b rest r in
+      Run-split (document_step gives scope) (events_of inside) (leave ∷ events_of after) mid b rest r in
       e ∙ ap (λ z. z ++ rest) s.1 ∙ e'' ∙ ap (λ z. z ++ gs) (idle_inside inside mid c fs j p)
       ∙ e' ∙ ap (λ z. z ++ hs) (idle_at (gives scope) node c d none i left) ∙ idle_inside after d b hs k q
 
@@ -43,7 +43,7 @@ module _ {S C V : Type 0} where
       let inside : Outline S C = each (outline_of_definition schema t) doc in
       let leave : TypedEvent S C = record { side = leaving; node = Node.document doc; types = t } in
       let (c, fs, gs, p, (d, late, hs, left, (same, none), e'), e'') =
-          Run-split (document_step gives scope) (events_of inside) (leave ∷ []) mid end rest r in
+      Run-split (document_step gives scope) (events_of inside) (leave ∷ []) mid end rest r in
       let all : es ≡ late =
       e ∙ ap (λ z. z ++ rest) s.1 ∙ e'' ∙ ap (λ z. z ++ gs) (idle_inside gives scope inside mid c fs (inner-document schema t doc) p)
       ∙ e' ∙ ap (λ z. late ++ z) none ∙ append-nil late

@@ -34,4 +34,4 @@ cycle_errors scope document end es = CycleErrors document end es
 abbrev pub CyclesAreTold : Type 0 → Type 0
 CyclesAreTold S =
     (document : List (Definition S)) (end : NoFragmentCycles) (es : List ErrorValue) → CycleErrors document end es
-        → (es ≡ []) ↔ HasNoCycle document
+    → (es ≡ []) ↔ HasNoCycle document

@@ -114,7 +114,7 @@ module _ {S : Type 0} (document : List (Definition S)) (name : Option (List ℕ)
       let high = q.last p.place a p.stands p.named in
       let e : p.place ≡ q.place = omega (arith, low, high) in
       let same = same_item (definition.Operation a) (definition.Operation b) (slice_get document q.place)
-          (ap (slice_get document) (sym e) ∙ p.stands) q.stands in
+      (ap (slice_get document) (sym e) ∙ p.stands) q.stands in
       cc
 
   module _ (uses : Uses) (used : UsedIn document name uses) where
@@ -127,7 +127,7 @@ module _ {S : Type 0} (document : List (Definition S)) (name : Option (List ℕ)
         let g = contains_get (map (λ (u : Use). u.name) (definition_uses d)) variable c in
         let (u, at, e) = map_get (λ (u : Use). u.name) (definition_uses d) g.0 variable g.1 in
         let here : slice_get (inside definition_uses document k.0) g.0 ≡ Some u =
-            subst (λ o. slice_get (option_map_or definition_uses o []) g.0 ≡ Some u) (sym k.1) at in
+        subst (λ o. slice_get (option_map_or definition_uses o []) g.0 ≡ Some u) (sym k.1) at in
         let found = contains_flat (inside definition_uses document) places p.0 k.0 g.0 u p.1 here in
         mapped (λ (u : Use). u.name) uses u variable e (subst (λ zs. Contains zs u) (sym is) found)
 
@@ -137,13 +137,16 @@ module _ {S : Type 0} (document : List (Definition S)) (name : Option (List ℕ)
         let g = contains_get (map (λ (u : Use). u.name) uses) variable c in
         let (u, at, e) = map_get (λ (u : Use). u.name) uses g.0 variable g.1 in
         let (k, (i, listed), (j, here)) = flat_get (inside definition_uses document) places g.0 u
-            (subst (λ zs. slice_get zs g.0 ≡ Some u) is at) in
+        (subst (λ zs. slice_get zs g.0 ≡ Some u) is at) in
         let there = contains_at places i k listed in
         let (d, stands) = get_some document k (reach.within k there) in
         let own : slice_get (definition_uses d) j ≡ Some u =
-            subst (λ o. slice_get (option_map_or definition_uses o []) j ≡ Some u) stands here in
-        (d, contains_at document k d stands, (reach.reached k d stands).0 there,
-            mapped (λ (u : Use). u.name) (definition_uses d) u variable e (contains_at (definition_uses d) j u own))
+        subst (λ o. slice_get (option_map_or definition_uses o []) j ≡ Some u) stands here in (
+          d,
+          contains_at document k d stands,
+          (reach.reached k d stands).0 there,
+          mapped (λ (u : Use). u.name) (definition_uses d) u variable e (contains_at (definition_uses d) j u own),
+        )
 
   defined_of : (a : UndefinedIn document name []) (last : Placed (Operation S)) (variable : List ℕ)
       → IsLastOf document name last → IsUsed document name variable → Contains (defined_names last) variable
@@ -154,7 +157,7 @@ module _ {S : Type 0} (document : List (Definition S)) (name : Option (List ℕ)
       let none : tells u ≡ [] = flat_none tells a.uses g.0 u (sym a.told) at in
       let defined = among_has u.name (defined_names a.last) (unless_true (is_among (defined_names a.last) u.name) _ none) in
       subst (λ o. Contains (defined_names o) variable) (one_last a.last last a.is_last is_last)
-          (subst (Contains (defined_names a.last)) e defined)
+      (subst (Contains (defined_names a.last)) e defined)
 
   none_undefined : AllDefined document → (part : List Undefined) → UndefinedIn document name part → part ≡ []
   none_undefined all part b =
@@ -162,16 +165,19 @@ module _ {S : Type 0} (document : List (Definition S)) (name : Option (List ℕ)
       ∙ none_flat (told_undefined (is_among (defined_names b.last)) name b.last.span.start) b.uses (λ u c.
       let used = has_used b.uses b.used u.name (mapped (λ (v : Use). v.name) b.uses u u.name refl c) in
       true_unless (is_among (defined_names b.last) u.name) _
-          (has_among u.name (defined_names b.last) (all name b.last u.name b.is_last used)))
+      (has_among u.name (defined_names b.last) (all name b.last u.name b.is_last used)))
 
   -- a name that is defined stands at some span
   with_span : (o : Placed (Operation S)) (variable : List ℕ) → Contains (defined_names o) variable → (v : NameAndSpan)
       × Contains (defined_variables o) v × (v.0 ≡ variable)
   with_span o variable c =
       let g = contains_get (defined_names o) variable c in
-      let (x, at, e) = map_get (λ (x : VariableEntry S). x.0.item.now) (variable_list o) g.0 variable g.1 in
-      ((x.0.item.now, x.0.span), mapped (λ (y : VariableEntry S). (y.0.item.now, y.0.span)) (variable_list o) x
-          (x.0.item.now, x.0.span) refl (contains_at (variable_list o) g.0 x at), e)
+      let (x, at, e) = map_get (λ (x : VariableEntry S). x.0.item.now) (variable_list o) g.0 variable g.1 in (
+        (x.0.item.now, x.0.span),
+        mapped (λ (y : VariableEntry S). (y.0.item.now, y.0.span)) (variable_list o) x
+            (x.0.item.now, x.0.span) refl (contains_at (variable_list o) g.0 x at),
+        e,
+      )
 
   without_span : (o : Placed (Operation S)) (v : NameAndSpan) → Contains (defined_variables o) v → Contains (defined_names o) v.0
   without_span o v c =
@@ -187,11 +193,11 @@ module _ {S : Type 0} (document : List (Definition S)) (name : Option (List ℕ)
       → IsLastOf document name last → Contains (defined_names last) variable → IsUsed document name variable
   used_of a last variable is_last c =
       let (v, stands, e) = with_span a.last variable
-          (subst (λ o. Contains (defined_names o) variable) (one_last last a.last is_last a.is_last) c) in
+      (subst (λ o. Contains (defined_names o) variable) (one_last last a.last is_last a.is_last) c) in
       let names : List (List ℕ) = map (λ (u : Use). u.name) a.uses in
       let none = mapped_none (unused_by name) a.variables (sym a.told) in
       let has = used_by (is_among names v.0) names v.0 refl
-          (λ free. contains_none v (subst (λ zs. Contains zs v) none ((a.unused.are v).1 (stands, free)))) in
+      (λ free. contains_none v (subst (λ zs. Contains zs v) none ((a.unused.are v).1 (stands, free)))) in
       subst (IsUsed document name) e (has_used a.uses a.used v.0 has)
 
   none_unused : AllUsed document → (part : List Unused) → UnusedIn document name part → part ≡ []
@@ -208,14 +214,14 @@ module _ {S : Type 0} (document : List (Definition S)) where
       × (slice_get names k ≡ Some name)
   name_at names are name last is_last =
       contains_get names name ((are.are name).1
-          (last, contains_at document is_last.place (definition.Operation last) is_last.stands, is_last.named))
+      (last, contains_at document is_last.place (definition.Operation last) is_last.stands, is_last.named))
 
   pub undefined_none : (found : List Undefined) → UndefinedVariables document found → (found ≡ []) ↔ AllDefined document
   undefined_none found (names, are, told) = (
     λ e. λ name last variable is_last used.
         let g = name_at names are name last is_last in
         defined_of document name (none_each (UndefinedIn document) names
-            (subst (InTurn (UndefinedIn document) names) e told) g.0 name g.1) last variable is_last used,
+        (subst (InTurn (UndefinedIn document) names) e told) g.0 name g.1) last variable is_last used,
     λ all. none_all (UndefinedIn document) names found (λ name part given. none_undefined document name all part given) told,
   )
 
@@ -224,6 +230,6 @@ module _ {S : Type 0} (document : List (Definition S)) where
     λ e. λ name last variable is_last defined.
         let g = name_at names are name last is_last in
         used_of document name (none_each (UnusedIn document) names
-            (subst (InTurn (UnusedIn document) names) e told) g.0 name g.1) last variable is_last defined,
+        (subst (InTurn (UnusedIn document) names) e told) g.0 name g.1) last variable is_last defined,
     λ all. none_all (UnusedIn document) names found (λ name part given. none_unused document name all part given) told,
   )

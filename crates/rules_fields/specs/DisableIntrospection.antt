@@ -17,7 +17,7 @@ is_introspection name = bytes_eq name (codes "__schema") || bytes_eq name (codes
 abbrev pub introspection_field : Name → List ErrorValue
 introspection_field name =
     if is_introspection name.item.now then record
-        { locations = name.span.start ∷ []; message = introspection_message name.item.now } ∷ [] else []
+    { locations = name.span.start ∷ []; message = introspection_message name.item.now } ∷ [] else []
 
 -- at a node: a field, by its name
 abbrev pub introspection_at : {S : Type 0} → Node S → List ErrorValue

@@ -43,9 +43,17 @@ RuleList = MultiVisitorCons VariableInAllowedPosition LastFour
 -- the list of the rules, the newest first
 abbrev pub rule_list : AcrossDocument → RuleList
 rule_list a =
-    record { 0 = a.positions; 1 = record { 0 = a.unused_variables;
-        1 = record { 0 = a.unused_fragments; 1 = record
-        { 0 = a.undefined_variables; 1 = record { 0 = a.cycles; 1 = record {} } } } } }
+    record {
+      0 = a.positions;
+      1 = record {
+        0 = a.unused_variables;
+        1 = record {
+          0 = a.unused_fragments;
+          1 = record
+              { 0 = a.undefined_variables; 1 = record { 0 = a.cycles; 1 = record {} } };
+        };
+      };
+    }
 
 -- each is as its maker makes it
 abbrev pub none_recorded : VariableInAllowedPosition → Type 0

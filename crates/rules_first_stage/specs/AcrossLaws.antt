@@ -38,7 +38,7 @@ last_three_keep = pair_keeps (document_step unused_errors) last_two_step any_val
 last_four_keep : {S C : Type 0} → AllowsFrom (last_four_step {S = S} {C = C}) any_four last_four_allow
 last_four_keep =
     pair_keeps (document_step unused_variable_errors) last_three_step any_value any_three
-        (given_at_end unused_variable_errors) last_three_allow (document_keeps unused_variable_errors) last_three_keep
+    (given_at_end unused_variable_errors) last_three_allow (document_keeps unused_variable_errors) last_three_keep
 
 list_keeps : {S C : Type 0} → AllowsFrom (list_step {S = S} {C = C}) list_fresh list_allows
 list_keeps = pair_keeps positions_step last_four_step none_recorded any_four
@@ -50,9 +50,9 @@ across_keeps = keeps_along rule_list list_step list_fresh list_allows list_keeps
 -- and it is nothing where each of them finds nothing
 pub across_silent : {S C : Type 0}
     → SilentIff (across_allows {S = S} {C = C})
-        (both_so AllAllowed (both_so (λ scope t doc. AllUsed doc)
-        (both_so (λ scope t doc. NoneUnused doc)
-        (both_so (λ scope t doc. AllDefined doc) (both_so (λ scope t doc. HasNoCycle doc) anywhere)))))
+    (both_so AllAllowed (both_so (λ scope t doc. AllUsed doc)
+    (both_so (λ scope t doc. NoneUnused doc)
+    (both_so (λ scope t doc. AllDefined doc) (both_so (λ scope t doc. HasNoCycle doc) anywhere)))))
 across_silent end =
     pair_silent (always misplaced_variables) last_four_allow AllAllowed _ positions_silent
     (pair_silent (given_at_end unused_variable_errors) last_three_allow (λ scope t doc. AllUsed doc) _ unused_variables_silent

@@ -20,7 +20,7 @@ module _ {S C : Type 0} where
   not_composite None name condition = []
   not_composite (Some t) name condition =
       if is_composite_meta t then [] else record
-          { locations = condition.span.start ∷ []; message = not_composite_message name condition.item.now } ∷ []
+      { locations = condition.span.start ∷ []; message = not_composite_message name condition.item.now } ∷ []
 
   -- the condition of a fragment with this name, or of an inline one: it is the name of a type, and that is not
   -- composite

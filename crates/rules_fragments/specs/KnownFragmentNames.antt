@@ -13,7 +13,7 @@ unknown_fragment_message name = (codes "Unknown fragment: \"" ++ name) ++ codes 
 abbrev pub unknown_name : List (List ℕ) → Name → List ErrorValue
 unknown_name known name =
     if is_among known name.item.now then [] else record
-        { locations = name.span.start ∷ []; message = unknown_fragment_message name.item.now } ∷ []
+    { locations = name.span.start ∷ []; message = unknown_fragment_message name.item.now } ∷ []
 
 -- at a node: a spread
 abbrev pub unknown_spread : {S : Type 0} → List (List ℕ) → Node S → List ErrorValue

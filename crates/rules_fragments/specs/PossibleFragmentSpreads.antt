@@ -78,7 +78,7 @@ module _ {S C : Type 0} where
   impossible schema (Some parent) None name place = []
   impossible schema (Some parent) (Some t) name place =
       if may_stand schema parent t then [] else record
-          { locations = place ∷ []; message = impossible_message name (type_name parent) (type_name t) } ∷ []
+      { locations = place ∷ []; message = impossible_message name (type_name parent) (type_name t) } ∷ []
 
   -- at a spread by the type of its fragment, at an inline fragment by its condition
   abbrev pub impossible_at : Catalog S C → TypesByName S C → Option (MetaTypeOf S C) → Node S → List ErrorValue

@@ -19,8 +19,10 @@ module _ {S C : Type 0} where
   abbrev pub not_input : Option (MetaTypeOf S C) → VariableEntry S → List ErrorValue
   not_input None v = []
   not_input (Some t) v =
-      if is_input_meta t then [] else record { locations = v.1.var_type.span.start ∷ [];
-          message = non_input_message v.0.item.now (shape v.1.var_type.item) } ∷ []
+      if is_input_meta t then [] else record {
+        locations = v.1.var_type.span.start ∷ [];
+        message = non_input_message v.0.item.now (shape v.1.var_type.item);
+      } ∷ []
 
   -- a definition of a variable: the innermost name of its type is the name of a type, and that is no input type
   abbrev pub non_input : Catalog S C → VariableEntry S → List ErrorValue

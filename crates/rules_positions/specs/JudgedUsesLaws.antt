@@ -35,7 +35,7 @@ each_silent : {O R : Type 0} (gives : O → List R → Type 0) (os : List O) (es
 each_silent gives [] es h p = p
 each_silent gives (x ∷ os) es h (first, rest, p, ps, e) =
     e ∙ ap (λ z. z ++ rest) (h x (0, omega arith, refl) first p) ∙ each_silent gives os rest
-        (λ o c. h o (suc c.0, (let l = c.1 in omega (arith, l)), c.2)) ps
+    (λ o c. h o (suc c.0, (let l = c.1 in omega (arith, l)), c.2)) ps
 
 -- whether a variable may stand where it is used, by the types of the schema and the definition of the variable
 abbrev pub Permission : Type 0 → Type 0 → Type 0 → Type 1
@@ -45,7 +45,7 @@ Permission S C U = List (MetaTypeOf S C) → VariableDefinition S → U → Type
 abbrev pub GivesUnless : {S C U : Type 0} → Permission S C U → Judgement S C U → Type 0
 GivesUnless {S} {C} {U} IsAllowed judged =
     (types : List (MetaTypeOf S C)) (d : VariableEntry S) (u : U) (es : List ErrorValue) → judged types d u es
-        → (es ≡ []) ↔ IsAllowed types d.1 u
+    → (es ≡ []) ↔ IsAllowed types d.1 u
 
 module _ {S C U : Type 0} (variable_of : U → List ℕ) (judged : Judgement S C U) (IsAllowed : Permission S C U)
     (types : List (MetaTypeOf S C)) (document : List (Definition S)) (uses_of : Definition S → List U) where
@@ -77,9 +77,9 @@ module _ {S C U : Type 0} (variable_of : U → List ℕ) (judged : Judgement S C
         let (places, reach, given) = each_none gives names (subst (EachGives gives names) e told) name ((on.are name).1 named) in
         let k = contains_get document d stands in
         let here = each_none (λ place fs. UsesGive variable_of judged types (known name) (uses_in uses place) fs) places
-            given k.0 ((reach.reached k.0 d k.1).1 reached) in
+        given k.0 ((reach.reached k.0 d k.1).1 reached) in
         let one = each_none (λ w gs. JudgedIfDefined judged types (known name (variable_of w)) w gs)
-            (uses_in uses k.0) here u (subst (λ zs. Contains zs u) (sym (own_uses k.0 d k.1)) used) in
+        (uses_in uses k.0) here u (subst (λ zs. Contains zs u) (sym (own_uses k.0 d k.1)) used) in
         (law types v u [] (subst (λ z. JudgedIfDefined judged types z u []) is one)).0 refl
 
     none_misplaced : (es : List ErrorValue) → DocumentGives variable_of judged types document uses es → UsesAllowed → es ≡ []
@@ -93,7 +93,7 @@ module _ {S C U : Type 0} (variable_of : U → List ℕ) (judged : Judgement S C
         (λ u used hs one.
         none_if (known name (variable_of u)) u hs one
         (λ v is. all name d u v ((on.are name).0 c) (contains_at document k d at) ((reach.reached k d at).0 listed)
-            (subst (λ zs. Contains zs u) (own_uses k d at) used) is))
+        (subst (λ zs. Contains zs u) (own_uses k d at) used) is))
         here)
         given)
         told

@@ -30,7 +30,7 @@ module _ {S C V K : Type 0} where
   abbrev pub recording_step : (V → K) → (DocumentScope S C → Occurrence S C → K → K) → GivesBy S C K V → StepOf S C V
   recording_step kept next gives scope event a b es =
       recording_side (λ o c d. kept d ≡ next scope o (kept c))
-          (λ doc c d fs. gives scope doc (kept c) d fs) event.side event.node event.types a b es
+      (λ doc c d fs. gives scope doc (kept c) d fs) event.side event.node event.types a b es
 
   -- what is given of the document by what was kept of all its occurrences
   abbrev pub recorded : (DocumentScope S C → Occurrence S C → K → K) → GivesBy S C K V → K → V → Allowance S C

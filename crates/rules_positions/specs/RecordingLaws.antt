@@ -37,14 +37,14 @@ module _ {S C V K : Type 0} (kept : V → K) (next : DocumentScope S C → Occur
   inside_keeps (entry node types inside after) a b es (i, j, k) (mid, first, rest, s, r, e) =
       let leave : TypedEvent S C = record { side = leaving; node = node; types = types } in
       let (c, fs, gs, p, (d, none, hs, left, q, e'), e'') =
-          Run-split (recording_step kept next gives scope) (events_of inside) (leave ∷ events_of after) mid b rest r in
+      Run-split (recording_step kept next gives scope) (events_of inside) (leave ∷ events_of after) mid b rest r in
       let (same, quiet) = idle (λ doc x zs. gives scope doc (kept c) x zs) node c d none i left in
       let (in_here, nothing_here) = inside_keeps inside mid c fs j p in
       let (in_rest, nothing_there) = inside_keeps after d b hs k q in
       let at : Occurrence S C = record { node = node; types = types } in (
         in_rest
             ∙ ap (λ z. kept_after (next scope) z (occurrences_of after))
-                (ap kept same ∙ in_here ∙ ap (λ z. kept_after (next scope) z (occurrences_of inside)) s.0)
+            (ap kept same ∙ in_here ∙ ap (λ z. kept_after (next scope) z (occurrences_of inside)) s.0)
             ∙ sym (kept-append (next scope) (next scope at (kept a)) (occurrences_of inside) (occurrences_of after)),
         e ∙ ap (λ z. z ++ rest) s.1 ∙ e'' ∙ ap (λ z. z ++ gs) nothing_here ∙ e' ∙ ap (λ z. z ++ hs) quiet ∙ nothing_there,
       )
@@ -59,7 +59,7 @@ module _ {S C V K : Type 0} where
       let whole : Occurrence S C = record { node = Node.document doc; types = t } in
       let leave : TypedEvent S C = record { side = leaving; node = Node.document doc; types = t } in
       let (c, fs, gs, p, (d, late, hs, left, (same, none), e'), e'') =
-          Run-split (recording_step kept next gives scope) (events_of inside) (leave ∷ []) mid end rest r in
+      Run-split (recording_step kept next gives scope) (events_of inside) (leave ∷ []) mid end rest r in
       let (in_here, nothing_here) = inside_keeps kept next gives scope inside mid c fs (inner-document schema t doc) p in
       let all : es ≡ late =
       e ∙ ap (λ z. z ++ rest) s.1 ∙ e'' ∙ ap (λ z. z ++ gs) nothing_here ∙ e' ∙ ap (λ z. late ++ z) none ∙ append-nil late
@@ -70,5 +70,5 @@ module _ {S C V K : Type 0} where
       ∙ ap (λ z. kept_after (next scope) k (whole ∷ z)) (sym (append-nil (occurrences_of inside)))
       in
       subst (λ z. gives scope doc z end es) after
-          (subst (λ z. gives scope doc (kept c) z es) (sym same)
-          (subst (λ z. gives scope doc (kept c) d z) (sym all) left))
+      (subst (λ z. gives scope doc (kept c) z es) (sym same)
+      (subst (λ z. gives scope doc (kept c) d z) (sym all) left))

@@ -24,15 +24,17 @@ type_in_use d = if is_some d.default_value then non_null_of (shape d.var_type.it
 -- the error at a use of a variable whose type may not stand there
 abbrev pub position_error : {S : Type 0} → VariableEntry S → UseValue → ErrorValue
 position_error d u =
-    record { locations = d.0.span.start ∷ u.place ∷ [];
-        message = position_message u.variable (printed (type_in_use d.1)) (printed u.expected) }
+    record {
+      locations = d.0.span.start ∷ u.place ∷ [];
+      message = position_message u.variable (printed (type_in_use d.1)) (printed u.expected);
+    }
 
 module _ {S C : Type 0} (types : List (MetaTypeOf S C)) where
   -- an error if the variable's type is not a subtype of the expected one, and no error otherwise
   abbrev pub Judged : VariableEntry S → UseValue → List ErrorValue → Type 0
   Judged d u es =
       (IsSubtype types (type_in_use d.1) u.expected × (es ≡ []))
-          ⊎ (¬ (IsSubtype types (type_in_use d.1) u.expected) × (es ≡ position_error d u ∷ []))
+      ⊎ (¬ (IsSubtype types (type_in_use d.1) u.expected) × (es ≡ position_error d u ∷ []))
 
 module _ {S C : Type 0} where
   -- each use in what the operations of each name reach, judged so

@@ -46,15 +46,15 @@ module _ {S C : Type 0} (scope : DocumentScope S C) (t : Typing S C) (document :
   abbrev AllUses : Type 0
   AllUses =
       UsesAllowed {C = C} (λ (u : UseValue). u.variable) Judged
-          (λ types d u. IsSubtype types (type_in_use d) u.expected) scope.schema.types document
-          (typed_uses scope.schema t)
+      (λ types d u. IsSubtype types (type_in_use d) u.expected) scope.schema.types document
+      (typed_uses scope.schema t)
 
   all_allowed : AllUses → AllAllowed scope t document
   all_allowed all name d o x expected v named stands reached there node input is =
       let u : UseValue = record { variable = x.item; place = x.span.start; expected = expected } in
       let one : slice_get (use_at o.node o.types.input) 0 ≡ Some u =
-          subst (λ n. slice_get (use_at n o.types.input) 0 ≡ Some u) (sym node)
-          (subst (λ z. slice_get (use_at {S = S} (variable_value x) z) 0 ≡ Some u) (sym input) refl) in
+      subst (λ n. slice_get (use_at n o.types.input) 0 ≡ Some u) (sym node)
+      (subst (λ z. slice_get (use_at {S = S} (variable_value x) z) 0 ≡ Some u) (sym input) refl) in
       let i = contains_get (occurrences_in scope.schema t d) o there in
       all name d u v named stands reached (contains_flat uses_at (occurrences_in scope.schema t d) i.0 o 0 u i.1 one) is
 
@@ -70,8 +70,8 @@ module _ {S C : Type 0} (scope : DocumentScope S C) (t : Typing S C) (document :
 pub positions_silent : {S C V : Type 0} → SilentIff {S = S} {C = C} {V = V} (always misplaced_variables) AllAllowed
 positions_silent end scope t document es p =
     let law = uses_silent (λ (u : UseValue). u.variable) Judged
-        (λ types d u. IsSubtype types (type_in_use d) u.expected) scope.schema.types document
-        (typed_uses scope.schema t) gives_unless_subtype es p in
+    (λ types d u. IsSubtype types (type_in_use d) u.expected) scope.schema.types document
+    (typed_uses scope.schema t) gives_unless_subtype es p in
     (λ e. all_allowed scope t document (law.0 e), λ all. law.1 (all_uses scope t document all))
 
 -- each run from a fresh value reports what is given of the document

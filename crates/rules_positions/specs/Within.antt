@@ -81,32 +81,42 @@ module _ {S C : Type 0} (schema : Catalog S C) where
       (λ s p t. subst Within (sym (of_scalar schema s p t)) (refl, tt, tt))
       (λ s p t. subst Within (sym (of_enum schema s p t)) (refl, tt, tt))
       (λ s p t. subst Within (sym (of_variable schema s p t)) (refl, tt, tt))
-      (λ xs h p t. subst Within (sym (of_list schema xs p t))
-          (refl, some (λ (x : Placed (InputValue S)). ValueWithin x.item) (outline_of_value schema (at_items t))
-          (λ x k. k x.span (at_items t)) xs.items h, tt))
-      (λ es h p t. subst Within (sym (of_object schema es p t))
-          (refl, some (λ (e : ObjectEntry S). ValueWithin e.1.item) (outline_of_object_field schema t)
-          (λ e k. (refl, k e.1.span _, tt)) es.items h, tt))
+      (λ xs h p t. subst Within (sym (of_list schema xs p t)) (
+        refl,
+        some (λ (x : Placed (InputValue S)). ValueWithin x.item) (outline_of_value schema (at_items t))
+            (λ x k. k x.span (at_items t)) xs.items h,
+        tt,
+      ))
+      (λ es h p t. subst Within (sym (of_object schema es p t)) (
+        refl,
+        some (λ (e : ObjectEntry S). ValueWithin e.1.item) (outline_of_object_field schema t)
+            (λ e k. (refl, k e.1.span _, tt)) es.items h,
+        tt,
+      ))
 
   arguments : (known : Option (List (Argument S))) (t : Typing S C) (written : Option (Placed (Arguments S)))
       → Within (outline_of_arguments schema known t written)
   arguments known t written =
       optional _ (λ list. all (outline_of_argument schema known t)
-          (λ a. (refl, value a.1.item a.1.span _, tt)) list.item.items.items) written
+      (λ a. (refl, value a.1.item a.1.span _, tt)) list.item.items.items) written
 
   pub within_directives : (t : Typing S C) (written : Option (Vec (Placed (Directive S)) Global))
       → Within (outline_of_directives schema t written)
   within_directives t written =
       optional_list (outline_of_directive schema t)
-          (λ d. (refl, arguments (directive_arguments schema d.item.name.item.now) t d.item.arguments, tt)) written
+      (λ d. (refl, arguments (directive_arguments schema d.item.name.item.now) t d.item.arguments, tt)) written
 
   pub within_variables : (t : Typing S C) (written : Option (Placed (VariableDefinitions S)))
       → Within (outline_of_variable_definitions schema t written)
   within_variables t written =
       optional _ (λ list. all (outline_of_variable_definition schema t)
-          (λ d. (refl, within_beside _ _ (optional (outline_of_value schema (at_variable t d.1))
-          (λ v. value v.item v.span _) d.1.default_value) (within_directives (at_variable t d.1) d.1.directives), tt))
-          list.item.items.items) written
+      (λ d. (
+        refl,
+        within_beside _ _ (optional (outline_of_value schema (at_variable t d.1))
+            (λ v. value v.item v.span _) d.1.default_value) (within_directives (at_variable t d.1) d.1.directives),
+        tt,
+      ))
+      list.item.items.items) written
 
   abbrev SelectionWithin : Selection S → Type 0
   SelectionWithin s = (t : Typing S C) → Within (outline_of_selection schema t s)
@@ -123,13 +133,16 @@ module _ {S C : Type 0} (schema : Catalog S C) where
   selection =
       selection_induction SelectionWithin
       (λ f h t. let u = at_field schema t f.item in
-          subst Within (sym (of_field schema t f))
-          (refl, within_beside _ _ (arguments _ u f.item.arguments)
-          (within_beside _ _ (within_directives u f.item.directives) (set_if_there u f.item.selection_set h)), tt))
+      subst Within (sym (of_field schema t f)) (
+        refl,
+        within_beside _ _ (arguments _ u f.item.arguments)
+            (within_beside _ _ (within_directives u f.item.directives) (set_if_there u f.item.selection_set h)),
+        tt,
+      ))
       (λ s t. subst Within (sym (of_spread schema t s)) (refl, within_directives t s.item.directives, tt))
       (λ i h t. let u = at_inline schema t i.item in
-          subst Within (sym (of_inline schema t i))
-          (refl, within_beside _ _ (within_directives u i.item.directives) (set_of u i.item.selection_set.items h), tt))
+      subst Within (sym (of_inline schema t i))
+      (refl, within_beside _ _ (within_directives u i.item.directives) (set_of u i.item.selection_set.items h), tt))
 
   pub within_set : (t : Typing S C) (set : List (Selection S)) → Within (outline_of_set schema t set)
   within_set t set = (refl, all (outline_of_selection schema (at_set t)) (λ s. selection s (at_set t)) set, tt)

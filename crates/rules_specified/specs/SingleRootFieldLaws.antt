@@ -64,18 +64,18 @@ module _ {S : Type 0} where
       → (at_places text (places (filter p fs)) ≡ []) ↔ All (λ f. p f ≡ false) fs
   silent_at_fields text p fs =
       let at = at_no_place text (places (filter p fs)) in let mapped = map_empty (λ f. f.span.start) (filter p fs) in (
-    λ e. none_pass p fs (mapped.0 (at.0 e)),
-    λ h. at.1 (mapped.1 (filter_none p fs h)),
-  )
+        λ e. none_pass p fs (mapped.0 (at.0 e)),
+        λ h. at.1 (mapped.1 (filter_none p fs h)),
+      )
 
   single_iff : (o : Placed (Operation S)) (fs : List (Placed (Field S))) → (root_errors o fs ≡ []) ↔ IsSingle fs
   single_iff o [] = (λ e. cc, λ h. absurd h)
   single_iff o (f ∷ fs) =
       let names = silent_at_fields _ (has_other_name (response_name f.item)) (f ∷ fs) in
       let inner = silent_at_fields _ (λ g. is_introspection g.item) (f ∷ fs) in (
-    λ e. let (a, b) = both_empty _ _ e in (names.0 a, inner.0 b),
-    λ (a, b). empty_with _ _ (names.1 a) (inner.1 b),
-  )
+        λ e. let (a, b) = both_empty _ _ e in (names.0 a, inner.0 b),
+        λ (a, b). empty_with _ _ (names.1 a) (inner.1 b),
+      )
 
 module _ {S C : Type 0} (print : InputValue S → List ℕ) (schema : Catalog S C) (document : List (Definition S)) where
   module _ (root : List ℕ) where

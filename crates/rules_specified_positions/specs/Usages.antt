@@ -33,8 +33,10 @@ module _ {S : Type 0} where
   -- the error at a use of a variable that may not stand there
   abbrev pub usage_error : VariableEntry S → UseValue → ErrorValue
   usage_error d u =
-      record { locations = d.0.span.start ∷ u.place ∷ [];
-          message = position_message u.variable (printed (shape d.1.var_type.item)) (printed u.at.expected) }
+      record {
+        locations = d.0.span.start ∷ u.place ∷ [];
+        message = position_message u.variable (printed (shape d.1.var_type.item)) (printed u.at.expected);
+      }
 
 -- The type that a variable's type has to fit at a place. Where a default value stands for `null`, a variable that may
 -- be null has to fit the type without its outer non-null.

@@ -64,11 +64,11 @@ module _ {S C : Type 0} (scope : DocumentScope S C) where
         let schema = scope.schema in
         let u = at_operation schema t o.item in
         begun (beside (outline_of_variable_definitions schema u o.item.variable_definitions)
-            (beside (outline_of_directives schema u o.item.directives)
-            (outline_of_set schema u o.item.selection_set.items))) lists
+        (beside (outline_of_directives schema u o.item.directives)
+        (outline_of_set schema u o.item.selection_set.items))) lists
         (within_beside _ _ (within_variables schema u o.item.variable_definitions)
-            (within_beside _ _ (within_directives schema u o.item.directives)
-            (within_set schema u o.item.selection_set.items)))
+        (within_beside _ _ (within_directives schema u o.item.directives)
+        (within_set schema u o.item.selection_set.items)))
     in_definition (definition.Fragment f) lists =
         let schema = scope.schema in
         let u = at_fragment schema t f.item in

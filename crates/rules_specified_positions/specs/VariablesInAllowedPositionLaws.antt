@@ -24,7 +24,7 @@ gives_unless_allowed types d u es (inr b) = (λ e. absurd (some_none _ _ (sym e 
 pub positions_silent : {S C V : Type 0} → SilentIff {S = S} {C = C} {V = V} (always misplaced_variables) AllAllowed
 positions_silent end scope t document es p =
     uses_silent (λ (u : UseValue). u.variable) Judged (λ types d u. IsAllowed types d u.at) scope.schema.types document
-        (placed_uses scope.schema t) gives_unless_allowed es p
+    (placed_uses scope.schema t) gives_unless_allowed es p
 
 -- each run from a fresh value reports what is given of the document
 pub positions_keep : {S C : Type 0} → AllowsFrom

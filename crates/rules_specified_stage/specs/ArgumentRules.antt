@@ -57,5 +57,5 @@ module _ {S C : Type 0} where
   abbrev pub argument_rules : Listed S C OfArguments
   argument_rules =
       before repeated_directives (before repeated_keys
-          (before repeated_arguments (before missing_arguments
-          (before unsuitable_directives (before unknown_arguments none)))))
+      (before repeated_arguments (before missing_arguments
+      (before unsuitable_directives (before unknown_arguments none)))))

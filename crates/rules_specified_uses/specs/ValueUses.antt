@@ -49,8 +49,11 @@ module _ {S C : Type 0} (schema : Catalog S C) where
   value_uses place v = uses_of v.item v.span place
 
 abbrev pub use_value : PlacedUse → UseValue
-use_value u = record { variable = u.variable.now; place = u.place;
-    at = record { expected = borrowed_shape u.expected; has_default = u.has_default } }
+use_value u = record {
+  variable = u.variable.now;
+  place = u.place;
+  at = record { expected = borrowed_shape u.expected; has_default = u.has_default };
+}
 
 abbrev pub use_values : List (Vec PlacedUse Global) → List (List UseValue)
 use_values lists = map (λ us. map use_value us.items) lists

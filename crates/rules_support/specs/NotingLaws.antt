@@ -21,7 +21,7 @@ pub first_place-more : (earlier : List Named) (n : Named) (name : List ℕ)
 first_place-more [] n name = refl
 first_place-more (m ∷ earlier) n name =
     elim (bytes_eq m.0 name) as (λ b. or_else (cond b (Some m.1) (first_place earlier name))
-        (cond (bytes_eq n.0 name) (Some n.1) None) ≡ cond b (Some m.1) (first_place (earlier ++ n ∷ []) name))
+    (cond (bytes_eq n.0 name) (Some n.1) None) ≡ cond b (Some m.1) (first_place (earlier ++ n ∷ []) name))
     [ true ↦ refl | false ↦ first_place-more earlier n name ]
 
 noted-first : (earlier : List Named) (o : Option Named) → noted_if o (first_place earlier) ≡ first_place (earlier ++ to_list o)
@@ -45,8 +45,8 @@ module _ {S C : Type 0} (message : List ℕ → List ℕ) (name : Node S → Opt
   found_repeats [] earlier = refl
   found_repeats (o ∷ os) earlier =
       ap (λ k. repeat_if message (name o.node) (first_place earlier)
-          ++ found_keeping (λ (p : Occurrence S C). noted_if (name p.node))
-          (λ (p : Occurrence S C). repeat_if message (name p.node)) k os) (noted-first earlier (name o.node))
+      ++ found_keeping (λ (p : Occurrence S C). noted_if (name p.node))
+      (λ (p : Occurrence S C). repeat_if message (name p.node)) k os) (noted-first earlier (name o.node))
       ∙ ap (λ z. repeat_if message (name o.node) (first_place earlier) ++ z) (found_repeats os (earlier ++ to_list (name o.node)))
       ∙ repeats-more message earlier (name o.node) (names os)
 
@@ -57,4 +57,4 @@ pub noting_keeps : {S C V : Type 0} (message : List ℕ → List ℕ) (places : 
 noting_keeps {S} {C} message places name start fresh schema t doc end es r =
     subst (λ z. IsPermutation z es) (found_repeats {S = S} {C = C} message name (occurrences schema t doc) [])
     (keeping_keeps places (λ scope o. noted_if (name o.node))
-        (λ scope o. repeat_if message (name o.node)) nothing_noted start fresh schema t doc end es r)
+    (λ scope o. repeat_if message (name o.node)) nothing_noted start fresh schema t doc end es r)

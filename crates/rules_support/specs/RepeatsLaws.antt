@@ -77,7 +77,7 @@ none_repeats_after message earlier (n ∷ rest) =
     ∙ ap (λ z. is_new earlier n && z)
     (none_repeats_after message (earlier ++ n ∷ []) rest ∙ ap (λ z. z && are_distinct (names_of rest)) (new_after earlier n rest))
     ∙ reorder (is_new earlier n) (list_all (is_new earlier) rest)
-        (not (list_any (pointwise nat_eq n.0) (names_of rest))) (are_distinct (names_of rest))
+    (not (list_any (pointwise nat_eq n.0) (names_of rest))) (are_distinct (names_of rest))
 
 all_new : (names : List Named) → list_all (is_new []) names ≡ true
 all_new [] = refl

@@ -61,12 +61,12 @@ module _ {S C : Type 0} (schema : Catalog S C) (may : Answers (InputValue S) C) 
     -- left out
     object : (es : Vec (Entry (InputValue S)) Global) {meta : MetaTypeOf S C} → is_input_object_meta meta ≡ true
         → ((e : Entry (InputValue S)) → Contains es.items e
-            → is_some (option_and_then (field_type schema) (input_field_named (key_of e) meta)) ≡ true)
+        → is_some (option_and_then (field_type schema) (input_field_named (key_of e) meta)) ≡ true)
         → ((e : Entry (InputValue S)) (a : Argument S) (t : MetaTypeOf S C) → Contains es.items e
-            → input_field_named (key_of e) meta ≡ Some a
+        → input_field_named (key_of e) meta ≡ Some a
         → field_type schema a ≡ Some t → Conforms e.1.item (reverse (shape a.arg_type).modifiers) t)
         → ((a : Argument S) → Contains (input_fields_of meta) a → is_required a ≡ true
-            → is_among (keys_of es.items) (string_bytes a.name) ≡ true)
+        → is_among (keys_of es.items) (string_bytes a.name) ≡ true)
         → Conforms (v.Object es) [] meta
 
   -- it conforms to a type as it is written, if the schema has a type of its name

@@ -96,7 +96,7 @@ module _ {S : Type 0} (keys : List (List ℕ)) where
   noted_none : (names : List (List ℕ)) (a : Argument S) → names ≡ [] → IsGiven a → noted keys names a ≡ []
   noted_none names a e given =
       let is : is_lacking keys names a ≡ false =
-          ap (λ z. is_lacking keys z a) e ∙ given_or_not (is_required a) (is_among keys (string_bytes a.name)) given in
+      ap (λ z. is_lacking keys z a) e ∙ given_or_not (is_required a) (is_among keys (string_bytes a.name)) given in
       ap (λ b. if b then names ++ string_bytes a.name ∷ [] else names) is ∙ e
 
   at_field : (f : Argument S) (fields : List (Argument S)) → IsGiven f
@@ -117,7 +117,7 @@ module _ {S : Type 0} (keys : List (List ℕ)) where
   kept_none [] names e given = e
   kept_none (f ∷ fields) names e given =
       kept_none fields (noted keys names f) (noted_none names f e (given f (0, omega arith, refl)))
-          (λ a there. given a (Contains-append_right (f ∷ []) fields a there))
+      (λ a there. given a (Contains-append_right (f ∷ []) fields a there))
 
 missing_none : (name : List ℕ) (names : List (List ℕ)) → None ≡ missing_fault name names → names ≡ []
 missing_none name [] e = refl
@@ -263,7 +263,7 @@ module _ {S C : Type 0} (schema : Catalog S C) (may : Answers (InputValue S) C) 
   keyed_if : (meta : MetaTypeOf S C) (key : List ℕ) (o : Option (Argument S)) (a : Argument S) (t : MetaTypeOf S C)
       (value : InputValue S) → o ≡ Some a → field_type schema a ≡ Some t
       → NoFault value (within (reverse (shape a.arg_type).modifiers) t)
-          → keyed schema may shown (λ y. y) (judge_of schema may shown) meta key o value None
+      → keyed schema may shown (λ y. y) (judge_of schema may shown) meta key o value None
   keyed_if meta key o a t value e is none =
       let w : WrappedMeta S C = record { meta = t; modifiers = (shape a.arg_type).modifiers } in
       subst (λ z. keyed schema may shown (λ y. y) (judge_of schema may shown) meta key z value None) (sym e)
@@ -273,7 +273,7 @@ module _ {S C : Type 0} (schema : Catalog S C) (may : Answers (InputValue S) C) 
       → Conforms schema may value ms meta → NoFault value (within ms meta)
   conforms_none (variable name {ms = ms} {meta = meta}) =
       of_level (variant.Variable name) (v.Variable name) ms meta (sym (variant.rolls-Variable name))
-          (variable_level name (variant.Variable name) ms meta)
+      (variable_level name (variant.Variable name) ms meta)
   conforms_none (null_name {meta = meta}) = of_level variant.Null v.Null [] meta (sym variant.rolls-Null) refl
   conforms_none (null_list {size = size} {ms = ms} {meta = meta}) =
       of_level variant.Null v.Null (m.List size ∷ ms) meta (sym variant.rolls-Null) refl
@@ -294,11 +294,11 @@ module _ {S C : Type 0} (schema : Catalog S C) (may : Answers (InputValue S) C) 
       (scalar_if (is_enum_meta meta) (variant.Scalar s) meta plain (checked_if (check_of_meta meta) c (variant.Scalar s) meta is accepts))
   conforms_none (enum_value name {c = c} {meta = meta} is accepts) =
       of_level (variant.Enum name) (v.Enum name) [] meta (sym (variant.rolls-Enum name))
-          (checked_if (check_of_meta meta) c (variant.Enum name) meta is accepts)
+      (checked_if (check_of_meta meta) c (variant.Enum name) meta is accepts)
   conforms_none (any_literal value {c = c} {meta = meta} takes is accepts) =
       let x = out-InputValue S value in
       of_level value x [] meta (sym (roll-out-InputValue S value))
-          (any_level x value meta takes (checked_if (check_of_meta meta) c value meta is accepts))
+      (any_level x value meta takes (checked_if (check_of_meta meta) c value meta is accepts))
   conforms_none (object es {meta = meta} is known each given) =
       of_level (variant.Object es) (v.Object es) [] meta (sym (variant.rolls-Object es))
       (no_any_if (takes_any schema meta) (variant.Object es) meta _ (object_not_any schema.dialect meta is)
@@ -307,7 +307,7 @@ module _ {S C : Type 0} (schema : Catalog S C) (may : Answers (InputValue S) C) 
       (λ e there.
       let (a, is_field, t, is_type) = type_of (input_field_named (key_of e) meta) (known e there) in
       keyed_if meta (key_of e) (input_field_named (key_of e) meta) a t e.1.item is_field is_type
-          (conforms_none (each e a t there is_field is_type)))
+      (conforms_none (each e a t there is_field is_type)))
       (ap (missing_fault (printed_name meta)) (sym (kept_none (keys_of es.items) (input_fields_of meta) [] refl given))))))
 
   -- from here on: what has no fault conforms
@@ -345,7 +345,7 @@ module _ {S C : Type 0} (schema : Catalog S C) (may : Answers (InputValue S) C) 
       → list_layer x ≡ false → (xs : Vec (Placed (InputValue S)) Global) → value ≡ variant.List xs → ⊥
   not_list value x e other xs is =
       true_false (ap list_layer (is_rolled value (v.List xs) (variant.rolls-List xs ∙ sym is)))
-          (ap list_layer (is_rolled value x e) ∙ other)
+      (ap list_layer (is_rolled value x e) ∙ other)
 
   to_null : (ms : List TypeModifier) (meta : MetaTypeOf S C) → Level v.Null variant.Null ms meta → Conforms schema may variant.Null ms meta
   to_null [] meta l = null_name
@@ -416,7 +416,7 @@ module _ {S C : Type 0} (schema : Catalog S C) (may : Answers (InputValue S) C) 
   under_key : (meta : MetaTypeOf S C) (key : List ℕ) (o : Option (Argument S)) (a : Argument S) (t : MetaTypeOf S C)
       (value : InputValue S) → Such value → o ≡ Some a → field_type schema a ≡ Some t
       → keyed schema may shown (λ y. y) (judge_of schema may shown) meta key o value None
-          → Conforms schema may value (reverse (shape a.arg_type).modifiers) t
+      → Conforms schema may value (reverse (shape a.arg_type).modifiers) t
   under_key meta key o a t value h e is l =
       let (w, made, n, told, at) = subst (λ z. keyed schema may shown (λ y. y) (judge_of schema may shown) meta key z value None) e l in
       let c = h w (subst (λ z. Judged schema may shown value w z) (map_none _ n at) told) in
@@ -426,7 +426,7 @@ module _ {S C : Type 0} (schema : Catalog S C) (may : Answers (InputValue S) C) 
   to_object_by : (b : Bool) (es : Vec (Entry (InputValue S)) Global) (meta : MetaTypeOf S C)
       → Each (λ e. Such e.1.item) es.items → is_input_object_meta meta ≡ b
       → object_fault schema may shown (λ y. y) (judge_of schema may shown) b meta es.items None
-          → Conforms schema may (variant.Object es) [] meta
+      → Conforms schema may (variant.Object es) [] meta
   to_object_by false es meta h is l = absurd (some_none l)
   to_object_by true es meta h is l =
       let tells = entry schema may shown (λ y. y) (judge_of schema may shown) meta in
@@ -436,9 +436,9 @@ module _ {S C : Type 0} (schema : Catalog S C) (may : Answers (InputValue S) C) 
       (λ e there. known_key meta (key_of e) (input_field_named (key_of e) meta) e.1.item (entries e there))
       (λ e a t there is_field is_type.
       under_key meta (key_of e) (input_field_named (key_of e) meta) a t e.1.item
-          (each_contains (λ e. Such e.1.item) es.items h e there) is_field is_type (entries e there))
+      (each_contains (λ e. Such e.1.item) es.items h e there) is_field is_type (entries e there))
       ((none_kept (keys_of es.items) (input_fields_of meta) []
-          (missing_none (printed_name meta) (missing (keys_of es.items) (input_fields_of meta)) lacks)).1)
+      (missing_none (printed_name meta) (missing (keys_of es.items) (input_fields_of meta)) lacks)).1)
 
   to_object : (es : Vec (Entry (InputValue S)) Global) → Each (λ e. Such e.1.item) es.items
       → (ms : List TypeModifier) (meta : MetaTypeOf S C) → Level (v.Object es) (variant.Object es) ms meta
@@ -463,7 +463,7 @@ module _ {S C : Type 0} (schema : Catalog S C) (may : Answers (InputValue S) C) 
 
   of_type : (t : TypeShape) (value : InputValue S) (o : Option (MetaTypeOf S C))
       → FaultAt schema may shown value (option_map (λ meta. record { meta = meta; modifiers = t.modifiers }) o) None
-          ↔ ((meta : MetaTypeOf S C) → o ≡ Some meta → Conforms schema may value (reverse t.modifiers) meta)
+      ↔ ((meta : MetaTypeOf S C) → o ≡ Some meta → Conforms schema may value (reverse t.modifiers) meta)
   of_type t value None = (λ l. λ meta is. absurd (some_none is), λ h. refl)
   of_type t value (Some u) =
       let w : WrappedMeta S C = record { meta = u; modifiers = t.modifiers } in (

@@ -26,8 +26,11 @@ pub record Catalog (S C : Type 0) : Type 0 where
 -- the roots whose names are kept as these texts
 abbrev pub kept_roots : String Global → Option (String Global) → Option (String Global) → Roots
 kept_roots query mutation subscription =
-    record { query = string_bytes query; mutation = option_map string_bytes mutation;
-    subscription = option_map string_bytes subscription }
+    record {
+      query = string_bytes query;
+      mutation = option_map string_bytes mutation;
+      subscription = option_map string_bytes subscription;
+    }
 
 module _ {S C : Type 0} where
   -- the type of the name

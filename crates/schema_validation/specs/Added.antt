@@ -35,17 +35,31 @@ pub record DirectiveShape : Type 0 where
 
 module _ {S : Type 0} where
   abbrev pub argument_shape : Argument S → ArgumentShape
-  argument_shape a = record { name = string_bytes a.name; description = option_map string_bytes a.description;
-      arg_type = shape a.arg_type; has_default = is_some a.default_value }
+  argument_shape a = record {
+    name = string_bytes a.name;
+    description = option_map string_bytes a.description;
+    arg_type = shape a.arg_type;
+    has_default = is_some a.default_value;
+  }
 
   abbrev pub field_shape : Field S → FieldShape
-  field_shape f = record { name = string_bytes f.name; description = option_map string_bytes f.description;
-      arguments = option_map (λ v. map argument_shape v.items) f.arguments; field_type =
-      shape f.field_type; is_deprecated = is_deprecated_status f.deprecation_status }
+  field_shape f = record {
+    name = string_bytes f.name;
+    description = option_map string_bytes f.description;
+    arguments = option_map (λ v. map argument_shape v.items) f.arguments;
+    field_type =
+        shape f.field_type;
+    is_deprecated = is_deprecated_status f.deprecation_status;
+  }
 
   abbrev pub directive_shape : DirectiveType S → DirectiveShape
-  directive_shape d = record { name = string_bytes d.name; description = option_map string_bytes d.description;
-      locations = d.locations.items; arguments = map argument_shape d.arguments.items; is_repeatable = d.is_repeatable }
+  directive_shape d = record {
+    name = string_bytes d.name;
+    description = option_map string_bytes d.description;
+    locations = d.locations.items;
+    arguments = map argument_shape d.arguments.items;
+    is_repeatable = d.is_repeatable;
+  }
 
 -- an argument of this name and this type, non-null
 abbrev pub required : List ℕ → List ℕ → ArgumentShape
@@ -54,8 +68,13 @@ required name type_name = record { name = name; description = None; arg_type = n
 -- a field of this name and this type, non-null
 abbrev pub always : List ℕ → Option (List ArgumentShape) → List ℕ → FieldShape
 always name arguments type_name =
-    record { name = name; description = None; arguments = arguments; field_type = non_null_named type_name;
-    is_deprecated = false }
+    record {
+      name = name;
+      description = None;
+      arguments = arguments;
+      field_type = non_null_named type_name;
+      is_deprecated = false;
+    }
 
 -- `__schema: __Schema!`
 abbrev pub schema_field : FieldShape
@@ -68,8 +87,13 @@ type_field = always (codes "__type") (Some (required (codes "name") (codes "Stri
 -- a directive with one argument, which may be used once at a location
 abbrev pub with_argument : List ℕ → List DirectiveLocation → List ℕ → List ℕ → DirectiveShape
 with_argument name locations argument type_name =
-    record { name = name; description = None; locations = locations; arguments = required argument type_name ∷ [];
-    is_repeatable = false }
+    record {
+      name = name;
+      description = None;
+      locations = locations;
+      arguments = required argument type_name ∷ [];
+      is_repeatable = false;
+    }
 
 -- `skip` and `include`, each with `if: Boolean!`
 abbrev pub conditional : List ℕ → DirectiveShape

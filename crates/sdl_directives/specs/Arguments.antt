@@ -51,7 +51,7 @@ module _ (defined : DirectiveDefinition) where
   abbrev pub unknown_argument : Given → List FaultValue
   unknown_argument a =
       fault_if (not (is_parameter a.0.item.now defined.arguments.items)) a.0.span.start
-          (k.UnknownArgument a.0.item.now defined.name.item.now)
+      (k.UnknownArgument a.0.item.now defined.name.item.now)
 
   -- both, of an argument after others, and of all in turn
   abbrev pub argument_judged : List Given → Given → List FaultValue
@@ -67,7 +67,7 @@ module _ (defined : DirectiveDefinition) where
   abbrev pub missing_argument : Applied → InputValueDefinition → List FaultValue
   missing_argument x a =
       fault_if (is_missing a (arguments_of x.item)) x.span.start
-          (k.MissingArgument defined.name.item.now a.name.item.now (shape a.value_type.item))
+      (k.MissingArgument defined.name.item.now a.name.item.now (shape a.value_type.item))
 
   abbrev pub missing_arguments : Applied → List FaultValue
   missing_arguments x = flat_map (missing_argument x) defined.arguments.items

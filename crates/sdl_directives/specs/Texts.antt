@@ -13,4 +13,4 @@ kind_text (k.UnknownArgument a n) = codes "Unknown argument \"" ++ (a ++ (codes 
 kind_text (k.RepeatedArgument a) = codes "There can only be one argument named \"" ++ (a ++ codes "\"")
 kind_text (k.MissingArgument n a t) =
     (codes "Directive \"@" ++ (n ++ (codes "\" argument \"" ++ (a ++ codes "\""))))
-        ++ (codes " of type \"" ++ (printed t ++ codes "\" is required but not provided"))
+    ++ (codes " of type \"" ++ (printed t ++ codes "\" is required but not provided"))

@@ -32,4 +32,4 @@ module _ {S C : Type 0} (schema : Catalog S C) where
   abbrev pub wrong_field_type : PairValue S → List FaultValue
   wrong_field_type p =
       fault_if (not (is_field_type (shape p.given.field_type) (shape p.wanted.field_type))) (given_field p)
-          (k.WrongFieldType (wanted_field p) (shape p.wanted.field_type) (shape p.given.field_type))
+      (k.WrongFieldType (wanted_field p) (shape p.wanted.field_type) (shape p.given.field_type))

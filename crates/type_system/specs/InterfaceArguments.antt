@@ -15,7 +15,7 @@ module _ {S : Type 0} (p : PairValue S) where
   abbrev pub other_type : Argument S → Argument S → List FaultValue
   other_type a b =
       fault_if (not (is_same_type (shape a.arg_type) (shape b.arg_type))) (given_argument p (string_bytes a.name))
-          (k.WrongArgumentType (wanted_argument p (string_bytes a.name)) (shape a.arg_type) (shape b.arg_type))
+      (k.WrongArgumentType (wanted_argument p (string_bytes a.name)) (shape a.arg_type) (shape b.arg_type))
 
   -- an argument of the interface's field, beside that of its name
   abbrev pub unmet_by : Argument S → Option (Argument S) → List FaultValue

@@ -27,7 +27,7 @@ module _ {S C : Type 0} where
   abbrev pub wrong_output_type : Catalog S C → List ℕ → Field S → List FaultValue
   wrong_output_type schema of f =
       fault_if (is_input_object_named schema (shape f.field_type).name) (c.Field of (string_bytes f.name))
-          (k.NotOutputType (shape f.field_type))
+      (k.NotOutputType (shape f.field_type))
 
   -- those fields of a type
   abbrev pub wrong_output_types : Catalog S C → MetaTypeOf S C → List FaultValue

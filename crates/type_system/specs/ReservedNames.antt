@@ -47,7 +47,7 @@ module _ {S C : Type 0} (schema : Catalog S C) where
   abbrev pub reserved_field : List ℕ → Field S → List FaultValue
   reserved_field of f =
       (if is_introspection_field schema of (string_bytes f.name) then [] else reserved_name
-          (c.Field of (string_bytes f.name))) ++ flat_map (reserved_argument of (string_bytes f.name)) (arguments_of f)
+      (c.Field of (string_bytes f.name))) ++ flat_map (reserved_argument of (string_bytes f.name)) (arguments_of f)
 
   -- the name of a type
   abbrev pub reserved_type : List ℕ → List FaultValue
@@ -57,5 +57,5 @@ module _ {S C : Type 0} (schema : Catalog S C) where
   abbrev pub reserved_names : MetaTypeOf S C → List FaultValue
   reserved_names t =
       reserved_type (name_in t) ++ flat_map (reserved_field (name_in t)) (fields_of t)
-          ++ flat_map (reserved_input_field (name_in t)) (input_fields_of t)
-          ++ flat_map (reserved_value (name_in t)) (values_of t)
+      ++ flat_map (reserved_input_field (name_in t)) (input_fields_of t)
+      ++ flat_map (reserved_value (name_in t)) (values_of t)

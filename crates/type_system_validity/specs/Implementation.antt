@@ -38,7 +38,7 @@ module _ {S C : Type 0} (schema : Catalog S C) where
     abbrev pub ImplementsFieldsOf : Option (MetaTypeOf S C) → Type 0
     ImplementsFieldsOf (Some (m.Interface x)) =
         All (λ g. bytes_eq (string_bytes g.name) (codes "__typename") ≡ false
-            → IsImplemented g (field_named (string_bytes g.name) t)) x.fields.items
+        → IsImplemented g (field_named (string_bytes g.name) t)) x.fields.items
     ImplementsFieldsOf _ = ⊤
 
     -- the same of each of its interfaces

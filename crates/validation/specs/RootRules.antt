@@ -30,7 +30,7 @@ module _ {S C : Type 0} (rules : Rules S C) where
   abbrev pub AppendsRootReported : Bool → ContextState S C → ContextState S C → List (Definition S) → ℕ → Type 0
   AppendsRootReported disabled old new doc pairs =
       (es : List ErrorValue) × RootReported disabled old.errors (scope_of old.schema doc) (typing old) doc es pairs
-          × (new ≡ with_errors old es)
+      × (new ≡ with_errors old es)
 
   -- these errors are reported of a document, in any order
   pub record IsRootReport (disabled : Bool) (schema : Catalog S C) (document : List (Definition S))

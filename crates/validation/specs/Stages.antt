@@ -27,7 +27,7 @@ module _ {S C : Type 0} (rules : Rules S C) where
       (doc : List (Definition S)) : List ErrorValue → ℕ → Type 0 where
     of_stage_one : {es : List ErrorValue}
         → rules.first_stage.may_report scope t doc es → (es ≡ []) ↔ rules.first_stage.find_nothing scope t doc
-            → (before ++ es ≡ [] → ⊥) → Reported before scope t doc es 0
+        → (before ++ es ≡ [] → ⊥) → Reported before scope t doc es 0
     of_stage_two : {es : List ErrorValue} {end : OverlappingFieldsCanBeMerged}
         → before ≡ [] → rules.first_stage.find_nothing scope t doc → (told : MergeErrors rules.same scope.schema doc end es)
         → AreAll rules.same scope.schema doc told.reports → Reported before scope t doc es end.compared

@@ -77,7 +77,7 @@ IsFaultAt rules before x place =
 abbrev pub IsFirstFault : Rules → List Lexeme → List Lexeme → ReadError → Type 0
 IsFirstFault rules ts left (Syntax e) =
     (before : List Lexeme) × (x : Lexeme) × (more : List Lexeme) × (left ≡ x ∷ more) × (ts ≡ before ++ x ∷ more)
-        × IsFaultAt rules before x e.position
+    × IsFaultAt rules before x e.position
 IsFirstFault rules ts left OutOfMemory = Unit {0}
 
 abbrev pub IsNone : Rules → List Lexeme → ReadError → Type 0

@@ -95,7 +95,7 @@ abbrev mutual
   SpellsFields rules depth (field k v fs) ts =
       (a : SourcePosition) × (b : SourcePosition) × (one : List Lexeme) × (more : List Lexeme)
       × (ts ≡ lexeme (token.name k.name) k.span.start k.span.end ∷ sign Colon a b ∷ (one ++ more))
-          × Spells rules depth v one × SpellsFields rules depth fs more
+      × Spells rules depth v one × SpellsFields rules depth fs more
 
 -- the first tokens are those of a value, and the rest stands behind them
 abbrev pub Begins : Rules → List Lexeme → Value → List Lexeme → Type 0

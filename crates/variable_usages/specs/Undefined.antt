@@ -23,8 +23,12 @@ pub record Undefined : Type 0 where
   pub operation_place : SourcePosition
 
 abbrev pub undefined_of : UndefinedVariable → Undefined
-undefined_of u = record { name = u.name.now; operation = option_map (λ n. n.now) u.operation; place = u.place;
-    operation_place = u.operation_place }
+undefined_of u = record {
+  name = u.name.now;
+  operation = option_map (λ n. n.now) u.operation;
+  place = u.place;
+  operation_place = u.operation_place;
+}
 
 -- The report of a use, if its variable is not defined.
 abbrev pub told_undefined : (List ℕ → Bool) → Option (List ℕ) → SourcePosition → Use → List Undefined

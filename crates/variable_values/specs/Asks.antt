@@ -30,7 +30,7 @@ pub data Asks {S C : Type 0} (schema : Catalog S C) : InputValue S → List Type
   at_field : (value : InputValue S) (name : List ℕ) (o : InputObjectMetaOf S C) (es : List (Entry (InputValue S)))
       (a : Argument S) (x : InputValue S) (c : C) (inner : InputValue S)
       → object_entries value ≡ Some es → type_in name schema ≡ Some (k.InputObject o) → Contains o.input_fields.items a
-          → last_value (string_bytes a.name) es ≡ Some x
+      → last_value (string_bytes a.name) es ≡ Some x
       → Asks schema x (reverse (shape a.arg_type).modifiers) (shape a.arg_type).name c inner → Asks schema value [] name c inner
   -- of an item of a list
   at_item : (value : InputValue S) (size : Option ℕ) (ms : List TypeModifier) (name : List ℕ)
@@ -48,4 +48,4 @@ pub data Asks {S C : Type 0} (schema : Catalog S C) : InputValue S → List Type
 abbrev pub AcceptedWhereAsked : {S C : Type 0} → Catalog S C → Answers (InputValue S) C → (S → List ℕ) → (S → Option (List ℕ)) → Type 0
 AcceptedWhereAsked {S} {C} schema may text str_of =
     (value : InputValue S) (t : TypeShape) (c : C) (inner : InputValue S) → Faults schema may text str_of value t []
-        → Asks schema value (reverse t.modifiers) t.name c inner → Accepts may c inner
+    → Asks schema value (reverse t.modifiers) t.name c inner → Accepts may c inner

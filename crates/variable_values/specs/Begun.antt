@@ -50,14 +50,14 @@ module _ {S C : Type 0} where
     abbrev pub ByCheck : BegunObject S C → List ℕ → Telling
     ByCheck of before mid new =
         ((length mid ≡ of.told) × Adds (Checked may (input_object_check of.object.now) of.value.now
-            (input_text (string_bytes of.object.now.name) (printed_value text str_of of.value.now)) []) before mid new)
+        (input_text (string_bytes of.object.now.name) (printed_value text str_of of.value.now)) []) before mid new)
         ⊎ ((length mid ≡ of.told → ⊥) × (new ≡ mid))
 
     -- what is told of an object behind the faults of its fields
     abbrev pub EndsObject : BegunObject S C → List ℕ → Telling
     EndsObject of before old new =
         (mid : List (List ℕ)) × (mid ≡ old ++ map (told_after before)
-            (map unknown_field (unknown_keys (field_names of.object.now.input_fields.items) (keys_of of.entries.now))))
+        (map unknown_field (unknown_keys (field_names of.object.now.input_fields.items) (keys_of of.entries.now))))
         × ByCheck of before mid new
 
   module _ (schema : Catalog S C) (may : Answers (InputValue S) C) (text : S → List ℕ) (str_of : S → Option (List ℕ)) where
@@ -112,4 +112,4 @@ module _ {S C : Type 0} where
       abbrev pub GoesOn : List (Begun S C) → List PathStep → List (List ℕ) → List (Begun S C) → List PathStep → List (List ℕ) → Type 0
       GoesOn parts steps now old_parts old_steps old =
           (end : List (List ℕ)) → LeftOfAll (reverse parts) (reverse steps) now end
-              → LeftOfAll (reverse old_parts) (reverse old_steps) old end
+          → LeftOfAll (reverse old_parts) (reverse old_steps) old end

@@ -115,7 +115,7 @@ module _ {S C : Type 0} (schema : Catalog S C) (may : Answers (InputValue S) C) 
     OfObject o es value fs =
         (gs : List Fault) × AtFields o.input_fields.items es gs
         × OrChecked may (gs ++ map unknown_field (unknown_keys (field_names o.input_fields.items) (keys_of es)))
-            (input_object_check o) value (input_text (string_bytes o.name) (printed_value text str_of value)) fs
+        (input_object_check o) value (input_text (string_bytes o.name) (printed_value text str_of value)) fs
 
     -- of a value against an input object
     abbrev pub OfInput : v.InputValue-F S X → InputObjectMetaOf S C → InputValue S → List Fault → Type 0
@@ -144,7 +144,7 @@ module _ {S C : Type 0} (schema : Catalog S C) (may : Answers (InputValue S) C) 
     Of v.Null value (m.List size ∷ ms) name fs = fs ≡ []
     Of (v.List xs) value (m.List size ∷ ms) name fs =
         (gs : List Fault) × InTurn (λ i x. Inside (element i) (within ms name) x.item) 0 xs.items gs
-            × (fs ≡ wrong_length size (length xs.items) ++ gs)
+        × (fs ≡ wrong_length size (length xs.items) ++ gs)
     Of x value (m.NonNull ∷ ms) name fs = Of x value ms name fs
     Of x value (m.List size ∷ ms) name fs = (gs : List Fault) × Of x value ms name gs × (fs ≡ wrong_length size 1 ++ gs)
 

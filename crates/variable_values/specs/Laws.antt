@@ -16,4 +16,4 @@ module _ {S C : Type 0} where
   abbrev pub OneList : Catalog S C → Answers (InputValue S) C → (S → List ℕ) → (S → Option (List ℕ)) → Type 0
   OneList schema may text str_of =
       (value : InputValue S) (t : TypeShape) (fs gs : List Fault) → Faults schema may text str_of value t fs
-          → Faults schema may text str_of value t gs → fs ≡ gs
+      → Faults schema may text str_of value t gs → fs ≡ gs

@@ -88,7 +88,7 @@ module _ {S C : Type 0} (schema : Catalog S C) (may : Answers (InputValue S) C) 
   abbrev pub OfDefinition : Values S → VariableEntry S → List ErrorValue → Type 0
   OfDefinition values d es =
       (messages : List (List ℕ)) × OfDefined d.0.item.now d.1 (get_by_text values d.0.item.now) messages
-          × (es ≡ map (error_at d.0.span.start) messages)
+      × (es ≡ map (error_at d.0.span.start) messages)
 
   -- the errors of an operation: those of each of its definitions
   abbrev pub OfOperation : Values S → Operation S → List ErrorValue → Type 0

@@ -53,17 +53,17 @@ module _ {S C : Type 0} (schema : Catalog S C) (may : Answers (InputValue S) C) 
     -- a list of the right length, where each item conforms to the type of items
     list : (value : InputValue S) (size : Option ℕ) (t : TypeShape) (xs : List (Spanning (InputValue S) Span))
         → list_items value ≡ Some xs → HasLength xs size
-            → ((x : Spanning (InputValue S) Span) → Contains xs x → Conforms (Some x.item) t)
-            → Conforms (Some value) (list_of size t)
+        → ((x : Spanning (InputValue S) Span) → Contains xs x → Conforms (Some x.item) t)
+        → Conforms (Some value) (list_of size t)
     -- one value for a list, where one is the length that is asked for, if any is, and the value conforms to the type of
     -- items
     single : (value : InputValue S) (size : Option ℕ) (t : TypeShape)
         → ¬ (value ≡ variant.Null) → list_items value ≡ None → IsLength 1 size → Conforms (Some value) t
-            → Conforms (Some value) (list_of size t)
+        → Conforms (Some value) (list_of size t)
     -- what the check of a scalar accepts, but for lists and objects, unless the scalar takes any value
     scalar : (value : InputValue S) (name : List ℕ) (s : ScalarMetaOf C) → type_in name schema ≡ Some (k.Scalar s)
         → (takes_any_value schema s ≡ false → IsPlain value) → Accepts may (scalar_check s) value
-            → Conforms (Some value) (nullable_named name)
+        → Conforms (Some value) (nullable_named name)
     -- a value of an enum, and a string of its name
     enum_value : (text : String Global) (name : List ℕ) (e : EnumMetaOf C) → type_in name schema ≡ Some (k.Enum e)
         → Contains (value_names e) (string_bytes text) → Conforms (Some (variant.Enum text)) (nullable_named name)
@@ -76,7 +76,7 @@ module _ {S C : Type 0} (schema : Catalog S C) (may : Answers (InputValue S) C) 
         → ((key : List ℕ) → Contains (keys_of es) key → Contains (field_names o.input_fields.items) key)
         → ((a : Argument S) → Contains o.input_fields.items a → last_value (string_bytes a.name) es ≡ None → is_needed schema a ≡ false)
         → ((a : Argument S) (x : InputValue S) → Contains o.input_fields.items a
-            → last_value (string_bytes a.name) es ≡ Some x → Conforms (Some x) (shape a.arg_type))
+        → last_value (string_bytes a.name) es ≡ Some x → Conforms (Some x) (shape a.arg_type))
         → Accepts may (input_object_check o) value → Conforms (Some value) (nullable_named name)
 
   -- the value of each variable of the operation conforms to the variable's type, unless a default stands in for it

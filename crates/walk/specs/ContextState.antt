@@ -87,8 +87,15 @@ module _ {S C : Type 0} where
   -- a context that was made for a document: no types, and nothing reported
   abbrev pub fresh_context : Global → Catalog S C → List (Definition S) → ContextState S C
   fresh_context alloc schema doc =
-      record { allocator = alloc; schema = schema; known = fragment_names doc; typings = []; errors = []; limit = 0;
-      failed = false }
+      record {
+        allocator = alloc;
+        schema = schema;
+        known = fragment_names doc;
+        typings = [];
+        errors = [];
+        limit = 0;
+        failed = false;
+      }
 
 module _ {S C : Type 0} where
   -- types that are pushed and popped leave a context as it was, but for what was reported between; whatever is done

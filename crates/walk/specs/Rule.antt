@@ -44,7 +44,7 @@ module _ {S C : Type 0} where
   abbrev pub Settled : Allowance S C → Type 0
   Settled allowance =
       (scope : DocumentScope S C) (t : Typing S C) (doc : List (Definition S)) (es : List ErrorValue)
-          → allowance scope t doc [] → allowance scope t doc es → es ≡ []
+      → allowance scope t doc [] → allowance scope t doc es → es ≡ []
 
   -- whatever state a rule ends in
   abbrev pub always : {V : Type 0} → Allowance S C → V → Allowance S C
@@ -85,7 +85,7 @@ module _ {S C : Type 0} where
   abbrev pub SilentIff : {V : Type 0} → (V → Allowance S C) → Condition S C → Type 0
   SilentIff {V} allows condition =
       (end : V) (scope : DocumentScope S C) (t : Typing S C) (doc : List (Definition S)) (es : List ErrorValue)
-          → allows end scope t doc es → (es ≡ []) ↔ condition scope t doc
+      → allows end scope t doc es → (es ≡ []) ↔ condition scope t doc
 
   -- errors of which P holds were appended, and nothing else has changed
   abbrev pub Appended : (List ErrorValue → Type 0) → ContextState S C → ContextState S C → Type 0

@@ -32,9 +32,13 @@ pub pair_keeps : {S C V W : Type 0} (newer : StepOf S C V) (other : StepOf S C W
     (c : V → Allowance S C) (d : W → Allowance S C)
     → AllowsFrom newer f c → AllowsFrom other g d → AllowsFrom (pair_step newer other) (pair_fresh f g) (pair_allows c d)
 pair_keeps newer other f g c d p q start fresh schema t doc end es r =
-    let s = pair_splits newer other (scope_of schema doc) (typed_events schema t doc) start end es r in
-    (s.by_newer, s.by_other, p start.0 fresh.0 schema t doc end.0 s.by_newer s.newer_runs,
-        q start.1 fresh.1 schema t doc end.1 s.by_other s.other_runs, s.together)
+    let s = pair_splits newer other (scope_of schema doc) (typed_events schema t doc) start end es r in (
+      s.by_newer,
+      s.by_other,
+      p start.0 fresh.0 schema t doc end.0 s.by_newer s.newer_runs,
+      q start.1 fresh.1 schema t doc end.1 s.by_other s.other_runs,
+      s.together,
+    )
 
 none_permuted : {X : Type 0} (xs : List X) → IsPermutation xs [] → xs ≡ []
 none_permuted xs p = nil_from_length xs (sym (length_permutation xs [] p))
@@ -80,7 +84,7 @@ module _ {O R : Type 0} (finds : O → List R) where
   none_all [] h = refl
   none_all (p ∷ os) h =
       none_both (finds p) (flat_map finds os) (h p (zero, omega arith, refl))
-          (none_all os (λ o there. h o (Contains-append_right (p ∷ []) os o there)))
+      (none_all os (λ o there. h o (Contains-append_right (p ∷ []) os o there)))
 
 module _ {S C V : Type 0} where
   -- a rule that reports exactly a collection reports nothing where the collection is empty
