@@ -5,7 +5,7 @@ use Rattle.std.proofs.lemmas.List.Elements.{All-contains}
 use Rattle.merge_search.specs.declared.node.Entry.{Entry}
 use Rattle.merge_search.specs.declared.state.Search.{Search}
 use Rattle.merge_search.specs.World.{World, own_of, spreads_of, set_of, conflict_of, Same}
-use Rattle.merge_search.specs.Plain.{Occurs, IsPlain, plain, IsPlainField}
+use Rattle.merge_search.specs.Plain.{Occurs, IsPlain, plain, IsPlainBelow, IsPlainField}
 use Rattle.merge_search.specs.Merging.{Stands, own, spread, Below, below}
 use Rattle.merge_search.specs.Work.{Done, clear}
 
@@ -34,13 +34,17 @@ module _ (w : World) where
   none_fails {a} {b} e same p q (inl h) = h.name e a b p q refl (sym same)
   none_fails {a} {b} e same p q (inr h) = h.name e a b p q same refl
 
-  pub below_clear : {M : Search} {e : Bool} {a b c d : Entry} → IsPlainField w a ⊎ IsPlainField w b → Below w a b c d → Done w M e c d
-  below_clear (inl h) (below {s = s} sa tb p q same) = clear same (stands_occur p) (stands_occur q) (inl (stands_plain (h.below s sa) p))
-  below_clear (inr h) (below {t = t} sa tb p q same) = clear same (stands_occur p) (stands_occur q) (inr (stands_plain (h.below t tb) q))
+  -- two fields of one response name, of which one is plain
+  plain_clear : {M : Search} {e : Bool} {a b : Entry} → Same a b → Occurs w a → Occurs w b → IsPlainField w a ⊎ IsPlainField w b → Done w M e a b
+  plain_clear same p q h = clear (λ x. none_fails x same p q h) (elim h [ inl f ↦ inl f.below | inr f ↦ inr f.below ])
+
+  pub below_clear : {M : Search} {e : Bool} {a b c d : Entry} → IsPlainBelow w a ⊎ IsPlainBelow w b → Below w a b c d → Done w M e c d
+  below_clear (inl h) (below {s = s} sa tb p q same) = plain_clear same (stands_occur p) (stands_occur q) (inl (stands_plain (h s sa) p))
+  below_clear (inr h) (below {t = t} sa tb p q same) = plain_clear same (stands_occur p) (stands_occur q) (inr (stands_plain (h t tb) q))
 
   pub sets_clear : {M : Search} {e : Bool} {s t : ℕ} {a b : Entry} → IsPlain w s ⊎ IsPlain w t → Stands w s a → Stands w t b → Same a b → Done w M e a b
-  sets_clear (inl h) p q same = clear same (stands_occur p) (stands_occur q) (inl (stands_plain h p))
-  sets_clear (inr h) p q same = clear same (stands_occur p) (stands_occur q) (inr (stands_plain h q))
+  sets_clear (inl h) p q same = plain_clear same (stands_occur p) (stands_occur q) (inl (stands_plain h p))
+  sets_clear (inr h) p q same = plain_clear same (stands_occur p) (stands_occur q) (inr (stands_plain h q))
 
   pub sets_quiet : {s t : ℕ} {a b : Entry} (e : Bool) → IsPlain w s ⊎ IsPlain w t → Stands w s a → Stands w t b → Same a b → conflict_of w e a b ≡ false
   sets_quiet e (inl h) p q same = none_fails e same (stands_occur p) (stands_occur q) (inl (stands_plain h p))

@@ -22,10 +22,14 @@ pub data IsPlain (w : World) : ℕ → Type 0 where
       → ((a : Entry) (t : ℕ) → Contains (own_of w s) a → a.below ≡ Some t → IsPlain w t)
       → ((f : ℕ) → Contains (spreads_of w s) f → IsPlain w (set_of w f)) → IsPlain w s
 
+-- What stands below the field, if anything does, is plain.
+abbrev pub IsPlainBelow : World → Entry → Type 0
+IsPlainBelow w a = (t : ℕ) → a.below ≡ Some t → IsPlain w t
+
 -- The name of the field is plain, and so are all names below it.
 pub record IsPlainField (w : World) (a : Entry) : Type 0 where
   pub name : IsPlainName w a.response
-  pub below : (t : ℕ) → a.below ≡ Some t → IsPlain w t
+  pub below : IsPlainBelow w a
 
 -- One of two fragments is plain.
 abbrev pub IsOnePlain : World → ℕ → ℕ → Type 0

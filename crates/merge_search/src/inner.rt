@@ -12,6 +12,7 @@ ghost use Rattle.merge_search.specs.Opening.{ReachedFrom};
 ghost use Rattle.merge_search.specs.Work.{Did};
 ghost use Rattle.merge_search.specs.Reports.{Finds, AtPlaces};
 ghost use Rattle.merge_search.specs.Inner.{IsPart, IsStart, AtLists, AtPart, AtParts};
+ghost use Rattle.merge_search.specs.Plain.{ArePlain};
 
 use crate::graph::Graph;
 use crate::groups::{fields_named, first_fields, make_set, sorted_fields};
@@ -60,9 +61,11 @@ fn compare_own_part<J: Judge>(
     graph: &Graph<J>,
     s: usize,
     part: &SetNode,
+    plain: &BitSet,
     search: &mut Search,
 ) -> Result<(), AllocError>
-    requires { IsPart part.now.own.items (own_of (world J.judgement graph.now) s) }
+    requires part { IsPart part.now.own.items (own_of (world J.judgement graph.now) s) }
+    requires plain { ArePlain (world J.judgement graph.now) plain.now }
     ensures done { OnOk result (Did (world J.judgement graph.now) (λ M. Unit {0}) search.old search.new) }
     ensures real { let w = world J.judgement graph.now in
         OnOk result (Finds w false (AtPlaces w s) search.old search.new) }
@@ -71,6 +74,7 @@ fn compare_own_part<J: Judge>(
         compare_each(
             graph,
             fields_named(sorted_fields(part), first.response),
+            plain,
             search,
         )?;
     }
@@ -223,7 +227,8 @@ fn compare_inner<J: Judge>(
     plain: &BitSet,
     search: &mut Search,
 ) -> Result<(), AllocError>
-    requires { (g : ℕ) → has listed.now g ≡ true → Contains (spreads_of (world J.judgement graph.now) s) g }
+    requires listed { (g : ℕ) → has listed.now g ≡ true → Contains (spreads_of (world J.judgement graph.now) s) g }
+    requires plain { ArePlain (world J.judgement graph.now) plain.now }
     ensures done { OnOk result (Did (world J.judgement graph.now) (λ M. Unit {0}) search.old search.new) }
     ensures real { let w = world J.judgement graph.now in
         OnOk result (Finds w false (AtPlaces w s) search.old search.new) }
@@ -241,7 +246,7 @@ fn compare_inner<J: Judge>(
         listed,
         plain,
     )?;
-    compare_own_part(graph, s, &part, search)?;
+    compare_own_part(graph, s, &part, plain, search)?;
     write_part(graph, &part, starts.as_slice(), search)
 }
 
@@ -257,7 +262,8 @@ fn compare_next<J: Judge>(
     plain: &BitSet,
     search: &mut Search,
 ) -> Result<usize, AllocError>
-    requires { (g : ℕ) → has listed.now g ≡ true → Contains (spreads_of (world J.judgement graph.now) s) g }
+    requires listed { (g : ℕ) → has listed.now g ≡ true → Contains (spreads_of (world J.judgement graph.now) s) g }
+    requires plain { ArePlain (world J.judgement graph.now) plain.now }
     ensures done { OnOk result (Did (world J.judgement graph.now) (λ M. Unit {0}) search.old search.new) }
     ensures real { let w = world J.judgement graph.now in
         OnOk result (Finds w false (AtPlaces w s) search.old search.new) }
@@ -282,6 +288,7 @@ fn compare_each_inner<J: Judge>(
     plain: &BitSet,
     search: &mut Search,
 ) -> Result<(), AllocError>
+    requires { ArePlain (world J.judgement graph.now) plain.now }
     ensures done { OnOk result (Did (world J.judgement graph.now) (λ M. Unit {0}) search.old search.new) }
     ensures real { let w = world J.judgement graph.now in
         OnOk result (Finds w false (AtPlaces w s) search.old search.new) }
@@ -306,6 +313,7 @@ pub(crate) fn search_inner<J: Judge>(
     plain: &BitSet,
     search: &mut Search,
 ) -> Result<(), AllocError>
+    requires { ArePlain (world J.judgement graph.now) plain.now }
     ensures done { OnOk result (Did (world J.judgement graph.now) (λ M. Unit {0}) search.old search.new) }
     ensures real { let w = world J.judgement graph.now in
         OnOk result (Finds w false (AtPlaces w s) search.old search.new) }

@@ -1,7 +1,10 @@
 //! Comparing the fields of one response name with each other.
 ghost use Rattle.std.specs.Prelude.{OnOk, false};
+ghost use Rattle.std.specs.Bool.{OnTrue};
 ghost use Rattle.std.specs.List.{All};
 ghost use Rattle.merge_search.specs.World.{world};
+ghost use Rattle.merge_search.specs.Clear.{AreClear};
+ghost use Rattle.merge_search.specs.Plain.{ArePlain};
 ghost use Rattle.merge_search.specs.Work.{Did, Done};
 ghost use Rattle.merge_search.specs.Reports.{FindsAll};
 ghost use Rattle.merge_search.specs.Tops.{AllBefore, AtBefore, AtRest};
@@ -11,7 +14,9 @@ use crate::judge::Judge;
 use crate::node::Entry;
 use crate::search::compare_fields;
 use crate::state::Search;
-use crate::view::are_plainly_alike;
+use crate::plain::are_plain_below;
+use crate::view::agree_plainly;
+use bit_matrix::set::BitSet;
 use std::alloc::AllocError;
 
 /// Compares a field with some others.
@@ -36,7 +41,18 @@ pub(crate) fn compare_rest<J: Judge>(
     Ok(())
 }
 
-/// Compares each field with those after it. Many that are alike are passed at once, since there is nothing to find.
+// Whether it is plain that there is nothing to find between some fields. Two that have nothing below are compared at once.
+fn are_passed<J: Judge>(graph: &Graph<J>, fields: &[Entry], plain: &BitSet) -> bool
+    requires { ArePlain (world J.judgement graph.now) plain.now }
+    ensures { OnTrue result (AreClear (world J.judgement graph.now) fields.now fields.now) }
+{
+    (fields.len() > 2 || fields.iter().any(|a| a.below.is_some()))
+        && are_plain_below(graph, fields, plain)
+        && agree_plainly(graph, fields, fields)
+}
+
+/// Compares each field with those after it. Many that are alike are passed at once where what stands below them is
+/// plain, since there is nothing to find.
 ///
 /// # Errors
 ///
@@ -44,14 +60,16 @@ pub(crate) fn compare_rest<J: Judge>(
 pub(crate) fn compare_each<J: Judge>(
     graph: &Graph<J>,
     fields: &[Entry],
+    plain: &BitSet,
     search: &mut Search,
 ) -> Result<(), AllocError>
+    requires { ArePlain (world J.judgement graph.now) plain.now }
     ensures done { let w = world J.judgement graph.now in
         OnOk result (Did w (λ M. AllBefore (Done w M false) fields.now) search.old search.new) }
     ensures real { let w = world J.judgement graph.now in
         OnOk result (FindsAll w false (AtBefore fields.now) (AtBefore fields.now) search.old search.new) }
 {
-    if fields.len() > 2 && are_plainly_alike(graph, fields, fields) {
+    if fields.len() > 1 && are_passed(graph, fields, plain) {
         return Ok(());
     }
     for k in 0..fields.len() {

@@ -4,7 +4,7 @@ ghost use Rattle.std.specs.Bool.{OnTrue};
 ghost use Rattle.std.specs.List.{All};
 ghost use Rattle.bit_matrix.specs.Set.{has};
 ghost use Rattle.merge_search.specs.World.{world, set_of};
-ghost use Rattle.merge_search.specs.Plain.{ArePlain, ArePlainBut, IsPlain, IsPlainField};
+ghost use Rattle.merge_search.specs.Plain.{ArePlain, ArePlainBut, IsPlain, IsPlainBelow, IsPlainField};
 
 use crate::graph::Graph;
 use crate::judge::Judge;
@@ -29,11 +29,34 @@ fn is_plain_field<J: Judge>(graph: &Graph<J>, field: Entry, mixed: &BitSet, sets
     requires sets { ArePlain (world J.judgement graph.now) sets.now }
     ensures { OnTrue result (IsPlainField (world J.judgement graph.now) field) }
 {
-    let is_below = match field.below {
+    is_plain_below(graph, field, sets) && !mixed.contains(field.response)
+}
+
+/// Whether all that stands below some fields is marked as plain.
+pub(crate) fn are_plain_below<J: Judge>(
+    graph: &Graph<J>,
+    fields: &[Entry],
+    sets: &BitSet,
+) -> bool
+    requires { ArePlain (world J.judgement graph.now) sets.now }
+    ensures { OnTrue result (All (IsPlainBelow (world J.judgement graph.now)) fields.now) }
+{
+    for field in fields {
+        if !is_plain_below(graph, *field, sets) {
+            return false;
+        }
+    }
+    true
+}
+
+fn is_plain_below<J: Judge>(graph: &Graph<J>, field: Entry, sets: &BitSet) -> bool
+    requires { ArePlain (world J.judgement graph.now) sets.now }
+    ensures { OnTrue result (IsPlainBelow (world J.judgement graph.now) field) }
+{
+    match field.below {
         Some(s) => sets.contains(s),
         None => true,
-    };
-    is_below && !mixed.contains(field.response)
+    }
 }
 
 fn are_plain_fields<J: Judge>(
@@ -91,17 +114,26 @@ fn plain_sets<J: Judge>(alloc: Global, graph: &Graph<J>) -> Result<BitSet, Alloc
     Ok(sets)
 }
 
-/// With fewer fragments, so few pairs are compared that passing some over gains nothing.
+/// With fewer fragments, or sets that repeat response names, so few pairs are compared that passing some over gains
+/// nothing.
 pub const MANY: usize = 8;
 
 // Whether some set may be met more than once: one spreads two fragments, or a fragment with fields of its own spreads
-// another.
+// another. Or many sets have fields of one response name.
 fn is_worthwhile<J>(graph: &Graph<J>) -> bool {
     let fragments = graph.fragments.as_slice();
     let sets = graph.sets.as_slice();
     fragments.len() >= MANY
         && (sets.iter().any(|set| set.spreads.len() > 1)
             || fragments.iter().any(|s| may_be_met_again(sets, *s)))
+        || sets.iter().filter(|set| repeats_names(set)).count() >= MANY
+}
+
+fn repeats_names(set: &SetNode) -> bool {
+    match &set.index {
+        Some(index) => index.firsts.is_some(),
+        None => false,
+    }
 }
 
 fn may_be_met_again(sets: &[SetNode], s: usize) -> bool {

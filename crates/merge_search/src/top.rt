@@ -28,15 +28,17 @@ use std::alloc::{AllocError, Global};
 fn compare_within<J: Judge>(
     graph: &Graph<J>,
     s: usize,
+    plain: &BitSet,
     search: &mut Search,
 ) -> Result<(), AllocError>
+    requires { ArePlain (world J.judgement graph.now) plain.now }
     ensures done { let w = world J.judgement graph.now in
         OnOk result (Did w (λ M. OwnWithin w M s) search.old search.new) }
     ensures real { let w = world J.judgement graph.now in
         OnOk result (FindsAll w false (AtWithin w s) (AtWithin w s) search.old search.new) }
 {
     for first in firsts(graph, s) {
-        compare_each(graph, group(graph, s, first.response), search)?;
+        compare_each(graph, group(graph, s, first.response), plain, search)?;
     }
     Ok(())
 }
@@ -239,7 +241,7 @@ fn compare_set<J: Judge>(
     ensures real { let w = world J.judgement graph.now in
         OnOk result (FindsAll w false (AtPlaces w s) (AtTop w s) search.old search.new) }
 {
-    compare_within(graph, s, search)?;
+    compare_within(graph, s, plain, search)?;
     compare_spreads(graph, s, plain, search)
 }
 

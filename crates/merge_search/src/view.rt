@@ -5,6 +5,7 @@ ghost use Rattle.std.specs.Bool.{OnTrue};
 ghost use Rattle.std.specs.List.{All};
 ghost use Rattle.merge_search.specs.Tasks.{firsts_at};
 ghost use Rattle.merge_search.specs.Clear.{AreClear, AreLeaves};
+ghost use Rattle.merge_search.specs.Judgement.{NoneConflict};
 ghost use Rattle.merge_search.specs.World.{world, own_of, spreads_of, set_of, exclusive_of, conflict_of};
 
 use crate::graph::Graph;
@@ -110,10 +111,17 @@ pub fn are_in_conflict<J: Judge>(
 pub fn are_plainly_alike<J: Judge>(graph: &Graph<J>, left: &[Entry], right: &[Entry]) -> bool
     ensures { OnTrue result (AreClear (world J.judgement graph.now) left.now right.now) }
 {
+    are_leaves(left) && agree_plainly(graph, left, right)
+}
+
+/// Whether it is plain that no field of the one list conflicts with one of the other. `false` says nothing.
+pub(crate) fn agree_plainly<J: Judge>(graph: &Graph<J>, left: &[Entry], right: &[Entry]) -> bool
+    ensures { OnTrue result (NoneConflict (J.judgement graph.now.judge) left.now right.now) }
+{
     match left.first() {
         Some(first) => {
             let one = first.field;
-            are_leaves(left) && are_like(graph, one, left) && are_like(graph, one, right)
+            are_like(graph, one, left) && are_like(graph, one, right)
         }
         None => true,
     }

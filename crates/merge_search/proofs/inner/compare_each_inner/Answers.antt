@@ -12,7 +12,10 @@ loop-place-init g c =
     (did_none v _ c.args.search.now (λ M k. tt), adds_none v false (AtPlaces v c.args.s) _)
 
 pub compare_next-requires : goal.compare_next-requires
-compare_next-requires g c = λ n there. subst (λ zs. Contains zs n) c.spreads.ensures (c.in_ok-listed.ensures.only n there)
+compare_next-requires g c = record {
+  listed = λ n there. subst (λ zs. Contains zs n) c.spreads.ensures (c.in_ok-listed.ensures.only n there);
+  plain = c.requires;
+}
 
 pub loop-place-preserved : goal.loop-place-preserved
 loop-place-preserved g c =

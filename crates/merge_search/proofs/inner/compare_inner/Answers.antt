@@ -17,9 +17,11 @@ pub returns-then-is_empty-clause-real : goal.returns-then-is_empty-clause-real
 returns-then-is_empty-clause-real g c = adds_none (world g.J.Judge.judgement c.args.graph.now) false (AtPlaces (world g.J.Judge.judgement c.args.graph.now) c.args.s) _
 
 pub compare_own_part-requires : goal.compare_own_part-requires
-compare_own_part-requires g c =
-    subst (λ zs. IsPart c.in_ok-part.part.own.items zs) c.own.ensures
-    (whole_part c.in_ok-part.part.own.items c.part_of-fields.result.now (ap (λ v. v.items) c.in_ok-part.ensures.own ∙ c.in_ok-from_slice.ensures.items) c.own.result.now c.part_of-fields.ensures)
+compare_own_part-requires g c = record {
+  part = subst (λ zs. IsPart c.in_ok-part.part.own.items zs) c.own.ensures
+      (whole_part c.in_ok-part.part.own.items c.part_of-fields.result.now (ap (λ v. v.items) c.in_ok-part.ensures.own ∙ c.in_ok-from_slice.ensures.items) c.own.result.now c.part_of-fields.ensures);
+  plain = c.requires.plain;
+}
 
 pub write_part-requires : goal.write_part-requires
 write_part-requires g c =
@@ -40,6 +42,6 @@ returns g c =
     record {
       done = on_ok_weaker c.write_part.result (λ d. did_map v _ _ (λ M h. tt) (did_then v _ _ c.in_ok-compare_own_part.ensures.done d)) c.write_part.ensures.done;
       real = on_ok_weaker c.write_part.result
-          (λ d. adds_next v (AtPlaces v c.args.s) (AtParts v part c.as_slice-2.result.now) (row_parts v c.args.s n part c.args.listed.now c.as_slice-2.result.now is starts c.requires) c.in_ok-compare_own_part.ensures.real d)
+          (λ d. adds_next v (AtPlaces v c.args.s) (AtParts v part c.as_slice-2.result.now) (row_parts v c.args.s n part c.args.listed.now c.as_slice-2.result.now is starts c.requires.listed) c.in_ok-compare_own_part.ensures.real d)
           c.write_part.ensures.real;
     }

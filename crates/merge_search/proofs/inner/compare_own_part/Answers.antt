@@ -12,13 +12,16 @@ loop-first-init g c =
     let v = world g.J.Judge.judgement c.args.graph.now in
     (did_none v _ c.args.search.now (λ M k. tt), adds_none v false (AtPlaces v c.args.s) _)
 
+pub compare_each-requires : goal.compare_each-requires
+compare_each-requires g c = c.requires.plain
+
 pub loop-first-preserved : goal.loop-first-preserved
 loop-first-preserved g c =
     let v = world g.J.Judge.judgement c.args.graph.now in
     let first = get_or c.first_fields-first-items.result.now c.loop-first.first-index no_entry in (
       did_map v _ _ (λ M h. tt) (did_then v _ _ c.loop-first.invariant.0 c.in_ok-compare_each.ensures.done),
       adds_next v (AtPlaces v c.args.s) (AtBefore c.fields_named.result.now)
-          (row_part v c.args.s first.response c.args.part.now.own.items c.sorted_fields.result.now c.fields_named.result.now c.requires c.sorted_fields.ensures.grouped c.fields_named.ensures)
+          (row_part v c.args.s first.response c.args.part.now.own.items c.sorted_fields.result.now c.fields_named.result.now c.requires.part c.sorted_fields.ensures.grouped c.fields_named.ensures)
           c.loop-first.invariant.1 c.in_ok-compare_each.ensures.real.adds,
     )
 

@@ -31,14 +31,14 @@ returns g c =
       real = all_told v false _ _ _ (tell_rest c.args.fields.now c.loop-k.k c.loop-k-test.false) c.loop-k.invariant.1;
     }
 
-pub returns-then-are_plainly_alike-clause-done : goal.returns-then-are_plainly_alike-clause-done
-returns-then-are_plainly_alike-clause-done g c =
+pub returns-then-are_passed-clause-done : goal.returns-then-are_passed-clause-done
+returns-then-are_passed-clause-done g c =
     let v = world g.J.Judge.judgement c.args.graph.now in
     let xs = c.args.fields.now in
-    did_none v _ c.args.search.now (λ M grown k l a b less p q. clear_done v false xs xs c.if-are_plainly_alike.ensures M a b (at_of xs k a p) (at_of xs l b q))
+    did_none v _ c.args.search.now (λ M grown k l a b less p q. clear_done v false xs xs c.if-are_passed.ensures M a b (at_of xs k a p) (at_of xs l b q))
 
-pub returns-then-are_plainly_alike-clause-real : goal.returns-then-are_plainly_alike-clause-real
-returns-then-are_plainly_alike-clause-real g c =
+pub returns-then-are_passed-clause-real : goal.returns-then-are_passed-clause-real
+returns-then-are_passed-clause-real g c =
     let v = world g.J.Judge.judgement c.args.graph.now in
     let xs = c.args.fields.now in
-    clear_tells v false xs xs c.if-are_plainly_alike.ensures (AtBefore xs) (AtBefore xs) _ (λ r z. (at_of xs z.0 r.left z.3, at_of xs z.1 r.right z.4))
+    clear_tells v false xs xs c.if-are_passed.ensures (AtBefore xs) (AtBefore xs) _ (λ r z. (at_of xs z.0 r.left z.3, at_of xs z.1 r.right z.4))
