@@ -23,6 +23,10 @@ pub struct GivenDefault<'a, S> {
 }
 
 /// Appends the default values of these types.
+///
+/// # Errors
+///
+/// Out of memory. Some of them may have been appended.
 pub fn add_types<'a, S, C>(
     given: &mut Vec<GivenDefault<'a, S>>,
     types: &[&'a MetaTypeOf<S, C>],
@@ -37,6 +41,10 @@ pub fn add_types<'a, S, C>(
 }
 
 /// Appends the default values of these directives.
+///
+/// # Errors
+///
+/// Out of memory. Some of them may have been appended.
 pub fn add_directives<'a, S>(
     given: &mut Vec<GivenDefault<'a, S>>,
     directives: &[&'a DirectiveType<S>],

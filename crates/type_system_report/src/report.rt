@@ -6,6 +6,10 @@ use crate::fault::{Coordinate, Fault, FaultKind, FaultOf};
 use language::error::OutOfMemory;
 
 /// Appends a fault.
+///
+/// # Errors
+///
+/// Out of memory. Nothing was appended then.
 pub fn report<'a>(
     faults: &mut Vec<Fault<'a>>,
     coordinate: Coordinate<'a>,
