@@ -33,11 +33,7 @@ fn is_plain_field<J: Judge>(graph: &Graph<J>, field: Entry, mixed: &BitSet, sets
 }
 
 /// Whether all that stands below some fields is marked as plain.
-pub(crate) fn are_plain_below<J: Judge>(
-    graph: &Graph<J>,
-    fields: &[Entry],
-    sets: &BitSet,
-) -> bool
+pub(crate) fn are_plain_below<J: Judge>(graph: &Graph<J>, fields: &[Entry], sets: &BitSet) -> bool
     requires { ArePlain (world J.judgement graph.now) sets.now }
     ensures { OnTrue result (All (IsPlainBelow (world J.judgement graph.now)) fields.now) }
 {
