@@ -1,3 +1,4 @@
+pub mod AddedLaws
 pub mod ArgumentLaws
 pub mod ArgumentLeaveLaws
 pub mod ConstantLaws
@@ -7,6 +8,7 @@ pub mod DocumentOnlyLaws
 pub mod LanguageLaws
 pub mod LeavesLaws
 pub mod OnlyLaws
+pub mod OpenSetLaws
 pub mod PartLaws
 pub mod PassedLaws
 pub mod SameLaws

@@ -16,12 +16,9 @@ use Rattle.graphql_lexer.specs.declared.tokens.Tokens.{Tokens}
 use Rattle.value_reader.specs.Grammar.{Rules, may_nest}
 use Rattle.value_reader.specs.Values.{Key}
 use Rattle.graphql_reader.specs.Arguments.{name_seen, parens_seen, IsArguments, IsDirectives, SpellsDirectives, SpellsEach}
-use Rattle.graphql_reader.specs.OpenSets.{From, Nodes, SpellsHead, SpellsNodes, SpellsBegun, Standing, whole}
-use Rattle.graphql_reader.specs.Passed.{Took, Reads, Covers, One, Then, Optional}
-use Rattle.graphql_reader.specs.Selections.{FieldHead, InlineHead, Selection, leaf, spread, Selections, Name, inline_head, on, open_rules, selections_of, SpellsAlias, SpellsCondition, SpellsFragmentName, SpellsSpread, SpellsMore, SpellsSelection, SpellsSet, SpellsGiven, SpellsFieldHead, SpellsInlineHead, SpellsAliased, SpellsDots, SpellsName, GivenDirectives, directives_seen, selection_seen, nodes_seen}
-use Rattle.graphql_reader.specs.declared.selections.Begun.{Begun}
-use Rattle.graphql_reader.specs.declared.selections.Head.{Head}
-use Rattle.graphql_reader.specs.declared.selections.Head.TheVariants as head
+use Rattle.graphql_reader.specs.OpenSets.{Begun, From, Nodes, SpellsHead, SpellsNodes, SpellsBegun, Spelled, given_set, until}
+use Rattle.graphql_reader.specs.Passed.{end_after, Took, Reads, Covers, One, Then, Optional}
+use Rattle.graphql_reader.specs.Selections.{FieldHead, InlineHead, Selection, leaf, field, spread, inline, Selections, Name, inline_head, on, open_rules, selections_of, SpellsAlias, SpellsCondition, SpellsFragmentName, SpellsSpread, SpellsMore, SpellsSelection, SpellsSet, SpellsGiven, SpellsFieldHead, SpellsInlineHead, SpellsAliased, SpellsDots, SpellsName, GivenDirectives, directives_seen, selection_seen, nodes_seen}
 use Rattle.graphql_reader.proofs.ArgumentLaws.{arguments_end}
 use Rattle.graphql_reader.proofs.PassedLaws.{Tokened, HasSome, took_both, reads_covers, reads_from, reads_name, reads_none, reads_one, reads_then, reads_as, each_more, seen_more, some_one, some_name, some_first, some_second, covers_part}
 
@@ -119,9 +116,9 @@ nodes_more : (limit : Option ℕ) (depth : ℕ) (nodes : Nodes) (ts : List Lexem
 nodes_more limit depth nodes ts some h = more_of limit (suc depth) (map selection_seen nodes) ts (seen_some nodes some) h
 
 -- ---- the list of what is begun, and that in turn from its end
-pub on_ok_both : {T E P Q R : Type 0} (r : Result T E) → (P → Q → R) → OnOk r P → OnOk r Q → OnOk r R
-on_ok_both (Ok x) f p q = f p q
-on_ok_both (Err e) f p q = tt
+pub on_ok_all : {T E P Q R S : Type 0} (r : Result T E) → (P → Q → R → S) → OnOk r P → OnOk r Q → OnOk r R → OnOk r S
+on_ok_all (Ok x) f p q s = f p q s
+on_ok_all (Err e) f p q s = tt
 
 pub on_err_both : {T E P : Type 0} (r : Result T E) {Q R : E → Type 0} → ((e : E) → P → Q e → R e) → OnErr r P → IfErr r Q → IfErr r R
 on_err_both (Ok x) f p q = tt
@@ -150,43 +147,57 @@ outermost limit nodes some ts (u, close, e, (brace, inner, f, (nest, ho), hn), h
   (brace, inner ++ close, e ∙ ap (λ xs. xs ++ close) f ∙ append_assoc brace inner close, ho, (inner, close, refl, nodes_more limit 0 nodes inner some hn, hc)),
 )
 
-pub whole_set : (limit : Option ℕ) (nodes : Nodes) (first mid now : Tokens) → (nodes ≡ [] → ⊥) → Standing limit first [] nodes mid → IsTaken (token.punctuator BraceClose) mid now → Reads (SpellsSet limit 0 (nodes_seen nodes)) first now
+pub whole_set : (limit : Option ℕ) (nodes : Nodes) (first mid now : Tokens) → (nodes ≡ [] → ⊥) → Spelled limit first [] nodes mid → IsTaken (token.punctuator BraceClose) mid now → Reads (SpellsSet limit 0 (nodes_seen nodes)) first now
 whole_set limit nodes first mid now some h t =
     reads_as (Then (Then (SpellsBegun limit []) (SpellsNodes limit 0 nodes)) closing) (SpellsSet limit 0 (nodes_seen nodes)) first now (outermost limit nodes some) (reads_then (Then (SpellsBegun limit []) (SpellsNodes limit 0 nodes)) closing first mid now h (reads_one (token.punctuator BraceClose) mid now t))
 
 -- a head, and its set
-whole_spelled : (limit : Option ℕ) (depth : ℕ) (h : Head) (set : Selections) (span : Span) (ts : List Lexeme) → Then (SpellsHead limit h) (SpellsSet limit depth set) ts → Covers span ts → SpellsSelection limit depth (whole h set span) ts
-whole_spelled limit depth (head.Field f) set span ts h c = (h, c)
-whole_spelled limit depth (head.Inline i) set span ts h c = (h, c)
+whole_spelled : (limit : Option ℕ) (depth : ℕ) (s : Selection) (set : Selections) (end place : SourcePosition) (front own rest : List Lexeme)
+    → SpellsHead limit s own → SpellsSet limit depth set rest → end ≡ end_after place (front ++ (own ++ rest))
+    → SpellsSelection limit depth (given_set s set end) (own ++ rest)
+whole_spelled limit depth (leaf h span) set end place front own rest (y, ys, ey, es, hh) r stop =
+    ((own, rest, refl, hh, r), covers_part (until span end) place front (own ++ rest) y (ys ++ rest) (ap (λ zs. zs ++ rest) ey) es stop)
+whole_spelled limit depth (field h old span) set end place front own rest (y, ys, ey, es, hh) r stop =
+    ((own, rest, refl, hh, r), covers_part (until span end) place front (own ++ rest) y (ys ++ rest) (ap (λ zs. zs ++ rest) ey) es stop)
+whole_spelled limit depth (spread k ds span) set end place front own rest h r stop = absurd h
+whole_spelled limit depth (inline h old span) set end place front own rest (y, ys, ey, es, hh) r stop =
+    ((own, rest, refl, hh, r), covers_part (until span end) place front (own ++ rest) y (ys ++ rest) (ap (λ zs. zs ++ rest) ey) es stop)
 
 regroup : (a b c d i k : List Lexeme) → ((a ++ (b ++ (c ++ d))) ++ i) ++ k ≡ (a ++ b) ++ (c ++ (d ++ (i ++ k)))
 regroup a b c d i k = simp append_assoc
 
-pub set_ended : (limit : Option ℕ) (x : Begun) (xs : List Begun) (nodes : Nodes) (node : Node SourceScalar) (new : Nodes) (span : Span) (first mid now : Tokens) → (nodes ≡ [] → ⊥) → Standing limit first (x ∷ xs) nodes mid → IsTaken (token.punctuator BraceClose) mid now → selection_seen node ≡ whole x.head (nodes_seen nodes) span → new ≡ x.outer.items ++ node ∷ [] → span.start ≡ x.start → span.end ≡ last_end_of now → Standing limit first xs new now
-set_ended limit x xs nodes node new span first mid now some (ts, took, (u, inner, e, (nest, (before, r1, e1, hb, (outer, r2, e2, ho, (own, brace, e3, (y, ys, ey, es, hh), hbrace)))), hn)) t is grown start stop =
+pub set_ended : (limit : Option ℕ) (x : Begun) (xs : List Begun) (own : Nodes) (node : Node SourceScalar) (first mid now : Tokens)
+    → (own ≡ [] → ⊥) → Spelled limit first (x ∷ xs) own mid → IsTaken (token.punctuator BraceClose) mid now
+    → selection_seen node ≡ given_set (selection_seen x.holder) (nodes_seen own) (last_end_of now)
+    → Spelled limit first xs (x.before ++ node ∷ []) now
+set_ended limit x xs nodes node first mid now some (ts, took, (u, inner, e, (nest, (before, r1, e1, hb, (outer, r2, e2, ho, (own, brace, e3, hh, hbrace)))), hn)) t is =
     let close = reads_one (token.punctuator BraceClose) mid now t in
     let one : List Lexeme = own ++ (brace ++ (inner ++ close.0)) in
     let parts : ts ++ close.0 ≡ (before ++ outer) ++ one =
     ap (λ zs. zs ++ close.0) (e ∙ ap (λ zs. zs ++ inner) (e1 ∙ ap (λ zs. before ++ zs) (e2 ∙ ap (λ zs. outer ++ zs) e3))) ∙ regroup before outer own brace inner close.0 in
     let all : Took first ((before ++ outer) ++ one) now = subst (λ zs. Took first zs now) parts (took_both first mid now ts close.0 took close.1) in
-    let covers : Covers span one =
-    covers_part span (last_end_of first) (before ++ outer) one y (ys ++ (brace ++ (inner ++ close.0))) (ap (λ zs. zs ++ (brace ++ (inner ++ close.0))) ey) (start ∙ es) (stop ∙ all.1) in
-    let spelled : SpellsSelection limit (suc (length xs)) (whole x.head (nodes_seen nodes) span) one =
-    whole_spelled limit (suc (length xs)) x.head (nodes_seen nodes) span one (own, brace ++ (inner ++ close.0), refl, hh, (nest, (brace, inner ++ close.0, refl, hbrace, (inner, close.0, refl, nodes_more limit (suc (length xs)) nodes inner some hn, close.2)))) covers in
-    let grows : SpellsNodes limit (length xs) new (outer ++ one) =
-    subst (λ zs. SpellsEach (SpellsSelection limit (suc (length xs))) zs (outer ++ one)) (sym (seen_more selection_seen x.outer.items new node grown)) (each_more (SpellsSelection limit (suc (length xs))) (map selection_seen x.outer.items) (selection_seen node) outer one ho (subst (λ s. SpellsSelection limit (suc (length xs)) s one) (sym is) spelled)) in
+    let spelled : SpellsSelection limit (suc (length xs)) (given_set (selection_seen x.holder) (nodes_seen nodes) (last_end_of now)) one =
+    whole_spelled limit (suc (length xs)) (selection_seen x.holder) (nodes_seen nodes) (last_end_of now) (last_end_of first) (before ++ outer) own (brace ++ (inner ++ close.0)) hh (nest, (brace, inner ++ close.0, refl, hbrace, (inner, close.0, refl, nodes_more limit (suc (length xs)) nodes inner some hn, close.2))) all.1 in
+    let grows : SpellsNodes limit (length xs) (x.before ++ node ∷ []) (outer ++ one) =
+    subst (λ zs. SpellsEach (SpellsSelection limit (suc (length xs))) zs (outer ++ one)) (sym (seen_more selection_seen x.before (x.before ++ node ∷ []) node refl)) (each_more (SpellsSelection limit (suc (length xs))) (map selection_seen x.before) (selection_seen node) outer one ho (subst (λ s. SpellsSelection limit (suc (length xs)) s one) (sym is) spelled)) in
     ((before ++ outer) ++ one, all, (before, outer ++ one, append_assoc before outer one, hb, grows))
 
 -- ---- a set that begins
-begun_more : (limit : Option ℕ) (x : Begun) (xs : List Begun) → may_nest limit (suc (length xs)) ≡ true → (ts : List Lexeme) → Then (Then (SpellsBegun limit xs) (SpellsNodes limit (length xs) x.outer.items)) (Then (From x.start (SpellsHead limit x.head)) opening) ts → SpellsBegun limit (x ∷ xs) ts
+abbrev Heads : Option ℕ → Begun → List Lexeme → Type 0
+Heads limit x = Then (SpellsHead limit (selection_seen x.holder)) opening
+
+begun_more : (limit : Option ℕ) (x : Begun) (xs : List Begun) → may_nest limit (suc (length xs)) ≡ true → (ts : List Lexeme)
+    → Then (Then (SpellsBegun limit xs) (SpellsNodes limit (length xs) x.before)) (Heads limit x) ts → SpellsBegun limit (x ∷ xs) ts
 begun_more limit x xs nest ts (u, v, e, (before, inner, f, hb, hn), h) =
     (nest, (before, inner ++ v, e ∙ ap (λ zs. zs ++ v) f ∙ append_assoc before inner v, hb, (inner, v, refl, hn, h)))
 
-pub set_begun : (limit : Option ℕ) (x : Begun) (xs : List Begun) (new : Nodes) (first mid between now : Tokens) → Standing limit first xs x.outer.items mid → Reads (From x.start (SpellsHead limit x.head)) mid between → may_nest limit (suc (length xs)) ≡ true → IsTaken (token.punctuator BraceOpen) between now → new ≡ [] → Standing limit first (x ∷ xs) new now
-set_begun limit x xs new first mid between now h r nest t e =
+pub set_begun : (limit : Option ℕ) (x : Begun) (xs : List Begun) (first mid between now : Tokens) → Spelled limit first xs x.before mid
+    → Reads (SpellsHead limit (selection_seen x.holder)) mid between → may_nest limit (suc (length xs)) ≡ true
+    → IsTaken (token.punctuator BraceOpen) between now → Spelled limit first (x ∷ xs) [] now
+set_begun limit x xs first mid between now h r nest t =
     let (ts, took, s) : Reads (SpellsBegun limit (x ∷ xs)) first now =
-    reads_as (Then (Then (SpellsBegun limit xs) (SpellsNodes limit (length xs) x.outer.items)) (Then (From x.start (SpellsHead limit x.head)) opening)) (SpellsBegun limit (x ∷ xs)) first now (begun_more limit x xs nest) (reads_then (Then (SpellsBegun limit xs) (SpellsNodes limit (length xs) x.outer.items)) (Then (From x.start (SpellsHead limit x.head)) opening) first mid now h (reads_then (From x.start (SpellsHead limit x.head)) opening mid between now r (reads_one (token.punctuator BraceOpen) between now t))) in
-    (ts, took, (ts, [], sym (append-nil ts), s, subst (λ zs. SpellsEach (SpellsSelection limit (suc (suc (length xs)))) (map selection_seen zs) []) (sym e) refl))
+    reads_as (Then (Then (SpellsBegun limit xs) (SpellsNodes limit (length xs) x.before)) (Heads limit x)) (SpellsBegun limit (x ∷ xs)) first now (begun_more limit x xs nest) (reads_then (Then (SpellsBegun limit xs) (SpellsNodes limit (length xs) x.before)) (Heads limit x) first mid now h (reads_then (SpellsHead limit (selection_seen x.holder)) opening mid between now r (reads_one (token.punctuator BraceOpen) between now t))) in
+    (ts, took, (ts, [], sym (append-nil ts), s, refl))
 
 -- ---- a selection more
 stands_more : (limit : Option ℕ) (xs : List Begun) (nodes new : Nodes) (node : Node SourceScalar) → new ≡ nodes ++ node ∷ [] → (ts : List Lexeme) → Then (Then (SpellsBegun limit xs) (SpellsNodes limit (length xs) nodes)) (SpellsSelection limit (suc (length xs)) (selection_seen node)) ts → Then (SpellsBegun limit xs) (SpellsNodes limit (length xs) new) ts
@@ -198,11 +209,13 @@ stands_more limit xs nodes new node grown ts (u, one, e, (before, inner, f, hb, 
   subst (λ zs. SpellsEach (SpellsSelection limit (suc (length xs))) zs (inner ++ one)) (sym (seen_more selection_seen nodes new node grown)) (each_more (SpellsSelection limit (suc (length xs))) (map selection_seen nodes) (selection_seen node) inner one hn s),
 )
 
-pub selection_more : (limit : Option ℕ) (xs : List Begun) (nodes new : Nodes) (node : Node SourceScalar) (first mid now : Tokens) → Standing limit first xs nodes mid → Reads (λ ts. (depth : ℕ) → SpellsSelection limit depth (selection_seen node) ts) mid now → new ≡ nodes ++ node ∷ [] → Standing limit first xs new now
-selection_more limit xs nodes new node first mid now h r grown =
-    reads_as (Then (Then (SpellsBegun limit xs) (SpellsNodes limit (length xs) nodes)) (SpellsSelection limit (suc (length xs)) (selection_seen node))) (Then (SpellsBegun limit xs) (SpellsNodes limit (length xs) new)) first now (stands_more limit xs nodes new node grown) (reads_then (Then (SpellsBegun limit xs) (SpellsNodes limit (length xs) nodes)) (SpellsSelection limit (suc (length xs)) (selection_seen node)) first mid now h (reads_as (λ ts. (depth : ℕ) → SpellsSelection limit depth (selection_seen node) ts) (SpellsSelection limit (suc (length xs)) (selection_seen node)) mid now (λ ts all. all (suc (length xs))) r))
+pub selection_more : (limit : Option ℕ) (xs : List Begun) (nodes : Nodes) (node : Node SourceScalar) (first mid now : Tokens)
+    → Spelled limit first xs nodes mid → Reads (λ ts. (depth : ℕ) → SpellsSelection limit depth (selection_seen node) ts) mid now
+    → Spelled limit first xs (nodes ++ node ∷ []) now
+selection_more limit xs nodes node first mid now h r =
+    reads_as (Then (Then (SpellsBegun limit xs) (SpellsNodes limit (length xs) nodes)) (SpellsSelection limit (suc (length xs)) (selection_seen node))) (Then (SpellsBegun limit xs) (SpellsNodes limit (length xs) (nodes ++ node ∷ []))) first now (stands_more limit xs nodes (nodes ++ node ∷ []) node refl) (reads_then (Then (SpellsBegun limit xs) (SpellsNodes limit (length xs) nodes)) (SpellsSelection limit (suc (length xs)) (selection_seen node)) first mid now h (reads_as (λ ts. (depth : ℕ) → SpellsSelection limit depth (selection_seen node) ts) (SpellsSelection limit (suc (length xs)) (selection_seen node)) mid now (λ ts all. all (suc (length xs))) r))
 
-pub set_opened : (limit : Option ℕ) (nodes : Nodes) (first now : Tokens) → may_nest limit 0 ≡ true → IsTaken (token.punctuator BraceOpen) first now → nodes ≡ [] → Standing limit first [] nodes now
-set_opened limit nodes first now nest t e =
+pub set_opened : (limit : Option ℕ) (first now : Tokens) → may_nest limit 0 ≡ true → IsTaken (token.punctuator BraceOpen) first now → Spelled limit first [] [] now
+set_opened limit first now nest t =
     let (ts, took, s) = reads_one (token.punctuator BraceOpen) first now t in
-    (ts, took, (ts, [], sym (append-nil ts), (nest, s), subst (λ zs. SpellsEach (SpellsSelection limit 1) (map selection_seen zs) []) (sym e) refl))
+    (ts, took, (ts, [], sym (append-nil ts), (nest, s), refl))

@@ -1,7 +1,5 @@
 -- What is left of selections and their sets, token by token.
-use Rattle.std.proofs.lemmas.List.{length-append}
-use Rattle.std.proofs.Common.{arith, ◌≡◌, ◌⊎◌, ◌<◌, inl, inr, ℕ, zero, suc, false, List, [], ◌∷◌, ◌++◌, length, Option, Some, None, Vec, refl, sym, ap, subst, ◌∙◌}
-use Rattle.std.specs.declared.alloc.Global.{Global}
+use Rattle.std.proofs.Common.{arith, ◌≡◌, ◌⊎◌, ◌<◌, inl, inr, ℕ, zero, suc, Bool, true, false, List, [], ◌∷◌, ◌++◌, length, Option, refl, sym, ap, subst, ◌∙◌}
 use Rattle.language.specs.declared.tree.Selection.{Selection as Node}
 use Rattle.sdl_scalars.specs.declared.scalar.SourceScalar.{SourceScalar}
 use Rattle.graphql_lexer.specs.Ahead.{ahead_of, left, IsLeft, IsTaken}
@@ -15,13 +13,10 @@ use Rattle.graphql_lexer.specs.declared.tokens.Tokens.{Tokens}
 use Rattle.value_reader.specs.Faults.{IsPlaced}
 use Rattle.value_reader.specs.Grammar.{lexeme, may_nest}
 use Rattle.value_reader.specs.declared.rules.Variables.TheVariants.{Allowed}
-use Rattle.graphql_reader.specs.OpenSets.{Nodes, IsOutside, IsPart, LeavesPart, LeavesTurn, Rests}
+use Rattle.graphql_reader.specs.OpenSets.{Nodes, IsPart, LeavesPart, Rests, SpellsHead}
 use Rattle.graphql_reader.specs.Languages.{Language, InTurn, Nothing, Perhaps, IsNamed, IsOtherName, IsSign, IsWord, Sign, AName, InParens, Marks, NoParen, NoMarks, AliasedName, AFieldHead, ASelection, ASet, BegunSet, RestOfSets, FirstInSet, ACondition, AFragmentName, AField, ASpread, InlineBody, AnInline, AfterDots, NoColon, NoField, NoSelection, Anything, Differs, first_of, Leaves, IsFault}
 use Rattle.graphql_reader.specs.Selections.{Selection, leaf, field, spread, inline, SpellsSelection, on, selection_seen}
-use Rattle.graphql_reader.specs.declared.selections.Begun.{Begun}
-use Rattle.graphql_reader.specs.declared.selections.Part.{Part}
-use Rattle.graphql_reader.specs.declared.selections.Part.TheVariants as part
-use Rattle.graphql_reader.proofs.ArgumentLaws.{not_none, origin}
+use Rattle.graphql_reader.proofs.ArgumentLaws.{origin}
 use Rattle.graphql_reader.proofs.ArgumentLeaveLaws.{begin_directive, begin_parens, signs_differ}
 use Rattle.graphql_reader.proofs.LanguageLaws.{DotsParts, head_parts, selection_parts, set_parts}
 use Rattle.graphql_reader.proofs.LeavesLaws.{Alike, Begin, Before, Example, alike_assoc, alike_end, alike_refl, alike_then, alike_turn, before_any, before_begin, before_perhaps, before_several, before_turn, begin_alike, begin_as, begin_either, begin_nested, begin_perhaps, begin_several, begin_single, begin_turn, example_absent, example_alike, example_left, example_nested, example_nothing, example_several, example_single, example_turn, fault_behind, fault_from, fault_front, fault_less, fault_memory, fault_stuck, front_less, leaves_absent, leaves_alike, leaves_ended_before, leaves_from, leaves_front, leaves_left, leaves_less, leaves_more_before, leaves_nested, leaves_one, leaves_present, leaves_right, leaves_single, leaves_then, leaves_to, leaves_token, stuck_begin, stuck_nested}
@@ -258,13 +253,13 @@ dots_begun {a = a} d t =
 field_next : {limit : Option ℕ} {F : Tokened} {a b : Tokens} (d : ℕ) → IsLeft (token.punctuator Spread) a b → Leaves limit F (ASelection d) (AField d) a b
 field_next d t = leaves_from (selection_parts d) (leaves_left t.1 (begin_dots d) t.0)
 
-pub part_dots : (limit : Option ℕ) (a b c : Tokens) (x : Part) → IsTaken (token.punctuator Spread) a b → LeavesPart AfterDots limit b c x → LeavesPart ASelection limit a c x
-part_dots limit a b c (part.Whole s) t h = λ d. leaves_then (dots_begun {b = b} d t) (h d)
-part_dots limit a b c (part.Head start head) t h = λ d. leaves_then (dots_begun {b = b} d t) (h d)
+pub part_dots : (limit : Option ℕ) (a b c : Tokens) (x : Bool) → IsTaken (token.punctuator Spread) a b → LeavesPart AfterDots limit b c x → LeavesPart ASelection limit a c x
+part_dots limit a b c false t h = λ d. leaves_then (dots_begun {b = b} d t) (h d)
+part_dots limit a b c true t h = λ d. leaves_then (dots_begun {b = b} d t) (h d)
 
-pub part_field : (limit : Option ℕ) (a b c : Tokens) (x : Part) → IsLeft (token.punctuator Spread) a b → LeavesPart AField limit b c x → LeavesPart ASelection limit a c x
-part_field limit a b c (part.Whole s) t h = λ d. leaves_then (field_next {b = b} d t) (h d)
-part_field limit a b c (part.Head start head) t h = λ d. leaves_then (field_next {b = b} d t) (h d)
+pub part_field : (limit : Option ℕ) (a b c : Tokens) (x : Bool) → IsLeft (token.punctuator Spread) a b → LeavesPart AField limit b c x → LeavesPart ASelection limit a c x
+part_field limit a b c false t h = λ d. leaves_then (field_next {b = b} d t) (h d)
+part_field limit a b c true t h = λ d. leaves_then (field_next {b = b} d t) (h d)
 
 pub fault_dots : {limit : Option ℕ} {a c : Tokens} {e : ReadError} (b : Tokens) (d : ℕ) → IsTaken (token.punctuator Spread) a b → IsFault limit NoSelection (AfterDots d) b c e → IsFault limit NoSelection (ASelection d) a c e
 fault_dots b d t f = fault_behind (dots_begun {b = b} d t) f
@@ -304,10 +299,10 @@ inner_begun n h k = leaves_then (selection_begun n h) (leaves_to (leaves_front k
 inner_fault : {limit : Option ℕ} {F : Tokened} {a b c : Tokens} {e : ReadError} (n : ℕ) → Leaves limit NoSelection (ASelection (suc n)) (ASet (suc n)) a b → IsFault limit Anything (ASet (suc n)) b c e → IsFault limit F (FirstInSet n) a c e
 inner_fault n h f = fault_behind (selection_begun n h) (fault_front f before_any (example_rest (suc n)))
 
-outer_begun : {limit : Option ℕ} {F : Tokened} {a b : Tokens} → Leaves limit F (ASet 0) (BegunSet 0) a b → Leaves limit F (ASet 0) (FirstInSet 0) a b
+pub outer_begun : {limit : Option ℕ} {F : Tokened} {a b : Tokens} → Leaves limit F (ASet 0) (BegunSet 0) a b → Leaves limit F (ASet 0) (FirstInSet 0) a b
 outer_begun h = leaves_to h (alike_then (record { to = λ l ts t. alike_end.back l ts t; back = λ l ts t. alike_end.to l ts t }) (inner_first 0))
 
-rests_some : {limit : Option ℕ} {F : Tokened} {P : Language} {a b : Tokens} (n : ℕ) (nodes : Nodes) → (nodes ≡ [] → ⊥) → Leaves limit F P (RestOfSets (suc n)) a b → Leaves limit F P (Rests n nodes) a b
+pub rests_some : {limit : Option ℕ} {F : Tokened} {P : Language} {a b : Tokens} (n : ℕ) (nodes : Nodes) → (nodes ≡ [] → ⊥) → Leaves limit F P (RestOfSets (suc n)) a b → Leaves limit F P (Rests n nodes) a b
 rests_some n [] some h = absurd (some refl)
 rests_some n (x ∷ xs) some h = h
 
@@ -324,16 +319,10 @@ close_not_beginning : (u : token.Token) → IsSign BraceClose u → IsBeginning 
 close_not_beginning u e (inl k) = sign_not_name BraceClose u e k
 close_not_beginning u e (inr f) = signs_differ BraceClose Spread u (λ g. cc) e f
 
-set_closed : {limit : Option ℕ} {F : Tokened} {a b : Tokens} (n : ℕ) (nodes : Nodes) → (nodes ≡ [] → ⊥) → IsTaken (token.punctuator BraceClose) a b → Leaves limit F (Rests n nodes) (RestOfSets n) a b
+pub set_closed : {limit : Option ℕ} {F : Tokened} {a b : Tokens} (n : ℕ) (nodes : Nodes) → (nodes ≡ [] → ⊥) → IsTaken (token.punctuator BraceClose) a b → Leaves limit F (Rests n nodes) (RestOfSets n) a b
 set_closed n [] some t = absurd (some refl)
 set_closed {a = a} n (x ∷ xs) some t =
     leaves_then (leaves_ended_before {K = IsBeginning} {Q = ClosesAndRest n} refl (begin_selection (suc n)) (λ k. close_not_beginning (ahead_of a).token t.0 k)) (leaves_token (token.punctuator BraceClose) t refl)
-
-pub turn_ended : (limit : Option ℕ) (a b : Tokens) (n k : ℕ) (nodes more : Nodes) (turn : Option (Vec (Node SourceScalar) Global)) → (nodes ≡ [] → ⊥) → IsTaken (token.punctuator BraceClose) a b → IsOutside n k more turn → LeavesTurn limit a n nodes b k more turn
-turn_ended limit a b n k nodes more None some t (e, other) =
-    rests_some k more other (subst (λ m. Leaves limit Anything (Rests n nodes) (RestOfSets m) a b) e (set_closed {b = b} n nodes some t))
-turn_ended limit a b n k nodes more (Some set) some t e =
-    subst (λ m. Leaves limit Anything (Rests n nodes) (RestOfSets m) a b) e (set_closed {b = b} n nodes some t)
 
 -- ---- each part has some token
 some_selection : (limit : Option ℕ) (d : ℕ) (s : Selection) (ts : List Lexeme) → SpellsSelection limit d s ts → ts ≡ [] → ⊥
@@ -342,27 +331,26 @@ some_selection limit d (field h set span) ts (s, (x, xs, e, f, g)) n = cc
 some_selection limit d (spread k ds span) ts (s, (x, xs, e, f, g)) n = cc
 some_selection limit d (inline h set span) ts (s, (x, xs, e, f, g)) n = cc
 
-pub part_less : (limit : Option ℕ) (a b : Tokens) (x : Part) → IsPart limit a b x → length (left b) < length (left a)
-part_less limit a b (part.Whole s) (ts, t, h) = front_less (left b) (left a) ts t.0 (some_selection limit 0 (selection_seen s) ts (h 0))
-part_less limit a b (part.Head start head) (ts, t, (x, xs, e, f, g)) = front_less (left b) (left a) ts t.0 (λ n. cc)
+some_head : (limit : Option ℕ) (s : Selection) (ts : List Lexeme) → SpellsHead limit s ts → ts ≡ [] → ⊥
+some_head limit (leaf h span) ts (x, xs, e, f, g) n = cc
+some_head limit (field h set span) ts (x, xs, e, f, g) n = cc
+some_head limit (spread k ds span) ts h n = h
+some_head limit (inline h set span) ts (x, xs, e, f, g) n = cc
+
+pub part_less : (limit : Option ℕ) (a b : Tokens) (x : Bool) (s : Node SourceScalar) → IsPart limit a b x s → length (left b) < length (left a)
+part_less limit a b false s (ts, t, h) = front_less (left b) (left a) ts t.0 (some_selection limit 0 (selection_seen s) ts (h 0))
+part_less limit a b true s (ts, t, h) = front_less (left b) (left a) ts t.0 (some_head limit (selection_seen s) ts h)
 
 -- ---- what another function returns
 pub leaves_moved : {limit : Option ℕ} {F : Tokened} {P Q : Language} {a b : Tokens} → b ≡ a → Leaves limit F P Q b b → Leaves limit F P Q a b
 leaves_moved {limit} {F} {P} {Q} {b = b} same h = subst (λ t. Leaves limit F P Q t b) same h
 
-pub part_behind : (P Q : ℕ → Language) (limit : Option ℕ) (a b c : Tokens) (x : Part) → ((d : ℕ) → Leaves limit NoSelection (P d) (Q d) a b) → LeavesPart Q limit b c x → LeavesPart P limit a c x
-part_behind P Q limit a b c (part.Whole s) f h = λ d. leaves_then (f d) (h d)
-part_behind P Q limit a b c (part.Head start head) f h = λ d. leaves_then (f d) (h d)
+pub part_behind : (P Q : ℕ → Language) (limit : Option ℕ) (a b c : Tokens) (x : Bool) → ((d : ℕ) → Leaves limit NoSelection (P d) (Q d) a b) → LeavesPart Q limit b c x → LeavesPart P limit a c x
+part_behind P Q limit a b c false f h = λ d. leaves_then (f d) (h d)
+part_behind P Q limit a b c true f h = λ d. leaves_then (f d) (h d)
 
 pub not_moved : (a b : Tokens) (t : token.Token) → b ≡ a → ((ahead_of a).token ≡ t → ⊥) → (ahead_of b).token ≡ t → ⊥
 not_moved a b t same n e = n (ap (λ z. (ahead_of z).token) (sym same) ∙ e)
-
--- ---- how many sets are begun
-pub pushed_count : {T : Type 0} (xs ys : List T) (x : T) → ys ≡ xs ++ x ∷ [] → length ys ≡ suc (length xs)
-pushed_count xs ys x e = omega (arith, ap length e, length-append xs (x ∷ []))
-
-pub pushed_any : {T : Type 0} (xs ys : List T) (x : T) → ys ≡ xs ++ x ∷ [] → ys ≡ [] → ⊥
-pushed_any xs ys x e n = not_none xs x (sym e ∙ n)
 
 -- ---- a part more, whole or begun
 pub part_added : {limit : Option ℕ} {F : Tokened} {a b : Tokens} (n k : ℕ) (nodes : Nodes) → n ≡ k → (nodes ≡ [] → ⊥) → Leaves limit NoSelection (ASelection (suc n)) Nothing a b → Leaves limit F (FirstInSet n) (Rests k nodes) a b
@@ -382,7 +370,3 @@ part_stuck {limit} n f = fault_front f (rest_before limit n) (example_rest (suc 
 
 pub memory_fault : (limit : Option ℕ) (F : Tokened) (P : Language) (a b : Tokens) (e : ReadError) → e ≡ OutOfMemory → IsFault limit F P a b e
 memory_fault limit F P a b e h = subst (IsFault limit F P a b) (sym h) fault_memory
-
-pub began_first : {limit : Option ℕ} {F : Tokened} {a b : Tokens} (begun : List Begun) (nodes : Nodes) → begun ≡ [] → nodes ≡ [] → Leaves limit F (ASet 0) (BegunSet 0) a b → Leaves limit F (ASet 0) (Rests (length begun) nodes) a b
-began_first {limit} {F} {a} {b} begun nodes none empty h =
-    rests_none (length begun) nodes empty (subst (λ bs. Leaves limit F (ASet 0) (FirstInSet (length bs)) a b) (sym none) (outer_begun h))

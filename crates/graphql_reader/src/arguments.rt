@@ -47,7 +47,7 @@ pub fn read_arguments<'a>(
     if !tokens.take(Punctuator::ParenOpen) {
         return Ok(None);
     }
-    let mut items = Vec::new(tokens.alloc());
+    let mut items = Vec::with_capacity(tokens.alloc(), 1)?;
     loop {
         let argument = read_argument(tokens, variables, max_depth)?;
         items.push(argument)?;
@@ -100,7 +100,7 @@ pub fn read_directives<'a>(
     if !tokens.is(Punctuator::At) {
         return Ok(None);
     }
-    let mut directives = Vec::new(tokens.alloc());
+    let mut directives = Vec::with_capacity(tokens.alloc(), 1)?;
     while tokens.is(Punctuator::At) {
         let directive = read_directive(tokens, variables, max_depth)?;
         directives.push(directive)?;

@@ -23,7 +23,7 @@ ghost use Rattle.value_reader.specs.declared.rules.Variables.TheVariants.{Refuse
 
 use crate::arguments::read_directives;
 use crate::expected::{expect, name};
-use crate::selections::read_selection_set;
+use crate::selections::{OpenSets, read_selection_set};
 use crate::types::read_type;
 use graphql_lexer::error::ReadError;
 use graphql_lexer::lexer::{Punctuator, Token};
@@ -81,9 +81,10 @@ pub fn read_document_within<'a>(
     ensures fault { IfErr result (IsDocumentFault max_depth text.now) }
 {
     let mut tokens = Tokens::new(alloc, text.as_bytes());
+    let mut open = OpenSets::new(alloc);
     let mut definitions = Vec::new(alloc);
     loop {
-        let definition = read_definition(&mut tokens, max_depth)?;
+        let definition = read_definition(&mut tokens, &mut open, max_depth)?;
         definitions.push(definition)?;
         if tokens.is_at_end() {
             definitions.shrink_to_fit();
@@ -94,6 +95,7 @@ pub fn read_document_within<'a>(
 
 fn read_definition<'a>(
     tokens: &mut Tokens<'a>,
+    open: &mut OpenSets<'a>,
     max_depth: Option<usize>,
 ) -> Result<Definition<'a, SourceScalar>, ReadError<'a>>
     ensures tree { IfOk result (λ d.
@@ -102,13 +104,13 @@ fn read_definition<'a>(
     ensures stuck { IfErr result (IsFault max_depth Anything ADefinition tokens.old tokens.new) }
 {
     if tokens.is(Punctuator::BraceOpen) {
-        return read_bare_query(tokens, max_depth);
+        return read_bare_query(tokens, open, max_depth);
     }
     if let Some(operation_type) = operation_type_ahead(tokens) {
-        return read_operation(tokens, max_depth, operation_type);
+        return read_operation(tokens, open, max_depth, operation_type);
     }
     if tokens.is_word("fragment") {
-        return read_fragment(tokens, max_depth);
+        return read_fragment(tokens, open, max_depth);
     }
     Err(tokens.fault("an operation or a fragment"))
 }
@@ -130,6 +132,7 @@ pub fn operation_type_ahead(tokens: &Tokens<'_>) -> Option<OperationType>
 // A query in shorthand form: only its selection set.
 fn read_bare_query<'a>(
     tokens: &mut Tokens<'a>,
+    open: &mut OpenSets<'a>,
     max_depth: Option<usize>,
 ) -> Result<Definition<'a, SourceScalar>, ReadError<'a>>
     ensures tree { IfOk result (λ d.
@@ -140,7 +143,7 @@ fn read_bare_query<'a>(
         → IsFault max_depth Anything ADefinition tokens.old tokens.new e) }
 {
     let start = tokens.start();
-    let selection_set = read_selection_set(tokens, max_depth)?;
+    let selection_set = read_selection_set(tokens, open, max_depth)?;
     let span = tokens.span_from(start);
     Ok(Definition::Operation(Spanning {
         item: Operation {
@@ -156,6 +159,7 @@ fn read_bare_query<'a>(
 
 fn read_operation<'a>(
     tokens: &mut Tokens<'a>,
+    open: &mut OpenSets<'a>,
     max_depth: Option<usize>,
     operation_type: OperationType,
 ) -> Result<Definition<'a, SourceScalar>, ReadError<'a>>
@@ -171,7 +175,7 @@ fn read_operation<'a>(
     let name = read_operation_name(tokens)?;
     let variable_definitions = read_variable_definitions(tokens, max_depth)?;
     let directives = read_directives(tokens, Variables::Allowed, max_depth)?;
-    let selection_set = read_selection_set(tokens, max_depth)?;
+    let selection_set = read_selection_set(tokens, open, max_depth)?;
     let span = tokens.span_from(start);
     Ok(Definition::Operation(Spanning {
         item: Operation {
@@ -204,6 +208,7 @@ fn read_operation_name<'a>(
 
 fn read_fragment<'a>(
     tokens: &mut Tokens<'a>,
+    open: &mut OpenSets<'a>,
     max_depth: Option<usize>,
 ) -> Result<Definition<'a, SourceScalar>, ReadError<'a>>
     ensures tree { IfOk result (λ d. (ahead_of tokens.old).token ≡ name_token fragment_word
@@ -217,7 +222,7 @@ fn read_fragment<'a>(
     tokens.advance();
     let (name, type_condition) = read_fragment_head(tokens)?;
     let directives = read_directives(tokens, Variables::Allowed, max_depth)?;
-    let selection_set = read_selection_set(tokens, max_depth)?;
+    let selection_set = read_selection_set(tokens, open, max_depth)?;
     let span = tokens.span_from(start);
     Ok(Definition::Fragment(Spanning {
         item: Fragment {

@@ -1,72 +1,54 @@
 //! Selection sets (GraphQL, October 2021, sections 2.4, 2.5 and 2.8).
-ghost use Rattle.std.specs.Prelude.{◌≡◌, ◌≢◌, ◌<◌, ◌≤◌, [], true, false, IsTrue, IfErr, IfOk, OnOk};
-ghost use Rattle.std.specs.Prelude.{ℕ, Option, length, option_map, reverse};
-ghost use Rattle.graphql_lexer.specs.Ahead.{ahead_of, left, IsTaken};
+ghost use Rattle.std.specs.Prelude.{◌≡◌, ◌≢◌, ◌++◌, ◌∷◌, ◌<◌, ◌≤◌, [], true, false, IsTrue, IfErr, IfOk, OnOk};
+ghost use Rattle.std.specs.Prelude.{ℕ, List, Option, length, option_map, reverse};
+ghost use Rattle.graphql_lexer.specs.Ahead.{ahead_of, last_end_of, left, IsTaken};
 ghost use Rattle.graphql_lexer.specs.Lexical.{punctuator, name as name_token};
 ghost use Rattle.graphql_lexer.specs.declared.lexer.Punctuator.TheVariants.{BraceOpen, BraceClose, Spread};
 ghost use Rattle.graphql_lexer.specs.declared.tokens.Tokens.{Tokens as Reader};
+ghost use Rattle.language.specs.declared.tree.Selection.{Selection as Node};
+ghost use Rattle.sdl_scalars.specs.declared.scalar.SourceScalar.{SourceScalar as Scalar};
 ghost use Rattle.value_reader.specs.Grammar.{may_nest};
 ghost use Rattle.graphql_reader.specs.Arguments.{name_seen};
-ghost use Rattle.graphql_reader.specs.Languages.{AField, AFieldHead, ASelection, ASet, ASpread, AfterDots};
-ghost use Rattle.graphql_reader.specs.Languages.{AliasedName, Anything, BegunSet, FirstInSet, InlineBody, NoColon};
-ghost use Rattle.graphql_reader.specs.Languages.{NoField, Nothing, IsFault, Leaves};
+ghost use Rattle.graphql_reader.specs.Languages.{AField, ASelection, ASet, ASpread, AfterDots};
+ghost use Rattle.graphql_reader.specs.Languages.{AliasedName, Anything, BegunSet, InlineBody, NoColon};
+ghost use Rattle.graphql_reader.specs.Languages.{Nothing, IsFault, Leaves};
 ghost use Rattle.graphql_reader.specs.Passed.{Reads};
-ghost use Rattle.graphql_reader.specs.OpenSets.{field_seen, inline_seen, whole, Rests, Standing, IsPart, IsPartFault};
-ghost use Rattle.graphql_reader.specs.OpenSets.{IsOutside, IsTurn, LeavesPart, LeavesTurn};
-ghost use Rattle.graphql_reader.specs.Selections as g;
-ghost use Rattle.graphql_reader.specs.Selections.{directives_seen, nodes_seen, selection_seen, with_set, on};
-ghost use Rattle.graphql_reader.specs.Selections.{SpellsAliased, SpellsDots, SpellsFieldHead, SpellsSet};
+ghost use Rattle.graphql_reader.specs.OpenSets.{first_of, given_field, given_inline, given_set, Adds, GoingOn, IsPart};
+ghost use Rattle.graphql_reader.specs.OpenSets.{IsPartFault, IsTurn, LeavesPart, Standing};
+ghost use Rattle.graphql_reader.specs.Selections.{nodes_seen, selection_seen, on};
+ghost use Rattle.graphql_reader.specs.Selections.{SpellsAliased, SpellsDots, SpellsSet};
 
-use crate::arguments::{Directives, read_arguments, read_directives};
+use crate::arguments::{read_arguments, read_directives};
 use crate::depth::check_depth;
 use crate::expected::{expect, name};
 use graphql_lexer::error::ReadError;
 use graphql_lexer::lexer::Punctuator;
 use graphql_lexer::tokens::Tokens;
-use language::position::{SourcePosition, Span, Spanning};
-use language::tree::{Arguments, Field, FragmentSpread, InlineFragment, Selection};
+use language::position::{SourcePosition, Spanning};
+use language::tree::{Field, FragmentSpread, InlineFragment, Selection};
 use sdl_scalars::scalar::SourceScalar;
-use std::mem;
+use std::alloc::Global;
 use value_reader::rules::Variables;
 
 type Nodes<'a> = Vec<Selection<'a, SourceScalar>>;
 
-// A field up to its set.
+/// The sets that are begun. Their lists are used again for the next set that is read.
 #[derive(Drop)]
-struct FieldHead<'a> {
-    alias: Option<Spanning<&'a str>>,
-    name: Spanning<&'a str>,
-    arguments: Option<Spanning<Arguments<'a, SourceScalar>>>,
-    directives: Directives<'a>,
+pub(crate) struct OpenSets<'a> {
+    // The selections of all of them. A field or an inline fragment whose set is begun stands there without it.
+    nodes: Nodes<'a>,
+    // Where in that list the selections of each set but the outermost begin, the innermost set last.
+    firsts: Vec<usize>,
 }
 
-// An inline fragment up to its set.
-#[derive(Drop)]
-struct InlineHead<'a> {
-    type_condition: Option<Spanning<&'a str>>,
-    directives: Directives<'a>,
-}
-
-// What stands before a set.
-#[derive(Drop)]
-enum Head<'a> {
-    Field(FieldHead<'a>),
-    Inline(InlineHead<'a>),
-}
-
-// What is read at a time: a selection, or where one starts and what stands before its set.
-#[derive(Drop)]
-enum Part<'a> {
-    Whole(Selection<'a, SourceScalar>),
-    Head(SourcePosition, Head<'a>),
-}
-
-// A field or an inline fragment whose set is read: where it starts, and the set that it stands in, so far.
-#[derive(Drop)]
-struct Begun<'a> {
-    start: SourcePosition,
-    head: Head<'a>,
-    outer: Nodes<'a>,
+impl<'a> OpenSets<'a> {
+    /// No set.
+    pub(crate) fn new(alloc: Global) -> OpenSets<'a> {
+        OpenSets {
+            nodes: Vec::new(alloc),
+            firsts: Vec::new(alloc),
+        }
+    }
 }
 
 /// Parses a selection set, which is never empty. What is begun stands on a list in memory, so no depth is too deep for
@@ -76,8 +58,9 @@ struct Begun<'a> {
 ///
 /// The first token with which no selection set goes on, which is a level too many where it opens more than `max_depth`,
 /// or out of memory.
-pub fn read_selection_set<'a>(
+pub(crate) fn read_selection_set<'a>(
     tokens: &mut Tokens<'a>,
+    open: &mut OpenSets<'a>,
     max_depth: Option<usize>,
 ) -> Result<Nodes<'a>, ReadError<'a>>
     ensures tree { IfOk result (λ set. Reads (SpellsSet max_depth 0 (nodes_seen set.items)) tokens.old tokens.new) }
@@ -85,10 +68,10 @@ pub fn read_selection_set<'a>(
     ensures stuck { IfErr result (IsFault max_depth Anything (ASet 0) tokens.old tokens.new) }
 {
     open_set(tokens, 0, max_depth)?;
-    let mut begun = Vec::new(tokens.alloc());
-    let mut nodes = Vec::new(tokens.alloc());
+    open.nodes.clear();
+    open.firsts.clear();
     loop {
-        let turn = step(tokens, max_depth, &mut nodes, &mut begun)?;
+        let turn = step(tokens, max_depth, &mut open.nodes, &mut open.firsts)?;
         match turn {
             Some(set) => return Ok(set),
             None => {}
@@ -111,178 +94,177 @@ fn open_set<'a>(
     expect(tokens, Punctuator::BraceOpen, "{")
 }
 
-// Takes the brace that ends a set, or reads a part more. The outermost set, if it ends there.
+// Takes the brace that ends a set, or reads a selection more, or one up to its set and the brace that begins that. The
+// outermost set, if it ends there.
 fn step<'a>(
     tokens: &mut Tokens<'a>,
     max_depth: Option<usize>,
     nodes: &mut Nodes<'a>,
-    begun: &mut Vec<Begun<'a>>,
+    firsts: &mut Vec<usize>,
 ) -> Result<Option<Nodes<'a>>, ReadError<'a>>
     ensures tree { IfOk result (λ turn. (first : Reader)
-        → Standing max_depth first (reverse begun.old.items) nodes.old.items tokens.old
-        → IsTurn max_depth first (reverse begun.new.items) nodes.new.items tokens.new turn) }
-    ensures leaves { IfOk result (LeavesTurn max_depth tokens.old (length begun.old.items) nodes.old.items
-        tokens.new (length begun.new.items) nodes.new.items) }
+        → Standing max_depth first (reverse firsts.old.items) nodes.old.items tokens.old
+        → IsTurn max_depth first (reverse firsts.new.items) nodes.new.items tokens.new turn) }
     ensures less { OnOk result (length (left tokens.new) < length (left tokens.old)) }
-    ensures stuck { IfErr result
-        (IsFault max_depth Anything (Rests (length begun.old.items) nodes.old.items) tokens.old tokens.new) }
+    ensures stuck { IfErr result (λ e. (first : Reader)
+        → Standing max_depth first (reverse firsts.old.items) nodes.old.items tokens.old
+        → IsFault max_depth Anything (ASet 0) first tokens.new e) }
 {
-    if ends(tokens, nodes) {
-        return end_set(tokens, nodes, begun);
+    if ends(tokens, nodes, firsts) {
+        return end_set(tokens, nodes, firsts);
     }
-    let part = read_part(tokens, max_depth)?;
-    add_part(tokens, max_depth, part, nodes, begun)?;
+    let begins = read_part(tokens, max_depth, nodes)?;
+    begin_set(tokens, max_depth, begins, nodes, firsts)?;
     Ok(None)
 }
 
-// Takes the brace that ends a set, if it is next and some selection is there.
-fn ends<'a>(tokens: &mut Tokens<'a>, nodes: &Nodes<'a>) -> bool
-    ensures taken { IsTrue result → IsTaken (punctuator BraceClose) tokens.old tokens.new }
-    ensures some { IsTrue result → nodes.now.items ≢ [] }
-    ensures left { result ≡ false → tokens.new ≡ tokens.old }
-    ensures other { result ≡ false → nodes.now.items ≢ [] → (ahead_of tokens.old).token ≢ punctuator BraceClose }
+// Where the selections of the innermost set begin.
+fn first_of(firsts: &Vec<usize>) -> usize
+    ensures { result ≡ first_of (reverse firsts.now.items) }
 {
-    if nodes.is_empty() {
+    match firsts.last() {
+        Some(first) => *first,
+        None => 0,
+    }
+}
+
+// Takes the brace that ends a set, if it is next and the set has some selection.
+fn ends<'a>(tokens: &mut Tokens<'a>, nodes: &Nodes<'a>, firsts: &Vec<usize>) -> bool
+    ensures taken { IsTrue result → IsTaken (punctuator BraceClose) tokens.old tokens.new }
+    ensures some { IsTrue result → first_of (reverse firsts.now.items) < length nodes.now.items }
+    ensures left { result ≡ false → tokens.new ≡ tokens.old }
+    ensures other { result ≡ false → first_of (reverse firsts.now.items) < length nodes.now.items
+        → (ahead_of tokens.old).token ≢ punctuator BraceClose }
+{
+    if nodes.len() <= first_of(firsts) {
         return false;
     }
     tokens.take(Punctuator::BraceClose)
 }
 
-// Puts the innermost set into the selection that it belongs to, and that into the set that it stands in.
+// Puts the innermost set into the selection that it belongs to.
 fn end_set<'a>(
     tokens: &Tokens<'a>,
     nodes: &mut Nodes<'a>,
-    begun: &mut Vec<Begun<'a>>,
+    firsts: &mut Vec<usize>,
 ) -> Result<Option<Nodes<'a>>, ReadError<'a>>
+    requires { first_of (reverse firsts.old.items) < length nodes.old.items }
     ensures tree { IfOk result (λ turn. (limit : Option ℕ) (first : Reader) (mid : Reader)
-        → Standing limit first (reverse begun.old.items) nodes.old.items mid
-        → IsTaken (punctuator BraceClose) mid tokens.now → nodes.old.items ≢ []
-        → IsTurn limit first (reverse begun.new.items) nodes.new.items tokens.now turn) }
-    ensures outside { IfOk result (IsOutside (length begun.old.items) (length begun.new.items) nodes.new.items) }
+        → Standing limit first (reverse firsts.old.items) nodes.old.items mid
+        → IsTaken (punctuator BraceClose) mid tokens.now
+        → IsTurn limit first (reverse firsts.new.items) nodes.new.items tokens.now turn) }
     ensures memory { IfErr result (λ e. e ≡ ReadError.OutOfMemory) }
 {
-    let mut set = mem::replace(nodes, Vec::new(tokens.alloc()));
-    set.shrink_to_fit();
-    match begun.pop() {
+    let set = nodes.split_off(first_of(firsts))?;
+    match firsts.pop() {
         None => Ok(Some(set)),
-        Some(Begun { start, head, outer }) => {
-            let span = tokens.span_from(start);
-            *nodes = outer;
-            nodes.push(whole(head, set, span))?;
+        Some(_) => {
+            give_last(tokens, nodes, set);
             Ok(None)
         }
     }
 }
 
-// A selection more, or one that is begun, whose brace is taken.
-fn add_part<'a>(
+// Puts a set, whose brace was taken last, into the last of these selections.
+fn give_last<'a>(tokens: &Tokens<'a>, nodes: &mut Nodes<'a>, set: Nodes<'a>)
+    ensures { (before : List (Node Scalar)) (holder : Node Scalar) → nodes.old.items ≡ before ++ holder ∷ []
+        → Adds (λ n. selection_seen n
+        ≡ given_set (selection_seen holder) (nodes_seen set.entry.items) (last_end_of tokens.now))
+        before nodes.new.items }
+{
+    if let Some(holder) = nodes.last_mut() {
+        give(tokens, holder, set);
+    }
+}
+
+// Puts a set, whose brace was taken last, into a field or an inline fragment, which ends there.
+fn give<'a>(tokens: &Tokens<'a>, holder: &mut Selection<'a, SourceScalar>, set: Nodes<'a>)
+    ensures { selection_seen holder.new
+        ≡ given_set (selection_seen holder.old) (nodes_seen set.entry.items) (last_end_of tokens.now) }
+{
+    match holder {
+        Selection::Field(field) => give_field(tokens, field, set),
+        Selection::InlineFragment(inline) => give_inline(tokens, inline, set),
+        Selection::FragmentSpread(_) => {}
+    }
+}
+
+fn give_field<'a>(
+    tokens: &Tokens<'a>,
+    field: &mut Spanning<Field<'a, SourceScalar>>,
+    set: Nodes<'a>,
+)
+    ensures item { field.new.item ≡ given_field field.old.item set.entry }
+    ensures start { field.new.span.start ≡ field.old.span.start }
+    ensures end { field.new.span.end ≡ last_end_of tokens.now }
+{
+    field.item.selection_set = Some(set);
+    field.span = tokens.span_from(field.span.start);
+}
+
+fn give_inline<'a>(
+    tokens: &Tokens<'a>,
+    inline: &mut Spanning<InlineFragment<'a, SourceScalar>>,
+    set: Nodes<'a>,
+)
+    ensures item { inline.new.item ≡ given_inline inline.old.item set.entry }
+    ensures start { inline.new.span.start ≡ inline.old.span.start }
+    ensures end { inline.new.span.end ≡ last_end_of tokens.now }
+{
+    put_set(&mut inline.item, set);
+    inline.span = tokens.span_from(inline.span.start);
+}
+
+fn put_set<'a>(inline: &mut InlineFragment<'a, SourceScalar>, set: Nodes<'a>)
+    ensures { inline.new ≡ given_inline inline.old set.entry }
+{
+    inline.selection_set = set;
+}
+
+// Begins the set of the selection that was read last, if it has one.
+fn begin_set<'a>(
     tokens: &mut Tokens<'a>,
     max_depth: Option<usize>,
-    part: Part<'a>,
-    nodes: &mut Nodes<'a>,
-    begun: &mut Vec<Begun<'a>>,
+    begins: bool,
+    nodes: &Nodes<'a>,
+    firsts: &mut Vec<usize>,
 ) -> Result<(), ReadError<'a>>
-    ensures tree { OnOk result ((first : Reader) (mid : Reader)
-        → Standing max_depth first (reverse begun.old.items) nodes.old.items mid
-        → IsPart max_depth mid tokens.old part.entry
-        → Standing max_depth first (reverse begun.new.items) nodes.new.items tokens.new) }
-    ensures leaves { OnOk result ((mid : Reader) → LeavesPart ASelection max_depth mid tokens.old part.entry
-        → Leaves max_depth Anything (FirstInSet (length begun.old.items))
-        (Rests (length begun.new.items) nodes.new.items) mid tokens.new) }
+    ensures tree { OnOk result ((first : Reader) (mid : Reader) (old : List (Node Scalar))
+        → GoingOn max_depth first (reverse firsts.old.items) old mid
+        → Adds (IsPart max_depth mid tokens.old begins) old nodes.now.items
+        → LeavesPart ASelection max_depth mid tokens.old begins
+        → Standing max_depth first (reverse firsts.new.items) nodes.now.items tokens.new) }
     ensures less { OnOk result (length (left tokens.new) ≤ length (left tokens.old)) }
-    ensures stuck { IfErr result (λ e. (mid : Reader) → LeavesPart ASelection max_depth mid tokens.old part.entry
-        → IsFault max_depth Anything (FirstInSet (length begun.old.items)) mid tokens.new e) }
+    ensures stuck { IfErr result (λ e. (first : Reader) (mid : Reader) (old : List (Node Scalar))
+        → GoingOn max_depth first (reverse firsts.old.items) old mid
+        → LeavesPart ASelection max_depth mid tokens.old begins
+        → IsFault max_depth Anything (ASet 0) first tokens.new e) }
 {
-    match part {
-        Part::Whole(selection) => {
-            nodes.push(selection)?;
-            Ok(())
-        }
-        Part::Head(start, head) => {
-            let outer = mem::replace(nodes, Vec::new(tokens.alloc()));
-            begun.push(Begun { start, head, outer })?;
-            open_set(tokens, begun.len(), max_depth)
-        }
+    if !begins {
+        return Ok(());
     }
+    let first = nodes.len();
+    firsts.push(first)?;
+    let levels = firsts.len();
+    open_set(tokens, levels, max_depth)
 }
 
-fn whole<'a>(head: Head<'a>, set: Nodes<'a>, span: Span) -> Selection<'a, SourceScalar>
-    ensures { selection_seen result ≡ whole head.entry (nodes_seen set.entry.items) span }
-{
-    match head {
-        Head::Field(head) => field(head, Some(set), span),
-        Head::Inline(head) => inline_fragment(head, set, span),
-    }
-}
-
-fn field<'a>(
-    head: FieldHead<'a>,
-    selection_set: Option<Nodes<'a>>,
-    span: Span,
-) -> Selection<'a, SourceScalar>
-    ensures { selection_seen result ≡ with_set (field_seen head.entry)
-        (option_map (λ set. nodes_seen set.items) selection_set.entry) span }
-{
-    let FieldHead {
-        alias,
-        name,
-        arguments,
-        directives,
-    } = head;
-    let item = Field {
-        alias,
-        name,
-        arguments,
-        directives,
-        selection_set,
-    };
-    Selection::Field(Spanning { item, span })
-}
-
-fn inline_fragment<'a>(
-    head: InlineHead<'a>,
-    selection_set: Nodes<'a>,
-    span: Span,
-) -> Selection<'a, SourceScalar>
-    ensures { selection_seen result ≡ g.inline (inline_seen head.entry) (nodes_seen selection_set.entry.items) span }
-{
-    let InlineHead {
-        type_condition,
-        directives,
-    } = head;
-    let item = InlineFragment {
-        type_condition,
-        directives,
-        selection_set,
-    };
-    Selection::InlineFragment(Spanning { item, span })
-}
-
-fn fragment_spread<'a>(
-    name: Spanning<&'a str>,
-    directives: Directives<'a>,
-    span: Span,
-) -> Selection<'a, SourceScalar>
-    ensures { selection_seen result ≡ g.spread (name_seen name.entry) (directives_seen directives.entry) span }
-{
-    let item = FragmentSpread { name, directives };
-    Selection::FragmentSpread(Spanning { item, span })
-}
-
-// A selection, or its beginning up to the brace that begins its set.
+// A selection more, up to its set if it has one, and whether it has.
 fn read_part<'a>(
     tokens: &mut Tokens<'a>,
     max_depth: Option<usize>,
-) -> Result<Part<'a>, ReadError<'a>>
-    ensures tree { IfOk result (λ part. IsPart max_depth tokens.old tokens.new part) }
+    nodes: &mut Nodes<'a>,
+) -> Result<bool, ReadError<'a>>
+    ensures tree { IfOk result (λ begins.
+        Adds (IsPart max_depth tokens.old tokens.new begins) nodes.old.items nodes.new.items) }
     ensures leaves { IfOk result (LeavesPart ASelection max_depth tokens.old tokens.new) }
     ensures stuck { IfErr result (IsPartFault ASelection max_depth tokens.old tokens.new) }
 {
     let start = tokens.start();
     if tokens.take(Punctuator::Spread) {
-        read_after_dots(tokens, max_depth, start)
+        read_after_dots(tokens, max_depth, nodes, start)
     } else {
-        read_field(tokens, max_depth)
+        read_field(tokens, max_depth, nodes)
     }
 }
 
@@ -290,59 +272,51 @@ fn read_part<'a>(
 fn read_after_dots<'a>(
     tokens: &mut Tokens<'a>,
     max_depth: Option<usize>,
+    nodes: &mut Nodes<'a>,
     start: SourcePosition,
-) -> Result<Part<'a>, ReadError<'a>>
-    ensures tree { IfOk result (λ part. (dots : Reader) → IsTaken (punctuator Spread) dots tokens.old
-        → start ≡ (ahead_of dots).start → IsPart max_depth dots tokens.new part) }
+) -> Result<bool, ReadError<'a>>
+    ensures tree { IfOk result (λ begins. (dots : Reader) → IsTaken (punctuator Spread) dots tokens.old
+        → start ≡ (ahead_of dots).start
+        → Adds (IsPart max_depth dots tokens.new begins) nodes.old.items nodes.new.items) }
     ensures leaves { IfOk result (LeavesPart AfterDots max_depth tokens.old tokens.new) }
     ensures stuck { IfErr result (IsPartFault AfterDots max_depth tokens.old tokens.new) }
 {
     if tokens.take_word("on") {
         let condition = name(tokens, "a type's name")?;
-        return read_inline_head(tokens, max_depth, start, Some(condition));
+        return read_inline(tokens, max_depth, nodes, start, Some(condition));
     }
     if tokens.is(Punctuator::At) || tokens.is(Punctuator::BraceOpen) {
-        return read_inline_head(tokens, max_depth, start, None);
+        return read_inline(tokens, max_depth, nodes, start, None);
     }
-    read_fragment_spread(tokens, max_depth, start)
+    read_fragment_spread(tokens, max_depth, nodes, start)
 }
 
-// A field, or its beginning up to the brace that begins its set.
+// A field up to its set if it has one, and whether it has.
 fn read_field<'a>(
     tokens: &mut Tokens<'a>,
     max_depth: Option<usize>,
-) -> Result<Part<'a>, ReadError<'a>>
-    ensures tree { IfOk result (λ part. IsPart max_depth tokens.old tokens.new part) }
+    nodes: &mut Nodes<'a>,
+) -> Result<bool, ReadError<'a>>
+    ensures tree { IfOk result (λ begins.
+        Adds (IsPart max_depth tokens.old tokens.new begins) nodes.old.items nodes.new.items) }
     ensures leaves { IfOk result (LeavesPart AField max_depth tokens.old tokens.new) }
     ensures stuck { IfErr result (IsPartFault AField max_depth tokens.old tokens.new) }
 {
+    nodes.reserve(1)?;
     let start = tokens.start();
-    let head = read_field_head(tokens, max_depth)?;
-    if tokens.is(Punctuator::BraceOpen) {
-        return Ok(Part::Head(start, Head::Field(head)));
-    }
-    let span = tokens.span_from(start);
-    Ok(Part::Whole(field(head, None, span)))
-}
-
-fn read_field_head<'a>(
-    tokens: &mut Tokens<'a>,
-    max_depth: Option<usize>,
-) -> Result<FieldHead<'a>, ReadError<'a>>
-    ensures tree { IfOk result (λ head.
-        Reads (SpellsFieldHead max_depth (field_seen head)) tokens.old tokens.new) }
-    ensures leaves { OnOk result (Leaves max_depth NoField AFieldHead Nothing tokens.old tokens.new) }
-    ensures stuck { IfErr result (IsFault max_depth NoField AFieldHead tokens.old tokens.new) }
-{
     let (alias, name) = read_alias_and_name(tokens)?;
     let arguments = read_arguments(tokens, Variables::Allowed, max_depth)?;
     let directives = read_directives(tokens, Variables::Allowed, max_depth)?;
-    Ok(FieldHead {
+    let item = Field {
         alias,
         name,
         arguments,
         directives,
-    })
+        selection_set: None,
+    };
+    let span = tokens.span_from(start);
+    nodes.push_reserved(Selection::Field(Spanning { item, span }));
+    Ok(tokens.is(Punctuator::BraceOpen))
 }
 
 fn read_alias_and_name<'a>(
@@ -364,41 +338,50 @@ fn read_alias_and_name<'a>(
 }
 
 // What follows the dots, and a type condition if there is one, up to the brace.
-fn read_inline_head<'a>(
+fn read_inline<'a>(
     tokens: &mut Tokens<'a>,
     max_depth: Option<usize>,
+    nodes: &mut Nodes<'a>,
     start: SourcePosition,
     type_condition: Option<Spanning<&'a str>>,
-) -> Result<Part<'a>, ReadError<'a>>
-    ensures tree { IfOk result (λ part. (dots : Reader) → start ≡ (ahead_of dots).start
+) -> Result<bool, ReadError<'a>>
+    ensures tree { IfOk result (λ begins. (dots : Reader) → start ≡ (ahead_of dots).start
         → Reads (SpellsDots (option_map name_seen type_condition.entry)) dots tokens.old
-        → IsPart max_depth dots tokens.new part) }
+        → Adds (IsPart max_depth dots tokens.new begins) nodes.old.items nodes.new.items) }
     ensures leaves { IfOk result (LeavesPart InlineBody max_depth tokens.old tokens.new) }
     ensures stuck { IfErr result (IsPartFault InlineBody max_depth tokens.old tokens.new) }
 {
+    nodes.reserve(1)?;
     let directives = read_directives(tokens, Variables::Allowed, max_depth)?;
-    let head = InlineHead {
+    let item = InlineFragment {
         type_condition,
         directives,
+        selection_set: Vec::new(tokens.alloc()),
     };
-    Ok(Part::Head(start, Head::Inline(head)))
+    let span = tokens.span_from(start);
+    nodes.push_reserved(Selection::InlineFragment(Spanning { item, span }));
+    Ok(true)
 }
 
 fn read_fragment_spread<'a>(
     tokens: &mut Tokens<'a>,
     max_depth: Option<usize>,
+    nodes: &mut Nodes<'a>,
     start: SourcePosition,
-) -> Result<Part<'a>, ReadError<'a>>
-    ensures tree { IfOk result (λ part. (dots : Reader) → IsTaken (punctuator Spread) dots tokens.old
+) -> Result<bool, ReadError<'a>>
+    ensures tree { IfOk result (λ begins. (dots : Reader) → IsTaken (punctuator Spread) dots tokens.old
         → start ≡ (ahead_of dots).start → (ahead_of tokens.old).token ≢ name_token on
-        → IsPart max_depth dots tokens.new part) }
-    ensures leaves { IfOk result (λ part. (ahead_of tokens.old).token ≢ name_token on
-        → LeavesPart (λ depth. ASpread) max_depth tokens.old tokens.new part) }
+        → Adds (IsPart max_depth dots tokens.new begins) nodes.old.items nodes.new.items) }
+    ensures leaves { IfOk result (λ begins. (ahead_of tokens.old).token ≢ name_token on
+        → LeavesPart (λ depth. ASpread) max_depth tokens.old tokens.new begins) }
     ensures stuck { IfErr result (λ e. (ahead_of tokens.old).token ≢ name_token on
         → IsPartFault (λ depth. ASpread) max_depth tokens.old tokens.new e) }
 {
+    nodes.reserve(1)?;
     let name = name(tokens, "a fragment's name, `on`, a directive or {")?;
     let directives = read_directives(tokens, Variables::Allowed, max_depth)?;
     let span = tokens.span_from(start);
-    Ok(Part::Whole(fragment_spread(name, directives, span)))
+    let item = FragmentSpread { name, directives };
+    nodes.push_reserved(Selection::FragmentSpread(Spanning { item, span }));
+    Ok(false)
 }

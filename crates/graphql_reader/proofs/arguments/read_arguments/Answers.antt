@@ -10,7 +10,7 @@ use Rattle.graphql_reader.proofs.arguments.read_arguments.Goals as goal
 
 pub loop-items-init : goal.loop-items-init
 loop-items-init c = record {
-  tree = reached_new (SpellsArgument (rules_of c.args.variables c.args.max_depth)) argument_seen (left c.take.new.self) c.new-items.result.items c.new-items.ensures.items;
+  tree = reached_new (SpellsArgument (rules_of c.args.variables c.args.max_depth)) argument_seen (left c.take.new.self) c.in_ok-items.items.items c.in_ok-items.ensures.items;
   leaves = parens_begun c.args.variables (c.if-not-take.ensures.taken refl);
 }
 
@@ -53,5 +53,5 @@ returns-then-not-take-clause-leaves c = parens_absent c.args.variables (c.if-not
 
 pub returns-in_err-argument-clause-stuck : goal.returns-in_err-argument-clause-stuck
 returns-in_err-argument-clause-stuck c =
-    let p = err_from_is_err_and c.from_residual.result c.from_residual.ensures.1 in
+    let p = err_from_is_err_and c.from_residual-in_err-argument.result c.from_residual-in_err-argument.ensures.1 in
     rw (p.1, p.2) (fault_behind c.loop-items.invariant.leaves (parens_fault c.args.variables c.in_err-argument.ensures.stuck))

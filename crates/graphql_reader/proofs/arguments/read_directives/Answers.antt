@@ -11,7 +11,7 @@ use Rattle.graphql_reader.proofs.arguments.read_directives.Goals as goal
 
 pub loop-variables-init : goal.loop-variables-init
 loop-variables-init c = record {
-  reached = reads_new (SpellsDirective (rules_of c.args.variables c.args.max_depth)) directive_seen c.new-directives.result.items c.args.tokens.now c.new-directives.ensures.items;
+  reached = reads_new (SpellsDirective (rules_of c.args.variables c.args.max_depth)) directive_seen c.in_ok-directives.directives.items c.args.tokens.now c.in_ok-directives.ensures.items;
   leaves = marks_same c.args.variables;
   begun = λ e. c.if-not-is.ensures.0 refl;
 }
@@ -37,5 +37,5 @@ returns-then-not-is-clause-leaves c = marks_ended c.args.variables (not_so c.is.
 
 pub returns-in_err-directive-clause-stuck : goal.returns-in_err-directive-clause-stuck
 returns-in_err-directive-clause-stuck c =
-    let p = err_from_is_err_and c.from_residual.result c.from_residual.ensures.1 in
+    let p = err_from_is_err_and c.from_residual-in_err-directive.result c.from_residual-in_err-directive.ensures.1 in
     rw (p.1, p.2) (fault_behind c.loop-variables.invariant.leaves (marks_fault c.args.variables (c.loop-variables-test.ensures.0 refl) c.in_err-directive.ensures.stuck))

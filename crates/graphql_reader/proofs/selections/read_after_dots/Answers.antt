@@ -15,19 +15,19 @@ use Rattle.graphql_reader.proofs.selections.read_after_dots.Goals.{then-is-via-t
 
 pub returns-then-take_word-clause-tree : goal.returns-then-take_word-clause-tree
 returns-then-take_word-clause-tree c =
-    IfOk-weaker c.read_inline_head.result _ _ (λ part h dots d start. h dots start (dots_condition (name_seen c.in_ok-condition.condition) dots c.args.tokens.now c.take_word.new.self c.name.new.tokens d (c.if-take_word.ensures.taken refl) c.in_ok-condition.ensures.taken c.in_ok-condition.ensures.span)) c.read_inline_head.ensures.tree
+    IfOk-weaker c.read_inline.result _ _ (λ part h dots d start. h dots start (dots_condition (name_seen c.in_ok-condition.condition) dots c.args.tokens.now c.take_word.new.self c.name.new.tokens d (c.if-take_word.ensures.taken refl) c.in_ok-condition.ensures.taken c.in_ok-condition.ensures.span)) c.read_inline.ensures.tree
 
 pub returns-then-is-clause-tree : goal.returns-then-is-clause-tree
 returns-then-is-clause-tree c =
-    IfOk-weaker c.read_inline_head-then-is.result _ _ (λ part h dots d start. h dots start (dots_alone dots c.args.tokens.now c.take_word.new.self d (c.if-take_word.ensures.left refl).1)) c.read_inline_head-then-is.ensures.tree
+    IfOk-weaker c.read_inline-then-is.result _ _ (λ part h dots d start. h dots start (dots_alone dots c.args.tokens.now c.take_word.new.self d (c.if-take_word.ensures.left refl).1)) c.read_inline-then-is.ensures.tree
 
 pub returns-then-take_word-clause-leaves : goal.returns-then-take_word-clause-leaves
 returns-then-take_word-clause-leaves c =
-    IfOk-weaker c.read_inline_head.result _ _ (λ x h. part_behind AfterDots InlineBody c.args.max_depth c.args.tokens.now c.name.new.tokens c.read_inline_head.new.tokens x (λ d. condition_read c.take_word.new.self d c.in_ok-condition.condition.item.now (c.if-take_word.ensures.taken refl) c.in_ok-condition.ensures.taken) h) c.read_inline_head.ensures.leaves
+    IfOk-weaker c.read_inline.result _ _ (λ x h. part_behind AfterDots InlineBody c.args.max_depth c.args.tokens.now c.name.new.tokens c.read_inline.new.tokens x (λ d. condition_read c.take_word.new.self d c.in_ok-condition.condition.item.now (c.if-take_word.ensures.taken refl) c.in_ok-condition.ensures.taken) h) c.read_inline.ensures.leaves
 
 pub returns-then-take_word-clause-stuck : goal.returns-then-take_word-clause-stuck
 returns-then-take_word-clause-stuck c =
-    MatchResult-weaker c.read_inline_head.result c.read_inline_head.ensures.stuck (λ x h. h) (λ e h depth. fault_behind (condition_read c.take_word.new.self depth c.in_ok-condition.condition.item.now (c.if-take_word.ensures.taken refl) c.in_ok-condition.ensures.taken) (h depth))
+    MatchResult-weaker c.read_inline.result c.read_inline.ensures.stuck (λ x h. h) (λ e h depth. fault_behind (condition_read c.take_word.new.self depth c.in_ok-condition.condition.item.now (c.if-take_word.ensures.taken refl) c.in_ok-condition.ensures.taken) (h depth))
 
 pub returns-in_err-condition-clause-stuck : goal.returns-in_err-condition-clause-stuck
 returns-in_err-condition-clause-stuck c =
@@ -38,13 +38,13 @@ pub returns-then-is-clause-leaves : goal.returns-then-is-clause-leaves
 returns-then-is-clause-leaves c =
     let same = (c.if-take_word.ensures.left refl).1 in
     let next = elim c.then-is.branch as (λ w. ((ahead_of c.take_word.new.self).token ≡ punctuator At) ⊎ ((ahead_of c.take_word.new.self).token ≡ punctuator BraceOpen)) [ then-is-via-then-is w ↦ inl (c.is.ensures.0 w.if-is.true) | then-is-via-else-is+then-is-2 w ↦ inr (w.is-else-is.ensures.0 w.if-is-2.true) ] in
-    IfOk-weaker c.read_inline_head-then-is.result _ _ (λ x h. part_behind AfterDots InlineBody c.args.max_depth c.args.tokens.now c.take_word.new.self c.read_inline_head-then-is.new.tokens x (λ d. leaves_moved same (body_next d next)) h) c.read_inline_head-then-is.ensures.leaves
+    IfOk-weaker c.read_inline-then-is.result _ _ (λ x h. part_behind AfterDots InlineBody c.args.max_depth c.args.tokens.now c.take_word.new.self c.read_inline-then-is.new.tokens x (λ d. leaves_moved same (body_next d next)) h) c.read_inline-then-is.ensures.leaves
 
 pub returns-then-is-clause-stuck : goal.returns-then-is-clause-stuck
 returns-then-is-clause-stuck c =
     let same = (c.if-take_word.ensures.left refl).1 in
     let next = elim c.then-is.branch as (λ w. ((ahead_of c.take_word.new.self).token ≡ punctuator At) ⊎ ((ahead_of c.take_word.new.self).token ≡ punctuator BraceOpen)) [ then-is-via-then-is w ↦ inl (c.is.ensures.0 w.if-is.true) | then-is-via-else-is+then-is-2 w ↦ inr (w.is-else-is.ensures.0 w.if-is-2.true) ] in
-    MatchResult-weaker c.read_inline_head-then-is.result c.read_inline_head-then-is.ensures.stuck (λ x h. h) (λ e h depth. fault_behind (leaves_moved same (body_next depth next)) (h depth))
+    MatchResult-weaker c.read_inline-then-is.result c.read_inline-then-is.ensures.stuck (λ x h. h) (λ e h depth. fault_behind (leaves_moved same (body_next depth next)) (h depth))
 
 pub returns-clause-leaves : goal.returns-clause-leaves
 returns-clause-leaves c =

@@ -1,39 +1,28 @@
-use Rattle.std.proofs.Common.{length, reverse, subst, sym}
+use Rattle.std.proofs.Common.{reverse, ap, subst}
 use Rattle.std.proofs.lemmas.Result.{err_from_is_err_and}
-use Rattle.graphql_reader.specs.OpenSets.{Standing, IsTurn, LeavesTurn}
-use Rattle.graphql_reader.proofs.LeavesLaws.{fault_behind, leaves_then}
-use Rattle.graphql_reader.proofs.SelectionLaws.{set_opened}
-use Rattle.graphql_reader.proofs.SelectionLeaveLaws.{began_first}
+use Rattle.graphql_reader.specs.OpenSets.{IsTurn}
+use Rattle.graphql_reader.proofs.OpenSetLaws.{stands_first}
 use Rattle.graphql_reader.proofs.selections.read_selection_set.Goals as goal
 
-pub loop-nodes-init : goal.loop-nodes-init
-loop-nodes-init c =
-    let nodes = c.new-nodes.result.items in
-    let old = c.args.tokens.now in
-    let now = c.open_set.new.tokens in
-    record {
-      tree = subst (λ begun. Standing c.args.max_depth old (reverse begun) nodes now) (sym c.new-begun.ensures.items) (set_opened c.args.max_depth nodes old now c.in_ok-open_set.ensures.depth c.in_ok-open_set.ensures.taken c.new-nodes.ensures.items);
-      leaves = began_first c.new-begun.result.items nodes c.new-begun.ensures.items c.new-nodes.ensures.items c.in_ok-open_set.ensures.leaves;
-    }
+pub loop-turn-init : goal.loop-turn-init
+loop-turn-init c = record {
+  standing = stands_first (reverse c.clear-2.new.self.items) c.clear.new.self.items (ap reverse c.clear-2.ensures.items) c.clear.ensures.items c.in_ok-open_set.ensures.depth c.in_ok-open_set.ensures.taken c.in_ok-open_set.ensures.leaves;
+}
 
-pub loop-nodes-preserved : goal.loop-nodes-preserved
-loop-nodes-preserved c =
-    let l = c.loop-nodes in
-    let begun = c.step.new.begun.items in
-    let nodes = c.step.new.nodes.items in
-    record {
-      tree = subst (IsTurn c.args.max_depth c.args.tokens.now (reverse begun) nodes c.step.new.tokens) c.in-None.is (c.in_ok-turn.ensures.tree c.args.tokens.now l.invariant.tree);
-      leaves = leaves_then l.invariant.leaves (subst (LeavesTurn c.args.max_depth l.tokens (length l.begun.items) l.nodes.items c.step.new.tokens (length begun) nodes) c.in-None.is c.in_ok-turn.ensures.leaves);
-    }
+pub loop-turn-preserved : goal.loop-turn-preserved
+loop-turn-preserved c = record {
+  standing = subst (IsTurn c.args.max_depth c.args.tokens.now (reverse c.step.new.firsts.items) c.step.new.nodes.items c.step.new.tokens) c.in-None.is (c.in_ok-turn.ensures.tree c.args.tokens.now c.loop-turn.invariant.standing);
+}
 
 pub returns-in-Some-clause-tree : goal.returns-in-Some-clause-tree
 returns-in-Some-clause-tree c =
-    subst (IsTurn c.args.max_depth c.args.tokens.now (reverse c.step.new.begun.items) c.step.new.nodes.items c.step.new.tokens) c.in-Some.is (c.in_ok-turn.ensures.tree c.args.tokens.now c.loop-nodes.invariant.tree)
+    let turn = subst (IsTurn c.args.max_depth c.args.tokens.now (reverse c.step.new.firsts.items) c.step.new.nodes.items c.step.new.tokens) c.in-Some.is (c.in_ok-turn.ensures.tree c.args.tokens.now c.loop-turn.invariant.standing) in
+    turn.0
 
 pub returns-in-Some-clause-leaves : goal.returns-in-Some-clause-leaves
 returns-in-Some-clause-leaves c =
-    let l = c.loop-nodes in
-    leaves_then l.invariant.leaves (subst (LeavesTurn c.args.max_depth l.tokens (length l.begun.items) l.nodes.items c.step.new.tokens (length c.step.new.begun.items) c.step.new.nodes.items) c.in-Some.is c.in_ok-turn.ensures.leaves)
+    let turn = subst (IsTurn c.args.max_depth c.args.tokens.now (reverse c.step.new.firsts.items) c.step.new.nodes.items c.step.new.tokens) c.in-Some.is (c.in_ok-turn.ensures.tree c.args.tokens.now c.loop-turn.invariant.standing) in
+    turn.1
 
 pub returns-in_err-open_set-clause-stuck : goal.returns-in_err-open_set-clause-stuck
 returns-in_err-open_set-clause-stuck c =
@@ -43,4 +32,4 @@ returns-in_err-open_set-clause-stuck c =
 pub returns-in_err-turn-clause-stuck : goal.returns-in_err-turn-clause-stuck
 returns-in_err-turn-clause-stuck c =
     let p = err_from_is_err_and c.from_residual-in_err-turn.result c.from_residual-in_err-turn.ensures.1 in
-    rw (p.1, p.2) (fault_behind c.loop-nodes.invariant.leaves c.in_err-turn.ensures.stuck)
+    rw (p.1, p.2) (c.in_err-turn.ensures.stuck c.args.tokens.now c.loop-turn.invariant.standing)
