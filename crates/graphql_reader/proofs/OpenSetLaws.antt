@@ -1,7 +1,7 @@
 -- The sets that are begun, all in one list.
 use Rattle.std.proofs.Math.Seq.{drop-append_seam, get_or-append_seam, set-append_seam, take-append_seam}
 use Rattle.std.proofs.lemmas.List.{length-append}
-use Rattle.std.proofs.Common.{◌≡◌, ◌<◌, ◌+◌, ◌-◌, arith, ℕ, Option, suc, Bool, true, false, List, [], ◌∷◌, ◌++◌, append_assoc, append-nil, drop, length, slice_index_or, slice_set, take, refl, sym, ap, subst, ◌∙◌}
+use Rattle.std.proofs.Common.{◌≡◌, ◌<◌, ◌+◌, ◌-◌, arith, ℕ, Option, suc, Bool, true, false, List, [], ◌∷◌, ◌++◌, append_assoc, drop, length, slice_index_or, slice_set, take, refl, sym, ap, subst, ◌∙◌}
 use Rattle.language.specs.declared.tree.Selection.{Selection as Node}
 use Rattle.sdl_scalars.specs.declared.scalar.SourceScalar.{SourceScalar}
 use Rattle.graphql_lexer.specs.Ahead.{ahead_of, last_end_of, IsTaken}
