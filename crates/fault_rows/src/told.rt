@@ -5,12 +5,13 @@ use graphql_reader::{SourceScalar, read_type_system};
 use language::position::SourcePosition;
 use schema::model::SchemaType;
 use sdl_directives::STANDARD_DIRECTIVES;
-use sdl_faults::{LocatedFault, plain_text_faults, text_faults};
+use sdl_faults::{LocatedFault, plain_text_faults, rest_of_text_faults, text_faults};
+use sdl_mending::{Mended, Touched, mended_text};
 use sdl_reader::{SchemaReadError, read_schema};
 use std::alloc::{AllocError, Global};
 
 /// Appends each fault of a schema: line and column, counted from 1, and its text; then a line for each further place.
-/// Of a text that makes no schema, first the reasons, and then the faults for which none is needed.
+/// Of a text that makes no schema, first the reasons, and then the faults that they don't touch.
 ///
 /// # Errors
 ///
@@ -32,7 +33,14 @@ pub fn tell_schema(alloc: Global, text: &str, came: &mut String) -> Result<(), A
         ),
         Err(error) => {
             tell_reasons(&error, came)?;
-            tell_plain(alloc, document.as_slice(), standard.as_slice(), came)
+            tell_rest(
+                alloc,
+                text,
+                document.as_slice(),
+                standard.as_slice(),
+                &error,
+                came,
+            )
         }
     }
 }
@@ -49,7 +57,46 @@ fn tell_reasons(error: &SchemaReadError<'_>, came: &mut String) -> Result<(), Al
     Ok(())
 }
 
-// The faults of a text that makes no schema.
+// The faults of a text that makes no schema for these reasons.
+fn tell_rest<'d, 't>(
+    alloc: Global,
+    text: &'t str,
+    document: &'d [TypeSystemDefinition<'t>],
+    standard: &'d [TypeSystemDefinition<'t>],
+    error: &SchemaReadError<'t>,
+    came: &mut String,
+) -> Result<(), AllocError> {
+    let SchemaReadError::Faults(reasons) = error else {
+        return tell_plain(alloc, document, standard, came);
+    };
+    let Ok(touched) = Touched::by_reasons(alloc, document, reasons.as_slice()) else {
+        return came.push_str("out of memory\n");
+    };
+    let Ok(left) = mended_text(alloc, text, document, &touched) else {
+        return came.push_str("out of memory\n");
+    };
+    match Mended::of_text(alloc, left.as_str(), touched) {
+        Ok(Some(mended)) => tell_mended(alloc, document, standard, &mended, came),
+        Ok(None) => tell_plain(alloc, document, standard, came),
+        Err(_) => came.push_str("out of memory\n"),
+    }
+}
+
+// Those of a text of which this is left.
+fn tell_mended<'d, 't>(
+    alloc: Global,
+    document: &'d [TypeSystemDefinition<'t>],
+    standard: &'d [TypeSystemDefinition<'t>],
+    mended: &'d Mended<'t>,
+    came: &mut String,
+) -> Result<(), AllocError> {
+    match rest_of_text_faults(alloc, document, standard, mended) {
+        Ok(faults) => tell_faults(faults.as_slice(), came),
+        Err(_) => came.push_str("out of memory\n"),
+    }
+}
+
+// The faults of a text that makes no schema, nor does what is left of it.
 fn tell_plain<'d, 't>(
     alloc: Global,
     document: &'d [TypeSystemDefinition<'t>],

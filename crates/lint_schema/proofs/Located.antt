@@ -3,12 +3,13 @@ use Rattle.std.proofs.Common.{◌≡◌, ◌∙◌, ℕ, ◌+◌, ◌<◌, ◌�
 use Rattle.std.specs.List.{AllZip}
 use Rattle.std.proofs.lemmas.List.{append-nil, take_more}
 use Rattle.std.proofs.lemmas.Slice.Zip.{all_zipped_more}
+use Rattle.graphql_reader.specs.declared.type_system.TypeSystemDefinition.{TypeSystemDefinition}
 use Rattle.language.specs.declared.position.SourcePosition.{SourcePosition}
 use Rattle.lint_report.specs.declared.faults.Fault.{Fault}
 use Rattle.lint_report.specs.declared.sources.Joined.{Joined}
 use Rattle.lint_report.specs.declared.sources.Source.{Source}
 use Rattle.lint_report.specs.Places.{place_in}
-use Rattle.lint_schema.specs.Judged.{AddsLocated, IsJudged, IsToldLocated}
+use Rattle.lint_schema.specs.Judged.{AddsLocated, AddsRest, IsJudged, IsToldLocated}
 use Rattle.lint_schema.specs.Told.{AddsFault, AddsFaultsOf, HasAllFurther, HasFurther, IsToldAt}
 use Rattle.sdl_faults.specs.Schema.{SourceSchema}
 use Rattle.sdl_faults.specs.Valid.{IsValidSchema}
@@ -54,6 +55,12 @@ zipped_none R (x ∷ xs) (y ∷ ys) h e = cc
 -- what was there stays
 pub more_stay : (old new more : List Fault) → new ≡ old ++ more → 0 < length old → 0 < length new
 more_stay old new more all some = omega (arith, some, ap length all, length-append old more)
+
+-- also where definitions are no schema, whatever else is wrong with them
+pub rest_stays : (sources : List Source) (joined : Joined) (document standard : List TypeSystemDefinition) (error : SchemaReadError) (old new : List Fault)
+    → AddsRest sources joined document standard error old new → 0 < length old → 0 < length new
+rest_stays sources joined document standard error old new (inl h) some = more_stay old new h.2.adds.more h.2.adds.all some
+rest_stays sources joined document standard error old new (inr h) some = more_stay old new h.adds.more h.adds.all some
 
 -- where nothing was added
 none_added : (old more new : List Fault) → new ≡ old ++ more → length new ≤ length old → more ≡ []

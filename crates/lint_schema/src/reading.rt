@@ -1,11 +1,11 @@
 //! Reads a schema from its files.
 ghost use Rattle.std.specs.Prelude.{◌≡◌, ◌<◌, [], IfOk, IfSome, None, OnOk, length};
-ghost use Rattle.lint_schema.specs.Judged.{IsJudged};
+ghost use Rattle.lint_schema.specs.Judged.{AddsRest, IsJudged};
 ghost use Rattle.sdl_faults.specs.Valid.{IsValidSchema};
 
 use crate::definitions::definitions_of;
 use crate::faults::add_schema_faults;
-use crate::judging::{add_plain_faults, add_type_system_faults};
+use crate::judging::{add_mended_faults, add_plain_faults, add_type_system_faults};
 use graphql_reader::type_system::TypeSystemDefinition;
 use graphql_reader::{ReadError, SourceScalar, read_type_system};
 use language::error::OutOfMemory;
@@ -13,6 +13,7 @@ use lint_report::faults::Fault;
 use lint_report::sources::{Joined, Source};
 use schema::model::{Dialect, SchemaTypeOf};
 use sdl_directives::STANDARD_DIRECTIVES;
+use sdl_mending::{Mended, Touched, mended_text};
 use sdl_reader::{SchemaReadError, read_schema};
 use sdl_scalars::check::SourceCheck;
 use std::alloc::Global;
@@ -23,8 +24,8 @@ type TypeSystem<'t> = Vec<TypeSystemDefinition<'t>>;
 
 /// The schema of these files in this dialect, or `None` if there are faults. Those of the files are added to `faults`:
 /// what is no type definitions by itself; if there is no such file and no earlier fault, why the definitions of all
-/// make no schema and what else is wrong with them for which none is needed; and if they make one, what is wrong with
-/// it as a type system.
+/// make no schema, and what else is wrong with them that these reasons don't touch; and if they make one, what is wrong
+/// with it as a type system.
 ///
 /// # Errors
 ///
@@ -81,16 +82,43 @@ fn add_refusal(
 {
     add_schema_faults(alloc, sources, joined, error, faults)?;
     match documents_of(alloc, joined.text()) {
-        Ok((document, standard)) => add_plain_faults(
+        Ok((document, standard)) => add_rest(
             alloc,
             sources,
             joined,
             document.as_slice(),
             standard.as_slice(),
+            error,
             faults,
         ),
         Err(ReadError::Syntax(_)) => Ok(()),
         Err(ReadError::OutOfMemory) => Err(OutOfMemory),
+    }
+}
+
+// Adds what is wrong with these definitions beside why they make no schema.
+fn add_rest<'d, 't>(
+    alloc: Global,
+    sources: &[Source],
+    joined: &'t Joined,
+    document: &'d [TypeSystemDefinition<'t>],
+    standard: &'d [TypeSystemDefinition<'t>],
+    error: &'t SchemaReadError<'t>,
+    faults: &mut Vec<Fault>,
+) -> Result<(), OutOfMemory>
+    ensures { OnOk result (AddsRest sources.now joined.now document.now standard.now error.now faults.old.items
+        faults.new.items) }
+{
+    let SchemaReadError::Faults(reasons) = error else {
+        return add_plain_faults(alloc, sources, joined, document, standard, faults);
+    };
+    let touched = Touched::by_reasons(alloc, document, reasons.as_slice())?;
+    let left = mended_text(alloc, joined.text(), document, &touched)?;
+    match Mended::of_text(alloc, left.as_str(), touched)? {
+        Some(mended) => {
+            add_mended_faults(alloc, sources, joined, document, standard, &mended, faults)
+        }
+        None => add_plain_faults(alloc, sources, joined, document, standard, faults),
     }
 }
 
