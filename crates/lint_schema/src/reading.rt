@@ -81,13 +81,49 @@ fn add_refusal(
     ensures { OnOk result (0 < length faults.new.items) }
 {
     add_schema_faults(alloc, sources, joined, error, faults)?;
+    let left = left_of(alloc, joined.text(), error)?;
+    add_rest(alloc, sources, joined, left.as_str(), error, faults)
+}
+
+// What is left of a text without what the reasons touch.
+fn left_of<'t>(
+    alloc: Global,
+    text: &'t str,
+    error: &'t SchemaReadError<'t>,
+) -> Result<String, OutOfMemory> {
+    let SchemaReadError::Faults(reasons) = error else {
+        return Ok(String::new(alloc));
+    };
+    match read_type_system(alloc, text) {
+        Ok(document) => {
+            let touched = Touched::by_reasons(alloc, document.as_slice(), reasons.as_slice())?;
+            mended_text(alloc, text, document.as_slice(), &touched)
+        }
+        Err(ReadError::Syntax(_)) => Ok(String::new(alloc)),
+        Err(ReadError::OutOfMemory) => Err(OutOfMemory),
+    }
+}
+
+// Adds what is wrong with the definitions beside why they make no schema. They are read again, so that they live as long
+// as what is left of them.
+fn add_rest<'t>(
+    alloc: Global,
+    sources: &[Source],
+    joined: &'t Joined,
+    left: &'t str,
+    error: &'t SchemaReadError<'t>,
+    faults: &mut Vec<Fault>,
+) -> Result<(), OutOfMemory>
+    ensures { OnOk result (0 < length faults.old.items → 0 < length faults.new.items) }
+{
     match documents_of(alloc, joined.text()) {
-        Ok((document, standard)) => add_rest(
+        Ok((document, standard)) => add_untouched(
             alloc,
             sources,
             joined,
             document.as_slice(),
             standard.as_slice(),
+            left,
             error,
             faults,
         ),
@@ -96,13 +132,13 @@ fn add_refusal(
     }
 }
 
-// Adds what is wrong with these definitions beside why they make no schema.
-fn add_rest<'d, 't>(
+fn add_untouched<'d, 't>(
     alloc: Global,
     sources: &[Source],
-    joined: &'t Joined,
+    joined: &Joined,
     document: &'d [TypeSystemDefinition<'t>],
     standard: &'d [TypeSystemDefinition<'t>],
+    left: &'t str,
     error: &'t SchemaReadError<'t>,
     faults: &mut Vec<Fault>,
 ) -> Result<(), OutOfMemory>
@@ -113,8 +149,7 @@ fn add_rest<'d, 't>(
         return add_plain_faults(alloc, sources, joined, document, standard, faults);
     };
     let touched = Touched::by_reasons(alloc, document, reasons.as_slice())?;
-    let left = mended_text(alloc, joined.text(), document, &touched)?;
-    match Mended::of_text(alloc, left.as_str(), touched)? {
+    match Mended::of_text(alloc, left, touched)? {
         Some(mended) => {
             add_mended_faults(alloc, sources, joined, document, standard, &mended, faults)
         }
