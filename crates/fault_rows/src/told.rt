@@ -2,6 +2,7 @@
 use crate::made::made_schema;
 use graphql_reader::type_system::TypeSystemDefinition;
 use graphql_reader::{SourceScalar, read_type_system};
+use language::error::OutOfMemory;
 use language::position::SourcePosition;
 use schema::model::SchemaType;
 use sdl_directives::STANDARD_DIRECTIVES;
@@ -33,14 +34,10 @@ pub fn tell_schema(alloc: Global, text: &str, came: &mut String) -> Result<(), A
         ),
         Err(error) => {
             tell_reasons(&error, came)?;
-            tell_rest(
-                alloc,
-                text,
-                document.as_slice(),
-                standard.as_slice(),
-                &error,
-                came,
-            )
+            match left_of(alloc, text, &error) {
+                Ok(left) => tell_rest(alloc, text, left.as_str(), &error, came),
+                Err(_) => came.push_str("out of memory\n"),
+            }
         }
     }
 }
@@ -57,13 +54,52 @@ fn tell_reasons(error: &SchemaReadError<'_>, came: &mut String) -> Result<(), Al
     Ok(())
 }
 
-// The faults of a text that makes no schema for these reasons.
-fn tell_rest<'d, 't>(
+// What is left of a text without what the reasons touch.
+fn left_of<'t>(
     alloc: Global,
     text: &'t str,
+    error: &'t SchemaReadError<'t>,
+) -> Result<String, OutOfMemory> {
+    let SchemaReadError::Faults(reasons) = error else {
+        return Ok(String::new(alloc));
+    };
+    let Ok(document) = read_type_system(alloc, text) else {
+        return Err(OutOfMemory);
+    };
+    let touched = Touched::by_reasons(alloc, document.as_slice(), reasons.as_slice())?;
+    mended_text(alloc, text, document.as_slice(), &touched)
+}
+
+// The faults of a text that makes no schema for these reasons.
+fn tell_rest<'t>(
+    alloc: Global,
+    text: &'t str,
+    left: &'t str,
+    error: &'t SchemaReadError<'t>,
+    came: &mut String,
+) -> Result<(), AllocError> {
+    let Ok(document) = read_type_system(alloc, text) else {
+        return came.push_str("no document\n");
+    };
+    let Ok(standard) = read_type_system(alloc, STANDARD_DIRECTIVES) else {
+        return came.push_str("no document\n");
+    };
+    tell_untouched(
+        alloc,
+        document.as_slice(),
+        standard.as_slice(),
+        left,
+        error,
+        came,
+    )
+}
+
+fn tell_untouched<'d, 't>(
+    alloc: Global,
     document: &'d [TypeSystemDefinition<'t>],
     standard: &'d [TypeSystemDefinition<'t>],
-    error: &SchemaReadError<'t>,
+    left: &'t str,
+    error: &'t SchemaReadError<'t>,
     came: &mut String,
 ) -> Result<(), AllocError> {
     let SchemaReadError::Faults(reasons) = error else {
@@ -72,10 +108,7 @@ fn tell_rest<'d, 't>(
     let Ok(touched) = Touched::by_reasons(alloc, document, reasons.as_slice()) else {
         return came.push_str("out of memory\n");
     };
-    let Ok(left) = mended_text(alloc, text, document, &touched) else {
-        return came.push_str("out of memory\n");
-    };
-    match Mended::of_text(alloc, left.as_str(), touched) {
+    match Mended::of_text(alloc, left, touched) {
         Ok(Some(mended)) => tell_mended(alloc, document, standard, &mended, came),
         Ok(None) => tell_plain(alloc, document, standard, came),
         Err(_) => came.push_str("out of memory\n"),

@@ -91,10 +91,10 @@ fn a_refused_request_hides_no_fault_of_the_rest(rt: HostRuntime) {
 fn rest_count(alloc: Global, text: &str) -> Result<usize, SchemaReadError<'_>> {
     match read_schema(alloc, text) {
         Ok(_) => Ok(0),
-        Err(SchemaReadError::Faults(reasons)) => {
-            let told = rest_of(alloc, text, reasons.as_slice())?;
-            Ok(told)
-        }
+        Err(SchemaReadError::Faults(reasons)) => match rest_of(alloc, text, reasons.as_slice()) {
+            Ok(count) => Ok(count),
+            Err(_) => Err(SchemaReadError::OutOfMemory),
+        },
         Err(error) => Err(error),
     }
 }
@@ -102,20 +102,30 @@ fn rest_count(alloc: Global, text: &str) -> Result<usize, SchemaReadError<'_>> {
 fn rest_of<'t>(
     alloc: Global,
     text: &'t str,
-    reasons: &[PlacedFault<'_>],
+    reasons: &'t [PlacedFault<'t>],
+) -> Result<usize, SchemaReadError<'t>> {
+    let document = read_type_system(alloc, text)?;
+    let touched = Touched::by_reasons(alloc, document.as_slice(), reasons)?;
+    let left = mended_text(alloc, text, document.as_slice(), &touched)?;
+    match rest_and_left(alloc, text, left.as_str(), reasons) {
+        Ok(count) => Ok(count),
+        Err(_) => Err(SchemaReadError::OutOfMemory),
+    }
+}
+
+fn rest_and_left<'t>(
+    alloc: Global,
+    text: &'t str,
+    left: &'t str,
+    reasons: &'t [PlacedFault<'t>],
 ) -> Result<usize, SchemaReadError<'t>> {
     let document = read_type_system(alloc, text)?;
     let standard = read_type_system(alloc, STANDARD_DIRECTIVES)?;
     let touched = Touched::by_reasons(alloc, document.as_slice(), reasons)?;
-    let left = mended_text(alloc, text, document.as_slice(), &touched)?;
-    match Mended::of_text(alloc, left.as_str(), touched)? {
+    match Mended::of_text(alloc, left, touched)? {
         Some(mended) => {
-            let told = rest_of_text_faults(
-                alloc,
-                document.as_slice(),
-                standard.as_slice(),
-                &mended,
-            )?;
+            let (document, standard) = (document.as_slice(), standard.as_slice());
+            let told = rest_of_text_faults(alloc, document, standard, &mended)?;
             Ok(told.len())
         }
         None => Ok(0),
