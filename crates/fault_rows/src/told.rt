@@ -2,15 +2,17 @@
 use crate::made::made_schema;
 use graphql_reader::type_system::TypeSystemDefinition;
 use graphql_reader::{SourceScalar, read_type_system};
+use language::error::OutOfMemory;
 use language::position::SourcePosition;
 use schema::model::SchemaType;
 use sdl_directives::STANDARD_DIRECTIVES;
-use sdl_faults::{LocatedFault, plain_text_faults, text_faults};
+use sdl_faults::{LocatedFault, plain_text_faults, rest_of_text_faults, text_faults};
+use sdl_mending::{Mended, Touched, mended_text};
 use sdl_reader::{SchemaReadError, read_schema};
 use std::alloc::{AllocError, Global};
 
 /// Appends each fault of a schema: line and column, counted from 1, and its text; then a line for each further place.
-/// Of a text that makes no schema, first the reasons, and then the faults for which none is needed.
+/// Of a text that makes no schema, first the reasons, and then the faults that they don't touch.
 ///
 /// # Errors
 ///
@@ -32,7 +34,10 @@ pub fn tell_schema(alloc: Global, text: &str, came: &mut String) -> Result<(), A
         ),
         Err(error) => {
             tell_reasons(&error, came)?;
-            tell_plain(alloc, document.as_slice(), standard.as_slice(), came)
+            match left_of(alloc, text, &error) {
+                Ok(left) => tell_rest(alloc, text, left.as_str(), &error, came),
+                Err(_) => came.push_str("out of memory\n"),
+            }
         }
     }
 }
@@ -49,7 +54,82 @@ fn tell_reasons(error: &SchemaReadError<'_>, came: &mut String) -> Result<(), Al
     Ok(())
 }
 
-// The faults of a text that makes no schema.
+// What is left of a text without what the reasons touch.
+fn left_of<'t>(
+    alloc: Global,
+    text: &'t str,
+    error: &'t SchemaReadError<'t>,
+) -> Result<String, OutOfMemory> {
+    let SchemaReadError::Faults(reasons) = error else {
+        return Ok(String::new(alloc));
+    };
+    let Ok(document) = read_type_system(alloc, text) else {
+        return Err(OutOfMemory);
+    };
+    let touched = Touched::by_reasons(alloc, document.as_slice(), reasons.as_slice())?;
+    mended_text(alloc, text, document.as_slice(), &touched)
+}
+
+// The faults of a text that makes no schema for these reasons.
+fn tell_rest<'t>(
+    alloc: Global,
+    text: &'t str,
+    left: &'t str,
+    error: &'t SchemaReadError<'t>,
+    came: &mut String,
+) -> Result<(), AllocError> {
+    let Ok(document) = read_type_system(alloc, text) else {
+        return came.push_str("no document\n");
+    };
+    let Ok(standard) = read_type_system(alloc, STANDARD_DIRECTIVES) else {
+        return came.push_str("no document\n");
+    };
+    tell_untouched(
+        alloc,
+        document.as_slice(),
+        standard.as_slice(),
+        left,
+        error,
+        came,
+    )
+}
+
+fn tell_untouched<'d, 't>(
+    alloc: Global,
+    document: &'d [TypeSystemDefinition<'t>],
+    standard: &'d [TypeSystemDefinition<'t>],
+    left: &'t str,
+    error: &'t SchemaReadError<'t>,
+    came: &mut String,
+) -> Result<(), AllocError> {
+    let SchemaReadError::Faults(reasons) = error else {
+        return tell_plain(alloc, document, standard, came);
+    };
+    let Ok(touched) = Touched::by_reasons(alloc, document, reasons.as_slice()) else {
+        return came.push_str("out of memory\n");
+    };
+    match Mended::of_text(alloc, left, touched) {
+        Ok(Some(mended)) => tell_mended(alloc, document, standard, &mended, came),
+        Ok(None) => tell_plain(alloc, document, standard, came),
+        Err(_) => came.push_str("out of memory\n"),
+    }
+}
+
+// Those of a text of which this is left.
+fn tell_mended<'d, 't>(
+    alloc: Global,
+    document: &'d [TypeSystemDefinition<'t>],
+    standard: &'d [TypeSystemDefinition<'t>],
+    mended: &'d Mended<'t>,
+    came: &mut String,
+) -> Result<(), AllocError> {
+    match rest_of_text_faults(alloc, document, standard, mended) {
+        Ok(faults) => tell_faults(faults.as_slice(), came),
+        Err(_) => came.push_str("out of memory\n"),
+    }
+}
+
+// The faults of a text that makes no schema, nor does what is left of it.
 fn tell_plain<'d, 't>(
     alloc: Global,
     document: &'d [TypeSystemDefinition<'t>],

@@ -1,8 +1,9 @@
 //! Each request for memory refused in turn, where a schema is judged.
 use graphql_reader::read_type_system;
 use sdl_directives::STANDARD_DIRECTIVES;
-use sdl_faults::{plain_text_faults, text_faults};
-use sdl_reader::{SchemaReadError, read_schema};
+use sdl_faults::{plain_text_faults, rest_of_text_faults, text_faults};
+use sdl_mending::{Mended, Touched, mended_text};
+use sdl_reader::{PlacedFault, SchemaReadError, read_schema};
 use std::alloc::Global;
 
 /// Texts, and how many faults each has.
@@ -65,4 +66,68 @@ fn plain_fault_count(alloc: Global, text: &str) -> Result<usize, SchemaReadError
     let standard = read_type_system(alloc, STANDARD_DIRECTIVES)?;
     let told = plain_text_faults(alloc, document.as_slice(), standard.as_slice())?;
     Ok(told.len())
+}
+
+/// Texts that make no schema, and how many faults each has that the reasons for this don't touch.
+const MENDED_TEXTS: [(&str, usize); 2] = [
+    (
+        "type Query { a: B @c } interface I { a: Int } type O implements I { b(c: Int = true): Int }",
+        3,
+    ),
+    (
+        "input A { b: B! } input B { a: A! } union C = D directive @e(a: F) on ENUM enum G { H H }",
+        1,
+    ),
+];
+
+/// The same of what is left of the text then.
+#[test]
+fn a_refused_request_hides_no_fault_of_the_rest(rt: HostRuntime) {
+    for (text, count) in MENDED_TEXTS {
+        assert!(rt; is_steady(rest_count(rt.alloc(), text), count));
+    }
+}
+
+fn rest_count(alloc: Global, text: &str) -> Result<usize, SchemaReadError<'_>> {
+    match read_schema(alloc, text) {
+        Ok(_) => Ok(0),
+        Err(SchemaReadError::Faults(reasons)) => match rest_of(alloc, text, reasons.as_slice()) {
+            Ok(count) => Ok(count),
+            Err(_) => Err(SchemaReadError::OutOfMemory),
+        },
+        Err(error) => Err(error),
+    }
+}
+
+fn rest_of<'t>(
+    alloc: Global,
+    text: &'t str,
+    reasons: &'t [PlacedFault<'t>],
+) -> Result<usize, SchemaReadError<'t>> {
+    let document = read_type_system(alloc, text)?;
+    let touched = Touched::by_reasons(alloc, document.as_slice(), reasons)?;
+    let left = mended_text(alloc, text, document.as_slice(), &touched)?;
+    match rest_and_left(alloc, text, left.as_str(), reasons) {
+        Ok(count) => Ok(count),
+        Err(_) => Err(SchemaReadError::OutOfMemory),
+    }
+}
+
+fn rest_and_left<'t>(
+    alloc: Global,
+    text: &'t str,
+    left: &'t str,
+    reasons: &'t [PlacedFault<'t>],
+) -> Result<usize, SchemaReadError<'t>> {
+    let document = read_type_system(alloc, text)?;
+    let standard = read_type_system(alloc, STANDARD_DIRECTIVES)?;
+    let touched = Touched::by_reasons(alloc, document.as_slice(), reasons)?;
+    match Mended::of_text(alloc, left, touched)? {
+        Some(mended) => {
+            let (document, standard) = (document.as_slice(), standard.as_slice());
+            let told = rest_of_text_faults(alloc, document, standard, &mended)?;
+            Ok(told.len())
+        }
+        None => Ok(0),
+    }
 }

@@ -335,6 +335,25 @@ more.graphql:2:3: error: Name \"__own\" must not begin with \"__\", which is res
   ^
 ";
 
+// Why the definitions of three files make no schema, and what else is wrong with them.
+const TOUCHED_SCHEMA: &str =
+    "wrong.graphql:1:13: error: the type \"Dgo\" is extended but not defined
+extend type Dgo {
+            ^
+wrong.graphql:5:13: error: the type \"Dog\" is extended but not defined
+extend type Dog {
+            ^
+wrong.graphql:6:8: error: the type \"Fur\" is not defined
+  fur: Fur
+       ^
+faulty.graphql:1:6: error: Interface field Thing.name expected but Query does not provide it
+type Query implements Thing {
+     ^
+faulty.graphql:2:17: error: Invalid default value of Query.item(in:), reason: Invalid value \"USD\" for type \"Unit\"
+  item(id: ID!, in: Unit = USD): Item
+                ^
+";
+
 // Schemas of several files, in the same form.
 const SCHEMAS: &[(&str, u8, &str, &str)] = &[
     (
@@ -429,6 +448,12 @@ query Good($id: ID!) {
         2,
         "",
         FAULTY_SCHEMA,
+    ),
+    (
+        "--schema wrong.graphql --schema faulty.graphql --schema item.graphql good.graphql",
+        2,
+        "",
+        TOUCHED_SCHEMA,
     ),
     (
         "--schema more.graphql --schema shop.graphql --schema item.graphql --format github",

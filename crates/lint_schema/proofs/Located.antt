@@ -3,18 +3,25 @@ use Rattle.std.proofs.Common.{◌≡◌, ◌∙◌, ℕ, ◌+◌, ◌<◌, ◌�
 use Rattle.std.specs.List.{AllZip}
 use Rattle.std.proofs.lemmas.List.{append-nil, take_more}
 use Rattle.std.proofs.lemmas.Slice.Zip.{all_zipped_more}
+use Rattle.graphql_reader.specs.declared.type_system.TypeSystemDefinition.{TypeSystemDefinition}
 use Rattle.language.specs.declared.position.SourcePosition.{SourcePosition}
 use Rattle.lint_report.specs.declared.faults.Fault.{Fault}
 use Rattle.lint_report.specs.declared.sources.Joined.{Joined}
 use Rattle.lint_report.specs.declared.sources.Source.{Source}
 use Rattle.lint_report.specs.Places.{place_in}
-use Rattle.lint_schema.specs.Judged.{AddsLocated, IsJudged, IsToldLocated}
+use Rattle.lint_schema.specs.Judged.{AddsLocated, AddsMendedFaults, AddsRest, IsJudged, IsToldLocated, IsTouchedBy}
 use Rattle.lint_schema.specs.Told.{AddsFault, AddsFaultsOf, HasAllFurther, HasFurther, IsToldAt}
 use Rattle.sdl_faults.specs.Schema.{SourceSchema}
 use Rattle.sdl_faults.specs.Valid.{IsValidSchema}
+use Rattle.language.specs.Names.{is_among}
+use Rattle.sdl_index.specs.declared.error.Faults.{Faults}
+use Rattle.sdl_index.specs.declared.error.PlacedFault.{PlacedFault}
 use Rattle.sdl_index.specs.declared.error.SchemaReadError.{SchemaReadError}
 use Rattle.sdl_index.specs.declared.error.SchemaReadError.TheVariants as read
 use Rattle.sdl_faults.specs.declared.located.LocatedFault.{LocatedFault}
+use Rattle.sdl_mending.specs.declared.mended.Mended.{Mended}
+use Rattle.sdl_mending.specs.declared.touched.Touched.{Touched}
+use Rattle.sdl_mending.specs.Touched.{has_type, touched_types}
 
 -- one more fault is told
 pub located_more : (sources : List Source) (joined : Joined) (found : List LocatedFault) (k : ℕ) (located : LocatedFault) (old before new : List Fault)
@@ -54,6 +61,22 @@ zipped_none R (x ∷ xs) (y ∷ ys) h e = cc
 -- what was there stays
 pub more_stay : (old new more : List Fault) → new ≡ old ++ more → 0 < length old → 0 < length new
 more_stay old new more all some = omega (arith, some, ap length all, length-append old more)
+
+-- what is left of definitions was told
+pub left_told : (sources : List Source) (joined : Joined) (document standard : List TypeSystemDefinition) (error : SchemaReadError) (faults : Faults)
+    (reasons : List PlacedFault) (touched : Touched) (mended : Mended) (old new : List Fault)
+    → error ≡ read.Faults faults → reasons ≡ faults.list.items → ((name : List ℕ) → has_type touched name ≡ is_among (touched_types document reasons) name)
+    → mended.touched ≡ touched → AddsMendedFaults sources joined document standard mended old new → AddsRest sources joined document standard error old new
+left_told sources joined document standard error faults reasons touched mended old new is all by same adds =
+    let touches : IsTouchedBy document (read.Faults faults) mended.touched =
+    λ name. ap (λ t. has_type t name) same ∙ by name ∙ ap (λ rs. is_among (touched_types document rs) name) all in
+    inl (mended, subst (λ e. IsTouchedBy document e mended.touched) (sym is) touches, adds)
+
+-- also where definitions are no schema, whatever else is wrong with them
+pub rest_stays : (sources : List Source) (joined : Joined) (document standard : List TypeSystemDefinition) (error : SchemaReadError) (old new : List Fault)
+    → AddsRest sources joined document standard error old new → 0 < length old → 0 < length new
+rest_stays sources joined document standard error old new (inl h) some = more_stay old new h.2.adds.more h.2.adds.all some
+rest_stays sources joined document standard error old new (inr h) some = more_stay old new h.adds.more h.adds.all some
 
 -- where nothing was added
 none_added : (old more new : List Fault) → new ≡ old ++ more → length new ≤ length old → more ≡ []

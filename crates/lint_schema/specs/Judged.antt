@@ -2,6 +2,7 @@
 use Rattle.std.specs.Prelude.{◌≡◌, ◌↔◌, ◌⊎◌, ◌++◌, ℕ, List, [], Option, None, Some, string_bytes}
 use Rattle.std.specs.List.{AllZip}
 use Rattle.graphql_reader.specs.declared.type_system.TypeSystemDefinition.{TypeSystemDefinition}
+use Rattle.language.specs.Names.{is_among}
 use Rattle.language.specs.declared.position.SourcePosition.{SourcePosition}
 use Rattle.lint_report.specs.declared.faults.Fault.{Fault}
 use Rattle.lint_report.specs.declared.sources.Joined.{Joined}
@@ -11,6 +12,11 @@ use Rattle.lint_report.specs.Places.{place_in}
 use Rattle.lint_report.specs.Texts.{path_in}
 use Rattle.lint_schema.specs.Told.{AddsFaultsOf, HasAllFurther, IsToldAt}
 use Rattle.sdl_index.specs.declared.error.SchemaReadError.{SchemaReadError}
+use Rattle.sdl_index.specs.declared.error.SchemaReadError.TheVariants as read
+use Rattle.sdl_mending.specs.declared.mended.Mended.{Mended}
+use Rattle.sdl_mending.specs.declared.touched.Touched.{Touched}
+use Rattle.sdl_mending.specs.Touched.{has_type, touched_types}
+use Rattle.sdl_faults.specs.Apart.{TellsRest}
 use Rattle.sdl_faults.specs.declared.located.LocatedFault.{LocatedFault}
 use Rattle.sdl_faults.specs.Schema.{SourceSchema}
 use Rattle.sdl_faults.specs.Text.{TellsFaults, TellsPlainFaults}
@@ -48,6 +54,25 @@ pub record AddsPlainFaults (sources : List Source) (joined : Joined) (document s
   pub found : List LocatedFault
   pub are : TellsPlainFaults document standard found
   pub adds : AddsLocated sources joined found old new
+
+-- and with them those of what is left of the document
+pub record AddsMendedFaults (sources : List Source) (joined : Joined) (document standard : List TypeSystemDefinition)
+    (mended : Mended) (old new : List Fault) : Type 0 where
+  pub found : List LocatedFault
+  pub are : TellsRest document standard mended found
+  pub adds : AddsLocated sources joined found old new
+
+-- those types are touched that the reasons of the error touch
+abbrev pub IsTouchedBy : List TypeSystemDefinition → SchemaReadError → Touched → Type 0
+IsTouchedBy document (read.Faults reasons) touched = (name : List ℕ) → has_type touched name ≡ is_among (touched_types document reasons.list.items) name
+IsTouchedBy document _ touched = ⊥
+
+-- what is told beside why the document makes no schema: of what is left without what the reasons touch, too, if that
+-- makes one
+abbrev pub AddsRest : List Source → Joined → List TypeSystemDefinition → List TypeSystemDefinition → SchemaReadError → List Fault → List Fault → Type 0
+AddsRest sources joined document standard error old new =
+    ((mended : Mended) × IsTouchedBy document error mended.touched × AddsMendedFaults sources joined document standard mended old new)
+    ⊎ AddsPlainFaults sources joined document standard old new
 
 -- those of a schema of these definitions; or why they could not be read again
 abbrev pub IsJudged : List Source → Joined → SourceSchema → List Fault → List Fault → Type 0

@@ -1,6 +1,7 @@
 //! What is wrong with a schema as a type system (GraphQL, October 2021, section 3).
 ghost use Rattle.std.specs.Prelude.{◌≡◌, IfOk, OnOk, Some, string_bytes};
-ghost use Rattle.lint_schema.specs.Judged.{AddsLocated, AddsPlainFaults, AddsTypeSystemFaults, IsToldIn, IsToldLocated};
+ghost use Rattle.lint_schema.specs.Judged.{AddsLocated, AddsMendedFaults, AddsPlainFaults, AddsTypeSystemFaults};
+ghost use Rattle.lint_schema.specs.Judged.{IsToldIn, IsToldLocated};
 ghost use Rattle.lint_schema.specs.Told.{AddsFault, HasAllFurther};
 
 use crate::faults::{add_further, placed_fault};
@@ -12,7 +13,8 @@ use lint_report::faults::Fault;
 use lint_report::sources::{Joined, Source};
 use lint_report::text_report::path_of;
 use schema::model::SchemaType;
-use sdl_faults::{LocatedFault, plain_text_faults, text_faults};
+use sdl_faults::{LocatedFault, plain_text_faults, rest_of_text_faults, text_faults};
+use sdl_mending::Mended;
 use std::alloc::Global;
 
 /// Adds the faults of a schema, in the order of the text from which it was read: the definitions of several files,
@@ -56,6 +58,28 @@ pub fn add_plain_faults<'d, 't>(
         faults.old.items faults.new.items) }
 {
     let found = plain_text_faults(alloc, document, standard)?;
+    add_located(alloc, sources, joined, found.as_slice(), faults)?;
+    Ok(())
+}
+
+/// Adds these, and the faults of what is left of the definitions where that is left out which makes them no schema.
+///
+/// # Errors
+///
+/// Out of memory, also in a check; some of the faults may be added then.
+pub fn add_mended_faults<'d, 't>(
+    alloc: Global,
+    sources: &[Source],
+    joined: &Joined,
+    document: &'d [TypeSystemDefinition<'t>],
+    standard: &'d [TypeSystemDefinition<'t>],
+    mended: &'d Mended<'t>,
+    faults: &mut Vec<Fault>,
+) -> Result<(), OutOfMemory>
+    ensures { OnOk result (AddsMendedFaults sources.now joined.now document.now standard.now mended.now
+        faults.old.items faults.new.items) }
+{
+    let found = rest_of_text_faults(alloc, document, standard, mended)?;
     add_located(alloc, sources, joined, found.as_slice(), faults)?;
     Ok(())
 }

@@ -1,11 +1,11 @@
 //! Reads a schema from its files.
 ghost use Rattle.std.specs.Prelude.{◌≡◌, ◌<◌, [], IfOk, IfSome, None, OnOk, length};
-ghost use Rattle.lint_schema.specs.Judged.{IsJudged};
+ghost use Rattle.lint_schema.specs.Judged.{AddsRest, IsJudged};
 ghost use Rattle.sdl_faults.specs.Valid.{IsValidSchema};
 
 use crate::definitions::definitions_of;
 use crate::faults::add_schema_faults;
-use crate::judging::{add_plain_faults, add_type_system_faults};
+use crate::judging::{add_mended_faults, add_plain_faults, add_type_system_faults};
 use graphql_reader::type_system::TypeSystemDefinition;
 use graphql_reader::{ReadError, SourceScalar, read_type_system};
 use language::error::OutOfMemory;
@@ -13,6 +13,7 @@ use lint_report::faults::Fault;
 use lint_report::sources::{Joined, Source};
 use schema::model::{Dialect, SchemaTypeOf};
 use sdl_directives::STANDARD_DIRECTIVES;
+use sdl_mending::{Mended, Touched, mended_text};
 use sdl_reader::{SchemaReadError, read_schema};
 use sdl_scalars::check::SourceCheck;
 use std::alloc::Global;
@@ -23,8 +24,8 @@ type TypeSystem<'t> = Vec<TypeSystemDefinition<'t>>;
 
 /// The schema of these files in this dialect, or `None` if there are faults. Those of the files are added to `faults`:
 /// what is no type definitions by itself; if there is no such file and no earlier fault, why the definitions of all
-/// make no schema and what else is wrong with them for which none is needed; and if they make one, what is wrong with
-/// it as a type system.
+/// make no schema, and what else is wrong with them that these reasons don't touch; and if they make one, what is wrong
+/// with it as a type system.
 ///
 /// # Errors
 ///
@@ -80,17 +81,79 @@ fn add_refusal(
     ensures { OnOk result (0 < length faults.new.items) }
 {
     add_schema_faults(alloc, sources, joined, error, faults)?;
+    let left = left_of(alloc, joined.text(), error)?;
+    add_rest(alloc, sources, joined, left.as_str(), error, faults)
+}
+
+// What is left of a text without what the reasons touch.
+fn left_of<'t>(
+    alloc: Global,
+    text: &'t str,
+    error: &'t SchemaReadError<'t>,
+) -> Result<String, OutOfMemory> {
+    let SchemaReadError::Faults(reasons) = error else {
+        return Ok(String::new(alloc));
+    };
+    match read_type_system(alloc, text) {
+        Ok(document) => {
+            let touched = Touched::by_reasons(alloc, document.as_slice(), reasons.as_slice())?;
+            mended_text(alloc, text, document.as_slice(), &touched)
+        }
+        Err(ReadError::Syntax(_)) => Ok(String::new(alloc)),
+        Err(ReadError::OutOfMemory) => Err(OutOfMemory),
+    }
+}
+
+// Adds what is wrong with the definitions beside why they make no schema. They are read again, so that they live as long
+// as what is left of them.
+fn add_rest<'t>(
+    alloc: Global,
+    sources: &[Source],
+    joined: &'t Joined,
+    left: &'t str,
+    error: &'t SchemaReadError<'t>,
+    faults: &mut Vec<Fault>,
+) -> Result<(), OutOfMemory>
+    ensures { OnOk result (0 < length faults.old.items → 0 < length faults.new.items) }
+{
     match documents_of(alloc, joined.text()) {
-        Ok((document, standard)) => add_plain_faults(
+        Ok((document, standard)) => add_untouched(
             alloc,
             sources,
             joined,
             document.as_slice(),
             standard.as_slice(),
+            left,
+            error,
             faults,
         ),
         Err(ReadError::Syntax(_)) => Ok(()),
         Err(ReadError::OutOfMemory) => Err(OutOfMemory),
+    }
+}
+
+fn add_untouched<'d, 't>(
+    alloc: Global,
+    sources: &[Source],
+    joined: &Joined,
+    document: &'d [TypeSystemDefinition<'t>],
+    standard: &'d [TypeSystemDefinition<'t>],
+    left: &'t str,
+    error: &'t SchemaReadError<'t>,
+    faults: &mut Vec<Fault>,
+) -> Result<(), OutOfMemory>
+    ensures { OnOk result (AddsRest sources.now joined.now document.now standard.now error.now faults.old.items
+        faults.new.items) }
+{
+    let SchemaReadError::Faults(reasons) = error else {
+        return add_plain_faults(alloc, sources, joined, document, standard, faults);
+    };
+    let touched = Touched::by_reasons(alloc, document, reasons.as_slice())?;
+    match Mended::of_text(alloc, left, touched)? {
+        Some(mended) => {
+            add_mended_faults(alloc, sources, joined, document, standard, &mended, faults)
+        }
+        None => add_plain_faults(alloc, sources, joined, document, standard, faults),
     }
 }
 

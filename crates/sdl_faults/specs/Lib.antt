@@ -1,3 +1,4 @@
+pub mod Apart
 pub mod Schema
 pub mod Text
 pub mod Told

@@ -1,11 +1,13 @@
 //! All faults of a schema's text.
 ghost use Rattle.std.specs.Prelude.{◌≡◌, ◌↔◌, [], IfOk, OnOk};
 ghost use Rattle.std.specs.List.Sorted.{IsNonDecreasingBy, IsPermutation};
+ghost use Rattle.sdl_faults.specs.Apart.{TellsRest};
 ghost use Rattle.sdl_faults.specs.Schema.{AreCircles, AreDefaults, AreFaults, AreSchemaFaults};
 ghost use Rattle.sdl_faults.specs.Text.{AreOwnFaults, TellsFaults, TellsPlainFaults};
 ghost use Rattle.sdl_faults.specs.Told.{Adds, place_index};
 ghost use Rattle.sdl_faults.specs.Valid.{IsValidText};
 
+use crate::apart::add_apart_faults;
 use crate::directives::{add_directive_faults, add_plain_faults};
 use crate::located::LocatedFault;
 use crate::telling::tell_each;
@@ -13,6 +15,7 @@ use graphql_reader::SourceScalar;
 use graphql_reader::type_system::TypeSystemDefinition;
 use language::error::OutOfMemory;
 use schema::model::SchemaType;
+use sdl_mending::Mended;
 use sdl_own_faults::own_faults;
 use std::alloc::Global;
 use type_system::schema_faults;
@@ -65,6 +68,28 @@ pub fn plain_text_faults<'d, 't>(
     Ok(told)
 }
 
+/// The same, with the faults for which a schema is needed, as far as nothing touches them that makes the document none:
+/// those of what is left where that is left out, told where they name no touched type, each at its place.
+///
+/// # Errors
+///
+/// Out of memory, also in a check.
+pub fn rest_of_text_faults<'d, 't>(
+    alloc: Global,
+    document: &'d [TypeSystemDefinition<'t>],
+    standard: &'d [TypeSystemDefinition<'t>],
+    mended: &'d Mended<'t>,
+) -> Result<Vec<LocatedFault>, OutOfMemory>
+    ensures { IfOk result (λ told. TellsRest document.now standard.now mended.now told.items) }
+{
+    let mut told = Vec::new(alloc);
+    add_own_faults(alloc, document, &mut told)?;
+    add_plain_faults(alloc, document, standard, &mut told)?;
+    add_apart_faults(alloc, mended, standard, &mut told)?;
+    sort_faults(&mut told)?;
+    Ok(told)
+}
+
 // Appends those of definitions that hang on no other.
 fn add_own_faults<'d, 't>(
     alloc: Global,
@@ -113,7 +138,8 @@ fn add_faults(
     Ok(())
 }
 
-fn add_circles(
+/// Appends those of circles of input objects.
+pub(crate) fn add_circles(
     alloc: Global,
     document: &[TypeSystemDefinition<'_>],
     schema: &SchemaType<SourceScalar>,
@@ -126,7 +152,8 @@ fn add_circles(
     Ok(())
 }
 
-fn add_defaults(
+/// Appends those of default values.
+pub(crate) fn add_defaults(
     alloc: Global,
     document: &[TypeSystemDefinition<'_>],
     schema: &SchemaType<SourceScalar>,

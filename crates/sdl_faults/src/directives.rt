@@ -56,7 +56,8 @@ fn add_uses<'d, 't>(
     Ok(())
 }
 
-fn add_given<'d, 't>(
+/// Appends those of the values of their arguments.
+pub(crate) fn add_given<'d, 't>(
     alloc: Global,
     document: &'d [TypeSystemDefinition<'t>],
     standard: &'d [TypeSystemDefinition<'t>],

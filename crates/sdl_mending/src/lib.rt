@@ -1,0 +1,14 @@
+//! Why a text makes no schema, and the text without that (GraphQL, October 2021, section 3): what the reasons touch,
+//! [`Touched`], and the rest as a schema, [`Mended`].
+//!
+//! Proved: exactly the types that the reasons touch are told as touched. Every other call is safe and returns. That the
+//! mended text is the rest is only tested.
+#![tactic(auto)]
+
+mod mended;
+mod places;
+mod shells;
+mod touched;
+
+pub use mended::{Mended, mended_text};
+pub use touched::Touched;
