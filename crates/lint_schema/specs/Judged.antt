@@ -64,12 +64,14 @@ pub record AddsMendedFaults (sources : List Source) (joined : Joined) (document 
 
 -- those types are touched that the reasons of the error touch
 abbrev pub IsTouchedBy : List TypeSystemDefinition → SchemaReadError → Touched → Type 0
-IsTouchedBy document (read.Faults reasons) touched = (name : List ℕ) → has_type touched name ≡ is_among (touched_types document reasons.list.items) name
+IsTouchedBy document (read.Faults reasons) touched =
+    (name : List ℕ) → has_type touched name ≡ is_among (touched_types document reasons.list.items) name
 IsTouchedBy document _ touched = ⊥
 
 -- what is told beside why the document makes no schema: of what is left without what the reasons touch, too, if that
 -- makes one
-abbrev pub AddsRest : List Source → Joined → List TypeSystemDefinition → List TypeSystemDefinition → SchemaReadError → List Fault → List Fault → Type 0
+abbrev pub AddsRest : List Source → Joined → List TypeSystemDefinition → List TypeSystemDefinition → SchemaReadError
+    → List Fault → List Fault → Type 0
 AddsRest sources joined document standard error old new =
     ((mended : Mended) × IsTouchedBy document error mended.touched × AddsMendedFaults sources joined document standard mended old new)
     ⊎ AddsPlainFaults sources joined document standard old new

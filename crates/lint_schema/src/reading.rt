@@ -104,8 +104,8 @@ fn left_of<'t>(
     }
 }
 
-// Adds what is wrong with the definitions beside why they make no schema. They are read again, so that they live as long
-// as what is left of them.
+// Adds what is wrong with the definitions beside why they make no schema. They are read again, so that they live as
+// long as what is left of them.
 fn add_rest<'t>(
     alloc: Global,
     sources: &[Source],

@@ -64,8 +64,8 @@ fn read_both<'a>(alloc: Global, text: &'a str) -> Result<Read<'a>, SchemaReadErr
 }
 
 /// A text that makes no schema, without what the reasons touch, by its document. Each definition that is left out is
-/// blank, so that all others keep their places. Behind them each touched type of the text is defined without members: as
-/// an object if it is one, and else as a scalar, which takes any value.
+/// blank, so that all others keep their places. Behind them each touched type of the text is defined without members:
+/// as an object if it is one, and else as a scalar, which takes any value.
 ///
 /// # Errors
 ///

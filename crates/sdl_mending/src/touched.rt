@@ -20,8 +20,8 @@ pub(crate) const STAND_IN: &str = "__Schema";
 
 /// What the reasons touch for which a text makes no schema: types and directives, and whether the schema itself.
 ///
-/// A type is touched if a reason stands in its definition or in an extension, if it is a root and a reason stands in the
-/// definition of the schema where it is named, or if a reason is that it is of the wrong kind.
+/// A type is touched if a reason stands in its definition or in an extension, if it is a root and a reason stands in
+/// the definition of the schema where it is named, or if a reason is that it is of the wrong kind.
 #[derive(Drop)]
 pub struct Touched<'a> {
     pub(crate) types: NameMap<'a, ()>,
