@@ -32,13 +32,21 @@ pub fn tell_schema(alloc: Global, text: &str, came: &mut String) -> Result<(), A
             &schema,
             came,
         ),
-        Err(error) => {
-            tell_reasons(&error, came)?;
-            match left_of(alloc, text, &error) {
-                Ok(left) => tell_rest(alloc, text, left.as_str(), &error, came),
-                Err(_) => came.push_str("out of memory\n"),
-            }
-        }
+        Err(error) => tell_refusal(alloc, text, &error, came),
+    }
+}
+
+// Why a text makes no schema, and what else is wrong with it.
+fn tell_refusal(
+    alloc: Global,
+    text: &str,
+    error: &SchemaReadError<'_>,
+    came: &mut String,
+) -> Result<(), AllocError> {
+    tell_reasons(error, came)?;
+    match left_of(alloc, text, error) {
+        Ok(left) => tell_rest(alloc, text, left.as_str(), error, came),
+        Err(_) => came.push_str("out of memory\n"),
     }
 }
 

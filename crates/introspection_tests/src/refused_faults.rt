@@ -1,5 +1,6 @@
 //! Each request for memory refused in turn, where a schema is judged.
 use graphql_reader::read_type_system;
+use language::error::OutOfMemory;
 use sdl_directives::STANDARD_DIRECTIVES;
 use sdl_faults::{plain_text_faults, rest_of_text_faults, text_faults};
 use sdl_mending::{Mended, Touched, mended_text};
@@ -91,36 +92,43 @@ fn a_refused_request_hides_no_fault_of_the_rest(rt: HostRuntime) {
 fn rest_count(alloc: Global, text: &str) -> Result<usize, SchemaReadError<'_>> {
     match read_schema(alloc, text) {
         Ok(_) => Ok(0),
-        Err(SchemaReadError::Faults(reasons)) => match rest_of(alloc, text, reasons.as_slice()) {
-            Ok(count) => Ok(count),
-            Err(_) => Err(SchemaReadError::OutOfMemory),
-        },
+        Err(SchemaReadError::Faults(reasons)) => {
+            let count = rest_of(alloc, text, reasons.as_slice())?;
+            Ok(count)
+        }
         Err(error) => Err(error),
     }
 }
 
-fn rest_of<'t>(
+fn rest_of(alloc: Global, text: &str, reasons: &[PlacedFault<'_>]) -> Result<usize, OutOfMemory> {
+    let left = left_of(alloc, text, reasons)?;
+    count_of(alloc, text, left.as_str(), reasons)
+}
+
+fn left_of<'t>(
     alloc: Global,
     text: &'t str,
     reasons: &'t [PlacedFault<'t>],
-) -> Result<usize, SchemaReadError<'t>> {
-    let document = read_type_system(alloc, text)?;
+) -> Result<String, OutOfMemory> {
+    let Ok(document) = read_type_system(alloc, text) else {
+        return Err(OutOfMemory);
+    };
     let touched = Touched::by_reasons(alloc, document.as_slice(), reasons)?;
-    let left = mended_text(alloc, text, document.as_slice(), &touched)?;
-    match rest_and_left(alloc, text, left.as_str(), reasons) {
-        Ok(count) => Ok(count),
-        Err(_) => Err(SchemaReadError::OutOfMemory),
-    }
+    mended_text(alloc, text, document.as_slice(), &touched)
 }
 
-fn rest_and_left<'t>(
+fn count_of<'t>(
     alloc: Global,
     text: &'t str,
     left: &'t str,
     reasons: &'t [PlacedFault<'t>],
-) -> Result<usize, SchemaReadError<'t>> {
-    let document = read_type_system(alloc, text)?;
-    let standard = read_type_system(alloc, STANDARD_DIRECTIVES)?;
+) -> Result<usize, OutOfMemory> {
+    let Ok(document) = read_type_system(alloc, text) else {
+        return Err(OutOfMemory);
+    };
+    let Ok(standard) = read_type_system(alloc, STANDARD_DIRECTIVES) else {
+        return Err(OutOfMemory);
+    };
     let touched = Touched::by_reasons(alloc, document.as_slice(), reasons)?;
     match Mended::of_text(alloc, left, touched)? {
         Some(mended) => {
