@@ -15,7 +15,7 @@ use Rattle.graphql_reader.specs.Arguments.{name_seen}
 use Rattle.graphql_reader.specs.Languages.{AField, AFieldHead, NoField, Nothing, Leaves}
 use Rattle.graphql_reader.specs.OpenSets.{Adds, From, IsPart, LeavesPart, Nodes, SpellsHead}
 use Rattle.graphql_reader.specs.Passed.{Reads}
-use Rattle.graphql_reader.specs.Selections.{FieldHead, GivenArguments, GivenDirectives, Name, Selection, Spanless, SpellsFieldHead, SpellsInlineHead, directives_seen, field_head, field_layer, inline, inline_head, inline_layer, leaf, selection_layer, selection_seen, spread, SpellsSelection}
+use Rattle.graphql_reader.specs.Selections.{FieldHead, GivenArguments, GivenDirectives, Name, Selection, Spanless, SpellsFieldHead, SpellsInlineHead, directives_seen, field_head, field_layer, inline_head, inline_layer, leaf, selection_layer, selection_seen, spread, SpellsSelection}
 use Rattle.graphql_reader.proofs.ConstantLaws.{not_so}
 use Rattle.graphql_reader.proofs.PassedLaws.{reads_from}
 use Rattle.graphql_reader.proofs.SelectionLaws.{leaf_read, some_field}

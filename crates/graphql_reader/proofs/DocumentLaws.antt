@@ -1,5 +1,5 @@
 -- Definitions, and a whole document.
-use Rattle.std.proofs.Common.{◌≡◌, ◌⊎◌, inl, inr, ℕ, List, [], ◌∷◌, ◌++◌, Option, Some, None, option_map, refl, sym, ap, subst, ◌∙◌}
+use Rattle.std.proofs.Common.{◌≡◌, ◌⊎◌, inl, inr, ℕ, List, [], ◌∷◌, ◌++◌, Option, Some, None, option_map, Result, Ok, Err, IfOk, OnOk, refl, sym, ap, subst, ◌∙◌}
 use Rattle.language.specs.declared.position.Span.{Span}
 use Rattle.language.specs.declared.position.Spanning.{Spanning}
 use Rattle.language.specs.declared.tree.OperationType.TheVariants.{Query}
@@ -88,3 +88,8 @@ fragment_read limit x a b c d e word named directives set start stop =
 pub document_read : (limit : Option ℕ) (text : List ℕ) (ds : List Definition) (first now : Tokens) → AreLexemes text (left first) → Reads (SpellsEach (SpellsDefinition limit) ds) first now → (ds ≡ [] → ⊥) → (ahead_of now).token ≡ token.end → IsDocument limit text ds
 document_read limit text ds first now are (ts, (e, stop), h) some end =
     (ts, ahead_of now, subst (AreLexemes text) (e ∙ ap (λ xs. ts ++ ahead_of now ∷ xs) (behind_end now end)) are, end, (some, h))
+
+-- what both clauses say of a value
+pub if_ok_both : {T E Q : Type 0} {P R : T → Type 0} (r : Result T E) → ((x : T) → P x → Q → R x) → IfOk r P → OnOk r Q → IfOk r R
+if_ok_both (Ok x) f p q = f x p q
+if_ok_both (Err e) f p q = tt

@@ -1,5 +1,5 @@
 -- A text is no more than one document.
-use Rattle.std.proofs.Common.{◌≡◌, ◌⊎◌, Bool, true, false, nat_eq, inl, inr, ℕ, List, [], ◌∷◌, ◌++◌, Option, refl, sym, ap, ◌∙◌}
+use Rattle.std.proofs.Common.{◌≡◌, ◌⊎◌, Bool, true, false, nat_eq, inl, inr, ℕ, List, [], ◌∷◌, ◌++◌, Option, append_assoc, length, length-append, arith, refl, sym, ap, ◌∙◌}
 use Rattle.language.specs.declared.position.Span.{Span}
 use Rattle.language.specs.declared.tree.OperationType.{OperationType}
 use Rattle.language.specs.declared.tree.OperationType.TheVariants.{Query, Mutation, Subscription}
@@ -10,7 +10,7 @@ use Rattle.graphql_lexer.specs.declared.lexer.Punctuator.TheVariants.{At, Bang, 
 use Rattle.value_reader.specs.Grammar.{Rules, Spells}
 use Rattle.value_reader.specs.Values.{Key, Value}
 use Rattle.graphql_reader.specs.Arguments.{Directive, SpellsDirectives, SpellsEach}
-use Rattle.graphql_reader.specs.Documents.{Variable, Variables, Operation, Fragment, Definition, operation, fragment, IsDocument, SpellsDefault, SpellsDefinition, SpellsFragment, SpellsLongOperation, SpellsOperation, SpellsShortOperation, SpellsVariable, SpellsVariableDefinition, SpellsVariables, constant_rules, fragment_word, keyword}
+use Rattle.graphql_reader.specs.Documents.{Variable, Variables, Operation, Fragment, Definition, operation, fragment, IsDocument, SpellsDocument, SpellsDefault, SpellsDefinition, SpellsFragment, SpellsLongOperation, SpellsOperation, SpellsShortOperation, SpellsVariable, SpellsVariableDefinition, SpellsVariables, constant_rules, fragment_word, keyword}
 use Rattle.graphql_reader.specs.Passed.{Covers, One, Optional, Then}
 use Rattle.graphql_reader.specs.Selections.{Selections, SpellsCondition, SpellsFragmentName, SpellsName, SpellsSet, open_rules}
 use Rattle.graphql_reader.specs.Types.{PlacedType, SpellsType}
@@ -274,3 +274,17 @@ document_once limit text ts xs ys only (a, last, are, end, (some, h)) (b, final,
     let w : b ++ final ∷ [] ≡ a ++ last ∷ [] = only (b ++ final ∷ []) are2 ∙ sym (only (a ++ last ∷ []) are) in
     let (e, i, j) = (same_each (same_one_definition limit) (starts_definition_no_end limit) (λ x. before_any) ys xs).same b a (final ∷ []) (last ∷ []) k h (λ n. n end2, tt) (λ n. n end, tt) w in
     e
+
+-- no document goes on with the end of the text
+longer : (ts more : List Lexeme) (last : Lexeme) → (ts ++ last ∷ []) ++ more ≡ ts → ⊥
+longer ts more last e =
+    let n : length ((ts ++ last ∷ []) ++ more) ≡ length ts = ap length e in
+    omega (arith, n, length-append (ts ++ last ∷ []) more, length-append ts (last ∷ []))
+
+joined_last : (ts more : List Lexeme) (last : Lexeme) → ((ts ++ last ∷ []) ++ more) ++ last ∷ [] ≡ ts ++ last ∷ (more ++ last ∷ [])
+joined_last ts more last = append_assoc (ts ++ last ∷ []) more (last ∷ []) ∙ append_assoc ts (last ∷ []) (more ++ last ∷ [])
+
+pub end_stops : (limit : Option ℕ) (ds es : List Definition) (ts more : List Lexeme) (last : Lexeme) → last.token ≡ token.end → SpellsDocument limit ds ts → SpellsDocument limit es ((ts ++ last ∷ []) ++ more) → ⊥
+end_stops limit ds es ts more last end (some, h) (some2, k) =
+    let (e, i, j) = (same_each (same_one_definition limit) (starts_definition_no_end limit) (λ x. before_any) es ds).same ((ts ++ last ∷ []) ++ more) ts (last ∷ []) (last ∷ (more ++ last ∷ [])) k h (λ n. n end, tt) (λ n. n end, tt) (joined_last ts more last) in
+    longer ts more last i

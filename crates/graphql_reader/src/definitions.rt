@@ -2,18 +2,20 @@
 ghost use Rattle.std.specs.Prelude.{◌≡◌, ◌≢◌, ◌<◌, ℕ, IfErr, IfOk, IfSome, List, MatchOption, None, OnOk, Option};
 ghost use Rattle.std.specs.Prelude.{length, map, option_map};
 ghost use Rattle.graphql_lexer.specs.Ahead.{ahead_of, left, IsTaken};
-ghost use Rattle.graphql_lexer.specs.Lexical.{punctuator, name as name_token};
+ghost use Rattle.graphql_lexer.specs.Lexical.{end, punctuator, name as name_token};
 ghost use Rattle.graphql_lexer.specs.declared.lexer.Punctuator.TheVariants.{BraceOpen, ParenOpen};
 ghost use Rattle.graphql_lexer.specs.declared.tokens.Tokens.{Tokens as Reader};
 ghost use Rattle.graphql_reader.specs.Arguments.{name_seen};
 ghost use Rattle.graphql_reader.specs.Documents as g;
 ghost use Rattle.graphql_reader.specs.Documents.{definition_seen, variable_seen, variables_seen};
 ghost use Rattle.graphql_reader.specs.Documents.{fragment_word, keyword, IsDocument, SpellsDefinition};
-ghost use Rattle.graphql_reader.specs.Documents.{SpellsVariable, SpellsVariableDefinition, SpellsVariables};
+ghost use Rattle.graphql_reader.specs.Documents.{SpellsDocument, SpellsVariable, SpellsVariableDefinition};
+ghost use Rattle.graphql_reader.specs.Documents.{SpellsVariables};
 ghost use Rattle.graphql_reader.specs.Faults.{IsDocumentFault, IsNoDocument};
-ghost use Rattle.graphql_reader.specs.Languages.{ADefault, ADefinition, AFragmentHead, AName, AVariable};
-ghost use Rattle.graphql_reader.specs.Languages.{AVariableDefinition, AllVariables, Anything, BegunVariables, NoEquals};
-ghost use Rattle.graphql_reader.specs.Languages.{NoNameNext, NoParen, NoVariable, Nothing, Perhaps, IsFault, Leaves};
+ghost use Rattle.graphql_reader.specs.Languages.{ADefault, ADefinition, ADocument, AFragmentHead, AName, AVariable};
+ghost use Rattle.graphql_reader.specs.Languages.{AVariableDefinition, AllVariables, Anything, AtEnd, BegunVariables};
+ghost use Rattle.graphql_reader.specs.Languages.{NoEquals, NoNameNext, NoParen, NoVariable, Nothing, Perhaps};
+ghost use Rattle.graphql_reader.specs.Languages.{IsFault, Leaves};
 ghost use Rattle.graphql_reader.specs.Parts.{IsDefault, IsDefaultFault};
 ghost use Rattle.graphql_reader.specs.Passed.{BeginsWith, Optional, Reads, Then};
 ghost use Rattle.graphql_reader.specs.Selections.{SpellsCondition, SpellsFragmentName, SpellsName};
@@ -81,10 +83,28 @@ pub fn read_document_within<'a>(
     ensures fault { IfErr result (IsDocumentFault max_depth text.now) }
 {
     let mut tokens = Tokens::new(alloc, text.as_bytes());
-    let mut open = OpenSets::new(alloc);
-    let mut definitions = Vec::new(alloc);
+    read_definitions(&mut tokens, max_depth)
+}
+
+/// Parses the definitions of a document up to the end of the text, from the next token on.
+///
+/// # Errors
+///
+/// As [`read_document_within`]. The first token at fault is next then.
+pub fn read_definitions<'a>(
+    tokens: &mut Tokens<'a>,
+    max_depth: Option<usize>,
+) -> Result<Vec<Definition<'a, SourceScalar>>, ReadError<'a>>
+    ensures some { IfOk result (λ definitions. 0 < length definitions.items) }
+    ensures tree { IfOk result (λ definitions.
+        Reads (SpellsDocument max_depth (map definition_seen definitions.items)) tokens.old tokens.new) }
+    ensures ended { OnOk result ((ahead_of tokens.new).token ≡ end) }
+    ensures stuck { IfErr result (IsFault max_depth AtEnd ADocument tokens.old tokens.new) }
+{
+    let mut open = OpenSets::new(tokens.alloc());
+    let mut definitions = Vec::new(tokens.alloc());
     loop {
-        let definition = read_definition(&mut tokens, &mut open, max_depth)?;
+        let definition = read_definition(tokens, &mut open, max_depth)?;
         definitions.push(definition)?;
         if tokens.is_at_end() {
             definitions.shrink_to_fit();

@@ -24,7 +24,7 @@ mod type_system_reader;
 mod types;
 
 pub use constants::read_constant;
-pub use definitions::{read_document, read_document_within};
+pub use definitions::{read_definitions, read_document, read_document_within};
 pub use depth::NESTING_LIMIT;
 pub use graphql_lexer::error::{Found, ReadError, SyntaxError, SyntaxFault};
 pub use sdl_scalars::scalar::SourceScalar;

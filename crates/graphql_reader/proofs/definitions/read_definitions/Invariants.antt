@@ -5,7 +5,7 @@ use Rattle.graphql_reader.specs.Documents.{SpellsDefinition, definition_seen}
 use Rattle.graphql_reader.specs.Languages.{ADocument, AtEnd, Leaves}
 use Rattle.graphql_reader.specs.Passed.{Reads}
 use Rattle.graphql_reader.proofs.LanguageLaws.{DocumentParts}
-use Rattle.graphql_reader.proofs.definitions.read_document_within.Given as goal
+use Rattle.graphql_reader.proofs.definitions.read_definitions.Given as goal
 
 -- the tokens spell the definitions so far, and another comes next
 abbrev pub invariant-loop-definitions : goal.invariant-loop-definitions
