@@ -18,7 +18,7 @@
 #![tactic(auto)]
 
 mod failure;
-mod phases;
+mod judging;
 mod program;
 mod readers;
 mod schemas;

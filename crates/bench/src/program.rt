@@ -1,7 +1,7 @@
 //! The program's work.
 use crate::failure::Failure;
-use crate::phases::{time_reading, time_walking};
-use crate::readers::{kind_named, time_reader};
+use crate::judging::time_walking;
+use crate::readers::{Kind, kind_named, time_reader};
 use crate::schemas::{root_fields, wide_input};
 use crate::times::Stopwatch;
 use crate::values::{first_operation, judge, time_values, values_of};
@@ -93,7 +93,16 @@ fn measure_reader<R: CpuClock + AllocGlobal + Print>(
     text: &[u8],
     reads: usize,
 ) -> Result<(), Failure> {
-    let kind = kind_named(word)?;
+    tell_reading(rt, watch, kind_named(word)?, text, reads)
+}
+
+fn tell_reading<R: CpuClock + AllocGlobal + Print>(
+    rt: &R,
+    watch: &mut Stopwatch<'_, R>,
+    kind: Kind,
+    text: &[u8],
+    reads: usize,
+) -> Result<(), Failure> {
     let text = str::from_utf8(text).map_err(|_| Failure::Syntax)?;
     tell(
         rt,
@@ -109,11 +118,7 @@ fn measure_against<R: CpuClock + AllocGlobal + Print>(
     text: &[u8],
     times: Times,
 ) -> Result<(), Failure> {
-    tell(
-        rt,
-        "read",
-        time_reading(watch, rt.alloc(), text, times.reads)?,
-    )?;
+    tell_reading(rt, watch, Kind::Queries, text, times.reads)?;
     let checks = Checks {
         int: DefaultCheck::with_token(check_int, refuse_token),
         string: DefaultCheck::with_token(check_string, refuse_token),

@@ -12,6 +12,15 @@ pub enum ReadError {
     OutOfMemory,
 }
 
+impl From<graphql_reader::ReadError<'_>> for ReadError {
+    fn from(error: graphql_reader::ReadError<'_>) -> Self {
+        match error {
+            graphql_reader::ReadError::Syntax(error) => ReadError::Fault(error.position),
+            graphql_reader::ReadError::OutOfMemory => ReadError::OutOfMemory,
+        }
+    }
+}
+
 impl From<AllocError> for ReadError {
     fn from(_: AllocError) -> Self {
         ReadError::OutOfMemory

@@ -1,257 +1,147 @@
-//! Values and arguments of a document (GraphQL, October 2021, sections 2.6 and 2.9).
+//! Values made anew.
 use crate::error::ReadError;
-use crate::lexer::{Punctuator, Token};
-use crate::tokens::Tokens;
+use crate::trees::Source;
+use graphql_reader::SourceScalar;
 use language::error::OutOfMemory;
-use language::position::{SourcePosition, Spanning};
-use language::tree::{Arguments, Directive};
+use language::position::Spanning;
 use language::value::{DefaultScalarValue, InputValue};
-use std::alloc::Global;
+use std::alloc::{AllocError, Global};
+use std::mem;
+use std::slice::Iter;
 
-/// A value of a document.
+type Read = InputValue<SourceScalar>;
+
 type Value = InputValue<DefaultScalarValue>;
 
-/// Whether a value may be or hold a variable.
-#[derive(Clone, Copy, Debug, PartialEq, Eq)]
-pub enum Variables {
-    Allowed,
-    Refused,
-}
+type Keyed<V> = (Spanning<String>, Spanning<V>);
 
-// A list or an object that is begun: where it starts, what it holds so far, and the key whose value is read.
+// What is left of a list or of an object, and what is made of it. A list or an object inside of it stands there as `null`
+// until it is made.
 #[derive(Drop)]
-enum Begun {
-    List(SourcePosition, Vec<Spanning<Value>>),
-    Object(SourcePosition, Vec<(Spanning<String>, Spanning<Value>)>, Option<Spanning<String>>),
+struct Begun<'t, R, M> {
+    left: Iter<'t, R>,
+    made: Vec<M>,
 }
 
-impl Begun {
-    // What ends it.
-    fn closing(&self) -> Punctuator {
-        match self {
-            Begun::List(_, _) => Punctuator::BracketClose,
-            Begun::Object(_, _, _) => Punctuator::BraceClose,
-        }
+impl<'t, R, M> Begun<'t, R, M> {
+    fn new(alloc: Global, list: &'t Vec<R>) -> Result<Begun<'t, R, M>, AllocError> {
+        Ok(Begun {
+            left: list.iter(),
+            made: Vec::with_capacity(alloc, list.len())?,
+        })
     }
+}
 
-    // Reads what stands before a value: the key, in an object.
-    fn read_before_value(
-        &mut self,
-        alloc: Global,
-        tokens: &mut Tokens<'_>,
-    ) -> Result<(), ReadError> {
-        if let Begun::Object(_, _, key) = self {
-            *key = Some(read_key(alloc, tokens)?);
-        }
-        Ok(())
-    }
+#[derive(Drop)]
+enum Values<'t> {
+    List(Begun<'t, Spanning<Read>, Spanning<Value>>),
+    Object(Begun<'t, Keyed<Read>, Keyed<Value>>),
+}
 
-    fn add(&mut self, value: Spanning<Value>) -> Result<(), ReadError> {
+impl<'t> Values<'t> {
+    // Makes the next value, and begins it if it is a list or an object. `None` if none is left.
+    fn turn(&mut self, alloc: Global) -> Result<Option<Option<Values<'t>>>, ReadError> {
         match self {
-            Begun::List(_, items) => items.push(value)?,
-            Begun::Object(_, entries, key) => {
-                if let Some(key) = key.take() {
-                    entries.push((key, value))?;
-                }
+            Values::List(begun) => {
+                let Some(read) = begun.left.next() else {
+                    return Ok(None);
+                };
+                let (value, inside) = begin(alloc, read)?;
+                begun.made.push(value)?;
+                Ok(Some(inside))
             }
-        }
-        Ok(())
-    }
-
-    // The value, whose last token is taken.
-    fn end(self, tokens: &Tokens<'_>) -> Spanning<Value> {
-        match self {
-            Begun::List(start, mut items) => {
-                items.shrink_to_fit();
-                Spanning {
-                    item: InputValue::List(items),
-                    span: tokens.span_from(start),
-                }
-            }
-            Begun::Object(start, mut entries, _) => {
-                entries.shrink_to_fit();
-                Spanning {
-                    item: InputValue::Object(entries),
-                    span: tokens.span_from(start),
-                }
+            Values::Object(begun) => {
+                let Some((key, read)) = begun.left.next() else {
+                    return Ok(None);
+                };
+                let (value, inside) = begin(alloc, read)?;
+                begun.made.push((key.clone()?, value))?;
+                Ok(Some(inside))
             }
         }
     }
+
+    // Puts a value into the place that was made last.
+    fn give(&mut self, value: Value) {
+        match self {
+            Values::List(begun) => if let Some(last) = begun.made.last_mut() {
+                last.item = value;
+            },
+            Values::Object(begun) => if let Some(last) = begun.made.last_mut() {
+                last.1.item = value;
+            },
+        }
+    }
+
+    fn end(self) -> Value {
+        match self {
+            Values::List(begun) => InputValue::List(begun.made),
+            Values::Object(begun) => InputValue::Object(begun.made),
+        }
+    }
 }
 
-/// Parses a value. The lists and objects that are begun stand on a list in memory, so no depth is too deep.
-///
-/// # Errors
-///
-/// A syntax error, or out of memory.
-pub fn read_value(
+// The value without the values in it, which it holds if it is a list or an object.
+fn begin(
     alloc: Global,
-    tokens: &mut Tokens<'_>,
-    variables: Variables,
-) -> Result<Spanning<Value>, ReadError> {
-    let mut begun = Vec::new(alloc);
-    for _ in 0..tokens.bound() {
-        if let Some(value) = read_part(alloc, tokens, variables, &mut begun)? {
-            return Ok(value);
+    read: &Spanning<Read>,
+) -> Result<(Spanning<Value>, Option<Values<'_>>), OutOfMemory> {
+    let mut inside = None;
+    let item = match &read.item {
+        InputValue::Null => InputValue::Null,
+        InputValue::Scalar(scalar) => InputValue::Scalar(made_scalar(scalar)?),
+        InputValue::Enum(name) => InputValue::Enum(name.clone()?),
+        InputValue::Variable(name) => InputValue::Variable(name.clone()?),
+        InputValue::List(items) => {
+            inside = Some(Values::List(Begun::new(alloc, items)?));
+            InputValue::Null
         }
-    }
-    Err(tokens.fault())
-}
-
-// Reads up to the next bracket or plain value: the whole value, where it ends there.
-fn read_part(
-    alloc: Global,
-    tokens: &mut Tokens<'_>,
-    variables: Variables,
-    begun: &mut Vec<Begun>,
-) -> Result<Option<Spanning<Value>>, ReadError> {
-    if let Some(mut last) = begun.pop() {
-        if tokens.take(last.closing()) {
-            let value = last.end(tokens);
-            return place(value, begun);
+        InputValue::Object(entries) => {
+            inside = Some(Values::Object(Begun::new(alloc, entries)?));
+            InputValue::Null
         }
-        last.read_before_value(alloc, tokens)?;
-        begun.push(last)?;
-    }
-    let start = tokens.start();
-    match tokens.ahead() {
-        Token::Punctuator(Punctuator::BracketOpen) => {
-            tokens.advance();
-            begun.push(Begun::List(start, Vec::new(alloc)))?;
-            Ok(None)
-        }
-        Token::Punctuator(Punctuator::BraceOpen) => {
-            tokens.advance();
-            begun.push(Begun::Object(start, Vec::new(alloc), None))?;
-            Ok(None)
-        }
-        _ => {
-            let item = read_plain(alloc, tokens, variables)?;
-            let span = tokens.span_from(start);
-            place(Spanning { item, span }, begun)
-        }
-    }
-}
-
-// Puts a value into the list or object that is begun; where none is, it is the whole value.
-fn place(
-    value: Spanning<Value>,
-    begun: &mut Vec<Begun>,
-) -> Result<Option<Spanning<Value>>, ReadError> {
-    match begun.last_mut() {
-        None => Ok(Some(value)),
-        Some(last) => {
-            last.add(value)?;
-            Ok(None)
-        }
-    }
-}
-
-fn read_key(alloc: Global, tokens: &mut Tokens<'_>) -> Result<Spanning<String>, ReadError> {
-    let Spanning { item, span } = tokens.name()?;
-    tokens.expect(Punctuator::Colon)?;
-    Ok(Spanning {
-        item: String::from_str(alloc, item)?,
-        span,
-    })
-}
-
-// A value that holds no other value.
-fn read_plain(
-    alloc: Global,
-    tokens: &mut Tokens<'_>,
-    variables: Variables,
-) -> Result<Value, ReadError> {
-    let value = match tokens.ahead() {
-        Token::Int(n) => InputValue::Scalar(DefaultScalarValue::Int(n)),
-        Token::String(text) => {
-            InputValue::Scalar(DefaultScalarValue::String(String::from_str(alloc, text)?))
-        }
-        Token::Name(name) => named_value(alloc, name)?,
-        Token::Punctuator(Punctuator::Dollar) if variables == Variables::Allowed => {
-            let name = tokens.variable()?.item;
-            return Ok(InputValue::Variable(String::from_str(alloc, name)?));
-        }
-        _ => return Err(tokens.fault()),
     };
-    tokens.advance();
-    Ok(value)
+    let span = read.span;
+    Ok((Spanning { item, span }, inside))
 }
 
-fn named_value(alloc: Global, name: &str) -> Result<Value, OutOfMemory> {
-    Ok(match name {
-        "null" => InputValue::Null,
-        "true" => InputValue::Scalar(DefaultScalarValue::Boolean(true)),
-        "false" => InputValue::Scalar(DefaultScalarValue::Boolean(false)),
-        _ => InputValue::Enum(String::from_str(alloc, name)?),
+// The text has no float, and no number past 32 bits.
+fn made_scalar(scalar: &SourceScalar) -> Result<DefaultScalarValue, OutOfMemory> {
+    Ok(match scalar {
+        SourceScalar::Int(digits) => DefaultScalarValue::Int(digits.as_str().parse().unwrap_or(0)),
+        SourceScalar::Boolean(truth) => DefaultScalarValue::Boolean(*truth),
+        SourceScalar::String(text) | SourceScalar::Float(text) => {
+            DefaultScalarValue::String(text.clone()?)
+        }
     })
 }
 
-/// Parses arguments, if there are any. The list is never empty.
-///
-/// # Errors
-///
-/// A syntax error after the parenthesis, or out of memory.
-pub fn read_arguments<'a>(
-    alloc: Global,
-    tokens: &mut Tokens<'a>,
-    variables: Variables,
-) -> Result<Option<Spanning<Arguments<'a, DefaultScalarValue>>>, ReadError> {
-    let start = tokens.start();
-    if !tokens.take(Punctuator::ParenOpen) {
-        return Ok(None);
-    }
-    let mut items = Vec::new(alloc);
-    for _ in 0..tokens.bound() {
-        let name = tokens.name()?;
-        tokens.expect(Punctuator::Colon)?;
-        items.push((name, read_value(alloc, tokens, variables)?))?;
-        if tokens.take(Punctuator::ParenClose) {
-            items.shrink_to_fit();
-            return Ok(Some(Spanning {
-                item: Arguments { items },
-                span: tokens.span_from(start),
-            }));
+impl Source<'_> {
+    /// The value made anew. What is begun stands on a list in memory, so no depth is too deep.
+    pub(crate) fn value(&self, read: &Spanning<Read>) -> Result<Spanning<Value>, ReadError> {
+        let (mut value, inside) = begin(self.alloc, read)?;
+        if let Some(values) = inside {
+            value.item = self.holder(values)?;
         }
+        Ok(value)
     }
-    Err(tokens.fault())
-}
 
-/// Parses directives, if there are any. The list is never empty.
-///
-/// # Errors
-///
-/// A syntax error after an `@`, or out of memory.
-pub fn read_directives<'a>(
-    alloc: Global,
-    tokens: &mut Tokens<'a>,
-    variables: Variables,
-) -> Result<Option<Vec<Spanning<Directive<'a, DefaultScalarValue>>>>, ReadError> {
-    if !tokens.is(Punctuator::At) {
-        return Ok(None);
-    }
-    let mut directives = Vec::new(alloc);
-    for _ in 0..tokens.bound() {
-        if !tokens.is(Punctuator::At) {
-            directives.shrink_to_fit();
-            return Ok(Some(directives));
+    fn holder(&self, mut begun: Values<'_>) -> Result<Value, ReadError> {
+        let mut outer = Vec::new(self.alloc);
+        // Each turn takes a byte of the text.
+        for _ in 0..=self.text.len() {
+            if let Some(inside) = begun.turn(self.alloc)? {
+                if let Some(inside) = inside {
+                    outer.push(mem::replace(&mut begun, inside))?;
+                }
+            } else {
+                let Some(holder) = outer.pop() else {
+                    return Ok(begun.end());
+                };
+                let value = mem::replace(&mut begun, holder).end();
+                begun.give(value);
+            }
         }
-        directives.push(read_directive(alloc, tokens, variables)?)?;
+        Err(ReadError::OutOfMemory)
     }
-    Err(tokens.fault())
-}
-
-fn read_directive<'a>(
-    alloc: Global,
-    tokens: &mut Tokens<'a>,
-    variables: Variables,
-) -> Result<Spanning<Directive<'a, DefaultScalarValue>>, ReadError> {
-    let start = tokens.start();
-    tokens.expect(Punctuator::At)?;
-    let name = tokens.name()?;
-    let arguments = read_arguments(alloc, tokens, variables)?;
-    Ok(Spanning {
-        item: Directive { name, arguments },
-        span: tokens.span_from(start),
-    })
 }

@@ -19,6 +19,14 @@ fn a_list_keeps_the_size_behind_it(rt: HostRuntime) {
     assert!(rt; kept && read.span.start.index() == 1);
 }
 
+/// Elsewhere `#` begins a comment.
+#[test]
+fn a_size_stands_directly_behind_a_list(rt: HostRuntime) {
+    let read = read_type(rt.alloc(), b"# ]#1\n[Int] #2!\n!").expect(&rt, "a type");
+    let want = [TypeModifier::List(None), TypeModifier::NonNull];
+    assert!(rt; read.item.modifiers() == want.as_slice());
+}
+
 /// The fault is there.
 fn is_at(rt: &impl Abort, refused: Option<ReadError>, index: usize) {
     let told = match refused {

@@ -1,29 +1,10 @@
-//! The phases of a document: it is read, and it is judged.
+//! Judging a document, in time of the processor.
 use crate::failure::Failure;
 use crate::times::{Stopwatch, median_of};
-use sample_reader::read_document;
 use std::alloc::Global;
 use std::rt::CpuClock;
 use std::time::Duration;
 use validation::{DefaultScalarValue, Definition, SchemaType, ValidatorContext, visit_all_rules};
-
-/// Reads the text so often, and returns the median of the times in nanoseconds, or `None` for no times.
-///
-/// # Errors
-///
-/// The text is not a document, the clock failed, or out of memory.
-pub fn time_reading<R: CpuClock>(
-    watch: &mut Stopwatch<'_, R>,
-    alloc: Global,
-    text: &[u8],
-    times: usize,
-) -> Result<Option<u128>, Failure> {
-    median_of(
-        alloc,
-        times,
-        || watch.time_of(|| Ok(read_document(alloc, text)?)),
-    )
-}
 
 /// Judges the document by all rules so often, and returns the median of the times in nanoseconds, or `None` for no
 /// times.
