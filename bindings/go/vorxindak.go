@@ -10,7 +10,6 @@ import "C"
 
 import (
 	"bytes"
-	"encoding/json"
 	"errors"
 	"fmt"
 	"runtime"
@@ -208,11 +207,12 @@ func (s *Schema) report() ([]Error, error) {
 	status := C.vorxindak_report(s.handle, pointer(s.room), C.size_t(len(s.room)), &needed)
 	if status == C.VORXINDAK_TOO_SMALL {
 		s.room = make([]byte, needed)
-		C.vorxindak_report(s.handle, pointer(s.room), C.size_t(len(s.room)), &needed)
+		status = C.vorxindak_report(s.handle, pointer(s.room), C.size_t(len(s.room)), &needed)
 	}
-	var found []Error
-	err := json.Unmarshal(s.room[:needed], &found)
-	return found, err
+	if status != C.VORXINDAK_VALID {
+		return nil, ErrClosed
+	}
+	return readReport(s.room[:needed])
 }
 
 // A pointer to the bytes, which is not nil where there are none either.

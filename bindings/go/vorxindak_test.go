@@ -1,6 +1,7 @@
 package vorxindak
 
 import (
+	"encoding/json"
 	"errors"
 	"fmt"
 	"reflect"
@@ -72,6 +73,29 @@ func TestOptionsAndVariables(t *testing.T) {
 			t.Errorf("%q: %v, %v", values, found, err)
 		}
 	}
+}
+
+func TestMessages(t *testing.T) {
+	schema := open(t, "type Query { find(by: Filter): Int } input Filter { name: Int }")
+	key := "\"\\/é\u2028😀\x7f"
+	for i := rune(0); i < ' '; i++ {
+		key += string(i)
+	}
+	values, err := json.Marshal(map[string]map[string]int{"by": {key: 1}})
+	if err != nil {
+		t.Fatal(err)
+	}
+	found, err := schema.ValidateVariables("query($by: Filter) { find(by: $by) }", string(values), Options{})
+	wanted := `Variable "$by" got invalid value. In field "` + key + `": Unknown field.`
+	check(t, found, err, []Error{{Message: wanted, Locations: []Location{{1, 7}}}})
+}
+
+func TestLocations(t *testing.T) {
+	schema := open(t, sdl)
+	query := "query A { greeting(name: \"Ada\") }"
+	found, err := schema.Validate(query+"\n  "+query, Options{})
+	wanted := []Error{{Message: "There can only be one operation named A", Locations: []Location{{1, 1}, {2, 3}}}}
+	check(t, found, err, wanted)
 }
 
 func TestSchemas(t *testing.T) {

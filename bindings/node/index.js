@@ -2,9 +2,6 @@
 // GraphQL validation, proved. index.d.ts has the types.
 const addon = require('./out/vorxindak.node');
 
-const VALID = 0;
-const CLOSED = 6;
-const OUT_OF_MEMORY = 10;
 const NO_INTROSPECTION = 1;
 const MAX_ERRORS = 1000;
 const DIALECTS = { october2021: 0, juniper: 2 };
@@ -26,6 +23,10 @@ function joined(texts) {
   return Buffer.concat(texts.flatMap((text, index) => (index ? [Buffer.of(0), bytes(text)] : [bytes(text)])));
 }
 
+function errorsOf(report) {
+  return report === undefined ? [] : JSON.parse(report);
+}
+
 /** A schema. Each worker thread has its own. */
 class Schema {
   #handle = addon.create();
@@ -34,34 +35,26 @@ class Schema {
   constructor(texts, { dialect = 'october2021' } = {}) {
     const flags = DIALECTS[dialect];
     if (flags === undefined) throw new TypeError(`no dialect: ${dialect}`);
-    const status = addon.open(this.#handle, joined([texts].flat()), flags);
-    if (status === OUT_OF_MEMORY) throw new Error('out of memory');
-    if (status !== VALID) throw new SchemaError(JSON.parse(addon.report(this.#handle)));
+    const faults = addon.open(this.#handle, joined([texts].flat()), flags);
+    if (faults !== undefined) throw new SchemaError(JSON.parse(faults));
   }
 
   /** The errors of a document, in ascending order; none if and only if it is valid. */
   validate(query, { introspection = true, maxErrors = MAX_ERRORS } = {}) {
     const flags = introspection ? 0 : NO_INTROSPECTION;
-    return this.#errors(addon.validate(this.#handle, bytes(query), maxErrors, flags));
+    return errorsOf(addon.validate(this.#handle, query, maxErrors, flags));
   }
 
   /** The errors of a document, or if it has none those of the values of its variables. */
   validateVariables(query, values, { introspection = true, maxErrors = MAX_ERRORS } = {}) {
     const given = typeof values === 'string' ? values : JSON.stringify(values);
     const flags = introspection ? 0 : NO_INTROSPECTION;
-    return this.#errors(addon.validateVariables(this.#handle, bytes(query), bytes(given), maxErrors, flags));
+    return errorsOf(addon.validateVariables(this.#handle, query, given, maxErrors, flags));
   }
 
   /** Lets go of the schema. Further calls throw. */
   close() {
     addon.close(this.#handle);
-  }
-
-  #errors(status) {
-    if (status === VALID) return [];
-    if (status === CLOSED) throw new Error('the schema is closed');
-    if (status === OUT_OF_MEMORY) throw new Error('out of memory');
-    return JSON.parse(addon.report(this.#handle));
   }
 }
 

@@ -23,6 +23,41 @@ test('syntax errors', () => {
   assert.strictEqual(schema.validate('').length, 1);
 });
 
+test('texts of all lengths', () => {
+  const schema = new Schema(SDL);
+  // Comments round 1,024 bytes, for which there is room on the stack, of characters of one to four bytes.
+  for (const character of ['a', 'é', '\u2028', '😀', '\ud800']) {
+    const bytes = Buffer.byteLength(character);
+    for (let size = 1008; size < 1040; size++) {
+      const text = `${'#'.repeat(size % bytes)}#${character.repeat(size / bytes)}\n{ nam }`;
+      const wanted = [{ message: unknown('nam'), locations: [{ line: 2, column: 3 }] }];
+      assert.deepStrictEqual(schema.validate(text), wanted);
+    }
+  }
+});
+
+test('texts are strings or buffers', () => {
+  const schema = new Schema(SDL);
+  for (const text of [5, null, undefined, {}, ['{ a }']])
+    assert.throws(() => schema.validate(text), /string or a buffer/);
+  assert.throws(() => schema.validate('{ a }', { maxErrors: '1' }), /number of errors/);
+});
+
+test('messages', () => {
+  const key = `${String.fromCharCode(...Array(32).keys())}"\\/é\u2028😀\x7f`;
+  const schema = new Schema('type Query { find(by: Filter): Int } input Filter { name: Int }');
+  const errors = schema.validateVariables('query($by: Filter) { find(by: $by) }', { by: { [key]: 1 } });
+  const message = `Variable "$by" got invalid value. In field "${key}": Unknown field.`;
+  assert.deepStrictEqual(errors, [{ message, locations: [{ line: 1, column: 7 }] }]);
+});
+
+test('locations', () => {
+  const query = 'query A { greeting(name: "Ada") }';
+  const errors = new Schema(SDL).validate(`${query}\n  ${query}`);
+  const locations = [{ line: 1, column: 1 }, { line: 2, column: 3 }];
+  assert.deepStrictEqual(errors, [{ message: 'There can only be one operation named A', locations }]);
+});
+
 test('options and variables', () => {
   const schema = new Schema(SDL);
   const asked = '{ __schema { queryType { name } } }';

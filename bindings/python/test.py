@@ -2,7 +2,7 @@
 import threading
 import unittest
 
-from vorxindak import Error, Location, Schema, SchemaError, version
+from vorxindak import Error, Location, Schema, SchemaError, _errors, version
 
 SDL = "type Query { greeting(name: String!): String }"
 
@@ -22,6 +22,39 @@ class Tests(unittest.TestCase):
             (error,) = schema.validate(b"{ a }\n# \xff")
             self.assertEqual(error.locations, (Location(2, 3),))
             self.assertEqual(len(schema.validate("")), 1)
+
+    def test_texts_are_str_or_bytes(self):
+        with Schema(SDL) as schema:
+            for text in (5, None, bytearray(b"{ a }"), ["{ a }"]):
+                with self.assertRaises(TypeError):
+                    schema.validate(text)
+            with self.assertRaises(TypeError):
+                schema.validate("{ a }", max_errors="1")
+
+    def test_messages(self):
+        key = "".join(map(chr, range(32))) + '"\\/é\u2028😀\x7f'
+        with Schema("type Query { find(by: Filter): Int } input Filter { name: Int }") as schema:
+            errors = schema.validate_variables("query($by: Filter) { find(by: $by) }", {"by": {key: 1}})
+        message = f'Variable "$by" got invalid value. In field "{key}": Unknown field.'
+        self.assertEqual(errors, [Error(message, (Location(1, 7),))])
+
+    def test_locations(self):
+        query = 'query A { greeting(name: "Ada") }'
+        with Schema(SDL) as schema:
+            errors = schema.validate(f"{query}\n  {query}")
+        message = "There can only be one operation named A"
+        self.assertEqual(errors, [Error(message, (Location(1, 1), Location(2, 3)))])
+
+    def test_reports(self):
+        spelled = r'''[{"message": "\"\\\/\b\f\n\r\t\u001Fé\ud83d\ude00", "locations": [{"column": 2, "line": 1}]},
+            {"message": "", "locations": [], "path": "0"}]'''
+        meant = [Error('"\\/\b\f\n\r\t\x1fé😀', (Location(1, 2),)), Error("", (), "0")]
+        self.assertEqual(_errors(spelled), meant)
+        self.assertEqual(_errors("[ ]\n"), [])
+        broken = [spelled[:length] for length in range(len(spelled))]
+        for text in [*broken, "{}", "null", "[1]", "[{}]", '[{"message": "a"}]', '[{"locations": []}]', spelled + "]"]:
+            with self.assertRaises((ValueError, KeyError, TypeError), msg=text):
+                _errors(text)
 
     def test_columns_are_in_characters(self):
         with Schema(SDL) as schema:

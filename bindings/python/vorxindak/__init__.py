@@ -28,29 +28,30 @@ class _Raw(ctypes.Structure):
 
 
 def _load() -> ctypes.CDLL:
-    """The library: $VORXINDAK_LIBRARY, the one beside this file, or the system's."""
+    """The library: $VORXINDAK_LIBRARY, the one beside this file, or the system's.
+
+    Its calls are given arguments of their types. If ctypes had to convert them, that would take longer than a call.
+    """
     named = os.environ.get("VORXINDAK_LIBRARY")
     beside = Path(__file__).with_name("libvorxindak.so")
-    library = ctypes.CDLL(named or (str(beside) if beside.exists() else "libvorxindak.so"))
-    handle, text, size = ctypes.POINTER(_Raw), ctypes.c_char_p, ctypes.c_size_t
-    flags, status = ctypes.c_uint32, ctypes.c_uint32
-    types = {
-        "version": [],
-        "open": [handle, text, size, flags],
-        "validate": [handle, text, size, size, flags],
-        "validate_variables": [handle, text, size, text, size, size, flags],
-        "report": [handle, ctypes.c_void_p, size, ctypes.POINTER(size)],
-        "share": [handle, handle],
-        "close": [handle],
-    }
-    for name, arguments in types.items():
-        call = getattr(library, "vorxindak_" + name)
-        call.argtypes = arguments
-        call.restype = None if name == "close" else status
-    return library
+    return ctypes.CDLL(named or (str(beside) if beside.exists() else "libvorxindak.so"))
 
 
 _library = _load()
+_validate = _library.vorxindak_validate
+_validate_variables = _library.vorxindak_validate_variables
+_library.vorxindak_close.restype = None
+# A copy is too short for other threads to be let run beside it.
+_report = ctypes.PyDLL(_library._name, handle=_library._handle).vorxindak_report
+
+# Makes an argument of C's type size_t.
+_size = ctypes.c_size_t.from_param
+_DEFAULT_LIMIT = _size(1000)
+
+# Reads JSON at a place of a text. json.loads calls it between regular expressions for white space.
+_scan = json.JSONDecoder().scan_once
+# Makes named tuples at once, where their class has a function in Python for it.
+_new = tuple.__new__
 
 
 class Location(NamedTuple):
@@ -83,40 +84,80 @@ def version() -> str:
 
 
 class _Handle:
-    """A handle of the library. It is closed when nothing refers to it."""
+    """A handle of the library, with arguments of its calls. It is closed when nothing refers to it."""
 
     def __init__(self) -> None:
         self.raw = _Raw()
         self.at = ctypes.byref(self.raw)
-        self.make_room(4096)
-        self.needed = ctypes.c_size_t(0)
+        self.needed = ctypes.c_size_t()
         self.needed_at = ctypes.byref(self.needed)
+        self.make_room(4096)
 
     def make_room(self, size: int) -> None:
-        self.size = size
-        self.room = ctypes.create_string_buffer(size)
-        self.view = memoryview(self.room)
+        self.size = _size(size)
+        self.room = bytearray(size)
+        self.room_at = ctypes.byref((ctypes.c_char * size).from_buffer(self.room))
 
-    def report(self) -> List[Error]:
-        status = _library.vorxindak_report(self.at, self.room, self.size, self.needed_at)
+    def errors(self, status: int) -> List[Error]:
+        """The errors that a call has found which answered so."""
+        if status == _VALID:
+            return []
+        if status == _OUT_OF_MEMORY:
+            raise MemoryError
+        status = _report(self.at, self.room_at, self.size, self.needed_at)
         if status == _TOO_SMALL:
             self.make_room(self.needed.value)
-            status = _library.vorxindak_report(self.at, self.room, self.size, self.needed_at)
+            status = _report(self.at, self.room_at, self.size, self.needed_at)
         if status != _VALID:
             raise ValueError("the schema is closed")
-        return [_error(it) for it in json.loads(str(self.view[: self.needed.value], "utf-8"))]
+        return _errors(self.room[: self.needed.value].decode())
 
     def __del__(self) -> None:
         _library.vorxindak_close(self.at)
 
 
-def _error(it: Mapping[str, Any]) -> Error:
-    locations = tuple([Location(at["line"], at["column"]) for at in it["locations"]])
-    return Error(it["message"], locations, it.get("path"))
+class _Handles(threading.local):
+    """The handles of the threads that use a schema. A thread's first use of this makes its own."""
+
+    def __init__(self, first: _Handle, lock: threading.Lock) -> None:
+        self.handle = _Handle()
+        with lock:
+            status = _library.vorxindak_share(first.at, self.handle.at)
+        if status != _VALID:
+            raise MemoryError
+
+
+class _Closed:
+    """What stands in place of the handles of a schema that was closed."""
+
+    @property
+    def handle(self) -> _Handle:
+        raise ValueError("the schema is closed")
+
+
+def _errors(report: str) -> List[Error]:
+    """The errors of a report. Raises ValueError, KeyError or TypeError of a text that is none."""
+    try:
+        items, end = _scan(report, 0)
+    except StopIteration:
+        raise ValueError("a report is JSON") from None
+    if not isinstance(items, list) or report[end:].strip():
+        raise ValueError("a report is one list")
+    errors = []
+    for it in items:
+        locations = []
+        for at in it["locations"]:
+            locations.append(_new(Location, (at["line"], at["column"])))
+        errors.append(_new(Error, (it["message"], tuple(locations), it.get("path"))))
+    return errors
 
 
 def _bytes(text: Union[str, bytes]) -> bytes:
-    return text.encode("utf-8") if isinstance(text, str) else text
+    if isinstance(text, str):
+        return text.encode()
+    if isinstance(text, bytes):
+        return text
+    raise TypeError("a text is str or bytes")
 
 
 class Schema:
@@ -129,15 +170,12 @@ class Schema:
     def __init__(self, *texts: Union[str, bytes], dialect: str = "october2021") -> None:
         flags = _DIALECTS[dialect]
         joined = b"\0".join(map(_bytes, texts))
-        # The handle that those of the threads are shared from, under the lock. No document is judged by it.
-        self._first: Optional[_Handle] = _Handle()
-        self._lock = threading.Lock()
-        self._local = threading.local()
-        status = _library.vorxindak_open(self._first.at, joined, len(joined), flags)
-        if status == _OUT_OF_MEMORY:
-            raise MemoryError
+        # The handles of the threads are shared from it, under a lock. No document is judged by it.
+        first = _Handle()
+        status = _library.vorxindak_open(first.at, joined, _size(len(joined)), flags)
         if status != _VALID:
-            raise SchemaError(self._first.report())
+            raise SchemaError(first.errors(status))
+        self._threads: Union[_Handles, _Closed] = _Handles(first, threading.Lock())
 
     def validate(
         self, query: Union[str, bytes], *, introspection: bool = True, max_errors: int = 1000
@@ -146,11 +184,11 @@ class Schema:
 
         There are at most `max_errors` of them, or all for 0. A text that is not a document has its syntax error.
         """
-        handle, text = self._handle(), _bytes(query)
-        status = _library.vorxindak_validate(
-            handle.at, text, len(text), max_errors, int(not introspection)
-        )
-        return self._errors(handle, status)
+        handle, text = self._threads.handle, _bytes(query)
+        limit = _DEFAULT_LIMIT if max_errors == 1000 else _size(max_errors)
+        flags = 0 if introspection else _NO_INTROSPECTION
+        status = _validate(handle.at, text, _size(len(text)), limit, flags)
+        return handle.errors(status)
 
     def validate_variables(
         self,
@@ -165,42 +203,20 @@ class Schema:
         The values are a mapping, or JSON of one.
         """
         given = values if isinstance(values, (str, bytes)) else json.dumps(values)
-        handle, text, given = self._handle(), _bytes(query), _bytes(given)
-        status = _library.vorxindak_validate_variables(
-            handle.at, text, len(text), given, len(given), max_errors, int(not introspection)
+        handle, text, given = self._threads.handle, _bytes(query), _bytes(given)
+        limit = _DEFAULT_LIMIT if max_errors == 1000 else _size(max_errors)
+        flags = 0 if introspection else _NO_INTROSPECTION
+        status = _validate_variables(
+            handle.at, text, _size(len(text)), given, _size(len(given)), limit, flags
         )
-        return self._errors(handle, status)
+        return handle.errors(status)
 
     def close(self) -> None:
         """Lets go of the schema. Further calls raise ValueError."""
-        self._first = None
-        self._local = threading.local()
+        self._threads = _Closed()
 
     def __enter__(self) -> "Schema":
         return self
 
     def __exit__(self, *_: object) -> None:
         self.close()
-
-    @staticmethod
-    def _errors(handle: _Handle, status: int) -> List[Error]:
-        if status == _VALID:
-            return []
-        if status == _OUT_OF_MEMORY:
-            raise MemoryError
-        return handle.report()
-
-    def _handle(self) -> _Handle:
-        """This thread's handle, which is made by the thread's first call."""
-        handle = getattr(self._local, "handle", None)
-        if handle is not None:
-            return handle
-        handle = _Handle()
-        with self._lock:
-            if self._first is None:
-                raise ValueError("the schema is closed")
-            status = _library.vorxindak_share(self._first.at, handle.at)
-        if status == _OUT_OF_MEMORY:
-            raise MemoryError
-        self._local.handle = handle
-        return handle

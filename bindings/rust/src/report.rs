@@ -122,3 +122,43 @@ fn escaped(characters: &mut std::str::Chars<'_>) -> char {
         None => '\u{fffd}',
     }
 }
+
+#[cfg(test)]
+mod tests {
+    use super::{read_report, Error, Location};
+
+    fn error(message: &str, locations: &[(usize, usize)], path: Option<&str>) -> Error {
+        let locations = locations
+            .iter()
+            .map(|&(line, column)| Location { line, column });
+        Error {
+            message: message.to_owned(),
+            locations: locations.collect(),
+            path: path.map(str::to_owned),
+        }
+    }
+
+    #[test]
+    fn empty_lists() {
+        assert_eq!(read_report(b"[]"), []);
+        assert_eq!(read_report(b" [ ]\n"), []);
+    }
+
+    #[test]
+    fn strings() {
+        let spelled = r#"[{"message": "\"\\\/\b\f\n\r\t\u001Fé😀", "locations": []}]"#;
+        let meant = "\"\\/\u{8}\u{c}\n\r\t\u{1f}é😀";
+        assert_eq!(read_report(spelled.as_bytes()), [error(meant, &[], None)]);
+    }
+
+    #[test]
+    fn several() {
+        let spelled = r#"[{"locations": [{"column": 2, "line": 1}, {"line": 34, "column": 567}],
+            "message": "a"}, {"message": "b", "locations": [], "path": "0"}]"#;
+        let meant = [
+            error("a", &[(1, 2), (34, 567)], None),
+            error("b", &[], Some("0")),
+        ];
+        assert_eq!(read_report(spelled.as_bytes()), meant);
+    }
+}

@@ -64,6 +64,48 @@ fn options_and_variables() {
 }
 
 #[test]
+fn messages() {
+    let mut key: String = ('\u{0}'..' ').collect();
+    key += "\"\\/é\u{2028}😀\u{7f}";
+    let escaped = |it: char| match it {
+        '"' | '\\' => format!("\\{it}"),
+        it if it < ' ' => format!("\\u{:04x}", u32::from(it)),
+        it => it.to_string(),
+    };
+    let spelled: String = key.chars().map(escaped).collect();
+    let sdl = "type Query { find(by: Filter): Int } input Filter { name: Int }";
+    let errors = Schema::open(sdl).unwrap().validate_variables(
+        "query($by: Filter) { find(by: $by) }",
+        format!("{{\"by\": {{\"{spelled}\": 1}}}}"),
+        Options::default(),
+    );
+    let wanted = Error {
+        message: format!("Variable \"$by\" got invalid value. In field \"{key}\": Unknown field."),
+        locations: vec![Location { line: 1, column: 7 }],
+        path: None,
+    };
+    assert_eq!(errors.unwrap(), [wanted]);
+}
+
+#[test]
+fn locations() {
+    let query = "query A { greeting(name: \"Ada\") }";
+    let mut schema = Schema::open(SDL).unwrap();
+    let wanted = Error {
+        message: "There can only be one operation named A".to_owned(),
+        locations: vec![
+            Location { line: 1, column: 1 },
+            Location { line: 2, column: 3 },
+        ],
+        path: None,
+    };
+    assert_eq!(
+        schema.validate(format!("{query}\n  {query}")).unwrap(),
+        [wanted]
+    );
+}
+
+#[test]
 fn schemas() {
     let faulty = ["type Query { a: Int }", "type A { b: B }"];
     let Err(OpenError::Faults(faults)) = Schema::open_all(&faulty, Dialect::October2021) else {

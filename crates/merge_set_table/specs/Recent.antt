@@ -15,6 +15,10 @@ number_in_slot slots slot name = option_and_then (λ o. option_and_then (number_
 abbrev pub AreRecent : NameMap → List (Option RecentName) → Type 0
 AreRecent map slots = (slot : ℕ) (name : List ℕ) (k : ℕ) → number_in_slot slots slot name ≡ Some k → number_at map name ≡ Some k
 
+-- What stands in a slot stood there before.
+abbrev pub ForgetsNames : List (Option RecentName) → List (Option RecentName) → Type 0
+ForgetsNames old new = (slot : ℕ) (q : List ℕ) (k : ℕ) → number_in_slot new slot q ≡ Some k → number_in_slot old slot q ≡ Some k
+
 -- The name stands in the slot, and in every other what stood there.
 pub record KeepsName (slot : ℕ) (name : List ℕ) (number : ℕ) (old new : List (Option RecentName)) : Type 0 where
   pub there : (q : List ℕ) → number_in_slot new slot q ≡ (if bytes_eq name q then Some number else None)

@@ -3,7 +3,7 @@ ghost use Rattle.std.specs.Prelude.{◌≡◌, ℕ, List, None, Some, OnOk, IfOk
 ghost use Rattle.merge_set_table.specs.NameMap.{number_at, KeepsNumbers, AreNumbersApart};
 ghost use Rattle.merge_set_table.specs.Names.{number_in, KeepsNames, AreApart};
 
-use crate::recent::{SLOTS, keep_name, recent_number};
+use crate::recent::{keep_name, make_slots, recent_number};
 use crate::responses::ResponseNames;
 use language::error::OutOfMemory;
 use name_tables::slots::slot_of;
@@ -52,7 +52,7 @@ pub fn number_in_map<'a>(
 
 /// The number of a name; a name without one gets the next.
 ///
-/// In real documents few names stand again and again, so the recent ones are tried before the map.
+/// In real documents the same names stand again and again, so the recent ones are tried before the map.
 ///
 /// # Errors
 ///
@@ -62,11 +62,12 @@ pub fn number_name<'a>(names: &mut ResponseNames<'a>, name: &'a str) -> Result<u
     ensures kept { OnOk result (KeepsNames names.old names.new) }
     ensures apart { AreApart names.old → OnOk result (AreApart names.new) }
 {
-    let slot = slot_of(name, SLOTS);
+    make_slots(&mut names.recent, names.map.len())?;
+    let slot = slot_of(name, names.recent.len());
     if let Some(number) = recent_number(names.recent.as_slice(), slot, name) {
         return Ok(number);
     }
     let number = number_in_map(&mut names.map, name)?;
-    keep_name(&mut names.recent, slot, name, number)?;
+    keep_name(&mut names.recent, slot, name, number);
     Ok(number)
 }

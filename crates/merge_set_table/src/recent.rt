@@ -1,17 +1,38 @@
 //! Names that were numbered a short while ago, so that most names need no look at the map.
-ghost use Rattle.std.specs.Prelude.{◌≡◌, ◌<◌, OnOk, OnErr};
-ghost use Rattle.merge_set_table.specs.Recent.{number_in_slot, KeepsName};
+ghost use Rattle.std.specs.Prelude.{◌≡◌, ◌<◌, OnOk, length};
+ghost use Rattle.merge_set_table.specs.Recent.{number_in_slot, ForgetsNames, KeepsName};
 
+use name_tables::slots::slot_count;
 use std::alloc::AllocError;
 
-/// How many names are kept at most.
-pub const SLOTS: usize = 64;
+/// The least number of names for which there are slots.
+const FEW: usize = 16;
+
+/// From this number of names on, there are no more slots.
+const MANY: usize = 1 << 18;
 
 /// A name and its number.
 #[derive(Clone, Copy, Debug, Drop)]
 pub struct RecentName<'a> {
     pub name: &'a str,
     pub number: usize,
+}
+
+/// Makes more slots than this many names, where there are not. The names in the slots are forgotten then.
+///
+/// # Errors
+///
+/// Out of memory. The names in the slots may be forgotten.
+pub fn make_slots(recent: &mut Vec<Option<RecentName<'_>>>, names: usize) -> Result<(), AllocError>
+    ensures some { OnOk result (0 < length recent.new.items) }
+    ensures forgets { ForgetsNames recent.old.items recent.new.items }
+{
+    let names = names.min(MANY);
+    if names < recent.len() {
+        return Ok(());
+    }
+    recent.clear();
+    recent.resize(slot_count(2 * names.max(FEW)), None)
 }
 
 /// The number of a name, where it is the one in the slot.
@@ -26,24 +47,15 @@ pub fn recent_number(recent: &[Option<RecentName<'_>>], slot: usize, name: &str)
     }
 }
 
-/// Puts a name into its slot, in place of the one there. The slots are made for the first name.
-///
-/// # Errors
-///
-/// Out of memory. The slots are unchanged.
+/// Puts a name into its slot, in place of the one there.
 pub fn keep_name<'a>(
     recent: &mut Vec<Option<RecentName<'a>>>,
     slot: usize,
     name: &'a str,
     number: usize,
-) -> Result<(), AllocError>
-    requires { slot < 64 }
-    ensures kept { OnOk result (KeepsName slot name.now number recent.old.items recent.new.items) }
-    ensures unchanged { OnErr result (recent.new.items ≡ recent.old.items) }
+)
+    requires { slot < length recent.old.items }
+    ensures { KeepsName slot name.now number recent.old.items recent.new.items }
 {
-    if recent.len() <= slot {
-        recent.resize(SLOTS, None)?;
-    }
     recent[slot] = Some(RecentName { name, number });
-    Ok(())
 }

@@ -89,6 +89,9 @@ fn report_on_field<'a, S: CheckedScalar>(
     ensures ok { OnOk result (ctx.new ≡ with_errors ctx.old (unknown_on_field (typing ctx.old).parent field.now)) }
     ensures err { OnErr result (KeepsPlace ctx.old ctx.new) }
 {
+    if field.arguments.is_none() {
+        return Ok(());
+    }
     let parent = ctx.parent_type();
     let name = field.name.item;
     let bearer = Bearer::Field(name, name_of_known(parent));
