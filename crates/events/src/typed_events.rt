@@ -142,7 +142,7 @@ fn type_of_input_field<'a, S, C>(
         ≡ input_field_literal schema.now (option_map borrowed_shape literal.entry) key.now }
 {
     let object = schema.concrete_type_by_name(literal?.name()?)?;
-    match schema.input_field_by_name(object, key) {
+    match object.input_field_by_name(key) {
         Some(field) => Some(field.arg_type.as_borrowed()),
         None => None,
     }

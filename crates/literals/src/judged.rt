@@ -293,7 +293,7 @@ fn begin_entry<'t, 'a, 'v, S: CheckedScalar>(
         → All (IsKnown schema.now) begun.new.items) }
 {
     let key = entry.0.item.as_str();
-    match schema.input_field_by_name(meta, key) {
+    match meta.input_field_by_name(key) {
         None => Ok(Some(unknown_fault(alloc, meta, key)?)),
         Some(field) => {
             let expected = type_of_field(schema, field);

@@ -4,3 +4,4 @@ pub mod Deprecation
 pub mod Functions
 pub mod Kept
 pub mod Kinds
+pub mod Places

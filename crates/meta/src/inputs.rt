@@ -1,13 +1,14 @@
 //! Input objects.
-ghost use Rattle.std.specs.Prelude.{◌≡◌, IfOk, None, Some, option_map, string_bytes};
+ghost use Rattle.std.specs.Prelude.{◌≡◌, IfOk, None, Some, map, option_map, string_bytes};
 ghost use Rattle.meta.specs.Answers.{AnswersAlike, TakesAll};
 ghost use Rattle.meta.specs.Functions.{function_of};
-ghost use Rattle.meta.specs.Kept.{input_object_check};
+ghost use Rattle.meta.specs.Places.{IsOrder};
 
 use crate::arguments::Argument;
 use crate::check::CheckedScalar;
 use crate::default_check::{DefaultCheck, InputValueParseFn};
 use crate::kinds::MetaTypeOf;
+use crate::places::order_of;
 use language::error::OutOfMemory;
 use language::value::DefaultScalarValue;
 use std::alloc::Global;
@@ -19,12 +20,17 @@ pub struct InputObjectMetaOf<S, C> {
     pub description: Option<String>,
     pub input_fields: Vec<Argument<S>>,
     check: C,
+    // The indices of the input fields in the order of their names; none where there are few.
+    pub(crate) order: Vec<usize>,
+    ghost ordered: { IsOrder (map (λ a. string_bytes a.name) input_fields.items) order.items },
 }
 
 /// Metadata of an input object, with the check of the scalar type `S`.
 pub type InputObjectMeta<S> = InputObjectMetaOf<S, <S as CheckedScalar>::Check>;
 
 impl InputObjectMetaOf<DefaultScalarValue, DefaultCheck> {
+    ghost use Rattle.meta.specs.Kept.{input_object_check};
+
     /// An input object of this name with these fields, and no description.
     ///
     /// The check has to take every value. It has to give the same answer to the same value each time,
@@ -51,6 +57,8 @@ impl InputObjectMetaOf<DefaultScalarValue, DefaultCheck> {
 }
 
 impl<S: Drop, C: Drop> InputObjectMetaOf<S, C> {
+    ghost use Rattle.meta.specs.Kept.{input_object_check};
+
     /// An input object of this name with these fields and this check, and no description (section
     /// 3.10).
     ///
@@ -68,11 +76,13 @@ impl<S: Drop, C: Drop> InputObjectMetaOf<S, C> {
         ensures input_fields { IfOk result (λ m. m.input_fields ≡ input_fields) }
         ensures check { IfOk result (λ m. input_object_check m ≡ check) }
     {
+        let order = order_of(alloc, &input_fields)?;
         Ok(InputObjectMetaOf {
             name: String::from_str(alloc, name)?,
             description: None,
             input_fields,
             check,
+            order,
         })
     }
 
@@ -83,7 +93,9 @@ impl<S: Drop, C: Drop> InputObjectMetaOf<S, C> {
     /// Out of memory.
     pub fn description(mut self, text: &str) -> Result<Self, OutOfMemory>
         ensures text { IfOk result (λ m. option_map string_bytes m.description ≡ Some text.now) }
-        ensures others { IfOk result (λ m. m ≡ record self { description = m.description }) }
+        ensures name { IfOk result (λ m. m.name ≡ self.name) }
+        ensures input_fields { IfOk result (λ m. m.input_fields ≡ self.input_fields) }
+        ensures check { IfOk result (λ m. input_object_check m ≡ input_object_check self) }
     {
         self.description = Some(String::from_str(*self.name.allocator(), text)?);
         Ok(self)
@@ -91,6 +103,8 @@ impl<S: Drop, C: Drop> InputObjectMetaOf<S, C> {
 }
 
 impl<S, C> InputObjectMetaOf<S, C> {
+    ghost use Rattle.meta.specs.Kept.{input_object_check};
+
     /// The input object as metadata of any kind.
     pub fn into_meta(self) -> MetaTypeOf<S, C>
         ensures { result ≡ MetaTypeOf.InputObject self }

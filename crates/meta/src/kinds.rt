@@ -12,8 +12,8 @@ use crate::enums::EnumMetaOf;
 use crate::fields::Field;
 use crate::inputs::InputObjectMetaOf;
 use crate::interfaces::InterfaceMeta;
-use crate::named::first_named;
 use crate::objects::ObjectMeta;
+use crate::places::first_in_order;
 use crate::scalars::ScalarMetaOf;
 use crate::texts::as_text;
 use crate::unions::UnionMeta;
@@ -141,23 +141,25 @@ impl<S, C> MetaTypeOf<S, C> {
         }
     }
 
-    /// The first field of this name; `None` unless the type is an object or an interface.
+    /// The first field of this name; `None` unless the type is an object or an interface. The look-up takes
+    /// logarithmic time in the number of fields.
     pub fn field_by_name(&self, name: &str) -> Option<&Field<S>>
         ensures { option_copied result ≡ field_named name.now self.now }
     {
         match self {
-            MetaTypeOf::Object(meta) => first_named(meta.fields.as_slice(), name),
-            MetaTypeOf::Interface(meta) => first_named(meta.fields.as_slice(), name),
+            MetaTypeOf::Object(meta) => first_in_order(&meta.fields, &meta.order, name),
+            MetaTypeOf::Interface(meta) => first_in_order(&meta.fields, &meta.order, name),
             _ => None,
         }
     }
 
-    /// The first input field of this name; `None` unless the type is an input object.
+    /// The first input field of this name; `None` unless the type is an input object. The look-up takes logarithmic
+    /// time in the number of fields.
     pub fn input_field_by_name(&self, name: &str) -> Option<&Argument<S>>
         ensures { option_copied result ≡ input_field_named name.now self.now }
     {
         match self {
-            MetaTypeOf::InputObject(meta) => first_named(meta.input_fields.as_slice(), name),
+            MetaTypeOf::InputObject(meta) => first_in_order(&meta.input_fields, &meta.order, name),
             _ => None,
         }
     }

@@ -13,6 +13,7 @@ pub mod interfaces;
 pub mod kinds;
 pub mod named;
 pub mod objects;
+mod places;
 pub mod scalars;
 pub mod texts;
 pub mod unions;

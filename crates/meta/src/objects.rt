@@ -1,9 +1,11 @@
 //! Objects.
-ghost use Rattle.std.specs.Prelude.{◌≡◌, IfOk, None, Some, [], map, option_map, string_bytes};
+ghost use Rattle.std.specs.Prelude.{◌≡◌, ◌++◌, ◌∷◌, IfOk, None, Some, [], map, option_map, string_bytes};
 ghost use Rattle.language.specs.Types.{shape};
+ghost use Rattle.meta.specs.Places.{IsOrder};
 
 use crate::fields::Field;
 use crate::kinds::MetaTypeOf;
+use crate::places::order_of;
 use crate::texts::innermost_names;
 use language::error::OutOfMemory;
 use language::types::Type;
@@ -17,6 +19,9 @@ pub struct ObjectMeta<S> {
     pub fields: Vec<Field<S>>,
     /// The names of the interfaces that it implements, in order.
     pub interface_names: Vec<String>,
+    // The indices of the fields in the order of their names; none where there are few.
+    pub(crate) order: Vec<usize>,
+    ghost ordered: { IsOrder (map (λ f. string_bytes f.name) fields.items) order.items },
 }
 
 impl<S: Drop> ObjectMeta<S> {
@@ -31,11 +36,13 @@ impl<S: Drop> ObjectMeta<S> {
         ensures fields { IfOk result (λ m. m.fields ≡ fields) }
         ensures interfaces { IfOk result (λ m. m.interface_names.items ≡ []) }
     {
+        let order = order_of(alloc, &fields)?;
         Ok(ObjectMeta {
             name: String::from_str(alloc, name)?,
             description: None,
             fields,
             interface_names: Vec::new(alloc),
+            order,
         })
     }
 
@@ -46,7 +53,9 @@ impl<S: Drop> ObjectMeta<S> {
     /// Out of memory.
     pub fn description(mut self, text: &str) -> Result<Self, OutOfMemory>
         ensures text { IfOk result (λ m. option_map string_bytes m.description ≡ Some text.now) }
-        ensures others { IfOk result (λ m. m ≡ record self { description = m.description }) }
+        ensures name { IfOk result (λ m. m.name ≡ self.name) }
+        ensures fields { IfOk result (λ m. m.fields ≡ self.fields) }
+        ensures interfaces { IfOk result (λ m. m.interface_names ≡ self.interface_names) }
     {
         self.description = Some(String::from_str(*self.name.allocator(), text)?);
         Ok(self)
@@ -60,10 +69,43 @@ impl<S: Drop> ObjectMeta<S> {
     pub fn interfaces(mut self, interfaces: Vec<Type>) -> Result<Self, OutOfMemory>
         ensures interfaces { IfOk result (λ m. map string_bytes m.interface_names.items
             ≡ map (λ t. (shape t).name) interfaces.items) }
-        ensures others { IfOk result (λ m. m ≡ record self { interface_names = m.interface_names }) }
+        ensures name { IfOk result (λ m. m.name ≡ self.name) }
+        ensures description { IfOk result (λ m. m.description ≡ self.description) }
+        ensures fields { IfOk result (λ m. m.fields ≡ self.fields) }
     {
         self.interface_names = innermost_names(*self.name.allocator(), interfaces.as_slice())?;
         Ok(self)
+    }
+}
+
+impl<S: Drop> ObjectMeta<S> {
+    /// Adds a field at the end, even if another has its name (section 3.6).
+    ///
+    /// # Errors
+    ///
+    /// Out of memory.
+    pub fn add_field(self, field: Field<S>) -> Result<Self, OutOfMemory>
+        ensures name { IfOk result (λ m. m.name ≡ self.name) }
+        ensures description { IfOk result (λ m. m.description ≡ self.description) }
+        ensures fields { IfOk result (λ m. m.fields.items ≡ self.fields.items ++ field ∷ []) }
+        ensures interfaces { IfOk result (λ m. m.interface_names ≡ self.interface_names) }
+    {
+        let ObjectMeta {
+            name,
+            description,
+            mut fields,
+            interface_names,
+            order: _,
+        } = self;
+        fields.push(field)?;
+        let order = order_of(*name.allocator(), &fields)?;
+        Ok(ObjectMeta {
+            name,
+            description,
+            fields,
+            interface_names,
+            order,
+        })
     }
 }
 

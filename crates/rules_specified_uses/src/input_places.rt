@@ -63,7 +63,7 @@ pub fn field_place<'a, S, C>(
 {
     let name = place?.expected.innermost_name();
     let object = schema.concrete_type_by_name(name)?;
-    match schema.input_field_by_name(object, key) {
+    match object.input_field_by_name(key) {
         Some(field) => Some(place_of(field)),
         None => None,
     }

@@ -2,7 +2,6 @@ pub mod AcceptedLemmas
 pub mod ChangeLemmas
 pub mod ConcreteLemmas
 pub mod DistinctLemmas
-pub mod InputLookups
 pub mod NamesBelow
 pub mod OrderLemmas
 pub mod PossibleLemmas

@@ -10,6 +10,7 @@ use Rattle.sdl_scalars.specs.contracts.scalar.SourceScalar.{the_row as S}
 use Rattle.sdl_scalars.specs.contracts.check.SourceCheck.{the_row as C}
 use Rattle.meta.specs.contracts.kinds.MetaTypeOf as MetaType
 use Rattle.meta.specs.contracts.scalars.ScalarMetaOf as ScalarMeta
+use Rattle.meta.specs.contracts.fields.Field as Field
 use Rattle.meta.specs.contracts.objects.ObjectMeta as ObjectMeta
 use Rattle.meta.specs.contracts.enums.EnumMetaOf as EnumMeta
 use Rattle.meta.specs.contracts.interfaces.InterfaceMeta as InterfaceMeta
@@ -56,14 +57,17 @@ meta_type_send = search (scalar_send, object_send, enum_send, interface_send, un
 scalar_sync : IsSync (ScalarMeta.the_field C).row
 scalar_sync = search (crosses, knot.crosses_both, sendable) depth 60 fits 20000
 
+field_sync : IsSync (Field.the_field S).row
+field_sync = search (crosses, knot.crosses_both, sendable) depth 60 fits 20000
+
 object_sync : IsSync (ObjectMeta.the_field S).row
-object_sync = search (crosses, knot.crosses_both, sendable) depth 60 fits 20000
+object_sync = search (field_sync, crosses, knot.crosses_both, sendable) depth 60 fits 20000
 
 enum_sync : IsSync (EnumMeta.the_field C).row
 enum_sync = search (crosses, knot.crosses_both, sendable) depth 60 fits 20000
 
 interface_sync : IsSync (InterfaceMeta.the_field S).row
-interface_sync = search (crosses, knot.crosses_both, sendable) depth 60 fits 20000
+interface_sync = search (field_sync, crosses, knot.crosses_both, sendable) depth 60 fits 20000
 
 union_sync : IsSync UnionMeta.the_field.row
 union_sync = search (crosses, knot.crosses_both, sendable) depth 60 fits 20000
@@ -103,13 +107,10 @@ fields_send =
               (
                 search (crosses, knot.crosses, sendable) depth 60 fits 20000,
                 (
-                  search (crosses, knot.crosses, sendable) depth 60 fits 20000,
+                  search (directive_send, crosses, knot.crosses, sendable) depth 60 fits 20000,
                   (
-                    search (directive_send, crosses, knot.crosses, sendable) depth 60 fits 20000,
-                    (
-                      search (crosses, knot.crosses, sendable) depth 60 fits 20000,
-                      tt,
-                    ),
+                    search (crosses, knot.crosses, sendable) depth 60 fits 20000,
+                    tt,
                   ),
                 ),
               ),
@@ -142,13 +143,10 @@ fields_sync =
               (
                 search (crosses, knot.crosses_both, sendable) depth 60 fits 20000,
                 (
-                  search (crosses, knot.crosses_both, sendable) depth 60 fits 20000,
+                  search (directive_sync, crosses, knot.crosses_both, sendable) depth 60 fits 20000,
                   (
-                    search (directive_sync, crosses, knot.crosses_both, sendable) depth 60 fits 20000,
-                    (
-                      search (crosses, knot.crosses_both, sendable) depth 60 fits 20000,
-                      tt,
-                    ),
+                    search (crosses, knot.crosses_both, sendable) depth 60 fits 20000,
+                    tt,
                   ),
                 ),
               ),

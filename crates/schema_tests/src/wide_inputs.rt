@@ -77,7 +77,7 @@ fn found<'s>(schema: &'s Schema, name: &str, key: &str) -> &'s str {
     let Some(meta) = schema.concrete_type_by_name(name) else {
         return "no type";
     };
-    match schema.input_field_by_name(meta, key) {
+    match meta.input_field_by_name(key) {
         Some(field) => match &field.description {
             Some(text) => text.as_str(),
             None => "undescribed",

@@ -1,5 +1,5 @@
 -- The list of types in which one object is replaced by another.
-use Rattle.std.proofs.Common.{◌≡◌, ℕ, ◌+◌, ◌-◌, ◌<◌, List, [], ◌∷◌, ◌++◌, true, ◌&&◌, length, suc, take, drop, get_or, add-one, append_assoc, length-take, string_bytes, ap, subst, sym, ◌∙◌, arith}
+use Rattle.std.proofs.Common.{◌≡◌, refl, ℕ, ◌+◌, ◌-◌, ◌<◌, List, [], ◌∷◌, ◌++◌, true, ◌&&◌, length, suc, take, drop, get_or, add-one, append_assoc, length-take, string_bytes, ap, subst, sym, ◌∙◌, arith}
 use Rattle.std.specs.Prelude.{insert, remove}
 use Rattle.std.specs.List.{HoldsAt}
 use Rattle.std.proofs.lemmas.Bool.{and_parts}
@@ -44,3 +44,23 @@ module _ {S C : Type 0} (q : List ℕ) (slice ts rest whole : List (MetaTypeOf S
         named = (bytes_eq-Decides (string_bytes x.name) q).0 (and_parts (is_named {S = S} {C = C} q (m.Object x)) true at_x).0;
         added = added;
       }
+
+-- what tests as an object is one
+object_or : {S C : Type 0} (t : MetaTypeOf S C) → is_object_meta t ≡ true → ((x : ObjectMeta S) → t ≡ m.Object x → ⊥) → ⊥
+object_or (m.Scalar x) is none = cc
+object_or (m.List x) is none = cc
+object_or (m.Nullable x) is none = cc
+object_or (m.Object x) is none = none x refl
+object_or (m.Enum x) is none = cc
+object_or (m.Interface x) is none = cc
+object_or (m.Union x) is none = cc
+object_or (m.InputObject x) is none = cc
+object_or (m.Placeholder x) is none = cc
+
+-- the type that was taken out is an object
+pub object_removed : {S C : Type 0} (q : List ℕ) (slice ts : List (MetaTypeOf S C)) (i : ℕ) (t : MetaTypeOf S C) → slice ≡ ts
+    → HoldsAt (λ u. (is_named q u && is_object_meta u) ≡ true) slice i → t ≡ get_or ts i t → ((x : ObjectMeta S) → t ≡ m.Object x → ⊥) → ⊥
+object_removed {S} {C} q slice ts i t same holds here none =
+    let test = subst (λ l. (is_named q (get_or l i t) && is_object_meta (get_or l i t)) ≡ true) same (holds t) in
+    let at_t : (is_named {S = S} {C = C} q t && is_object_meta {S = S} {C = C} t) ≡ true = subst (λ u. (is_named q u && is_object_meta u) ≡ true) (sym here) test in
+    object_or t (and_parts (is_named {S = S} {C = C} q t) (is_object_meta t) at_t).1 none

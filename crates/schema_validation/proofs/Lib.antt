@@ -1,10 +1,8 @@
 pub mod DirectiveLemmas
 pub mod ExtendLemmas
 pub mod Finds
-pub mod InputOrderLemmas
 pub mod KeyedLemmas
 pub mod KindLemmas
-pub mod PlaceLemmas
 pub mod Refusals
 pub mod SwapLemmas
 pub mod TableLemmas

@@ -2,11 +2,9 @@ pub mod Accepted
 pub mod Added
 pub mod Directives
 pub mod ErrorTexts
-pub mod InputOrders
 pub mod Locations
 pub mod Named
 pub mod Names
-pub mod Places
 pub mod Repeated
 pub mod RootNames
 pub mod Tables

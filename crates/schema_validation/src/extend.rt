@@ -20,20 +20,9 @@ fn extend_object<S: Drop>(
 {
     let schema_field = make_schema_field(alloc)?;
     let type_field = make_type_field(alloc)?;
-    let ObjectMeta {
-        name,
-        description,
-        mut fields,
-        interface_names,
-    } = object;
-    fields.push(schema_field)?;
-    fields.push(type_field)?;
-    Ok(ObjectMeta {
-        name,
-        description,
-        fields,
-        interface_names,
-    })
+    let extended = object.add_field(schema_field)?;
+    let whole = extended.add_field(type_field)?;
+    Ok(whole)
 }
 
 /// The index of the first object type of this name.

@@ -10,8 +10,6 @@ pub mod extend;
 pub mod first;
 pub mod keyed;
 pub mod listed;
-pub mod orders;
-pub mod places;
 pub mod roots;
 pub mod slots;
 pub mod standard_directives;

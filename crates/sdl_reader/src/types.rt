@@ -127,12 +127,10 @@ fn object_of(
 ) -> Result<SourceMeta, OutOfMemory> {
     let fields = fields_of(alloc, defined, extensions)?;
     let interface_names = interfaces_of(alloc, defined, extensions)?;
-    Ok(MetaTypeOf::Object(ObjectMeta {
-        name: String::from_str(alloc, defined.name.item)?,
-        description: copied(alloc, &defined.description)?,
-        fields,
-        interface_names,
-    }))
+    let mut object = ObjectMeta::new(alloc, defined.name.item, fields)?;
+    object.description = copied(alloc, &defined.description)?;
+    object.interface_names = interface_names;
+    Ok(MetaTypeOf::Object(object))
 }
 
 fn interface_of(
@@ -142,12 +140,10 @@ fn interface_of(
 ) -> Result<SourceMeta, OutOfMemory> {
     let fields = fields_of(alloc, defined, extensions)?;
     let interface_names = interfaces_of(alloc, defined, extensions)?;
-    Ok(MetaTypeOf::Interface(InterfaceMeta {
-        name: String::from_str(alloc, defined.name.item)?,
-        description: copied(alloc, &defined.description)?,
-        fields,
-        interface_names,
-    }))
+    let mut interface = InterfaceMeta::new(alloc, defined.name.item, fields)?;
+    interface.description = copied(alloc, &defined.description)?;
+    interface.interface_names = interface_names;
+    Ok(MetaTypeOf::Interface(interface))
 }
 
 // `__typename: String!`, which each object and interface has (section 4.1).

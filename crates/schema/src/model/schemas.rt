@@ -6,11 +6,9 @@ ghost use Rattle.schema_validation.specs.Accepted.{IsAccepted, is_input_listed};
 ghost use Rattle.schema_validation.specs.Directives.{directive_name, directive_inputs};
 ghost use Rattle.meta.specs.Kinds.{name_of_meta};
 ghost use Rattle.schema.specs.Catalog.{kept_roots};
-ghost use Rattle.schema_validation.specs.InputOrders.{AreOrders};
 ghost use Rattle.schema_validation.specs.Named.{are_distinct, are_keyed};
 
 mod changes;
-mod inputs;
 mod lists;
 mod ordered;
 mod possible;
@@ -29,7 +27,6 @@ use schema_validation::directives::DirectiveType;
 use schema_validation::error::SchemaError;
 use schema_validation::extend::with_added_fields;
 use schema_validation::keyed::map_by_name;
-use schema_validation::orders::{InputOrders, input_orders};
 use schema_validation::roots::RootNames;
 use schema_validation::slots::type_slots;
 use schema_validation::standard_directives::directives_by_name;
@@ -42,7 +39,6 @@ pub struct SchemaTypeOf<S, C> {
     description: Option<String>,
     types: IndexMap<String, MetaTypeOf<S, C>>,
     slots: Vec<Option<usize>>,
-    orders: InputOrders,
     query: String,
     mutation: Option<String>,
     subscription: Option<String>,
@@ -54,7 +50,6 @@ pub struct SchemaTypeOf<S, C> {
     ghost keyed: { are_keyed name_of_meta types.entries ≡ true },
     ghost directives_keyed: { are_keyed directive_name directives.entries ≡ true },
     ghost directives_distinct: { are_distinct directive_name (values directives) ≡ true },
-    ghost ordered: { AreOrders (values types) orders.entries },
     ghost slotted: { 0 < length slots.items },
 }
 
@@ -153,14 +148,12 @@ impl<S: Drop, C: Drop> SchemaTypeOf<S, C> {
         let mutation = copy_text(alloc, roots.mutation)?;
         let subscription = copy_text(alloc, roots.subscription)?;
         let directives = directives_by_name(alloc)?;
-        let orders = input_orders(alloc, types.as_slice())?;
         let types = map_by_name(alloc, types)?;
         let slots = type_slots(alloc, &types)?;
         Ok(SchemaTypeOf {
             description: None,
             types,
             slots,
-            orders,
             query,
             mutation,
             subscription,

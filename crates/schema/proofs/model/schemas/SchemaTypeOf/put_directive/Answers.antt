@@ -17,7 +17,7 @@ invariant_of-self-inside g c =
       s.accepted,
       (
         inputs-either (is_input_listed (values s.types)) c.args.directive (values s.directives) (values c.put_entry.new.directives) (is_ok c.put_entry.result) input s.directive_inputs_input c.put_entry.ensures.listed,
-        (s.keyed, (c.put_entry.ensures.keyed, (distinct-either c.args.directive (values s.directives) (values c.put_entry.new.directives) (is_ok c.put_entry.result) s.directives_distinct c.put_entry.ensures.listed, (s.ordered, (s.slotted, tt))))),
+        (s.keyed, (c.put_entry.ensures.keyed, (distinct-either c.args.directive (values s.directives) (values c.put_entry.new.directives) (is_ok c.put_entry.result) s.directives_distinct c.put_entry.ensures.listed, (s.slotted, tt)))),
       ),
     )
 

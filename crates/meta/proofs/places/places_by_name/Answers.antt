@@ -1,9 +1,9 @@
 use Rattle.std.proofs.Common.{◌≡◌, rules, map}
 use Rattle.std.specs.Ordering.{is_lt}
 use Rattle.std.proofs.lemmas.Fn.{always_returns_same}
-use Rattle.schema_validation.specs.Places.{is_below}
-use Rattle.schema_validation.proofs.PlaceLemmas.{below_orders, stays_first}
-use Rattle.schema_validation.proofs.places.places_by_name.Goals as goal
+use Rattle.meta.specs.Places.{is_below}
+use Rattle.meta.proofs.PlaceLemmas.{below_orders, stays_first}
+use Rattle.meta.proofs.places.places_by_name.Goals as goal
 
 pub returns-clause-ascending : goal.returns-clause-ascending
 returns-clause-ascending g c =

@@ -19,7 +19,7 @@ use Rattle.std.proofs.lemmas.Option.{slice_get_past, slice_get_read}
 use Rattle.std.proofs.lemmas.Map.Text.{is_eq-slice_cmp}
 use Rattle.std.proofs.lemmas.Slice.Eq.{bytes_eq-Decides}
 use denote.Param.Members.{Mut}
-use Rattle.schema_validation.specs.Places.{AreAscending, StandFirst, first_place, is_at, is_below, name_at}
+use Rattle.meta.specs.Places.{AreAscending, StandFirst, first_place, is_at, is_below, name_at}
 
 first_of_one : (b : Bool) → cond {A = Option ℕ} b (Some 0) None ≡ option_or None (cond b (Some 0) None)
 first_of_one b = refl

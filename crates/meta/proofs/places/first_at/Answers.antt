@@ -1,8 +1,8 @@
 use Rattle.std.proofs.Common.{rules, map, ap, sym, ◌∙◌}
 use Rattle.std.specs.Option.{option_copied}
 use Rattle.std.specs.Str.{bytes_eq}
-use Rattle.schema_validation.proofs.PlaceLemmas.{point_of, ends_past, ends_nowhere, ends_at, ends_at_other}
-use Rattle.schema_validation.proofs.places.first_at.Goals as goal
+use Rattle.meta.proofs.PlaceLemmas.{point_of, ends_past, ends_nowhere, ends_at, ends_at_other}
+use Rattle.meta.proofs.places.first_at.Goals as goal
 
 pub returns-in_err-get : goal.returns-in_err-get
 returns-in_err-get g c =

@@ -1,9 +1,9 @@
 use Rattle.std.proofs.Common.{◌<◌, ◌≤◌, map, ap, ◌∙◌, length, arith}
 use Rattle.std.specs.Prelude.{find}
 use Rattle.std.proofs.lemmas.List.{length-map, take_all}
-use Rattle.schema_validation.specs.Places.{first_place, is_at}
-use Rattle.schema_validation.proofs.PlaceLemmas.{listed_more}
-use Rattle.schema_validation.proofs.places.all_places.Goals as goal
+use Rattle.meta.specs.Places.{first_place, is_at}
+use Rattle.meta.proofs.PlaceLemmas.{listed_more}
+use Rattle.meta.proofs.places.all_places.Goals as goal
 
 pub returns : goal.returns
 returns g c = λ name.

@@ -30,3 +30,7 @@ module _ (names : List (List ℕ)) where
   -- among the indices of one name the least comes first
   abbrev pub StandFirst : List ℕ → Type 0
   StandFirst places = (name : List ℕ) → find (is_at name) places ≡ first_place name names
+
+  -- the places of all names in their order, or none
+  abbrev pub IsOrder : List ℕ → Type 0
+  IsOrder places = (places ≡ [] → ⊥) → AreAscending places × StandFirst places
