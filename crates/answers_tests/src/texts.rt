@@ -2,7 +2,7 @@
 use answers::{Answer, Choices, Verdict, answer, answer_with_values, validate_text};
 use graphql_reader::ReadError;
 use sdl_reader::{SchemaReadError, read_schema};
-use std::alloc::Global;
+use std::alloc::{AllocError, Global};
 use validation::RootNode;
 
 const SCHEMA: &str = "type Query { pet(id: Int): Pet } type Pet { name: String }";
@@ -101,6 +101,20 @@ const ONE: Choices = Choices {
     max_errors: 1,
 };
 
+const TWO: Choices = Choices {
+    is_closed: false,
+    max_errors: 2,
+};
+
+/// How a report begins of a search that stopped: what has no place comes first.
+const STOPPED: &str = "[
+  {
+    \"message\": \"There may be more fields that conflict: the search for them was stopped\",
+    \"locations\": []
+  },
+  {
+    \"message\": \"Fields \\\"pet\\\" conflict because";
+
 /// Documents, what is chosen, and what is told of each.
 const DOCUMENTS: &[(&[u8], Choices, Verdict, &str)] = &[
     (b"{ pet { name } __typename }", SHUT, Verdict::Valid, "[]\n"),
@@ -177,6 +191,31 @@ fn a_refused_request_changes_no_errors(rt: HostRuntime) {
             None => true,
         };
         assert!(rt; is_steady);
+    }
+}
+
+// A document with one error, which has 33 times 33 reasons.
+fn many_reasons(alloc: Global) -> Result<String, AllocError> {
+    let mut text = String::from_str(alloc, "{ pet { ")?;
+    for _ in 0..33 {
+        text.push_str("a: name ")?;
+    }
+    text.push_str("} pet { ")?;
+    for _ in 0..33 {
+        text.push_str("a: __typename ")?;
+    }
+    text.push_str("} }")?;
+    Ok(text)
+}
+
+/// Of at most two errors 1,032 findings are enough.
+#[test]
+fn a_search_that_stops_is_told(rt: HostRuntime) {
+    let text = many_reasons(rt.alloc()).expect(&rt, "memory");
+    for (choices, is_stopped) in [(TWO, true), (OPEN, false)] {
+        let found = told(rt.alloc(), text.as_bytes(), choices).expect(&rt, "memory");
+        assert_eq!(rt; found.verdict, Verdict::Invalid);
+        assert_eq!(rt; found.report.as_str().starts_with(STOPPED), is_stopped);
     }
 }
 

@@ -29,7 +29,7 @@ pub record IsReportOn {S C : Type 0} (rules : Rules S C) (closed : Bool) (schema
     (document : List (Definition S)) (report : Report) : Type 0 where
   pub is_report : IsReport report
   pub compared : ℕ
-  pub all : IsRootReport rules closed schema document is_report.errors compared
+  pub all : IsRootReport rules 0 closed schema document is_report.errors compared
   pub pairs : is_report.pairs ≡ Some compared
 
 -- the report on fields of a document that can't be merged, and on nothing else

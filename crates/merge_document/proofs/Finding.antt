@@ -92,67 +92,72 @@ module _ {S C : Type 0} (E : S → S → Bool) (schema : Catalog S C) (document 
         let r = way_in (exclusive_at E schema document numbers m w is f g e' ∙ ap (λ (i : Bool). exclusive_of i x y) eq) t.3 t.4 v in
         (graph.down t.2 r.0, λ p. elim p [ inl q ↦ inl (good f g q) | inr q ↦ inr (r.1 q) ])
 
-    module _ (complete : Complete w order found real.roots) where
-      nothing_found : made.reports ≡ none → found ≡ []
-      nothing_found silent = elim (found_some m.fields made.are) [
-        | inl h ↦ real.grown ∙ sym made.writes ∙ ap postfix h.0
-        | inr l ↦ absurd (clash made.numbered made.reports made.are silent l)
-      ]
-        where
-          clash : (p : Reports Entry) (r : Reports (PlainEntry S C)) → AreReportsOf m.fields p r → r ≡ none → 0 < length (postfix p) → ⊥
-          clash p none Rattle.merge_conflicts.specs.Reports.of_none silent l = absurd (omega (arith, l))
-          clash p r (Rattle.merge_conflicts.specs.Reports.of_direct e f g h) silent l = cc
-          clash p r (Rattle.merge_conflicts.specs.Reports.of_nested f g i h) silent l = cc
-
-      whole : HasKnownConditions schema document → IsWhole w.sets order
-      whole known s l = origins.whole known s (subst (λ (n : ℕ). s < n) is.many l)
-
-      merging : HasKnownConditions schema document → made.reports ≡ none → DocumentMerges E schema document
-      merging known silent p set i x y h same =
-          let s = sets p set i in let t = apart_stand E schema document numbers m w is h in
-          let a = stands_in E schema document numbers m w is (stands_whole E schema document numbers m w is (s.2).part t.0) (s.2).is in
-          let b = stands_in E schema document numbers m w is (stands_whole E schema document numbers m w is (s.2).part t.1) (s.2).is in
-          merges_out E schema document numbers m w is (complete.exact (whole known) (nothing_found silent) s.0 a.0 b.0 a.1 b.1 (same_in E schema document numbers m w is a.2 b.2 same)) refl a.2 b.2
+    module _ (not_all : 0 < length found → ((s : ℕ) → Contains order s → graph.SetMerges w s) → ⊥) where
+      -- where something was found the document doesn't merge
+      pub unmerged : 0 < length found → DocumentMerges E schema document → ⊥
+      unmerged some h = not_all some (λ s c a b apart same.
+          let o = places_out s a b c apart in
+          merges_in E schema document numbers m w is refl o.6 o.7 (h o.0 o.1 o.2 o.3 o.4 o.5 (same_out E schema document numbers m w is o.6 o.7 same)))
 
       refuses : DocumentMerges E schema document → made.reports ≡ none
       refuses h = elim (found_some m.fields made.are) [
         | inl e ↦ e.1
-        | inr l ↦ absurd (complete.refuses (subst (λ (z : List Finding). 0 < length z) (made.writes ∙ sym real.grown) l) (λ s c a b apart same.
-            let o = places_out s a b c apart in
-            merges_in E schema document numbers m w is refl o.6 o.7 (h o.0 o.1 o.2 o.3 o.4 o.5 (same_out E schema document numbers m w is o.6 o.7 same))))
+        | inr l ↦ absurd (unmerged (subst (λ (z : List Finding). 0 < length z) (made.writes ∙ sym real.grown) l) h)
       ]
 
-      pub is_told : AreTold E schema document made.reports
-      is_told = record {
-        silent = refuses;
-        failing = λ x y h fails.
-            let s = sets h.0 h.1 h.2 in
-            let a = stands_in E schema document numbers m w is (stands_whole E schema document numbers m w is (s.2).part h.3) (s.2).is in
-            let b = stands_in E schema document numbers m w is (stands_whole E schema document numbers m w is (s.2).part h.4) (s.2).is in
-            elim (complete.failing s.0 a.0 b.0 s.1 a.1 b.1 (same_in E schema document numbers m w is a.2 b.2 h.5) (conflict_at E schema document numbers m w is a.2 b.2 false ∙ fails)) [
-              | inl t ↦ inl (tells a.0 b.0 false x y a.2 b.2 t.1)
-              | inr t ↦ inr (tells b.0 a.0 false y x b.2 a.2 t.1)
-            ];
-        at_the_top = λ p set x y i c h same fails.
-            let s = sets p set i in
-            let a = member_in E schema document numbers m w is (s.2).is ((s.2).part.fields x c) in
-            let b = stands_in E schema document numbers m w is (stands_whole E schema document numbers m w is (s.2).part h) (s.2).is in
-            let at = (own_field schema numbers m a.2).field in let bt = (own_field schema numbers m b.2).field in
-            elim (complete.at_the_top s.0 a.0 b.0 s.1 a.1 b.1 (same_in E schema document numbers m w is a.2 b.2 same) (conflict_at E schema document numbers m w is a.2 b.2 false ∙ fails)) [
-              | inl r ↦ inl (root_in m.fields made.are a.0 b.0 x y at bt (made.to (record { left = a.0; right = b.0 }) r))
-              | inr r ↦ inr (root_in m.fields made.are b.0 a.0 y x bt at (made.to (record { left = b.0; right = a.0 }) r))
-            ];
-      }
+      module _ (complete : Complete w order found real.roots) where
+        nothing_found : made.reports ≡ none → found ≡ []
+        nothing_found silent = elim (found_some m.fields made.are) [
+          | inl h ↦ real.grown ∙ sym made.writes ∙ ap postfix h.0
+          | inr l ↦ absurd (clash made.numbered made.reports made.are silent l)
+        ]
+          where
+            clash : (p : Reports Entry) (r : Reports (PlainEntry S C)) → AreReportsOf m.fields p r → r ≡ none → 0 < length (postfix p) → ⊥
+            clash p none Rattle.merge_conflicts.specs.Reports.of_none silent l = absurd (omega (arith, l))
+            clash p r (Rattle.merge_conflicts.specs.Reports.of_direct e f g h) silent l = cc
+            clash p r (Rattle.merge_conflicts.specs.Reports.of_nested f g i h) silent l = cc
 
-      pub is_all : HasKnownConditions schema document → AreAll E schema document made.reports
-      is_all known = record {
-        exact = (merging known, refuses);
-        failing = is_told.failing;
-        at_the_top = is_told.at_the_top;
-        ways = λ x y h way.
-            let s = sets h.0 h.1 h.2 in
-            let a = stands_in E schema document numbers m w is (stands_whole E schema document numbers m w is (s.2).part h.3) (s.2).is in
-            let b = stands_in E schema document numbers m w is (stands_whole E schema document numbers m w is (s.2).part h.4) (s.2).is in
-            let v = way_in refl a.2 b.2 way in
-            v.1 (complete.ways (whole known) s.0 a.0 b.0 a.1 b.1 (same_in E schema document numbers m w is a.2 b.2 h.5) v.0);
-      }
+        whole : HasKnownConditions schema document → IsWhole w.sets order
+        whole known s l = origins.whole known s (subst (λ (n : ℕ). s < n) is.many l)
+
+        merging : HasKnownConditions schema document → made.reports ≡ none → DocumentMerges E schema document
+        merging known silent p set i x y h same =
+            let s = sets p set i in let t = apart_stand E schema document numbers m w is h in
+            let a = stands_in E schema document numbers m w is (stands_whole E schema document numbers m w is (s.2).part t.0) (s.2).is in
+            let b = stands_in E schema document numbers m w is (stands_whole E schema document numbers m w is (s.2).part t.1) (s.2).is in
+            merges_out E schema document numbers m w is (complete.exact (whole known) (nothing_found silent) s.0 a.0 b.0 a.1 b.1 (same_in E schema document numbers m w is a.2 b.2 same)) refl a.2 b.2
+
+        pub is_told : AreTold E schema document made.reports
+        is_told = record {
+          silent = refuses;
+          failing = λ x y h fails.
+              let s = sets h.0 h.1 h.2 in
+              let a = stands_in E schema document numbers m w is (stands_whole E schema document numbers m w is (s.2).part h.3) (s.2).is in
+              let b = stands_in E schema document numbers m w is (stands_whole E schema document numbers m w is (s.2).part h.4) (s.2).is in
+              elim (complete.failing s.0 a.0 b.0 s.1 a.1 b.1 (same_in E schema document numbers m w is a.2 b.2 h.5) (conflict_at E schema document numbers m w is a.2 b.2 false ∙ fails)) [
+                | inl t ↦ inl (tells a.0 b.0 false x y a.2 b.2 t.1)
+                | inr t ↦ inr (tells b.0 a.0 false y x b.2 a.2 t.1)
+              ];
+          at_the_top = λ p set x y i c h same fails.
+              let s = sets p set i in
+              let a = member_in E schema document numbers m w is (s.2).is ((s.2).part.fields x c) in
+              let b = stands_in E schema document numbers m w is (stands_whole E schema document numbers m w is (s.2).part h) (s.2).is in
+              let at = (own_field schema numbers m a.2).field in let bt = (own_field schema numbers m b.2).field in
+              elim (complete.at_the_top s.0 a.0 b.0 s.1 a.1 b.1 (same_in E schema document numbers m w is a.2 b.2 same) (conflict_at E schema document numbers m w is a.2 b.2 false ∙ fails)) [
+                | inl r ↦ inl (root_in m.fields made.are a.0 b.0 x y at bt (made.to (record { left = a.0; right = b.0 }) r))
+                | inr r ↦ inr (root_in m.fields made.are b.0 a.0 y x bt at (made.to (record { left = b.0; right = a.0 }) r))
+              ];
+        }
+
+        pub is_all : HasKnownConditions schema document → AreAll E schema document made.reports
+        is_all known = record {
+          exact = (merging known, refuses);
+          failing = is_told.failing;
+          at_the_top = is_told.at_the_top;
+          ways = λ x y h way.
+              let s = sets h.0 h.1 h.2 in
+              let a = stands_in E schema document numbers m w is (stands_whole E schema document numbers m w is (s.2).part h.3) (s.2).is in
+              let b = stands_in E schema document numbers m w is (stands_whole E schema document numbers m w is (s.2).part h.4) (s.2).is in
+              let v = way_in refl a.2 b.2 way in
+              v.1 (complete.ways (whole known) s.0 a.0 b.0 a.1 b.1 (same_in E schema document numbers m w is a.2 b.2 h.5) v.0);
+        }

@@ -1,5 +1,5 @@
 -- What a search of a document's graph says of the document.
-use Rattle.std.proofs.Common.{◌≡◌, ◌≤◌, ◌*◌, ◌-◌, ℕ, List, Bool, Option, Some, IfSome, map, length, sym, ap, subst, ◌∙◌, arith}
+use Rattle.std.proofs.Common.{◌≡◌, ◌<◌, ◌≤◌, ◌*◌, ◌-◌, ◌⊎◌, ℕ, List, Bool, Option, Some, IfSome, map, length, sym, ap, subst, ◌∙◌, arith}
 use Rattle.std.specs.List.{Contains}
 use Rattle.language.specs.declared.tree.Definition.{Definition}
 use Rattle.language.specs.declared.tree.Selection.{Selection}
@@ -22,14 +22,39 @@ use Rattle.merge_graph.specs.Judging.{judgement_by, judgement_of}
 use Rattle.merge_graph.proofs.SetLaws.{equally_many, own_same, spreads_same}
 use Rattle.merge_conflicts.specs.Reports.{AreReportsOf}
 use Rattle.merge_document.specs.declared.search.FoundConflicts.{FoundConflicts}
-use Rattle.merge_document.specs.Found.{IsJudged, AreTogether}
+use Rattle.merge_document.specs.Conflicts.{IsTidyDocument}
+use Rattle.merge_document.specs.Found.{IsFinished, IsJudged, AreTogether}
 use Rattle.merge_document.proofs.Sets.{IsWorldOf}
-use Rattle.merge_document.proofs.Finding.{made, is_real, is_told, is_all, are_tidy}
+use Rattle.merge_document.proofs.Finding.{made, is_real, unmerged, is_told, is_all, are_tidy}
 use Rattle.merge_document.proofs.Counting.{pairs_grow, more_times, together_all, as_many}
 
 -- what holds of the value that is there
 pub at_some : {X : Type 0} (P : X → Type 0) (o : Option X) (x : X) → o ≡ Some x → IfSome o P → P x
 at_some P o x e h = subst (λ z. IfSome z P) e h
+
+-- with another limit the graph is that of the document, too
+pub limited_is : {S C : Type 0} (schema : Catalog S C) (document : List (Definition S)) (g : Graph (FieldJudge S C)) (limit : ℕ)
+    → IsGraphOf schema document g → IsGraphOf schema document (record g { limit = limit })
+limited_is schema document g limit is = record {
+  table = is.table;
+  numbers = is.numbers;
+  fragment_sets = is.fragment_sets;
+  order = is.order;
+  is = record {
+    judged_under = (is.is).judged_under;
+    fields = (is.is).fields;
+    sets = (is.is).sets;
+    fragments_are = (is.is).fragments_are;
+    order_is = (is.is).order_is;
+  };
+  apart = is.apart;
+  defined = is.defined;
+  single = is.single;
+  fragments = is.fragments;
+  sets = is.sets;
+  origins = is.origins;
+  size = is.size;
+}
 
 module _ {S C : Type 0} (E : S → S → Bool) (schema : Catalog S C) (document : List (Definition S)) (g : Graph (FieldJudge S C)) (is : IsGraphOf schema document g) where
   abbrev pub its_world : World
@@ -55,20 +80,26 @@ module _ {S C : Type 0} (E : S → S → Bool) (schema : Catalog S C) (document 
   sets : (p : Option (MetaTypeOf S C)) (set : List (Selection S)) → IsSetIn schema document p set → (s : ℕ) × Contains g.order.items s × IsPartAt schema is.numbers is.table s p set
   sets p set i = let h = is.sets p set i in (h.0, subst (λ (z : List ℕ). Contains z h.0) (sym (is.is).order_is) h.1, h.2)
 
-  pub judged : (f : FoundConflicts S C) → f.fields ≡ g.judge.fields → Judged its_world g.order.items f.found.items → (AreTidy (map plain g.judge.fields.items) → Lawful (judgement_of E g.judge)) → IsJudged E schema document f
-  judged f same j lawful =
+  pub judged : (f : FoundConflicts S C) → f.fields ≡ g.judge.fields → f.limit ≡ g.limit → Judged its_world g.order.items f.found.items
+      → (AreTidy (map plain g.judge.fields.items) → Lawful (judgement_of E g.judge)) → IsJudged E schema document f
+  judged f same bound j lawful =
+      let room = λ (done : IsFinished f). subst (λ (n : ℕ). (n ≡ 0) ⊎ (length f.found.items < n)) bound done in
       let t = made E schema document is.numbers is.table its_world world_is g.order.items origins sets f.found.items j.real in
       let fields : map plain f.fields.items ≡ (is.table).fields = ap (λ v. map plain v.items) same ∙ (is.is).fields in
+      let lawful_where = λ (tidy : IsTidyDocument schema document). lawful
+      (subst AreTidy (sym (is.is).fields) (are_tidy E schema document is.numbers is.table its_world world_is g.order.items origins sets tidy)) in
       record {
         numbered = t.numbered;
         reports = t.reports;
         found = (j.real).grown ∙ sym t.writes;
         are = subst (λ z. AreReportsOf z t.numbered t.reports) (sym fields) t.are;
         real = is_real E schema document is.numbers is.table its_world world_is g.order.items origins sets f.found.items j.real;
-        told = λ tidy. is_told E schema document is.numbers is.table its_world world_is g.order.items origins sets f.found.items j.real
-            (j.complete (lawful (subst AreTidy (sym (is.is).fields) (are_tidy E schema document is.numbers is.table its_world world_is g.order.items origins sets tidy))));
-        all = λ tidy. is_all E schema document is.numbers is.table its_world world_is g.order.items origins sets f.found.items j.real
-            (j.complete (lawful (subst AreTidy (sym (is.is).fields) (are_tidy E schema document is.numbers is.table its_world world_is g.order.items origins sets tidy))));
+        refuses = λ some tidy. unmerged E schema document is.numbers is.table its_world world_is g.order.items origins sets f.found.items j.real
+            (j.refuses (lawful_where tidy)) some;
+        told = λ done tidy. is_told E schema document is.numbers is.table its_world world_is g.order.items origins sets f.found.items j.real
+            (j.refuses (lawful_where tidy)) (j.complete (room done) (lawful_where tidy));
+        all = λ done tidy. is_all E schema document is.numbers is.table its_world world_is g.order.items origins sets f.found.items j.real
+            (j.refuses (lawful_where tidy)) (j.complete (room done) (lawful_where tidy));
       }
 
   pub few : (compared : ℕ) → compared ≤ length g.fragments.items * (length g.fragments.items - 1) → compared ≤ fragment_count document * (fragment_count document - 1)

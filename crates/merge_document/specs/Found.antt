@@ -1,5 +1,5 @@
 -- What a search of a document has found.
-use Rattle.std.specs.Prelude.{◌≡◌, ◌<◌, ◌⊎◌, ℕ, List, Bool, Option, Some, map, slice_get}
+use Rattle.std.specs.Prelude.{◌≡◌, ◌<◌, ◌⊎◌, ℕ, List, Bool, Option, Some, length, map, slice_get}
 use Rattle.std.specs.List.{All, Contains}
 use Rattle.language.specs.declared.tree.Selection.{Selection}
 use Rattle.language.specs.declared.tree.Definition.{Definition}
@@ -12,11 +12,16 @@ use Rattle.merge_search.specs.declared.node.Entry.{Entry}
 use Rattle.merge_graph.specs.SetsIn.{IsSetIn, HasKnownConditions}
 use Rattle.merge_conflicts.specs.Reports.{Reports, postfix, AreReportsOf}
 use Rattle.merge_document.specs.Conflicts.{AreReal, AreTold, AreAll, IsTidyDocument}
+use Rattle.merge_document.specs.Merging.{DocumentMerges}
 use Rattle.merge_document.specs.declared.search.FoundConflicts.{FoundConflicts}
 
+-- the search didn't stop because it had found enough
+abbrev pub IsFinished : {S C : Type 0} → FoundConflicts S C → Type 0
+IsFinished f = (f.limit ≡ 0) ⊎ (length f.found.items < f.limit)
+
 -- What was found are conflicts of the document, each a true one. Where no field repeats an argument, nor a key in one,
--- what two fields of one set have between them is told; and none is missed, if the conditions of inline fragments are
--- known, too.
+-- not all sets merge if something was found; and if the search was finished, what two fields of one set have between
+-- them is told, and none is missed where the conditions of inline fragments are known, too.
 pub record IsJudged {S C : Type 0} (E : S → S → Bool) (schema : Catalog S C) (document : List (Definition S))
     (f : FoundConflicts S C) : Type 0 where
   pub numbered : Reports Entry
@@ -24,8 +29,9 @@ pub record IsJudged {S C : Type 0} (E : S → S → Bool) (schema : Catalog S C)
   pub found : f.found.items ≡ postfix numbered
   pub are : AreReportsOf (map plain f.fields.items) numbered reports
   pub real : AreReal E schema document reports
-  pub told : IsTidyDocument schema document → AreTold E schema document reports
-  pub all : IsTidyDocument schema document → HasKnownConditions schema document → AreAll E schema document reports
+  pub refuses : 0 < length f.found.items → IsTidyDocument schema document → DocumentMerges E schema document → ⊥
+  pub told : IsFinished f → IsTidyDocument schema document → AreTold E schema document reports
+  pub all : IsFinished f → IsTidyDocument schema document → HasKnownConditions schema document → AreAll E schema document reports
 
 -- The same two names, in either order.
 abbrev pub SameNames : List ℕ × List ℕ → List ℕ × List ℕ → Type 0

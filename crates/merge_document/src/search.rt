@@ -1,8 +1,9 @@
 //! The search for the fields of a document that can't be merged.
-ghost use Rattle.std.specs.Prelude.{◌≡◌, ◌≤◌, ◌*◌, ◌-◌, ◌↔◌, ℕ, List, IfOk, IfSome, IsSome, length};
+ghost use Rattle.std.specs.Prelude.{◌≡◌, ◌<◌, ◌≤◌, ◌*◌, ◌-◌, ◌↔◌, ℕ, List, IfOk, IfSome, IsSome, length};
+ghost use Rattle.std.specs.Bool.{OnFalse, OnTrue};
 ghost use Rattle.fragment_graph.specs.DocumentCycles.{HasNoCycle, SearchedDocument};
 ghost use Rattle.merge_graph.specs.Definitions.{fragment_count};
-ghost use Rattle.merge_document.specs.Found.{IsJudged, AreTogether};
+ghost use Rattle.merge_document.specs.Found.{IsFinished, IsJudged, AreTogether};
 
 use fragment_graph::cycles::DocumentCycles;
 use language::error::OutOfMemory;
@@ -24,12 +25,24 @@ pub struct FoundConflicts<'a, S, C> {
     pub fields: Vec<Entry<'a, S, C>>,
     /// The findings, in postfix order: a nested conflict stands after those below it, with their number.
     pub found: Vec<Finding>,
+    /// How many findings were asked for; 0 for all.
+    pub limit: usize,
     /// How many pairs of fragments were compared.
     pub compared: u128,
     /// How many fragments the searches opened.
     pub opened: u128,
     /// How many searches there were.
     pub lists: u128,
+}
+
+impl<'a, S, C> FoundConflicts<'a, S, C> {
+    /// Whether nothing was left to compare. Otherwise the search stopped, since it had found enough.
+    pub fn is_finished(&self) -> bool
+        ensures finished { OnTrue result (IsFinished self.now) }
+        ensures stopped { OnFalse result ((0 < self.now.limit) × (self.now.limit ≤ length self.now.found.items)) }
+    {
+        self.limit == 0 || self.found.len() < self.limit
+    }
 }
 
 // What a search of a graph has found of its fields.
@@ -39,6 +52,7 @@ fn found_in<'a, S, C>(
 ) -> FoundConflicts<'a, S, C>
     ensures fields { result.fields ≡ graph.entry.judge.fields }
     ensures found { result.found ≡ search.found }
+    ensures limit { result.limit ≡ graph.entry.limit }
     ensures compared { result.compared ≡ search.compared }
     ensures opened { result.opened ≡ search.opened }
     ensures lists { result.lists ≡ search.lists }
@@ -46,19 +60,29 @@ fn found_in<'a, S, C>(
     FoundConflicts {
         fields: graph.judge.fields,
         found: search.found,
+        limit: graph.limit,
         compared: search.compared,
         opened: search.opened,
         lists: search.lists,
     }
 }
 
+// The graph, of which so many findings are asked for.
+fn limited<J>(graph: Graph<J>, limit: usize) -> Graph<J>
+    ensures { result ≡ record graph { limit = limit } }
+{
+    let mut graph = graph;
+    graph.limit = limit;
+    graph
+}
+
 /// The fields of a document that can't be merged (GraphQL, October 2021, section 5.3.2).
 ///
 /// The document's fragments were searched for cycles. `None` if and only if some fragment leads back to itself.
 ///
-/// What is found is true. Where no field repeats an argument, nor a key in one, nothing is missed. Of `n` definitions
-/// of fragments at most `n (n - 1)` pairs are compared, and at least those of which some set spreads both; no search
-/// opens more than `n`.
+/// What is found is true. The search stops once it has `limit` findings; 0 asks for all. Unless it stops, nothing is
+/// missed where no field repeats an argument, nor a key in one. Of `n` definitions of fragments at most `n (n - 1)`
+/// pairs are compared, and unless it stops at least those of which some set spreads both. It opens at most `n` at a time.
 ///
 /// # Errors
 ///
@@ -68,17 +92,20 @@ pub fn search_fields<'a, S: ScalarValue, C>(
     schema: &'a SchemaTypeOf<S, C>,
     document: Document<'a, S>,
     cycles: DocumentCycles<'a>,
+    limit: usize,
 ) -> Result<Option<FoundConflicts<'a, S, C>>, OutOfMemory>
     requires { SearchedDocument document.now cycles }
     ensures none { IfOk result (λ r. IsSome r ↔ HasNoCycle document.now) }
     ensures judged { IfOk result (λ r. IfSome r (IsJudged S.eq schema.now document.now)) }
+    ensures limit { IfOk result (λ r. IfSome r (λ f. f.limit ≡ limit)) }
     ensures few { let n = fragment_count document.now in IfOk result (λ r. IfSome r (λ f. f.compared ≤ n * (n - 1))) }
-    ensures enough { IfOk result (λ r. IfSome r (λ f.
-        (ps : List (List ℕ × List ℕ)) → AreTogether schema.now document.now ps → length ps ≤ f.compared)) }
+    ensures enough { IfOk result (λ r. IfSome r (λ f. IsFinished f → (ps : List (List ℕ × List ℕ))
+        → AreTogether schema.now document.now ps → length ps ≤ f.compared)) }
     ensures opened { IfOk result (λ r. IfSome r (λ f. f.opened ≤ fragment_count document.now * f.lists)) }
 {
     match graph_of_document(alloc, schema, document, cycles)? {
-        Some(graph) => {
+        Some(all) => {
+            let graph = limited(all, limit);
             let search = search_all(alloc, &graph)?;
             Ok(Some(found_in(graph, search)))
         }

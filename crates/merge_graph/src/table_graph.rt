@@ -34,7 +34,8 @@ fn searched_sets(alloc: Global, sets: Vec<NumberedSet>) -> Result<Vec<SetNode>, 
     Ok(nodes)
 }
 
-/// The graph of a table, with the sets of its fragments and an order of those that are searched.
+/// The graph of a table, with the sets of its fragments and an order of those that are searched. All findings are asked
+/// for.
 ///
 /// # Errors
 ///
@@ -60,5 +61,6 @@ pub fn graph_of_table<'a, S: ScalarValue, C>(
         order,
         inner: table.inner,
         written: table.written,
+        limit: 0,
     })
 }

@@ -8,7 +8,7 @@ use Rattle.merge_search.specs.declared.node.Entry.{Entry}
 use Rattle.merge_search.specs.declared.state.Finding.{Finding}
 use Rattle.merge_search.specs.declared.state.Finding.TheVariants.{Direct, Nested}
 use Rattle.merge_search.specs.Judgement.{Lawful}
-use Rattle.merge_search.specs.World.{World, conflict_of, exclusive_of}
+use Rattle.merge_search.specs.World.{World, HasRoom, conflict_of, exclusive_of}
 use Rattle.merge_search.specs.Merging.{Below, below, Merges, merges}
 use Rattle.merge_search.specs.Reports.{Root, NestedRoot, Trees, none, leaf, node, Adds, AddsAll, AtFields}
 use Rattle.merge_search.proofs.Laws.{conflict_flip, exclusive_flip, clash}
@@ -36,6 +36,11 @@ Upto xs k d Q r = (m : ℕ) × (m < k) × Q (get_or xs m d) r
 module _ (w : World) (e : Bool) where
   pub adds_none : (P : Root → Type 0) (xs : List Finding) → Adds w e P xs xs
   adds_none P xs = record { roots = []; more = []; grown = sym (append-nil xs); shown = none; placed = All-nil P }
+
+  -- where there is room for more, there was before
+  pub room_of : (P : Root → Type 0) {xs ys : List Finding} → Adds w e P xs ys → HasRoom w ys → HasRoom w xs
+  room_of P d (inl all) = inl all
+  room_of P {xs} d (inr less) = inr (omega (arith, less, ap length d.grown ∙ length-append xs d.more))
 
   pub adds_map : (P Q : Root → Type 0) {xs ys : List Finding} → ((r : Root) → P r → Q r) → Adds w e P xs ys → Adds w e Q xs ys
   adds_map P Q f d = record { roots = d.roots; more = d.more; grown = d.grown; shown = d.shown; placed = All-weaker P Q f d.roots d.placed }
@@ -87,7 +92,7 @@ module _ (w : World) (e : Bool) where
   unfolding adds_leaf
   all_leaf a b xs ys h eq = record {
     adds = adds_leaf a b xs ys h eq;
-    tells = λ r at fails.
+    tells = λ room r at fails.
         subst (λ (x : Entry). Contains {X = Root} (record { left = a; right = b } ∷ []) (record { left = x; right = r.right })) (sym at.0)
         (subst (λ (y : Entry). Contains {X = Root} (record { left = a; right = b } ∷ []) (record { left = a; right = y })) (sym at.1) (Contains-push {X = Root} [] (record { left = a; right = b })));
   }
@@ -96,25 +101,29 @@ module _ (w : World) (e : Bool) where
   pub all_quiet : (a b : Entry) {xs ys : List Finding} → conflict_of w e a b ≡ false → Adds w e (AtFields a b) xs ys → AddsAll w e (AtFields a b) (AtFields a b) xs ys
   all_quiet a b n d = record {
     adds = d;
-    tells = λ r at fails. absurd (clash (conflict_of w e a b)
+    tells = λ room r at fails. absurd (clash (conflict_of w e a b)
         (subst (λ (x : Entry). conflict_of w e x b ≡ true) at.0 (subst (λ (y : Entry). conflict_of w e r.left y ≡ true) at.1 fails)) n);
   }
 
+  -- there is no room for more
+  pub all_full : (P Q : Root → Type 0) (xs : List Finding) → (HasRoom w xs → ⊥) → AddsAll w e P Q xs xs
+  all_full P Q xs full = record { adds = adds_none P xs; tells = λ room. absurd (full room) }
+
   pub all_start : {X : Type 0} (P : Root → Type 0) (Q : X → Root → Type 0) (items : List X) (d : X) (xs : List Finding) → AddsAll w e P (Upto items 0 d Q) xs xs
-  all_start P Q items d xs = record { adds = adds_none P xs; tells = λ r at fails. absurd (omega (arith, at.1)) }
+  all_start P Q items d xs = record { adds = adds_none P xs; tells = λ room r at fails. absurd (omega (arith, at.1)) }
 
   pub all_begin : (P : Root → Type 0) (Q : ℕ → Root → Type 0) (xs : List Finding) → AddsAll w e P (UptoIndex 0 Q) xs xs
-  all_begin P Q xs = record { adds = adds_none P xs; tells = λ r at fails. absurd (omega (arith, at.1)) }
+  all_begin P Q xs = record { adds = adds_none P xs; tells = λ room r at fails. absurd (omega (arith, at.1)) }
 
   pub all_next : (P R : Root → Type 0) (Q : ℕ → Root → Type 0) (k : ℕ) {xs ys zs : List Finding}
       → ((r : Root) → R r → P r) → AddsAll w e P (UptoIndex k Q) xs ys → AddsAll w e R (Q k) ys zs → AddsAll w e P (UptoIndex (k + 1) Q) xs zs
   unfolding adds_then adds_map
   all_next P R Q k {xs} {ys} {zs} f had new = record {
     adds = adds_then P had.adds (adds_map R P f new.adds);
-    tells = λ r at fails. elim (cases_order at.0 k) [
-      | inl eq ↦ Contains-append_left new.adds.roots had.adds.roots r (new.tells r (subst (λ (m : ℕ). Q m r) eq at.2) fails)
+    tells = λ room r at fails. elim (cases_order at.0 k) [
+      | inl eq ↦ Contains-append_left new.adds.roots had.adds.roots r (new.tells room r (subst (λ (m : ℕ). Q m r) eq at.2) fails)
       | inr o ↦ elim o [
-        | inl less ↦ Contains-append_right new.adds.roots had.adds.roots r (had.tells r (at.0, less, at.2) fails)
+        | inl less ↦ Contains-append_right new.adds.roots had.adds.roots r (had.tells (room_of R new.adds room) r (at.0, less, at.2) fails)
         | inr more ↦ absurd (omega (arith, at.1, more))
       ]
     ];
@@ -129,16 +138,16 @@ module _ (w : World) (e : Bool) where
   unfolding adds_then adds_map
   all_plus P Q R f had new = record {
     adds = adds_then P had.adds (adds_map R P f new);
-    tells = λ r at fails. Contains-append_right new.roots had.adds.roots r (had.tells r at fails);
+    tells = λ room r at fails. Contains-append_right new.roots had.adds.roots r (had.tells (room_of R new room) r at fails);
   }
 
   pub all_both : (P Q R : Root → Type 0) {xs ys zs : List Finding} → AddsAll w e P Q xs ys → AddsAll w e P R ys zs → AddsAll w e P (λ r. Q r ⊎ R r) xs zs
   unfolding adds_then
   all_both P Q R had new = record {
     adds = adds_then P had.adds new.adds;
-    tells = λ r at fails. elim at [
-      | inl q ↦ Contains-append_right new.adds.roots had.adds.roots r (had.tells r q fails)
-      | inr z ↦ Contains-append_left new.adds.roots had.adds.roots r (new.tells r z fails)
+    tells = λ room r at fails. elim at [
+      | inl q ↦ Contains-append_right new.adds.roots had.adds.roots r (had.tells (room_of P new.adds room) r q fails)
+      | inr z ↦ Contains-append_left new.adds.roots had.adds.roots r (new.tells room r z fails)
     ];
   }
 
@@ -148,18 +157,18 @@ module _ (w : World) (e : Bool) where
   -- the same places, told otherwise
   pub all_change : (P P' Q Q' : Root → Type 0) {xs ys : List Finding} → ((r : Root) → P r → P' r) → ((r : Root) → Q' r → Q r) → AddsAll w e P Q xs ys → AddsAll w e P' Q' xs ys
   unfolding adds_map
-  all_change P P' Q Q' f g d = record { adds = adds_map P P' f d.adds; tells = λ r at fails. d.tells r (g r at) fails }
+  all_change P P' Q Q' f g d = record { adds = adds_map P P' f d.adds; tells = λ room r at fails. d.tells room r (g r at) fails }
 
   pub all_told : (P Q R : Root → Type 0) {xs ys : List Finding} → ((r : Root) → R r → Q r) → AddsAll w e P Q xs ys → AddsAll w e P R xs ys
-  all_told P Q R f d = record { adds = d.adds; tells = λ r at fails. d.tells r (f r at) fails }
+  all_told P Q R f d = record { adds = d.adds; tells = λ room r at fails. d.tells room r (f r at) fails }
 
   pub all_done : {X : Type 0} (P Q : Root → Type 0) (R : X → Root → Type 0) (items : List X) (k : ℕ) (d : X) {xs ys : List Finding} → length items ≤ k
       → ((r : Root) → Q r → (x : X) × Contains items x × R x r) → AddsAll w e P (Upto items k d R) xs ys → AddsAll w e P Q xs ys
   all_done P Q R items k d le f had = record {
     adds = had.adds;
-    tells = λ r at fails.
+    tells = λ room r at fails.
         let z = f r at in
-        had.tells r (z.1.0, omega (arith, z.1.1, le), subst (λ x. R x r) (sym (get_or_default items z.1.0 d z.0 z.1.1 ∙ z.1.2)) z.2) fails;
+        had.tells room r (z.1.0, omega (arith, z.1.1, le), subst (λ x. R x r) (sym (get_or_default items z.1.0 d z.0 z.1.1 ∙ z.1.2)) z.2) fails;
   }
 
   pub all_map : (P P' Q : Root → Type 0) {xs ys : List Finding} → ((r : Root) → P r → P' r) → AddsAll w e P Q xs ys → AddsAll w e P' Q xs ys

@@ -37,7 +37,7 @@ module _ (w : World) (e : Bool) (left right : List Entry) (clear : AreClear w le
   pub clear_tells : (P Q : Root → Type 0) (xs : List Finding) → ((r : Root) → Q r → Contains left r.left × Contains right r.right) → AddsAll w e P Q xs xs
   clear_tells P Q xs at = record {
     adds = adds_none w e P xs;
-    tells = λ r here fails. absurd (clash (conflict_of w e r.left r.right) fails (quiet e r.left r.right (at r here).0 (at r here).1));
+    tells = λ room r here fails. absurd (clash (conflict_of w e r.left r.right) fails (quiet e r.left r.right (at r here).0 (at r here).1));
   }
 
 -- the fields of one name of two sets

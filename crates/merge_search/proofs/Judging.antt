@@ -12,7 +12,7 @@ use Rattle.merge_search.specs.declared.state.Finding.{Finding}
 use Rattle.merge_search.specs.declared.state.Finding.TheVariants.{Direct}
 use Rattle.merge_search.specs.Judgement.{Lawful}
 use Rattle.merge_search.specs.Graph.{Falling, AreListed, IsWhole}
-use Rattle.merge_search.specs.World.{World, own_of, spreads_of, set_of, conflict_of, Same}
+use Rattle.merge_search.specs.World.{World, HasRoom, own_of, spreads_of, set_of, conflict_of, Same}
 use Rattle.merge_search.specs.Opening.{ReachedFrom, Opens}
 use Rattle.merge_search.specs.Work.{pair_in, search_in, OwnPairs, Done, AllClosed, Grows, Did}
 use Rattle.merge_search.specs.Merging.{Stands, own, spread, Apart, own_own, own_spread, spread_own, two_spreads, one_spread, SetMerges, Merges, Top, OwnWritten}
@@ -99,17 +99,20 @@ module _ (w : World) (laws : Lawful w.judgement) (order : List ℕ) (roots : Lis
 all_of_merged : (w : World) → ((s : ℕ) (a b : Entry) → Stands w s a → Stands w s b → Same a b → Merges w false a b) → (s : ℕ) → SetMerges w s
 all_of_merged w h s a b apart same = let at = apart_stands apart in h s a b at.0 at.1 same
 
-judged : (w : World) (M : Search) (order : List ℕ) → Falling w.sets w.fragments → AreListed w.fragments order → AllClosed w M M → ((s : ℕ) → Contains order s → Top w M s)
-    → (real : Real w order M.found.items) → TopsTold w order real.roots → Judged w order M.found.items
-judged w M order falling listed closed top real told = record {
+judged : (w : World) (M : Search) (order : List ℕ) → Falling w.sets w.fragments → AreListed w.fragments order → (HasRoom w M.found.items → AllClosed w M M) → (HasRoom w M.found.items → (s : ℕ) → Contains order s → Top w M s)
+    → (real : Real w order M.found.items) → (HasRoom w M.found.items → TopsTold w order real.roots) → Judged w order M.found.items
+judged w M order falling listed closing topping real telling = record {
   real = real;
-  complete = λ laws.
+  refuses = λ laws. refuses_all w laws order M.found.items real;
+  complete = λ room laws.
+      let closed = closing room in
+      let top = topping room in
+      let told = telling room in
       let quiet : IsWhole w.sets order → M.found.items ≡ [] → (s : ℕ) (a b : Entry) → Stands w s a → Stands w s b → Same a b → Merges w false a b =
       λ whole none s a b p q same. set_merges w M falling closed order (all_listed w.fragments order listed) top laws whole (λ c d e r. nothing_in M.found.items (Direct c d e) none r) p q same in
       record {
         exact = quiet;
         merges = λ whole none. all_of_merged w (quiet whole none);
-        refuses = refuses_all w laws order M.found.items real;
         ways = λ whole s a b p q same v. ways w M falling closed order (all_listed w.fragments order listed) top laws whole p q same v;
         failing = λ s a b c p q same h. failing w M falling closed order (all_listed w.fragments order listed) top laws c p q same h;
         at_the_top = top_root w laws order real.roots told;
@@ -118,15 +121,15 @@ judged w M order falling listed closed top real told = record {
 
 -- The first k sets of the order were searched, and all that was recorded is followed up.
 abbrev pub TopsDone : World → List ℕ → ℕ → Search → Type 0
-TopsDone w order k s = (M : Search) → Grows s M → AllClosed w M s × ((i : ℕ) → i < k → Top w M (get_or order i 0))
+TopsDone w order k s = (M : Search) → Grows s M → HasRoom w M.found.items → AllClosed w M s × ((i : ℕ) → i < k → Top w M (get_or order i 0))
 
 pub next_tops : (w : World) (order : List ℕ) (k : ℕ) {s t : Search} → TopsDone w order k s → Did w (λ M. Top w M (get_or order k 0)) s t → TopsDone w order (k + 1) t
-next_tops w order k had d M g =
-    let before = had M (grows_then d.grows g) in
-    (d.closes M g before.0, below_more (λ i. Top w M (get_or order i 0)) k before.1 (d.holds M g))
+next_tops w order k had d M g r =
+    let before = had M (grows_then d.grows g) r in
+    (d.closes M g r before.0, below_more (λ i. Top w M (get_or order i 0)) k before.1 (d.holds M g r))
 
 pub no_tops : (w : World) (order : List ℕ) (s : Search) → Begins s → TopsDone w order 0 s
-no_tops w order s b M g = (
+no_tops w order s b M g r = (
   record {
     pairs_closed = λ x f h z. absurd (clash (pair_in s x f h) z (b.pairs x f h));
     searches_closed = λ x i h z. absurd (clash (search_in s x i h) z (b.searched x i h));
@@ -137,10 +140,9 @@ no_tops w order s b M g = (
 pub judged_at : (w : World) (M : Search) (order items : List ℕ) (n : ℕ) → items ≡ order → length items ≤ n → Falling w.sets w.fragments → AreListed w.fragments order
     → TopsDone w items n M → AddsAll w false (AtSearched w items) (Upto items n 0 (λ s. AtTop w s)) [] M.found.items → Judged w order M.found.items
 judged_at w M order items n eq le falling listed had real =
-    let end = had M (grows_same M) in
     subst (λ zs. Judged w zs M.found.items) eq
-    (judged w M items falling (subst (AreListed w.fragments) (sym eq) listed) end.0 (all_tops w M items n le end.1) real.adds
-    (λ s c r at fails. real.tells r (c.0, omega (arith, c.1, le), subst (λ t. AtTop w t r) (sym (get_or_default items c.0 0 s c.1 ∙ c.2)) at) fails))
+    (judged w M items falling (subst (AreListed w.fragments) (sym eq) listed) (λ room. (had M (grows_same M) room).0) (λ room. all_tops w M items n le (had M (grows_same M) room).1) real.adds
+    (λ room s c r at fails. real.tells room r (c.0, omega (arith, c.1, le), subst (λ t. AtTop w t r) (sym (get_or_default items c.0 0 s c.1 ∙ c.2)) at) fails))
 
 -- all of a fragment, from the own fields of those that a search opens
 own_in : (w : World) (M : Search) (s t g : ℕ) (hs : List ℕ) → t ≡ set_of w g → ((h k : ℕ) → Contains hs h → Contains (spreads_of w (set_of w h)) k → Contains hs k)

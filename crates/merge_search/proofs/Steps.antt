@@ -11,15 +11,17 @@ use Rattle.merge_search.specs.declared.node.SetNode.{SetNode}
 use Rattle.merge_search.specs.declared.state.Search.{Search}
 use Rattle.merge_search.specs.Names.{named, AreListed}
 use Rattle.merge_search.specs.Indexed.{firsts_of}
-use Rattle.merge_search.specs.World.{World, own_of, spreads_of, set_of, exclusive_of}
+use Rattle.merge_search.specs.World.{World, HasRoom, own_of, spreads_of, set_of, exclusive_of}
 use Rattle.merge_search.specs.Opening.{Opens}
 use Rattle.merge_search.specs.State.{Keeps, NotesPair, NotesSearch, CountsList}
 use Rattle.merge_search.specs.Work.{pair_in, Did, Owes, Done, Searched, Pair, OwnPairs, AllClosed}
 use Rattle.merge_search.specs.Reports.{Root, Adds, AddsAll, AtFields, AtWith, AtNamed, AtOwn, AtSearch, AtFirst}
 use Rattle.merge_search.specs.declared.task.Partner.TheVariants as partner
-use Rattle.merge_search.specs.Tasks.{firsts_at, AtPartners, Compares, Searches, SearchesOwing, ComparesEach, MeetsNested, MeetsBelow, MeetsNamed, MeetsOne, MeetsSearch, MeetsFragments, WithDone, NameDone, SpreadsSearched, Closes}
-use Rattle.merge_search.proofs.Work.{did_none, did_then, did_map, did_list, did_opened, did_fragments, did_report, did_kept, owes_search, grows_then}
-use Rattle.merge_search.proofs.Adding.{adds_none, adds_map, adds_then, adds_from, adds_node, adds_same, all_both, all_map, all_told}
+use Rattle.merge_search.specs.declared.task.Task.{Task}
+use Rattle.merge_search.specs.declared.task.Task.TheVariants.{With, Named, Own, Close, Opened, Mark, Spreads}
+use Rattle.merge_search.specs.Tasks.{Meets, firsts_at, AtPartners, Compares, Searches, SearchesOwing, ComparesEach, MeetsNested, MeetsBelow, MeetsNamed, MeetsOne, MeetsSearch, MeetsFragments, WithDone, NameDone, SpreadsSearched, Closes}
+use Rattle.merge_search.proofs.Work.{did_none, did_full, owes_full, did_then, did_map, did_list, did_opened, did_fragments, did_report, did_kept, owes_search, grows_then}
+use Rattle.merge_search.proofs.Adding.{all_full, adds_none, adds_map, adds_then, adds_from, adds_node, adds_same, all_both, all_map, all_told}
 use Rattle.merge_search.proofs.Rows.{named_in, named_is, row_named, tell_with, tell_named, tell_own, own_pairs, row_first, row_second, row_fragments, row_nested, row_below_own, row_below_forth, row_below_back, row_below_spreads}
 
 pub drop_next : {X : Type 0} (ys xs : List X) (k : ℕ) (d : X) → ys ≡ xs → k < length ys → drop k xs ≡ get_or ys k d ∷ drop (k + 1) xs
@@ -45,7 +47,7 @@ module _ (w : World) (e : Bool) where
     done = did_none w _ s (λ M grown. subst (λ xs. All (λ x. D x M) xs) (sym h) (All-nil (λ x. D x M)));
     real = record {
       adds = adds_none w e P s.found.items;
-      tells = λ r at fails. absurd (All-contains (λ x. ⊥) [] (at.0) (All-nil (λ x. ⊥)) (subst (λ xs. Contains xs (at.0)) h (at.1)));
+      tells = λ room r at fails. absurd (All-contains (λ x. ⊥) [] (at.0) (All-nil (λ x. ⊥)) (subst (λ xs. Contains xs (at.0)) h (at.1)));
     };
   }
 
@@ -101,7 +103,7 @@ module _ (w : World) (e : Bool) where
         (subst (λ xs. All (λ b. Done w M e a b) xs) (sym h) (All-nil (λ b. Done w M e a b))));
     real = record {
       adds = adds_none w e (AtNamed w i j n) s.found.items;
-      tells = λ r at fails. absurd (All-contains (λ x. ⊥) [] r.right (All-nil (λ x. ⊥)) (subst (λ xs. Contains xs r.right) h (named_in n (own_of w j) r.right at.2 (sym at.3 ∙ at.1))));
+      tells = λ room r at fails. absurd (All-contains (λ x. ⊥) [] r.right (All-nil (λ x. ⊥)) (subst (λ xs. Contains xs r.right) h (named_in n (own_of w j) r.right at.2 (sym at.3 ∙ at.1))));
     };
   }
 
@@ -150,7 +152,7 @@ module _ (w : World) (e : Bool) where
       }
 
   owes_of : (O D : Search → Type 0) {s t : Search} → Did w D s t → Owes w O D s t
-  owes_of O D d = record { grows = d.grows; holds = d.holds; closes = λ M g o c. d.closes M g c; keeps = d.keeps }
+  owes_of O D d = record { grows = d.grows; holds = d.holds; closes = λ M g r o c. d.closes M g r c; keeps = d.keeps }
 
   -- no fragment is left that a search opens
   pub opened_end : (O : Search → Type 0) (D : ℕ → Search → Type 0) (P : Root → Type 0) (items : List ℕ) (s t : Search) → items ≡ [] → Keeps s t
@@ -167,8 +169,8 @@ module _ (w : World) (e : Bool) where
   opened_next O Q D P R x rest items s t u h o f one more = record {
     done = record {
       grows = grows_then one.done.grows more.done.grows;
-      holds = λ M g. subst (λ xs. All (λ y. D y M) xs) (sym h) (All-cons (λ y. D y M) x rest (one.done.holds M (grows_then more.done.grows g)) (more.done.holds M g));
-      closes = λ M g owed c. more.done.closes M g owed (one.done.closes M (grows_then more.done.grows g) (o M owed) c);
+      holds = λ M g r. subst (λ xs. All (λ y. D y M) xs) (sym h) (All-cons (λ y. D y M) x rest (one.done.holds M (grows_then more.done.grows g) r) (more.done.holds M g r));
+      closes = λ M g r owed c. more.done.closes M g r owed (one.done.closes M (grows_then more.done.grows g) r (o M owed) c);
       keeps = λ z. more.done.keeps (one.done.keeps z);
     };
     real = adds_then w e P (adds_map w e R P f one.real) more.real;
@@ -231,3 +233,22 @@ module _ (w : World) (e : Bool) where
     done = did_kept w D l (did_before D k d.done);
     real = subst (λ zs. Adds w e P zs v.found.items) k.found (subst (λ zs. Adds w e P t.found.items zs) (sym l.found) d.real);
   }
+
+  -- enough was found
+  pub compares_full : (D : Search → Type 0) (P Q : Root → Type 0) (s : Search) → (HasRoom w s.found.items → ⊥) → Compares w e D P Q s s
+  compares_full D P Q s full = record { done = did_full w D s full; real = all_full w e P Q s.found.items full }
+
+  pub searches_full : (D : Search → Type 0) (P : Root → Type 0) (s : Search) → (HasRoom w s.found.items → ⊥) → Searches w e D P s s
+  searches_full D P s full = record { done = did_full w D s full; real = adds_none w e P s.found.items }
+
+  pub owing_full : (O D : Search → Type 0) (P : Root → Type 0) (s : Search) → (HasRoom w s.found.items → ⊥) → SearchesOwing w e O D P s s
+  owing_full O D P s full = record { done = owes_full w O D s full; real = adds_none w e P s.found.items }
+
+pub skipped : (w : World) (t : Task) (s : Search) → (HasRoom w s.found.items → ⊥) → ((a b : Entry) (n : ℕ) → t ≡ Close a b n → ⊥) → ((i n : ℕ) → t ≡ Mark i n → ⊥) → Meets w t s s
+skipped w (With a j e n) s full close mark = compares_full w e _ _ _ s full
+skipped w (Named i j name e m) s full close mark = compares_full w e _ _ _ s full
+skipped w (Own i j e k) s full close mark = compares_full w e _ _ _ s full
+skipped w (Close a b n) s full close mark = absurd (close a b n refl)
+skipped w (Opened i g e opening k) s full close mark = λ reached. owing_full w e _ _ _ s full
+skipped w (Mark i n) s full close mark = absurd (mark i n refl)
+skipped w (Spreads i p e k) s full close mark = λ there. searches_full w e _ _ s full

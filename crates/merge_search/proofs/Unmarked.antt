@@ -27,8 +27,8 @@ module _ (w : World) where
       let wide = all_map w false (AtSpreads w s others) (AtSpreads w s list) (AtSpreads w s others) (λ r z. (z.0, All-contains (λ g. Contains list g) others z.0 but.only z.1, z.2)) d in
       record {
         adds = wide.adds;
-        tells = λ r at fails. elim (All-contains (λ g. Contains others g ⊎ IsPlain w (set_of w g)) list at.0 but.all at.1) [
-          | inl there ↦ wide.tells r (at.0, there, at.2) fails
+        tells = λ room r at fails. elim (All-contains (λ g. Contains others g ⊎ IsPlain w (set_of w g)) list at.0 but.all at.1) [
+          | inl there ↦ wide.tells room r (at.0, there, at.2) fails
           | inr is ↦ absurd (clash _ fails (sets_quiet w false (inr is) (own at.2.0) at.2.1 at.2.2))
         ];
       }

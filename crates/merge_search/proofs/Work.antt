@@ -1,12 +1,12 @@
 -- How pieces of work join.
-use Rattle.std.proofs.Common.{◌≡◌, ℕ, ◌+◌, ◌*◌, ◌<◌, ◌≤◌, List, [], ◌∷◌, length, take, get_or, refl, sym, subst, arith, Bool, true, false, None, inl, inr, ◌⊎◌, min, max, ◌||◌, ◌&&◌, below_more}
+use Rattle.std.proofs.Common.{◌≡◌, ap, ◌∙◌, length-append, ℕ, ◌+◌, ◌*◌, ◌<◌, ◌≤◌, List, [], ◌∷◌, length, take, get_or, refl, sym, subst, arith, Bool, true, false, None, inl, inr, ◌⊎◌, min, max, ◌||◌, ◌&&◌, below_more}
 use Rattle.std.specs.List.{All, Contains}
 use Rattle.std.proofs.lemmas.List.{take_all, length-take}
 use Rattle.std.proofs.lemmas.List.Elements.{All-more, Contains-push, Contains-append_left}
 use Rattle.merge_search.specs.declared.node.Entry.{Entry}
 use Rattle.merge_search.specs.declared.state.Search.{Search}
 use Rattle.merge_search.specs.declared.state.Finding.{Finding}
-use Rattle.merge_search.specs.World.{World, spreads_of, set_of}
+use Rattle.merge_search.specs.World.{World, HasRoom, spreads_of, set_of}
 use Rattle.merge_search.specs.Log.{in_log, covers_of, Covers}
 use Rattle.merge_search.specs.Work.{pair_in, search_in, Searched, Pair, OwnPairs, ClosedSearch, ClosedPair, AllClosed, Grows, Did, Owes}
 use Rattle.merge_search.specs.Plain.{IsPlain, IsOnePlain}
@@ -19,13 +19,14 @@ abbrev pub no_entry : Entry
 no_entry = record { response = 0; field = 0; below = None }
 
 pub grows_same : (s : Search) → Grows s s
-grows_same s = record { more_pairs = λ x f g h. h; more_searched = λ x i g h. h; more_found = λ y h. h }
+grows_same s = record { more_pairs = λ x f g h. h; more_searched = λ x i g h. h; more_found = λ y h. h; longer = omega arith }
 
 pub grows_then : {a b c : Search} → Grows a b → Grows b c → Grows a c
 grows_then g h = record {
   more_pairs = λ x i j z. h.more_pairs x i j (g.more_pairs x i j z);
   more_searched = λ x i j z. h.more_searched x i j (g.more_searched x i j z);
   more_found = λ y z. h.more_found y (g.more_found y z);
+  longer = omega (arith, g.longer, h.longer);
 }
 
 pair_from : (s t : Search) → t.pairs ≡ s.pairs → (x : Bool) (f g : ℕ) → pair_in s x f g ≡ true → pair_in t x f g ≡ true
@@ -64,7 +65,18 @@ covers_no asked false f g h z = clash_left (asked false f g) false h z
 
 module _ (w : World) where
   pub did_none : (P : Search → Type 0) (s : Search) → ((M : Search) → Grows s M → P M) → Did w P s s
-  did_none P s f = record { grows = grows_same s; holds = f; closes = λ M g c. c; keeps = λ h. h }
+  did_none P s f = record { grows = grows_same s; holds = λ M g r. f M g; closes = λ M g r c. c; keeps = λ h. h }
+
+  room_before : {s M : Search} → Grows s M → HasRoom w M.found.items → HasRoom w s.found.items
+  room_before g (inl all) = inl all
+  room_before g (inr less) = inr (omega (arith, less, g.longer))
+
+  -- no later state has room for more
+  pub did_full : (P : Search → Type 0) (s : Search) → (HasRoom w s.found.items → ⊥) → Did w P s s
+  did_full P s full = record { grows = grows_same s; holds = λ M g r. absurd (full (room_before g r)); closes = λ M g r c. c; keeps = λ h. h }
+
+  pub owes_full : (O P : Search → Type 0) (s : Search) → (HasRoom w s.found.items → ⊥) → Owes w O P s s
+  owes_full O P s full = record { grows = grows_same s; holds = λ M g r. absurd (full (room_before g r)); closes = λ M g r o c. c; keeps = λ h. h }
 
   pub did_start : {A : Type 0} (P : A → Search → Type 0) (xs : List A) (s : Search) → Did w (λ M. All (λ x. P x M) (take 0 xs)) s s
   did_start P xs s = did_none _ s (λ M g i d l. absurd (omega (arith, length-take 0 xs, l)))
@@ -72,13 +84,13 @@ module _ (w : World) where
   pub did_then : (P Q : Search → Type 0) {s t u : Search} → Did w P s t → Did w Q t u → Did w (λ M. P M × Q M) s u
   did_then P Q d e = record {
     grows = grows_then d.grows e.grows;
-    holds = λ M g. (d.holds M (grows_then e.grows g), e.holds M g);
-    closes = λ M g c. e.closes M g (d.closes M (grows_then e.grows g) c);
+    holds = λ M g r. (d.holds M (grows_then e.grows g) r, e.holds M g r);
+    closes = λ M g r c. e.closes M g r (d.closes M (grows_then e.grows g) r c);
     keeps = λ h. e.keeps (d.keeps h);
   }
 
   pub did_map : (P Q : Search → Type 0) {s t : Search} → ((M : Search) → P M → Q M) → Did w P s t → Did w Q s t
-  did_map P Q f d = record { grows = d.grows; holds = λ M g. f M (d.holds M g); closes = d.closes; keeps = d.keeps }
+  did_map P Q f d = record { grows = d.grows; holds = λ M g r. f M (d.holds M g r); closes = d.closes; keeps = d.keeps }
 
   pub did_more : {A : Type 0} (P : A → Search → Type 0) (xs : List A) (k : ℕ) (d : A) {s t u : Search} → k < length xs
       → Did w (λ M. All (λ x. P x M) (take k xs)) s t → Did w (P (get_or xs k d)) t u
@@ -96,9 +108,10 @@ module _ (w : World) where
       more_pairs = pair_from s t d.pairs;
       more_searched = search_from s t d.searched;
       more_found = λ y h. subst (λ zs. Contains zs y) (sym d.found) h;
+      longer = omega (arith, ap length d.found);
     };
-    holds = λ M g. tt;
-    closes = λ M g c. record {
+    holds = λ M g r. tt;
+    closes = λ M g r c. record {
       pairs_closed = λ x f h z. c.pairs_closed x f h (pair_back s t d.pairs x f h z);
       searches_closed = λ x i h z. c.searches_closed x i h (search_back s t d.searched x i h z);
     };
@@ -113,19 +126,19 @@ module _ (w : World) where
   pub owes_search : (e : Bool) (i g : ℕ) {s t u : Search} → NotesSearch i g e s t → Did w (λ M. OwnPairs w M e i (set_of w g)) t u
       → Owes w (λ M. All (λ h. Searched M e i h) (spreads_of w (set_of w g))) (λ M. Searched M e i g) s u
   owes_search e i g {s} {t} {u} n d =
-      let up : Grows s t = record { more_pairs = pair_from s t n.pairs; more_searched = n.notes.kept; more_found = λ y h. subst (λ zs. Contains zs y) (sym n.found) h } in
+      let up : Grows s t = record { more_pairs = pair_from s t n.pairs; more_searched = n.notes.kept; more_found = λ y h. subst (λ zs. Contains zs y) (sym n.found) h; longer = omega (arith, ap length n.found) } in
       record {
         keeps = λ h. d.keeps (tally_same n.pairs n.compared (λ o. subst (λ (k : ℕ). k ≤ length w.fragments * t.lists) (sym n.opened) (subst (λ (k : ℕ). s.opened ≤ length w.fragments * k) (sym n.lists) o)) h);
         grows = grows_then up d.grows;
-        holds = λ M k. (e, inl refl, k.more_searched e i g (d.grows.more_searched e i g n.notes.noted));
-        closes = λ M k owed c. d.closes M k record {
+        holds = λ M k r. (e, inl refl, k.more_searched e i g (d.grows.more_searched e i g n.notes.noted));
+        closes = λ M k r owed c. d.closes M k r record {
           pairs_closed = λ x f h z. c.pairs_closed x f h (pair_back s t n.pairs x f h z);
-          searches_closed = λ x j h z. elim (n.notes.only x j h z) [ inl old ↦ c.searches_closed x j h old | inr is ↦ closed_search M e x i g j h is (d.holds M k, owed) ];
+          searches_closed = λ x j h z. elim (n.notes.only x j h z) [ inl old ↦ c.searches_closed x j h old | inr is ↦ closed_search M e x i g j h is (d.holds M k r, owed) ];
         };
       }
 
   pub owes_none : (O P : Search → Type 0) (s : Search) → ((M : Search) → Grows s M → P M) → Owes w O P s s
-  owes_none O P s f = record { grows = grows_same s; holds = f; closes = λ M g o c. c; keeps = λ h. h }
+  owes_none O P s f = record { grows = grows_same s; holds = λ M g r. f M g; closes = λ M g r o c. c; keeps = λ h. h }
 
   closed_pair : (M : Search) (e x : Bool) (f g i j : ℕ) → (x ≡ e) × (((i ≡ f) × (j ≡ g)) ⊎ ((i ≡ g) × (j ≡ f))) → ClosedPair w M e f g → ClosedPair w M x i j ⊎ ClosedPair w M x j i
   closed_pair M e x f g i j (is, inl p) z = inl (subst (λ (y : Bool). ClosedPair w M y i j) (sym is)
@@ -137,14 +150,14 @@ module _ (w : World) where
   pub did_fragments : (e : Bool) (f g : ℕ) {s t u : Search} → NotesPair f g e s t → (f ≡ g → ⊥) → f < length w.fragments → g < length w.fragments
       → (pair_in s e f g ≡ true → ⊥) → Did w (λ M. ClosedPair w M e f g) t u → Did w (λ M. Pair M e f g) s u
   did_fragments e f g {s} {t} {u} n ne lf lg fresh d =
-      let up : Grows s t = record { more_pairs = n.notes.kept; more_searched = search_from s t n.searched; more_found = λ y h. subst (λ zs. Contains zs y) (sym n.found) h } in
+      let up : Grows s t = record { more_pairs = n.notes.kept; more_searched = search_from s t n.searched; more_found = λ y h. subst (λ zs. Contains zs y) (sym n.found) h; longer = omega (arith, ap length n.found) } in
       record {
         keeps = λ h. d.keeps (tally_pair n ne lf lg fresh h);
         grows = grows_then up d.grows;
-        holds = λ M k. inr (e, inl refl, k.more_pairs e f g (d.grows.more_pairs e f g n.notes.noted));
-        closes = λ M k c. d.closes M k record {
+        holds = λ M k r. inr (e, inl refl, k.more_pairs e f g (d.grows.more_pairs e f g n.notes.noted));
+        closes = λ M k r c. d.closes M k r record {
           searches_closed = λ x i h z. c.searches_closed x i h (search_back s t n.searched x i h z);
-          pairs_closed = λ x i j z. elim (n.notes.only x i j z) [ inl old ↦ c.pairs_closed x i j old | inr is ↦ inl (closed_pair M e x f g i j is (d.holds M k)) ];
+          pairs_closed = λ x i j z. elim (n.notes.only x i j z) [ inl old ↦ c.pairs_closed x i j old | inr is ↦ inl (closed_pair M e x f g i j is (d.holds M k r)) ];
         };
       }
 
@@ -159,9 +172,9 @@ module _ (w : World) where
       → (pair_in s false f g ≡ true → ⊥) → IsOnePlain w f g → Did w (λ M. Pair M false f g) s t
   did_passed f g {s} {t} n ne lf lg fresh one = record {
     keeps = tally_pair n ne lf lg fresh;
-    grows = record { more_pairs = n.notes.kept; more_searched = search_from s t n.searched; more_found = λ y h. subst (λ zs. Contains zs y) (sym n.found) h };
-    holds = λ M k. inr (false, inl refl, k.more_pairs false f g n.notes.noted);
-    closes = λ M k c. record {
+    grows = record { more_pairs = n.notes.kept; more_searched = search_from s t n.searched; more_found = λ y h. subst (λ zs. Contains zs y) (sym n.found) h; longer = omega (arith, ap length n.found) };
+    holds = λ M k r. inr (false, inl refl, k.more_pairs false f g n.notes.noted);
+    closes = λ M k r c. record {
       searches_closed = λ x i h z. c.searches_closed x i h (search_back s t n.searched x i h z);
       pairs_closed = λ x i j z. elim (n.notes.only x i j z) [ inl old ↦ c.pairs_closed x i j old | inr is ↦ inr (one_plain false x f g i j is one) ];
     };
@@ -178,9 +191,9 @@ module _ (w : World) where
       → Did w (λ M. (g : ℕ) → among g ≡ true → g < f → Pair M false f g) s t
   did_below f among {s} {t} n lf one = record {
     keeps = tally_below f among n lf;
-    grows = record { more_pairs = n.kept; more_searched = search_from s t n.searched; more_found = λ y h. subst (λ zs. Contains zs y) (sym n.found) h };
-    holds = λ M k g there less. inr (false, inl refl, k.more_pairs false f g (n.noted g there less));
-    closes = λ M k c. record {
+    grows = record { more_pairs = n.kept; more_searched = search_from s t n.searched; more_found = λ y h. subst (λ zs. Contains zs y) (sym n.found) h; longer = omega (arith, ap length n.found) };
+    holds = λ M k r g there less. inr (false, inl refl, k.more_pairs false f g (n.noted g there less));
+    closes = λ M k r c. record {
       searches_closed = λ x i h z. c.searches_closed x i h (search_back s t n.searched x i h z);
       pairs_closed = λ x i j z. elim (n.only x i j z) [ inl old ↦ c.pairs_closed x i j old | inr is ↦ inr (below_plain f i j is.1 one) ];
     };
@@ -193,12 +206,13 @@ module _ (w : World) where
         more_pairs = pair_from t u n.pairs;
         more_searched = search_from t u n.searched;
         more_found = λ z h. subst (λ zs. Contains zs z) (sym n.found) (Contains-append_left t.found.items (y ∷ []) z h);
+        longer = omega (arith, ap length n.found ∙ length-append t.found.items (y ∷ []));
       } in
       record {
         keeps = λ h. tally_same n.pairs n.compared (λ o. subst (λ (k : ℕ). k ≤ length w.fragments * u.lists) (sym n.opened) (subst (λ (k : ℕ). t.opened ≤ length w.fragments * k) (sym n.lists) o)) (d.keeps h);
         grows = grows_then d.grows up;
-        holds = λ M k. (d.holds M (grows_then up k), k.more_found y (subst (λ zs. Contains zs y) (sym n.found) (Contains-push t.found.items y)));
-        closes = λ M k c. let had = d.closes M (grows_then up k) c in record {
+        holds = λ M k r. (d.holds M (grows_then up k) r, k.more_found y (subst (λ zs. Contains zs y) (sym n.found) (Contains-push t.found.items y)));
+        closes = λ M k r c. let had = d.closes M (grows_then up k) r c in record {
           searches_closed = λ x i h z. had.searches_closed x i h (search_back t u n.searched x i h z);
           pairs_closed = λ x i j z. had.pairs_closed x i j (pair_back t u n.pairs x i j z);
         };
@@ -207,12 +221,12 @@ module _ (w : World) where
   -- nothing that is spoken of changed, after other work
   pub did_kept : (P : Search → Type 0) {s t u : Search} → Keeps t u → Did w P s t → Did w P s u
   did_kept P {s} {t} {u} n d =
-      let up : Grows t u = record { more_pairs = pair_from t u n.pairs; more_searched = search_from t u n.searched; more_found = λ z h. subst (λ zs. Contains zs z) (sym n.found) h } in
+      let up : Grows t u = record { more_pairs = pair_from t u n.pairs; more_searched = search_from t u n.searched; more_found = λ z h. subst (λ zs. Contains zs z) (sym n.found) h; longer = omega (arith, ap length n.found) } in
       record {
         keeps = λ h. tally_same n.pairs n.compared (λ o. subst (λ (k : ℕ). k ≤ length w.fragments * u.lists) (sym n.opened) (subst (λ (k : ℕ). t.opened ≤ length w.fragments * k) (sym n.lists) o)) (d.keeps h);
         grows = grows_then d.grows up;
-        holds = λ M k. d.holds M (grows_then up k);
-        closes = λ M k c. let had = d.closes M (grows_then up k) c in record {
+        holds = λ M k r. d.holds M (grows_then up k) r;
+        closes = λ M k r c. let had = d.closes M (grows_then up k) r c in record {
           searches_closed = λ x i h z. had.searches_closed x i h (search_back t u n.searched x i h z);
           pairs_closed = λ x i j z. had.pairs_closed x i j (pair_back t u n.pairs x i j z);
         };
@@ -223,7 +237,7 @@ module _ (w : World) where
   did_opened O P f d e = record {
     grows = grows_then d.grows e.grows;
     holds = e.holds;
-    closes = λ M g c. e.closes M g (f M c (e.holds M g)) (d.closes M (grows_then e.grows g) c);
+    closes = λ M g r c. e.closes M g r (f M c (e.holds M g r)) (d.closes M (grows_then e.grows g) r c);
     keeps = λ h. e.keeps (d.keeps h);
   }
 

@@ -7,7 +7,7 @@ use Rattle.merge_search.specs.declared.state.Finding.{Finding}
 use Rattle.merge_search.specs.declared.state.Finding.TheVariants.{Direct, Nested}
 use Rattle.merge_search.specs.Judgement.{Lawful}
 use Rattle.merge_search.specs.Graph.{IsWhole}
-use Rattle.merge_search.specs.World.{World, own_of, spreads_of, set_of, conflict_of, exclusive_of, Same}
+use Rattle.merge_search.specs.World.{World, HasRoom, own_of, spreads_of, set_of, conflict_of, exclusive_of, Same}
 use Rattle.merge_search.specs.Merging.{Stands, Below, Apart, Merges, SetMerges, Way, Passes}
 
 -- The two fields of a report.
@@ -39,10 +39,10 @@ pub record Adds (w : World) (e : Bool) (P : Root → Type 0) (old new : List Fin
 abbrev pub Tells : World → Bool → (Root → Type 0) → List Root → Type 0
 Tells w e P roots = (r : Root) → P r → conflict_of w e r.left r.right ≡ true → Contains roots r
 
--- The same, and each pair of Q that fails of itself has a tree of its own.
+-- The same, and where there is room for more, each pair of Q that fails of itself has a tree of its own.
 pub record AddsAll (w : World) (e : Bool) (P Q : Root → Type 0) (old new : List Finding) : Type 0 where
   pub adds : Adds w e P old new
-  pub tells : Tells w e Q adds.roots
+  pub tells : HasRoom w new → Tells w e Q adds.roots
 
 -- The same of what a search has found.
 abbrev pub Finds : World → Bool → (Root → Type 0) → Search → Search → Type 0
@@ -104,14 +104,15 @@ Real w order found = Adds w false (AtSearched w order) [] found
 pub record Complete (w : World) (order : List ℕ) (found : List Finding) (roots : List Root) : Type 0 where
   pub exact : IsWhole w.sets order → found ≡ [] → (s : ℕ) (a b : Entry) → Stands w s a → Stands w s b → Same a b → Merges w false a b
   pub merges : IsWhole w.sets order → found ≡ [] → (s : ℕ) → SetMerges w s
-  pub refuses : 0 < length found → ((s : ℕ) → Contains order s → SetMerges w s) → ⊥
   pub ways : IsWhole w.sets order → (s : ℕ) (a b : Entry) → Stands w s a → Stands w s b → Same a b → (v : Way w false a b) → Passes found v
   pub failing : (s : ℕ) (a b : Entry) → Contains order s → Stands w s a → Stands w s b → Same a b
       → conflict_of w false a b ≡ true → Told w found a b
   pub at_the_top : (s : ℕ) (a b : Entry) → Contains order s → Contains (own_of w s) a → Stands w s b → Same a b
       → conflict_of w false a b ≡ true → IsRoot roots a b
 
--- What was found is true, and where the judgement keeps its laws nothing is missed.
+-- What was found is true. Where the judgement keeps its laws, and there is room for more, nothing is missed; and where
+-- something was found, not all sets merge.
 pub record Judged (w : World) (order : List ℕ) (found : List Finding) : Type 0 where
   pub real : Real w order found
-  pub complete : Lawful w.judgement → Complete w order found real.roots
+  pub complete : HasRoom w found → Lawful w.judgement → Complete w order found real.roots
+  pub refuses : Lawful w.judgement → 0 < length found → ((s : ℕ) → Contains order s → SetMerges w s) → ⊥

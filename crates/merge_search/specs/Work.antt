@@ -1,11 +1,11 @@
 -- What a search has done, seen from any later state M.
-use Rattle.std.specs.Prelude.{ℕ, min, max, length, Some, None, Bool, true, false, ◌≡◌, ◌⊎◌}
+use Rattle.std.specs.Prelude.{ℕ, ◌≤◌, min, max, length, Some, None, Bool, true, false, ◌≡◌, ◌⊎◌}
 use Rattle.std.specs.List.{All, Contains}
 use Rattle.merge_search.specs.declared.node.Entry.{Entry}
 use Rattle.merge_search.specs.declared.state.Search.{Search}
 use Rattle.merge_search.specs.declared.state.Finding.{Finding}
 use Rattle.merge_search.specs.declared.state.Finding.TheVariants.{Direct}
-use Rattle.merge_search.specs.World.{World, own_of, spreads_of, set_of, conflict_of, exclusive_of, Same}
+use Rattle.merge_search.specs.World.{World, HasRoom, own_of, spreads_of, set_of, conflict_of, exclusive_of, Same}
 use Rattle.merge_search.specs.Log.{in_log, Covers}
 use Rattle.merge_search.specs.Plain.{IsPlainBelow, IsOnePlain}
 use Rattle.merge_search.specs.Counts.{Tally}
@@ -69,18 +69,19 @@ pub record Grows (old new : Search) : Type 0 where
   pub more_pairs : (x : Bool) (f g : ℕ) → pair_in old x f g ≡ true → pair_in new x f g ≡ true
   pub more_searched : (x : Bool) (i g : ℕ) → search_in old x i g ≡ true → search_in new x i g ≡ true
   pub more_found : (y : Finding) → Contains old.found.items y → Contains new.found.items y
+  pub longer : length old.found.items ≤ length new.found.items
 
--- A piece of work from old to new, after which P holds at any later state; what it recorded is followed up where the
--- later state has O.
+-- A piece of work from old to new, after which P holds at any later state that has room for more; what it recorded is
+-- followed up where the later state has O.
 pub record Owes (w : World) (O P : Search → Type 0) (old new : Search) : Type 0 where
   pub grows : Grows old new
-  pub holds : (M : Search) → Grows new M → P M
-  pub closes : (M : Search) → Grows new M → O M → AllClosed w M old → AllClosed w M new
+  pub holds : (M : Search) → Grows new M → HasRoom w M.found.items → P M
+  pub closes : (M : Search) → Grows new M → HasRoom w M.found.items → O M → AllClosed w M old → AllClosed w M new
   pub keeps : Tally (pair_in old) (length w.fragments) old → Tally (pair_in new) (length w.fragments) new
 
--- A piece of work from old to new, after which P holds at any later state.
+-- A piece of work from old to new, after which P holds at any later state that has room for more.
 pub record Did (w : World) (P : Search → Type 0) (old new : Search) : Type 0 where
   pub grows : Grows old new
-  pub holds : (M : Search) → Grows new M → P M
-  pub closes : (M : Search) → Grows new M → AllClosed w M old → AllClosed w M new
+  pub holds : (M : Search) → Grows new M → HasRoom w M.found.items → P M
+  pub closes : (M : Search) → Grows new M → HasRoom w M.found.items → AllClosed w M old → AllClosed w M new
   pub keeps : Tally (pair_in old) (length w.fragments) old → Tally (pair_in new) (length w.fragments) new

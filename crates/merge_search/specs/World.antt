@@ -1,18 +1,20 @@
 -- A graph as definitions see it.
-use Rattle.std.specs.Prelude.{ℕ, List, Bool, ◌≡◌, get_or}
+use Rattle.std.specs.Prelude.{ℕ, List, Bool, ◌≡◌, ◌<◌, ◌⊎◌, get_or, length}
 use Rattle.merge_search.specs.Judgement.{Judgement}
 use Rattle.merge_search.specs.Graph.{own_at, spreads_at}
 use Rattle.merge_search.specs.declared.node.Entry.{Entry}
 use Rattle.merge_search.specs.declared.node.SetNode.{SetNode}
 use Rattle.merge_search.specs.declared.graph.Graph.{Graph}
+use Rattle.merge_search.specs.declared.state.Finding.{Finding}
 
 pub record World : Type 0 where
   pub judgement : Judgement
   pub sets : List SetNode
   pub fragments : List ℕ
+  pub limit : ℕ
 
 abbrev pub world : {J : Type 0} → (J → Judgement) → Graph J → World
-world judgement graph = record { judgement = judgement graph.judge; sets = graph.sets.items; fragments = graph.fragments.items }
+world judgement graph = record { judgement = judgement graph.judge; sets = graph.sets.items; fragments = graph.fragments.items; limit = graph.limit }
 
 abbrev pub own_of : World → ℕ → List Entry
 own_of w s = own_at w.sets s
@@ -30,6 +32,10 @@ exclusive_of w e a b = w.judgement.exclusive e a.field b.field
 
 abbrev pub conflict_of : World → Bool → Entry → Entry → Bool
 conflict_of w e a b = w.judgement.conflict e a.field b.field
+
+-- More findings are asked for: there is no limit on them, or it isn't reached.
+abbrev pub HasRoom : World → List Finding → Type 0
+HasRoom w found = (w.limit ≡ 0) ⊎ (length found < w.limit)
 
 -- One response name.
 abbrev pub Same : Entry → Entry → Type 0

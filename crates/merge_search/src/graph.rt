@@ -16,6 +16,8 @@ pub struct Graph<J> {
     pub inner: Vec<InnerSet>,
     /// The spreads of sets with inner ones, as they are written.
     pub written: Vec<usize>,
+    /// How many findings are enough; 0 asks for all.
+    pub limit: usize,
     ghost falling: { Falling sets.items fragments.items },
     ghost listed: { AreListed fragments.items order.items },
 }

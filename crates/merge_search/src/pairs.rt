@@ -15,7 +15,7 @@ use crate::node::Entry;
 use crate::plain::are_plain_below;
 use crate::search::compare_fields;
 use crate::state::Search;
-use crate::view::agree_plainly;
+use crate::view::{agree_plainly, is_full};
 use bit_matrix::set::BitSet;
 use std::alloc::AllocError;
 
@@ -35,13 +35,17 @@ pub(crate) fn compare_rest<J: Judge>(
     ensures real { let w = world J.judgement graph.now in
         OnOk result (FindsAll w false (AtRest a rest.now) (AtRest a rest.now) search.old search.new) }
 {
+    if is_full(graph, search) {
+        return Ok(());
+    }
     for b in rest {
         compare_fields(graph, a, *b, false, search)?;
     }
     Ok(())
 }
 
-// Whether it is plain that there is nothing to find between some fields. Two that have nothing below are compared at once.
+// Whether it is plain that there is nothing to find between some fields. Two that have nothing below are compared at
+// once.
 fn are_passed<J: Judge>(graph: &Graph<J>, fields: &[Entry], plain: &BitSet) -> bool
     requires { ArePlain (world J.judgement graph.now) plain.now }
     ensures { OnTrue result (AreClear (world J.judgement graph.now) fields.now fields.now) }

@@ -1,5 +1,7 @@
-//! Comparing fields, sets and fragments. What is left to do stands on a list in memory, so no depth is too deep.
+//! Comparing fields, sets and fragments. What is left to do stands on a list in memory, so no depth is too deep. Where
+//! enough was found, it is passed over.
 ghost use Rattle.std.specs.Prelude.{◌≡◌, ◌∷◌, ◌<◌, OnOk, length, reverse};
+ghost use Rattle.std.specs.Bool.{OnTrue};
 ghost use Rattle.merge_search.specs.World.{world};
 ghost use Rattle.merge_search.specs.State.{Keeps};
 ghost use Rattle.merge_search.specs.Work.{Did, Done, Pair, OwnPairs};
@@ -14,6 +16,7 @@ use crate::judge::Judge;
 use crate::node::Entry;
 use crate::state::{Search, note_conflicts};
 use crate::task::{Task, put_tasks, take_tasks};
+use crate::view::is_full;
 use std::alloc::AllocError;
 
 /// Compares two fields of one response name.
@@ -33,6 +36,9 @@ pub fn compare_fields<J: Judge>(
     ensures real { let w = world J.judgement graph.now in
         OnOk result (FindsAll w e (AtFields a b) (AtFields a b) search.old search.new) }
 {
+    if is_full(graph, search) {
+        return Ok(());
+    }
     let mut tasks = take_tasks(search);
     begin_fields(graph, a, b, e, &mut tasks, search)?;
     finish(graph, tasks, search)
@@ -55,6 +61,9 @@ pub fn compare_own<J: Judge>(
     ensures real { let w = world J.judgement graph.now in
         OnOk result (FindsAll w e (AtOwn w i j) (AtOwn w i j) search.old search.new) }
 {
+    if is_full(graph, search) {
+        return Ok(());
+    }
     let mut tasks = take_tasks(search);
     next_own(graph, i, j, e, 0, &mut tasks, search)?;
     finish(graph, tasks, search)
@@ -78,6 +87,9 @@ pub fn compare_fragments<J: Judge>(
     ensures real { let w = world J.judgement graph.now in
         OnOk result (Finds w e (AtFragments w f g) search.old search.new) }
 {
+    if is_full(graph, search) {
+        return Ok(());
+    }
     let mut tasks = take_tasks(search);
     begin_fragments(graph, f, g, e, &mut tasks, search)?;
     finish(graph, tasks, search)
@@ -115,6 +127,16 @@ fn do_all<J: Judge>(
     Err(AllocError)
 }
 
+/// Whether a task is passed over, since enough was found. What was begun is ended all the same.
+fn is_skipped<J: Judge>(graph: &Graph<J>, task: &Task, search: &Search) -> bool
+    ensures { let w = world J.judgement graph.now in OnTrue result (Meets w task.now search.now search.now) }
+{
+    match task {
+        Task::Close(_, _, _) | Task::Mark(_, _) => false,
+        _ => is_full(graph, search),
+    }
+}
+
 /// Does the beginning of a task; the rest waits before the others.
 fn step<J: Judge>(
     graph: &Graph<J>,
@@ -125,6 +147,9 @@ fn step<J: Judge>(
     ensures { let w = world J.judgement graph.now in
         OnOk result (Turns w (Meets w task) tasks.old.items tasks.new.items search.old search.new) }
 {
+    if is_skipped(graph, &task, search) {
+        return Ok(());
+    }
     match task {
         Task::With(a, j, e, n) => next_with(graph, a, j, e, n, tasks, search),
         Task::Named(i, j, name, e, m) => next_named(graph, i, j, name, e, m, tasks, search),

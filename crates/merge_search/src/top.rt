@@ -1,7 +1,7 @@
 //! The search over all sets.
 ghost use Rattle.std.specs.Prelude.{◌≡◌, ◌<◌, ◌≤◌, ◌*◌, ◌-◌, ℕ, List, OnOk, IfOk, length, false};
 ghost use Rattle.std.specs.List.{All};
-ghost use Rattle.merge_search.specs.World.{world, set_of, spreads_of};
+ghost use Rattle.merge_search.specs.World.{world, HasRoom, set_of, spreads_of};
 ghost use Rattle.merge_search.specs.Opening.{Opens};
 ghost use Rattle.merge_search.specs.Work.{Did, OwnPairs, Pair};
 ghost use Rattle.merge_search.specs.Merging.{Top, OwnWithin, OwnWritten};
@@ -20,7 +20,7 @@ use crate::plain::{is_plain, passed_over};
 use crate::repeats::Seeker;
 use crate::search::{compare_fragments, compare_own};
 use crate::state::{Search, no_search, put_opening};
-use crate::view::{firsts, group, order, set, spreads};
+use crate::view::{firsts, group, is_full, order, set, spreads};
 use bit_matrix::set::BitSet;
 use std::alloc::{AllocError, Global};
 
@@ -180,6 +180,9 @@ fn compare_spread<J: Judge>(
     if is_plain(graph, f, plain) {
         return Ok(());
     }
+    if is_full(graph, search) {
+        return Ok(());
+    }
     for g in list {
         compare_pair(graph, f, *g, plain, search)?;
     }
@@ -259,6 +262,9 @@ fn search_set<J: Judge>(
     ensures real { let w = world J.judgement graph.now in
         OnOk result (FindsAll w false (AtPlaces w s) (AtTop w s) search.old search.new) }
 {
+    if is_full(graph, search) {
+        return Ok(());
+    }
     let start = search.found.len();
     compare_set(graph, s, plain, search)?;
     if search.found.len() == start {
@@ -269,9 +275,11 @@ fn search_set<J: Judge>(
 
 /// Searches the sets of the graph's order, one after the other.
 ///
-/// What is found is true, and nothing is missed; but where some set isn't in the order, what stands below one field
-/// alone may be. Of `n` fragments at most `n (n - 1)` pairs are compared, and at
-/// least those that some set spreads together; no search opens more than `n` fragments.
+/// What is found is true. Unless it is as much as the graph's limit, nothing is missed; but where some set isn't in the
+/// order, what stands below one field alone may be. A search that has found enough only ends what it has begun.
+///
+/// Of `n` fragments at most `n (n - 1)` pairs are compared, and at least those that some set spreads together, unless it
+/// found enough. No search opens more than `n` fragments.
 ///
 /// # Errors
 ///
@@ -280,7 +288,8 @@ pub fn search_all<J: Judge>(alloc: Global, graph: &Graph<J>) -> Result<Search, A
     ensures judged { IfOk result (λ m. Judged (world J.judgement graph.now) graph.now.order.items m.found.items) }
     ensures few { let n = length graph.now.fragments.items in IfOk result (λ m. m.compared ≤ n * (n - 1)) }
     ensures enough { let w = world J.judgement graph.now in
-        IfOk result (λ m. (ps : List (ℕ × ℕ)) → Together w graph.now.order.items ps → length ps ≤ m.compared) }
+        IfOk result (λ m. HasRoom w m.found.items → (ps : List (ℕ × ℕ)) → Together w graph.now.order.items ps
+        → length ps ≤ m.compared) }
     ensures opened { IfOk result (λ m. m.opened ≤ length graph.now.fragments.items * m.lists) }
 {
     let plain = passed_over(alloc, graph)?;

@@ -6,12 +6,13 @@ ghost use Rattle.std.specs.List.{All};
 ghost use Rattle.merge_search.specs.Tasks.{firsts_at};
 ghost use Rattle.merge_search.specs.Clear.{AreClear, AreLeaves};
 ghost use Rattle.merge_search.specs.Judgement.{NoneConflict};
-ghost use Rattle.merge_search.specs.World.{world, own_of, spreads_of, set_of, exclusive_of, conflict_of};
+ghost use Rattle.merge_search.specs.World.{world, HasRoom, own_of, spreads_of, set_of, exclusive_of, conflict_of};
 
 use crate::graph::Graph;
 use crate::groups::{fields_named, first_fields, sorted_fields};
 use crate::judge::Judge;
 use crate::node::Entry;
+use crate::state::Search;
 use std::alloc::AllocError;
 
 /// The first own field of each response name of a set, in the order in which they stand.
@@ -79,6 +80,13 @@ pub fn set<J: Judge>(graph: &Graph<J>, f: usize) -> usize
         Some(s) => *s,
         None => 0,
     }
+}
+
+/// Whether enough was found.
+pub fn is_full<J: Judge>(graph: &Graph<J>, search: &Search) -> bool
+    ensures { OnTrue result (HasRoom (world J.judgement graph.now) search.now.found.items → ⊥) }
+{
+    graph.limit != 0 && search.found.len() >= graph.limit
 }
 
 /// Whether two fields can never be asked of one object.

@@ -1,5 +1,5 @@
 -- The errors of a document that was searched.
-use Rattle.std.proofs.Common.{◌≡◌, ◌≤◌, ◌*◌, ◌-◌, ◌↔◌, ◌∙◌, ℕ, List, [], length, map, Option, Some, None, Bool, true, false, refl, sym, ap, subst, IsPermutation, arith}
+use Rattle.std.proofs.Common.{◌≡◌, ◌<◌, ◌≤◌, ◌*◌, ◌-◌, ◌↔◌, ◌++◌, ◌∷◌, ◌∙◌, ℕ, List, [], inl, inr, length, map, Option, Some, None, Bool, refl, sym, ap, subst, arith}
 use Rattle.std.specs.Option.{IsSome, is_some}
 use Rattle.std.proofs.lemmas.Bool.{true≢false}
 use Rattle.std.proofs.lemmas.List.Elements.{All-nil}
@@ -11,10 +11,11 @@ use Rattle.merge_graph.specs.Definitions.{fragment_count}
 use Rattle.merge_conflicts.specs.Reports.{none}
 use Rattle.merge_conflicts.specs.Texts.{errors_of}
 use Rattle.merge_document.specs.Conflicts.{true_none}
-use Rattle.merge_document.specs.Found.{IsJudged, AreTogether}
+use Rattle.merge_document.specs.Found.{IsFinished, IsJudged, AreTogether}
 use Rattle.merge_document.specs.declared.search.FoundConflicts.{FoundConflicts}
 use Rattle.rules_merge.specs.declared.overlapping_fields_can_be_merged.OverlappingFieldsCanBeMerged.{OverlappingFieldsCanBeMerged}
-use Rattle.rules_merge.specs.OverlappingFieldsCanBeMerged.{MergeErrors, error_value}
+use Rattle.rules_merge.specs.OverlappingFieldsCanBeMerged.{ErrorsWithin, IsToldOfSearch, MergeErrors, StoppedErrors, error_value, stop_error}
+use Rattle.walk.specs.ErrorValue.{ErrorValue}
 
 module _ {S C : Type 0} (E : S → S → Bool) (schema : Catalog S C) (document : List (Definition S)) where
   -- where some fragment leads back to itself there is nothing
@@ -33,22 +34,50 @@ module _ {S C : Type 0} (E : S → S → Bool) (schema : Catalog S C) (document 
         opened = subst (λ (k : ℕ). k ≤ fragment_count document * end.lists) (sym opened) (omega arith);
       }
 
-  -- elsewhere what was found
+  -- elsewhere what was found, if the search was finished
   pub of_some : (o : Option (FoundConflicts S C)) (f : FoundConflicts S C) → o ≡ Some f → (IsSome o ↔ HasNoCycle document) → (j : IsJudged E schema document f)
-      → f.compared ≤ fragment_count document * (fragment_count document - 1) → ((ps : List (List ℕ × List ℕ)) → AreTogether schema document ps → length ps ≤ f.compared)
+      → IsFinished f → f.compared ≤ fragment_count document * (fragment_count document - 1)
+      → (IsFinished f → (ps : List (List ℕ × List ℕ)) → AreTogether schema document ps → length ps ≤ f.compared)
       → f.opened ≤ fragment_count document * f.lists
       → (end : OverlappingFieldsCanBeMerged) → end.compared ≡ f.compared → end.opened ≡ f.opened → end.lists ≡ f.lists
       → MergeErrors E schema document end (map error_value (errors_of E schema j.reports))
-  of_some o f is none_where j few enough opens end compared opened lists =
+  of_some o f is none_where j done few enough opens end compared opened lists =
       let acyclic : HasNoCycle document = none_where.0 (ap is_some is) in
       record {
         reports = j.reports;
         told = IsPermutation-refl (map error_value (errors_of E schema j.reports));
         real = j.real;
         cyclic = λ c. absurd (c acyclic);
-        told_of_sets = λ h. j.told;
-        all = λ h. j.all;
+        told_of_sets = λ h. j.told done;
+        all = λ h. j.all done;
         few = subst (λ (k : ℕ). k ≤ fragment_count document * (fragment_count document - 1)) (sym compared) few;
-        enough = λ h ps together. let l = enough ps together in omega (arith, l, compared);
+        enough = λ h ps together. let l = enough done ps together in omega (arith, l, compared);
         opened = subst (λ (k : ℕ). k ≤ fragment_count document * end.lists) (sym opened) (subst (λ (k : ℕ). f.opened ≤ fragment_count document * k) (sym lists) opens);
       }
+
+  -- and what a search had found that stopped
+  pub of_stopped : (f : FoundConflicts S C) (j : IsJudged E schema document f) → 0 < f.limit → f.limit ≤ length f.found.items
+      → f.compared ≤ fragment_count document * (fragment_count document - 1) → f.opened ≤ fragment_count document * f.lists
+      → (end : OverlappingFieldsCanBeMerged) → end.compared ≡ f.compared → end.opened ≡ f.opened → end.lists ≡ f.lists
+      → StoppedErrors E schema document end (map error_value (errors_of E schema j.reports) ++ stop_error ∷ [])
+  of_stopped f j limited full few opens end compared opened lists = record {
+    reports = j.reports;
+    told = refl;
+    real = j.real;
+    refuses = j.refuses (omega (arith, limited, full));
+    few = subst (λ (k : ℕ). k ≤ fragment_count document * (fragment_count document - 1)) (sym compared) few;
+    opened = subst (λ (k : ℕ). k ≤ fragment_count document * end.lists) (sym opened) (subst (λ (k : ℕ). f.opened ≤ fragment_count document * k) (sym lists) opens);
+  }
+
+  -- as the search has told it
+  pub of_search : (enough : ℕ) (o : Option (FoundConflicts S C)) (f : FoundConflicts S C) → o ≡ Some f → f.limit ≡ enough → (IsSome o ↔ HasNoCycle document) → (j : IsJudged E schema document f)
+      → f.compared ≤ fragment_count document * (fragment_count document - 1)
+      → (IsFinished f → (ps : List (List ℕ × List ℕ)) → AreTogether schema document ps → length ps ≤ f.compared)
+      → f.opened ≤ fragment_count document * f.lists
+      → (end : OverlappingFieldsCanBeMerged) → end.compared ≡ f.compared → end.opened ≡ f.opened → end.lists ≡ f.lists
+      → (es : List ErrorValue) → IsToldOfSearch f (map error_value (errors_of E schema j.reports)) es
+      → ErrorsWithin E enough schema document end es
+  of_search enough o f is bound none_where j few together opens end compared opened lists es (inl (done, told)) =
+      inl (subst (MergeErrors E schema document end) (sym told) (of_some o f is none_where j done few together opens end compared opened lists))
+  of_search enough o f is bound none_where j few together opens end compared opened lists es (inr (limited, full, told)) =
+      inr (subst (λ (n : ℕ). 0 < n) bound limited, subst (StoppedErrors E schema document end) (sym told) (of_stopped f j limited full few opens end compared opened lists))

@@ -1,5 +1,5 @@
 -- Fields of one response name that can't be merged (section 5.3.2).
-use Rattle.std.specs.Prelude.{◌≡◌, ◌≤◌, ◌*◌, ◌-◌, ℕ, List, length, Bool, map, IsPermutation}
+use Rattle.std.specs.Prelude.{◌≡◌, ◌<◌, ◌≤◌, ◌*◌, ◌-◌, ◌⊎◌, ◌++◌, ◌∷◌, [], ℕ, List, length, Bool, map, codes, IsPermutation}
 use Rattle.language.specs.declared.tree.Definition.{Definition}
 use Rattle.schema.specs.Catalog.{Catalog}
 use Rattle.fragment_graph.specs.DocumentCycles.{HasNoCycle}
@@ -9,7 +9,9 @@ use Rattle.merge_graph.specs.SetsIn.{HasKnownConditions}
 use Rattle.merge_conflicts.specs.Reports.{Reports, none}
 use Rattle.merge_conflicts.specs.Texts.{ConflictValue, errors_of}
 use Rattle.merge_document.specs.Conflicts.{AreReal, AreTold, AreAll, IsTidyDocument}
-use Rattle.merge_document.specs.Found.{AreTogether}
+use Rattle.merge_document.specs.Merging.{DocumentMerges}
+use Rattle.merge_document.specs.Found.{AreTogether, IsFinished}
+use Rattle.merge_document.specs.declared.search.FoundConflicts.{FoundConflicts}
 use Rattle.walk.specs.ContextState.{DocumentScope}
 use Rattle.walk.specs.ErrorValue.{ErrorValue}
 use Rattle.rules_merge.specs.declared.overlapping_fields_can_be_merged.OverlappingFieldsCanBeMerged.{OverlappingFieldsCanBeMerged}
@@ -33,6 +35,32 @@ pub record MergeErrors {S C : Type 0} (E : S → S → Bool) (schema : Catalog S
   pub few : end.compared ≤ fragment_count document * (fragment_count document - 1)
   pub enough : HasNoCycle document → (ps : List (List ℕ × List ℕ)) → AreTogether schema document ps → length ps ≤ end.compared
   pub opened : end.opened ≤ fragment_count document * end.lists
+
+-- a search has stopped
+abbrev pub stop_error : ErrorValue
+stop_error = record { locations = []; message = codes "There may be more fields that conflict: the search for them was stopped" }
+
+-- what is told of a search with these conflicts: if it stopped, that as well
+abbrev pub IsToldOfSearch : {S C : Type 0} → FoundConflicts S C → List ErrorValue → List ErrorValue → Type 0
+IsToldOfSearch f conflicts es =
+    (IsFinished f × (es ≡ conflicts)) ⊎ ((0 < f.limit) × (f.limit ≤ length f.found.items) × (es ≡ conflicts ++ stop_error ∷ []))
+
+-- The errors of a search that stopped: those of some conflicts, each of them a true one, and that there may be more.
+-- Where no field repeats an argument or a key in one, not all sets merge.
+pub record StoppedErrors {S C : Type 0} (E : S → S → Bool) (schema : Catalog S C) (document : List (Definition S))
+    (end : OverlappingFieldsCanBeMerged) (es : List ErrorValue) : Type 0 where
+  pub reports : Reports (PlainEntry S C)
+  pub told : map error_value (errors_of E schema reports) ++ stop_error ∷ [] ≡ es
+  pub real : AreReal E schema document reports
+  pub refuses : IsTidyDocument schema document → DocumentMerges E schema document → ⊥
+  pub few : end.compared ≤ fragment_count document * (fragment_count document - 1)
+  pub opened : end.opened ≤ fragment_count document * end.lists
+
+-- all errors, or those of a search that stopped at so many findings; 0 asks for all
+abbrev pub ErrorsWithin : {S C : Type 0} → (S → S → Bool) → ℕ → Catalog S C → List (Definition S) → OverlappingFieldsCanBeMerged
+    → List ErrorValue → Type 0
+ErrorsWithin E enough schema document end es =
+    MergeErrors E schema document end es ⊎ ((0 < enough) × StoppedErrors E schema document end es)
 
 abbrev pub merge_errors : {S C : Type 0} → (S → S → Bool) → DocumentScope S C → List (Definition S)
     → OverlappingFieldsCanBeMerged → List ErrorValue → Type 0

@@ -14,7 +14,8 @@ ghost use Rattle.merge_search.specs.declared.node.Entry.{Entry};
 ghost use Rattle.merge_conflicts.specs.Reports.{Reports, postfix, AreReportsOf};
 ghost use Rattle.merge_conflicts.specs.Telling.{plain_conflict};
 ghost use Rattle.merge_conflicts.specs.Texts.{errors_of};
-ghost use Rattle.rules_merge.specs.OverlappingFieldsCanBeMerged.{MergeErrors, error_value, merge_errors};
+ghost use Rattle.rules_merge.specs.OverlappingFieldsCanBeMerged.{ErrorsWithin, IsToldOfSearch, MergeErrors};
+ghost use Rattle.rules_merge.specs.OverlappingFieldsCanBeMerged.{error_value, merge_errors, stop_error};
 
 use fragment_graph::cycles::{DocumentCycles, search_document};
 use language::error::OutOfMemory;
@@ -88,7 +89,28 @@ impl OverlappingFieldsCanBeMerged {
             × MergeErrors S.eq ctx.old.schema document.now self.new es × (ctx.new ≡ with_errors ctx.old es)) }
         ensures err { OnErr result (KeepsPlace ctx.old ctx.new) }
     {
-        match search_fields(self.alloc, ctx.schema, document, cycles)? {
+        self.leave_within(ctx, document, cycles, 0)
+    }
+
+    /// Reports the conflicts of a document whose fragments were searched for cycles. The search stops once it has
+    /// `enough` findings, nested conflicts included, or never for 0. That it stopped is one more error, without a place.
+    ///
+    /// # Errors
+    ///
+    /// Out of memory. Errors may have been appended to the context, which is unchanged otherwise.
+    pub fn leave_within<'a, S: CheckedScalar>(
+        &mut self,
+        ctx: &mut ValidatorContext<'a, S>,
+        document: &'a [Definition<'a, S>],
+        cycles: DocumentCycles<'a>,
+        enough: usize,
+    ) -> Result<(), OutOfMemory>
+        requires { SearchedDocument document.now cycles }
+        ensures ok { IfOk result (λ _. (es : List ErrorValue)
+            × ErrorsWithin S.eq enough ctx.old.schema document.now self.new es × (ctx.new ≡ with_errors ctx.old es)) }
+        ensures err { OnErr result (KeepsPlace ctx.old ctx.new) }
+    {
+        match search_fields(self.alloc, ctx.schema, document, cycles, enough)? {
             Some(found) => {
                 self.compared = found.compared;
                 self.opened = found.opened;
@@ -136,15 +158,16 @@ impl<'a, S: CheckedScalar> Visitor<'a, S> for OverlappingFieldsCanBeMerged {
     }
 }
 
-// Reports the conflicts that were found.
+// Reports the conflicts that were found, and that there may be more.
 fn report_found<'a, S: CheckedScalar>(
     alloc: Global,
     ctx: &mut ValidatorContext<'a, S>,
     found: &FoundConflicts<'a, S, S::Check>,
 ) -> Result<(), OutOfMemory>
     ensures ok { (rs : Reports Entry) (ts : Reports (PlainEntry S S.Check)) → found.now.found.items ≡ postfix rs
-        → AreReportsOf (map plain found.now.fields.items) rs ts
-        → IfOk result (λ _. ctx.new ≡ with_errors ctx.old (map error_value (errors_of S.eq ctx.old.schema ts))) }
+        → AreReportsOf (map plain found.now.fields.items) rs ts → IfOk result (λ _. (es : List ErrorValue)
+        × IsToldOfSearch found.now (map error_value (errors_of S.eq ctx.old.schema ts)) es
+        × (ctx.new ≡ with_errors ctx.old es)) }
     ensures err { OnErr result (KeepsPlace ctx.old ctx.new) }
 {
     let conflicts = conflicts_found(
@@ -153,7 +176,22 @@ fn report_found<'a, S: CheckedScalar>(
         found.fields.as_slice(),
         found.found.as_slice(),
     )?;
-    report_all(ctx, conflicts.as_slice())
+    report_all(ctx, conflicts.as_slice())?;
+    if found.is_finished() {
+        return Ok(());
+    }
+    report_stop(ctx)
+}
+
+// Reports that the search stopped.
+fn report_stop<'a, S: CheckedScalar>(ctx: &mut ValidatorContext<'a, S>) -> Result<(), OutOfMemory>
+    ensures ok { OnOk result (ctx.new ≡ with_errors ctx.old (stop_error ∷ [])) }
+    ensures err { OnErr result (KeepsPlace ctx.old ctx.new) }
+{
+    ctx.report_error(
+        "There may be more fields that conflict: the search for them was stopped",
+        &[],
+    )
 }
 
 // Reports these conflicts.

@@ -14,5 +14,7 @@ module _ {S C : Type 0} (of_juniper of_october : Rules S C) (one other : Dialect
   pub told_by : (old new : ContextState S C) (pairs : ℕ) → Tells (by_dialect of_juniper of_october one) document old new pairs → Tells (by_dialect of_juniper of_october other) document old new pairs
   told_by old new pairs = subst (λ d. Tells (by_dialect of_juniper of_october d) document old new pairs) same
 
-  pub reported_by : (disabled : Bool) (schema : Catalog S C) (errors : List ErrorValue) (pairs : ℕ) → IsRootReport (by_dialect of_juniper of_october one) disabled schema document errors pairs → IsRootReport (by_dialect of_juniper of_october other) disabled schema document errors pairs
-  reported_by disabled schema errors pairs = subst (λ d. IsRootReport (by_dialect of_juniper of_october d) disabled schema document errors pairs) same
+  pub reported_by : (limit : ℕ) (disabled : Bool) (schema : Catalog S C) (errors : List ErrorValue) (pairs : ℕ)
+      → IsRootReport (by_dialect of_juniper of_october one) limit disabled schema document errors pairs
+      → IsRootReport (by_dialect of_juniper of_october other) limit disabled schema document errors pairs
+  reported_by limit disabled schema errors pairs = subst (λ d. IsRootReport (by_dialect of_juniper of_october d) limit disabled schema document errors pairs) same

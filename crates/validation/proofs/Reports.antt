@@ -1,5 +1,5 @@
 -- What is reported of a document in a context that was made for it.
-use Rattle.std.proofs.Common.{◌≡◌, ◌∙◌, ◌++◌, ℕ, List, [], Bool, false, IsPermutation, length, refl, sym, subst, ap}
+use Rattle.std.proofs.Common.{◌≡◌, ◌∙◌, ◌++◌, ℕ, List, [], Bool, false, IsPermutation, length, refl, subst, ap}
 use Rattle.std.proofs.lemmas.List.{append-nil}
 use Rattle.std.proofs.lemmas.List.Sorted.{IsPermutation-refl, IsPermutation-trans}
 use Rattle.std.specs.Global.{Global}
@@ -32,7 +32,7 @@ module _ {S C : Type 0} (rules : Rules S C) (document : List (Definition S)) whe
       → IsRootReportUpTo rules limit disabled schema document errors pairs
   told_up_to limit disabled alloc schema old new errors pairs fresh tells sorted =
       let (es, told, appended) = tells (ap (λ w. w.known) fresh) in
-      let Of : ContextState S C → Type 0 = λ w. RootReported rules disabled w.errors (scope_of w.schema document) (typing w) document es pairs in
+      let Of : ContextState S C → Type 0 = λ w. RootReported rules w.limit disabled w.errors (scope_of w.schema document) (typing w) document es pairs in
       let kept : new.errors ≡ fitting limit 0 es = ap (λ w. w.errors) appended ∙ ap (λ w. w.errors ++ fitting w.limit (length w.errors) es) fresh in
       record {
         report = es;
@@ -43,7 +43,7 @@ module _ {S C : Type 0} (rules : Rules S C) (document : List (Definition S)) whe
   -- in a fresh context it is all that is reported, in whatever order
   pub told_all : (disabled : Bool) (alloc : Global) (schema : Catalog S C) (old new : ContextState S C) (errors : List ErrorValue) (pairs : ℕ)
       → old ≡ fresh_context alloc schema document → RootTells disabled old new pairs → IsPermutation new.errors errors
-      → IsRootReport rules disabled schema document errors pairs
+      → IsRootReport rules 0 disabled schema document errors pairs
   told_all disabled alloc schema old new errors pairs fresh tells sorted =
       let told = told_up_to 0 disabled alloc schema old new errors pairs fresh tells sorted in
       record {

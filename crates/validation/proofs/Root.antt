@@ -27,8 +27,9 @@ asked_none true scope t doc es p =
 asked_none false scope t doc es p = (λ e h. absurd (true≢false (sym h)), λ h. p)
 
 module _ {S C : Type 0} (rules : Rules S C) (schema : Catalog S C) (document : List (Definition S)) where
-  pub root_valid : (disabled : Bool) (errors : List ErrorValue) (pairs : ℕ) → IsRootReport rules disabled schema document errors pairs → IsCleanWhere rules.first_stage.find_nothing → (errors ≡ []) ↔ IsRootValid rules disabled schema document
-  root_valid disabled errors pairs r clean =
+  pub root_valid : (limit : ℕ) (disabled : Bool) (errors : List ErrorValue) (pairs : ℕ) → IsRootReport rules limit disabled schema document errors pairs
+      → IsCleanWhere rules.first_stage.find_nothing → (errors ≡ []) ↔ IsRootValid rules disabled schema document
+  root_valid limit disabled errors pairs r clean =
       let valid = none_iff rules clean schema untyped document [] r.reported.of_rules pairs refl r.reported.reported in
       let asked = asked_none disabled (scope_of schema document) untyped document r.reported.asked r.reported.introspected in
       let told : r.found ≡ r.reported.of_rules ++ r.reported.asked = r.reported.all in (
@@ -44,7 +45,7 @@ module _ {S C : Type 0} (rules : Rules S C) (schema : Catalog S C) (document : L
       → IsRootReportUpTo rules limit disabled schema document errors pairs → IsCleanWhere rules.first_stage.find_nothing
       → (errors ≡ []) ↔ IsRootValid rules disabled schema document
   root_valid_up_to limit disabled errors pairs r clean =
-      let valid = root_valid disabled r.report pairs r.reported clean in (
+      let valid = root_valid limit disabled r.report pairs r.reported clean in (
         λ e.
             let none_kept = permuted_none _ (IsPermutation-sym _ _ (subst (λ z. IsPermutation (fitting limit 0 r.report) z) e r.kept)) in
             valid.0 (none_fits limit 0 r.report (first_place limit) none_kept),

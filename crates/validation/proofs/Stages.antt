@@ -1,5 +1,5 @@
 -- Two stages as one.
-use Rattle.std.proofs.Common.{◌≡◌, ◌∙◌, ◌↔◌, ◌++◌, ◌≤◌, ◌*◌, ◌-◌, ℕ, List, [], ◌∷◌, Bool, true, false, ap, map, refl, sym, subst, IsPermutation, length, arith}
+use Rattle.std.proofs.Common.{◌≡◌, ◌∙◌, ◌↔◌, ◌++◌, ◌<◌, ◌≤◌, ◌*◌, ◌-◌, ℕ, List, [], ◌∷◌, Bool, true, false, ap, map, refl, sym, subst, IsPermutation, inl, inr, zero, suc, length, arith}
 use Rattle.std.proofs.lemmas.Bool.{true≢false}
 use Rattle.std.proofs.lemmas.List.{append-nil, nil_from_length}
 use Rattle.std.proofs.lemmas.List.Sorted.{IsPermutation-sym, IsPermutation-trans, length_permutation}
@@ -15,7 +15,7 @@ use Rattle.merge_conflicts.specs.Texts.{errors_of}
 use Rattle.merge_document.specs.Merging.{DocumentMerges}
 use Rattle.merge_document.specs.Conflicts.{IsTidyDocument}
 use Rattle.rules_merge.specs.declared.overlapping_fields_can_be_merged.OverlappingFieldsCanBeMerged.{OverlappingFieldsCanBeMerged}
-use Rattle.rules_merge.specs.OverlappingFieldsCanBeMerged.{MergeErrors, error_value}
+use Rattle.rules_merge.specs.OverlappingFieldsCanBeMerged.{ErrorsWithin, MergeErrors, error_value, stop_error}
 use Rattle.walk.specs.ContextState.{ContextState, DocumentScope, fitting, has_some, scope_of, typing, with_errors}
 use Rattle.walk.specs.ErrorValue.{ErrorValue}
 use Rattle.walk.specs.Rule.{AppendsAllowed}
@@ -25,7 +25,7 @@ use Rattle.rules_first_stage.specs.CleanStage.{CleanDocument, IsCleanWhere}
 use Rattle.events.specs.Node.{field, inline_fragment}
 use Rattle.merge_walk_laws.proofs.Agreeing.{inlines_occur, fields_are_tidy, tidy_arguments}
 use Rattle.rules_first_stage.proofs.Distinct.{left_none}
-use Rattle.validation.specs.Stages.{AppendsReported, IsValid, IsValidIn, Reported, Rules, of_stage_one, of_stage_two}
+use Rattle.validation.specs.Stages.{AppendsReported, IsValid, IsValidIn, Reported, Rules, of_stage_one, of_stage_two, of_stopped_search}
 
 pub permuted_none : {X : Type 0} (xs : List X) → IsPermutation [] xs → xs ≡ []
 permuted_none xs p = nil_from_length xs (length_permutation [] xs p)
@@ -37,6 +37,11 @@ not_none xs some empty = true≢false (sym some ∙ ap has_some empty)
 pub is_none : {X : Type 0} (xs : List X) → has_some xs ≡ false → xs ≡ []
 is_none [] e = refl
 is_none (x ∷ xs) e = absurd (true≢false e)
+
+-- a list with one more is not empty
+pub not_none_more : {X : Type 0} (xs : List X) (x : X) → xs ++ x ∷ [] ≡ [] → ⊥
+not_none_more [] x e = not_none _ refl e
+not_none_more (y ∷ xs) x e = not_none _ refl e
 
 -- a clean document repeats no argument, nor a key in one
 pub tidy_where_clean : {S C : Type 0} (schema : Catalog S C) (t : Typing S C) (document : List (Definition S)) → CleanDocument schema t document → IsTidyDocument schema document
@@ -77,9 +82,18 @@ module _ {S C : Type 0} (rules : Rules S C) where
       in
       (es, of_stage_one allowed settled (λ nothing. not_none new.errors some (ap (λ w. w.errors) e ∙ none_kept nothing)), e)
 
+  module _ {limit : ℕ} {schema : Catalog S C} {document : List (Definition S)} (clean : IsCleanWhere rules.first_stage.find_nothing) (t : Typing S C) (before : List ErrorValue)
+      (none_before : before ≡ []) (found : rules.first_stage.find_nothing (scope_of schema document) t document) (es : List ErrorValue) (end : OverlappingFieldsCanBeMerged) where
+    -- what the second stage tells is reported
+    two_reported : ErrorsWithin rules.same limit schema document end es → Reported rules limit before (scope_of schema document) t document es end.compared
+    two_reported (inl told) =
+        let c = clean schema t document found in
+        of_stage_two none_before found told (told.all c.no_cycle (tidy_where_clean schema t document c) (known_where_clean schema t document c))
+    two_reported (inr (limited, stopped)) = of_stopped_search none_before found limited stopped
+
   module _ (old mid new : ContextState S C) (document : List (Definition S)) where
     abbrev Two : ℕ → Type 0
-    Two pairs = (es : List ErrorValue) × (end : OverlappingFieldsCanBeMerged) × MergeErrors rules.same mid.schema document end es × (end.compared ≡ pairs) × (new ≡ with_errors mid es)
+    Two pairs = (es : List ErrorValue) × (end : OverlappingFieldsCanBeMerged) × ErrorsWithin rules.same mid.limit mid.schema document end es × (end.compared ≡ pairs) × (new ≡ with_errors mid es)
 
     -- neither reported anything before the second stage
     pub after_two : IsCleanWhere rules.first_stage.find_nothing → AppendsAllowed (stage_reports rules.first_stage) document old mid → has_some mid.errors ≡ false → (pairs : ℕ) → Two pairs
@@ -90,18 +104,17 @@ module _ {S C : Type 0} (rules : Rules S C) where
         let none_fits : fitting old.limit (length old.errors) fs ≡ [] = ap (λ zs. zs ++ fitting old.limit (length old.errors) fs) (sym none_before) ∙ none_kept in
         let none_now : fs ≡ [] = kept_none old fs (empty_has_room old none_before) none_fits in
         let same : mid ≡ old = e ∙ ap (with_errors old) none_now ∙ sym (with_none old) in
-        let here : MergeErrors rules.same old.schema document end es = subst (λ z. MergeErrors rules.same z document end es) (ap (λ w. w.schema) e) told in
         let found = settled.0 none_now in
-        let c = clean old.schema (typing old) document found in
-        let reported = of_stage_two none_before found here (here.all c.no_cycle (tidy_where_clean old.schema (typing old) document c) (known_where_clean old.schema (typing old) document c)) in (
+        let reported = two_reported clean (typing old) old.errors none_before found es end
+        (subst (λ z. ErrorsWithin rules.same z.limit z.schema document end es) same told) in (
           es,
-          subst (λ n. Reported rules old.errors (scope_of old.schema document) (typing old) document es n) counted reported,
+          subst (λ n. Reported rules old.limit old.errors (scope_of old.schema document) (typing old) document es n) counted reported,
           e' ∙ ap (λ w. with_errors w es) same,
         )
 
   -- nothing is reported if and only if the document is valid
   module _ (clean : IsCleanWhere rules.first_stage.find_nothing) (schema : Catalog S C) (t : Typing S C) (document : List (Definition S)) where
-    pub none_iff : (before es : List ErrorValue) (pairs : ℕ) → before ≡ [] → Reported rules before (scope_of schema document) t document es pairs → (es ≡ []) ↔ IsValid rules (scope_of schema document) t document
+    pub none_iff : (before es : List ErrorValue) (pairs : ℕ) → before ≡ [] → {limit : ℕ} → Reported rules limit before (scope_of schema document) t document es pairs → (es ≡ []) ↔ IsValid rules (scope_of schema document) t document
     none_iff before es pairs empty (of_stage_one allowed silent some) =
         let nothing : es ≡ [] → ⊥ = λ e. some (ap (λ zs. before ++ zs) e ∙ append-nil before ∙ empty) in
         (λ e. absurd (nothing e), λ v. absurd (nothing (silent.1 v.stage_one)))
@@ -109,6 +122,9 @@ module _ {S C : Type 0} (rules : Rules S C) where
         let c = clean schema t document found in
         let judged = merges_iff rules.same schema document end es c.no_cycle (tidy_where_clean schema t document c) (known_where_clean schema t document c) told in
         (λ e. record { stage_one = found; merges = judged.0 e }, λ v. judged.1 v.merges)
+    none_iff before es pairs empty (of_stopped_search none_before found limited stopped) =
+        let tidy = tidy_where_clean schema t document (clean schema t document found) in
+        (λ e. absurd (not_none_more _ stop_error (stopped.told ∙ e)), λ v. absurd (stopped.refuses tidy v.merges))
 
 -- conflicts in another order
 pub merge_permuted : {S C : Type 0} (E : S → S → Bool) (schema : Catalog S C) (document : List (Definition S)) (end : OverlappingFieldsCanBeMerged) (fs gs es : List ErrorValue)
@@ -128,10 +144,11 @@ merge_permuted E schema document end fs gs es m none_else p =
     }
 
 -- no more pairs than two for each two definitions of fragments
-pub few_pairs : {S C : Type 0} (rules : Rules S C) (before : List ErrorValue) (scope : DocumentScope S C) (t : Typing S C) (document : List (Definition S)) (es : List ErrorValue) (pairs : ℕ)
-    → Reported rules before scope t document es pairs → pairs ≤ fragment_count document * (fragment_count document - 1)
+pub few_pairs : {S C : Type 0} (rules : Rules S C) {limit : ℕ} (before : List ErrorValue) (scope : DocumentScope S C) (t : Typing S C) (document : List (Definition S)) (es : List ErrorValue) (pairs : ℕ)
+    → Reported rules limit before scope t document es pairs → pairs ≤ fragment_count document * (fragment_count document - 1)
 few_pairs rules before scope t document es pairs (of_stage_one allowed silent some) = omega arith
 few_pairs rules before scope t document es pairs (of_stage_two none_before clean told all) = told.few
+few_pairs rules before scope t document es pairs (of_stopped_search none_before clean limited stopped) = stopped.few
 
 module _ {S C : Type 0} (rules : Rules S C) (old new : ContextState S C) (document : List (Definition S)) where
   -- a context that held no error holds none if and only if the document is valid
@@ -143,3 +160,8 @@ module _ {S C : Type 0} (rules : Rules S C) (old new : ContextState S C) (docume
         λ nothing. judged.0 (kept_none old es (empty_has_room old empty) (sym now ∙ nothing)),
         λ v. ap (λ w. w.errors) (e ∙ ap (with_errors old) (judged.1 v) ∙ sym (with_none old)) ∙ empty,
       )
+
+-- where a search may stop, not all errors are kept
+pub some_kept : (limit enough : ℕ) → (limit ≡ 0 → enough ≡ 0) → 0 < enough → 0 < limit
+some_kept zero enough all some = absurd (omega (arith, all refl, some))
+some_kept (suc limit) enough all some = omega arith

@@ -18,10 +18,10 @@ module _ {S C : Type 0} where
 
 module _ {S C : Type 0} (rules : Rules S C) where
   -- the errors of all rules, and then those of the rule on introspection, with the number of pairs that were compared
-  pub record RootReported (disabled : Bool) (before : List ErrorValue) (scope : DocumentScope S C) (t : Typing S C)
-      (doc : List (Definition S)) (es : List ErrorValue) (pairs : ℕ) : Type 0 where
+  pub record RootReported (limit : ℕ) (disabled : Bool) (before : List ErrorValue) (scope : DocumentScope S C)
+      (t : Typing S C) (doc : List (Definition S)) (es : List ErrorValue) (pairs : ℕ) : Type 0 where
     pub of_rules : List ErrorValue
-    pub reported : Reported rules before scope t doc of_rules pairs
+    pub reported : Reported rules limit before scope t doc of_rules pairs
     pub asked : List ErrorValue
     pub introspected : introspection disabled scope t doc asked
     pub all : es ≡ of_rules ++ asked
@@ -29,21 +29,21 @@ module _ {S C : Type 0} (rules : Rules S C) where
   -- these errors were appended, at the types of the context
   abbrev pub AppendsRootReported : Bool → ContextState S C → ContextState S C → List (Definition S) → ℕ → Type 0
   AppendsRootReported disabled old new doc pairs =
-      (es : List ErrorValue) × RootReported disabled old.errors (scope_of old.schema doc) (typing old) doc es pairs
+      (es : List ErrorValue) × RootReported old.limit disabled old.errors (scope_of old.schema doc) (typing old) doc es pairs
       × (new ≡ with_errors old es)
 
-  -- these errors are reported of a document, in any order
-  pub record IsRootReport (disabled : Bool) (schema : Catalog S C) (document : List (Definition S))
+  -- these errors are reported of a document where so many are kept, or all for 0, in any order
+  pub record IsRootReport (limit : ℕ) (disabled : Bool) (schema : Catalog S C) (document : List (Definition S))
       (errors : List ErrorValue) (pairs : ℕ) : Type 0 where
     pub found : List ErrorValue
-    pub reported : RootReported disabled [] (scope_of schema document) untyped document found pairs
+    pub reported : RootReported limit disabled [] (scope_of schema document) untyped document found pairs
     pub ordered : IsPermutation found errors
 
   -- so many of the errors of a report, or all for 0
   pub record IsRootReportUpTo (limit : ℕ) (disabled : Bool) (schema : Catalog S C) (document : List (Definition S))
       (errors : List ErrorValue) (pairs : ℕ) : Type 0 where
     pub report : List ErrorValue
-    pub reported : IsRootReport disabled schema document report pairs
+    pub reported : IsRootReport limit disabled schema document report pairs
     pub kept : IsPermutation (fitting limit 0 report) errors
 
   -- the document is valid, and where introspection is disabled no field asks for the schema

@@ -94,8 +94,8 @@ impl<S: CheckedScalar> RootNodeOf<S, S::Check> {
     /// Validates a document: by every rule of the schema's dialect, and by the rule on introspection where it is
     /// disabled. Returns the errors in ascending order. There are none if and only if the document is valid.
     ///
-    /// Where there are as many as `max_errors`, each is one of the document's, and there may be more. Else they are
-    /// all.
+    /// Each is one of the document's, but for one without a place: that says that the search for fields that conflict
+    /// stopped, since it had found many. Where it is there, or as many errors as `max_errors`, there may be more.
     ///
     /// # Errors
     ///

@@ -8,7 +8,7 @@ ghost use Rattle.walk.specs.Step.{KeepsPlace};
 ghost use Rattle.fragment_graph.specs.DocumentCycles.{SearchedDocument};
 ghost use Rattle.merge_graph.specs.Definitions.{fragment_count};
 ghost use Rattle.rules_merge.specs.declared.overlapping_fields_can_be_merged.OverlappingFieldsCanBeMerged.{OverlappingFieldsCanBeMerged as MergeRule};
-ghost use Rattle.rules_merge.specs.OverlappingFieldsCanBeMerged.{MergeErrors};
+ghost use Rattle.rules_merge.specs.OverlappingFieldsCanBeMerged.{ErrorsWithin};
 ghost use Rattle.validation.specs.Stages.{AppendsReported, IsValidIn, Rules};
 
 use fragment_graph::cycles::DocumentCycles;
@@ -56,8 +56,9 @@ impl<'a, S: CheckedScalar + 'a> AllRules<'a> for S {
 /// error after it, the second stage tries that rule. Returns the number of pairs of fragments that it compared, or 0 if
 /// it didn't run: with `n` definitions of fragments at most `n (n - 1)` pairs.
 ///
-/// In a fresh context for this document nothing is reported if and only if the document is valid. In a context that was
-/// made for another document errors alone are appended.
+/// In a fresh context for this document nothing is reported if and only if the document is valid. Where the context has
+/// a limit, the search for fields that conflict may stop, and then an error without a place says so. In a context that
+/// was made for another document errors alone are appended.
 ///
 /// # Errors
 ///
@@ -98,18 +99,32 @@ pub fn visit_stage_two<'a, 't, S: CheckedScalar>(
 ) -> Result<u128, OutOfMemory>
     requires { SearchedDocument document.now cycles }
     ensures appended { IfOk result (λ pairs. IsMadeFor ctx.old document.now → (es : List ErrorValue)
-        × (end : MergeRule) × MergeErrors S.eq ctx.old.schema document.now end es × (end.compared ≡ pairs)
-        × (ctx.new ≡ with_errors ctx.old es)) }
+        × (end : MergeRule) × ErrorsWithin S.eq ctx.old.limit ctx.old.schema document.now end es
+        × (end.compared ≡ pairs) × (ctx.new ≡ with_errors ctx.old es)) }
     ensures only { OnOk result (Appended any_value ctx.old ctx.new) }
     ensures err { OnErr result (KeepsPlace ctx.old ctx.new) }
     ensures failed { OnErr result (ctx.new.failed ≡ true) }
 {
     let mut rule = overlapping_fields_can_be_merged::factory(ctx.allocator());
-    match rule.leave(ctx, shorten(document), cycles) {
+    let enough = enough_for(ctx.limit());
+    match rule.leave_within(ctx, shorten(document), cycles, enough) {
         Ok(()) => Ok(rule.compared()),
         Err(_) => {
             ctx.fail();
             Err(OutOfMemory)
         }
     }
+}
+
+// How many findings are enough of a search for conflicts where so many errors are kept; 0 asks for all.
+//
+// An error has a finding of its own, and one for each conflict below its fields.
+fn enough_for(limit: usize) -> usize
+    ensures all { limit ≡ 0 → result ≡ 0 }
+    ensures some { limit ≤ result }
+{
+    if limit == 0 {
+        return 0;
+    }
+    limit.saturating_mul(16).saturating_add(1000)
 }

@@ -22,12 +22,12 @@ use Rattle.validation.specs.Stages.{IsValid, IsValidIn, Reported, Rules}
 module _ {S C : Type 0} (document : List (Definition S)) (alloc : Global) (schema : Catalog S C) (old : ContextState S C) (fresh : old ≡ fresh_context alloc schema document) where
   -- by all rules
   pub by_all : (new : ContextState S C) (rules : Rules S C) (pairs : ℕ) → Tells rules document old new pairs
-      → Reported rules [] (scope_of schema document) untyped document new.errors pairs
+      → Reported rules 0 [] (scope_of schema document) untyped document new.errors pairs
   by_all new rules pairs tells =
       let (es, told, appended) = tells (ap (λ w. w.known) fresh) in
-      let Of : ContextState S C → Type 0 = λ w. Reported rules w.errors (scope_of w.schema document) (typing w) document es pairs in
+      let Of : ContextState S C → Type 0 = λ w. Reported rules w.limit w.errors (scope_of w.schema document) (typing w) document es pairs in
       let same : new.errors ≡ es = ap (λ w. w.errors) appended ∙ ap (λ w. w.errors ++ fitting w.limit (length w.errors) es) fresh ∙ fitting_all 0 es in
-      subst (λ found. Reported rules [] (scope_of schema document) untyped document found pairs) (sym same) (subst Of fresh told)
+      subst (λ found. Reported rules 0 [] (scope_of schema document) untyped document found pairs) (sym same) (subst Of fresh told)
 
   -- nothing by all rules if and only if it is valid
   pub none_by_all : (errors : List ErrorValue) (some : Bool) (rules : Rules S C) → some ≡ has_some errors

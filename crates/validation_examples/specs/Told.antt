@@ -25,7 +25,7 @@ pub record TellsAll {S C : Type 0} (rules : Rules S C) (schema : Catalog S C) (d
     (text : List ℕ) : Type 0 where
   pub found : List ErrorValue
   pub compared : ℕ
-  pub reported : Reported rules [] (scope_of schema document) untyped document found compared
+  pub reported : Reported rules 0 [] (scope_of schema document) untyped document found compared
   pub errors : List ErrorValue
   pub in_order : InOrder found errors
   pub written : text ≡ error_lines errors ++ decimal compared

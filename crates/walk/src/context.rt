@@ -139,6 +139,13 @@ impl<'a, S, C> ValidatorContextOf<'a, S, C> {
         self.limit = limit;
     }
 
+    /// How many errors are kept at most, or 0 for all.
+    pub fn limit(&self) -> usize
+        ensures { result ≡ self.now.limit }
+    {
+        self.limit
+    }
+
     /// Whether no further error is kept.
     pub fn is_full(&self) -> bool
         ensures { result ≡ not (has_place self.now.limit (length self.now.errors)) }

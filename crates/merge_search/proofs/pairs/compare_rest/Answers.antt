@@ -4,8 +4,8 @@ use Rattle.std.proofs.lemmas.List.Elements.{Contains-get_or}
 use Rattle.merge_search.specs.World.{world}
 use Rattle.merge_search.specs.Work.{Done}
 use Rattle.merge_search.specs.Reports.{AtFields}
-use Rattle.merge_search.proofs.Adding.{all_start, all_more, all_done}
-use Rattle.merge_search.proofs.Work.{no_entry, did_start, did_more, did_all}
+use Rattle.merge_search.proofs.Adding.{all_full, all_start, all_more, all_done}
+use Rattle.merge_search.proofs.Work.{did_full, no_entry, did_start, did_more, did_all}
 use Rattle.merge_search.proofs.pairs.compare_rest.Goals as goal
 
 pub loop-b-init : goal.loop-b-init
@@ -28,3 +28,9 @@ returns g c =
       done = did_all v (λ b M. Done v M false c.args.a b) c.args.rest.now c.args.rest.now c.loop-b.b-index c.loop-b-test.false refl c.loop-b.invariant.0;
       real = all_done v false _ _ (λ b. AtFields c.args.a b) c.args.rest.now c.loop-b.b-index no_entry c.loop-b-test.false (λ r z. (r.right, z.1, (z.0, refl))) c.loop-b.invariant.1;
     }
+
+pub returns-then-is_full : goal.returns-then-is_full
+returns-then-is_full g c =
+    let v = world g.J.Judge.judgement c.args.graph.now in
+    let full = c.if-is_full.ensures in
+    record { done = did_full v _ c.args.search.now full; real = all_full v false _ _ _ full }

@@ -8,6 +8,8 @@ use Rattle.merge_search.specs.State.{Keeps}
 use Rattle.merge_search.specs.declared.state.Search.{Search}
 use Rattle.merge_search.specs.World.{world}
 use Rattle.merge_search.proofs.Leading.{all_done}
+use Rattle.merge_search.proofs.Work.{did_full}
+use Rattle.merge_search.proofs.Adding.{adds_none}
 use Rattle.merge_search.proofs.search.compare_fragments.Goals as goal
 
 pub returns : goal.returns
@@ -21,3 +23,9 @@ returns g c =
       done = on_ok_weaker c.finish.result (λ d. (whole d).done) c.finish.ensures;
       real = on_ok_weaker c.finish.result (λ d. (whole d).real) c.finish.ensures;
     }
+
+pub returns-then-is_full : goal.returns-then-is_full
+returns-then-is_full g c =
+    let v = world g.J.Judge.judgement c.args.graph.now in
+    let full = c.if-is_full.ensures in
+    record { done = did_full v _ c.args.search.now full; real = adds_none v c.args.e _ _ }

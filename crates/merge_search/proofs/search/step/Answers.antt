@@ -30,3 +30,6 @@ pub returns-in-Mark : goal.returns-in-Mark
 returns-in-Mark g c =
     let v = world g.J.Judge.judgement c.args.graph.now in
     on_ok_weaker c.note_conflicts.result (λ d. leads_is v (Meets v) c.args.task _ _ _ _ _ c.in-Mark.is (leads_done v Keeps _ d)) c.note_conflicts.ensures
+
+pub returns-then-is_skipped : goal.returns-then-is_skipped
+returns-then-is_skipped g c = let v = world g.J.Judge.judgement c.args.graph.now in leads_done v (Meets v c.args.task) _ c.if-is_skipped.ensures

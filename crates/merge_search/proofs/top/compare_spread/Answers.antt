@@ -4,7 +4,7 @@ use Rattle.merge_search.specs.World.{world}
 use Rattle.merge_search.specs.Work.{Pair}
 use Rattle.merge_search.specs.Tops.{AtListed}
 use Rattle.merge_search.proofs.Adding.{adds_none, adds_map, adds_then}
-use Rattle.merge_search.proofs.Work.{did_none, did_start, did_map, did_more, did_all}
+use Rattle.merge_search.proofs.Work.{did_full, did_none, did_start, did_map, did_more, did_all}
 use Rattle.merge_search.proofs.top.compare_spread.Goals as goal
 
 pub returns-then-is_plain : goal.returns-then-is_plain
@@ -39,3 +39,9 @@ returns g c =
       done = did_map v _ _ (λ M h. inr h) (did_all v (λ k M. Pair M false c.args.f k) c.args.list.now c.args.list.now c.loop-g.g-index c.loop-g-test.false refl c.loop-g.invariant.0);
       real = c.loop-g.invariant.1;
     }
+
+pub returns-then-is_full : goal.returns-then-is_full
+returns-then-is_full g c =
+    let v = world g.J.Judge.judgement c.args.graph.now in
+    let full = c.if-is_full.ensures in
+    record { done = did_full v _ c.args.search.now full; real = adds_none v false _ _ }

@@ -36,7 +36,7 @@ returns-then-is_empty g c =
       done = did_none v _ c.args.search.now (λ M grown. none_spread v M c.args.s none);
       real = record {
         adds = adds_none v false (AtPlaces v c.args.s) c.args.search.now.found.items;
-        tells = λ r at fails. absurd (omega (arith, at.1.1, ap length none));
+        tells = λ room r at fails. absurd (omega (arith, at.1.1, ap length none));
       };
     }
 

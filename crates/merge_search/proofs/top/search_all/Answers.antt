@@ -37,6 +37,6 @@ returns g c =
     record {
       judged = judged_at v m c.args.graph.now.order.items c.order-s-items.result.now c.loop-s.s-index c.loop-s.invariant.0 c.loop-s-test.false c.args.graph.now.falling c.args.graph.now.listed c.loop-s.invariant.1 c.loop-s.invariant.2;
       few = at_most (length v.fragments) m c.loop-s.invariant.3;
-      enough = λ ps h. at_least v (length v.fragments) m c.order-s-items.result.now (all_tops v m c.order-s-items.result.now c.loop-s.s-index c.loop-s-test.false (c.loop-s.invariant.1 m (grows_same m)).1) c.loop-s.invariant.3 (small_square (length v.fragments) n) ps (subst (λ zs. Together v zs ps) (sym c.loop-s.invariant.0) h);
+      enough = λ room ps h. at_least v (length v.fragments) m c.order-s-items.result.now (all_tops v m c.order-s-items.result.now c.loop-s.s-index c.loop-s-test.false (c.loop-s.invariant.1 m (grows_same m) room).1) c.loop-s.invariant.3 (small_square (length v.fragments) n) ps (subst (λ zs. Together v zs ps) (sym c.loop-s.invariant.0) h);
       opened = c.loop-s.invariant.3.opened;
     }

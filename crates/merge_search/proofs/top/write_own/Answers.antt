@@ -30,7 +30,7 @@ returns-then-is_empty-clause-real g c =
     let empty : length c.firsts.result.now ≡ 0 = grind (arith, c.is_empty.ensures, c.if-is_empty.true) in
     record {
       adds = adds_none v false (AtSpreads v c.args.s c.args.list.now) c.args.search.now.found.items;
-      tells = λ r at fails. absurd (no_field c.firsts.result.now (own_of v c.args.s) c.firsts.ensures empty r.left at.2.0);
+      tells = λ room r at fails. absurd (no_field c.firsts.result.now (own_of v c.args.s) c.firsts.ensures empty r.left at.2.0);
     }
 
 pub write_out-requires : goal.write_out-requires

@@ -21,7 +21,7 @@ returns-clause-all g c =
       record {
         report = told.report;
         reported = reported_by _ _ ctx.schema.dialect root.schema.dialect document (ap (λ w. w.schema.dialect) fresh)
-            root.introspection_disabled root.schema told.report _ told.reported;
+            root.max_errors root.introspection_disabled root.schema told.report _ told.reported;
         kept = told.kept;
       },
     ))

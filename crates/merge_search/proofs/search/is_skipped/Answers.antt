@@ -1,0 +1,14 @@
+use Rattle.std.proofs.Common.{Bool, true, false}
+use Rattle.std.specs.Bool.{OnTrue}
+use Rattle.merge_search.specs.World.{world}
+use Rattle.merge_search.proofs.Steps.{skipped}
+use Rattle.merge_search.proofs.search.is_skipped.Goals as goal
+
+on_true_weaker : {P Q : Type 0} (b : Bool) → (P → Q) → OnTrue b P → OnTrue b Q
+on_true_weaker true f h = f h
+on_true_weaker false f h = h
+
+pub returns-in_default : goal.returns-in_default
+returns-in_default g c =
+    let v = world g.J.Judge.judgement c.args.graph.now in
+    on_true_weaker c.is_full.result (λ full. skipped v c.args.task.now c.args.search.now full c.in_default.not-Close c.in_default.not-Mark) c.is_full.ensures
