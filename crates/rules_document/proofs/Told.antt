@@ -15,3 +15,9 @@ told_next f g xs i d w w₁ w₂ h seen more =
     ap (λ l. map f (map g l)) (take_more xs i d h) ∙ ap (map f) (map-append g (take i xs) (x ∷ [])) ∙ map-append f (map g (take i xs)) (g x ∷ [])
     in
     more ∙ ap (λ z. with_errors z (f (g x) ∷ [])) seen ∙ with_more w (map f (map g (take i xs))) (f (g x) ∷ []) ∙ ap (with_errors w) (sym all)
+
+-- those that were seen, and then those of more items
+pub told_more : {S C U : Type 0} (f : U → ErrorValue) (us vs : List U) (w w₁ w₂ : ContextState S C)
+    → w₁ ≡ with_errors w (map f us) → w₂ ≡ with_errors w₁ (map f vs) → w₂ ≡ with_errors w (map f (us ++ vs))
+told_more f us vs w w₁ w₂ seen more =
+    more ∙ ap (λ z. with_errors z (map f vs)) seen ∙ with_more w (map f us) (map f vs) ∙ ap (with_errors w) (sym (map-append f us vs))

@@ -1,11 +1,12 @@
 //! Each variable that an operation uses is defined by the operation (GraphQL, October 2021, section 5.8.3).
 
-ghost use Rattle.std.specs.Prelude.{◌≡◌, ◌∷◌, [], List, Some, IfOk, OnOk, OnErr, map, option_map, string_bytes};
+ghost use Rattle.std.specs.Prelude.{◌≡◌, ◌<◌, ◌∷◌, [], List, Some, IfOk, OnOk, OnErr, map, option_map, string_bytes, vec_len};
 ghost use Rattle.walk.specs.ContextState.{with_errors};
 ghost use Rattle.walk.specs.Rule.{any_value};
 ghost use Rattle.walk.specs.Step.{KeepsPlace};
+ghost use Rattle.operation_scopes.specs.Searches.{IsReady};
 ghost use Rattle.variable_usages.specs.DocumentIndex.{IsDocumentIndex};
-ghost use Rattle.variable_usages.specs.Undefined.{Undefined, UndefinedVariables, undefined_of};
+ghost use Rattle.variable_usages.specs.Undefined.{Undefined, UndefinedNumbered, UndefinedVariables, undefined_of};
 ghost use Rattle.rules_document.specs.AtDocument.{document_step, given_at_end};
 ghost use Rattle.rules_document.specs.AtDocumentLaws.{document_keeps};
 ghost use Rattle.rules_document.specs.NoUndefinedVariablesLaws.{undefineds_silent};
@@ -19,7 +20,8 @@ pub use operation_scopes::scope::Scope;
 use std::alloc::{AllocError, Global};
 use std::marker::PhantomData;
 use variable_usages::document_index::{DocumentIndex, index_document};
-use variable_usages::undefined::{UndefinedVariable, undefined_in};
+use variable_usages::undefined::{UndefinedVariable, is_any_used, undefined_by};
+use variable_usages::uses::{UseSearch, new_use_search};
 use walk::{Criterion, Event, Fresh, Machine, Rule, SettledRule, ValidatorContext, Visitor};
 
 /// Reports, where the document ends, each use of a variable that is not defined: at the argument's value, and at the
@@ -115,6 +117,31 @@ fn report<'a, S: CheckedScalar>(
     )
 }
 
+// Reports those of the name with this number, unless no more errors are kept. Their list is dropped here: the lists of
+// all names together can be far longer than the document.
+fn report_numbered<'a, 'd, S: CheckedScalar>(
+    alloc: Global,
+    ctx: &mut ValidatorContext<'a, S>,
+    document: Document<'d, S>,
+    index: &DocumentIndex<'d>,
+    number: usize,
+    search: &mut UseSearch<'d>,
+) -> Result<(), OutOfMemory>
+    requires indexed { IsDocumentIndex document.now index.now }
+    requires ready { IsReady index.now.scopes search.old.search }
+    requires numbered { number < vec_len index.now.scopes.names }
+    ensures ok { OnOk result ((found : List Undefined) × UndefinedNumbered document.now index.now.scopes number found
+        × (ctx.new ≡ with_errors ctx.old (map undefined_error found))) }
+    ensures ready { OnOk result (IsReady index.now.scopes search.new.search) }
+    ensures err { OnErr result (KeepsPlace ctx.old ctx.new) }
+{
+    if ctx.is_full() {
+        return Ok(());
+    }
+    let found = undefined_by(alloc, document, index, number, search)?;
+    report_all(alloc, ctx, found.as_slice())
+}
+
 /// Reports each use of a variable that is not defined, by the document's index.
 ///
 /// # Errors
@@ -131,8 +158,14 @@ pub fn report_undefined<'a, 'd, S: CheckedScalar>(
         × (ctx.new ≡ with_errors ctx.old (map undefined_error found))) }
     ensures err { OnErr result (KeepsPlace ctx.old ctx.new) }
 {
-    let found = undefined_in(alloc, document, index)?;
-    report_all(alloc, ctx, found.as_slice())
+    if !is_any_used(index.uses.as_slice()) {
+        return Ok(());
+    }
+    let mut search = new_use_search(alloc, &index.scopes)?;
+    for number in 0..index.scopes.names.len() {
+        report_numbered(alloc, ctx, document, index, number, &mut search)?;
+    }
+    Ok(())
 }
 
 fn named_message(alloc: Global, name: &str, called: &str) -> Result<String, AllocError>

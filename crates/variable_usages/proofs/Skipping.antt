@@ -1,13 +1,15 @@
 -- What need not be looked for.
-use Rattle.std.proofs.Common.{◌≡◌, ℕ, suc, List, [], ◌∷◌, ◌++◌, ◌∙◌, ◌==◌, ◌≤◌, Bool, true, false, IsTrue, Vec, vec_len, length, arith, slice_get, map, refl, sym, subst, ap, append-nil, Option, Some}
+use Rattle.std.proofs.Common.{◌≡◌, ℕ, suc, List, [], ◌∷◌, ◌++◌, ◌∙◌, ◌==◌, ◌<◌, ◌≤◌, Bool, true, false, IsTrue, Vec, vec_len, length, arith, slice_get, map, refl, sym, subst, ap, append-nil, get_or, Option, None, Some, option_map}
 use Rattle.std.specs.List.{Contains, flat_map}
 use Rattle.language.specs.declared.tree.Definition.{Definition}
 use Rattle.std.specs.Option.{option_map_or}
 use Rattle.std.proofs.lemmas.Bool.{eqb-true}
+use denote.Ref.{Bor}
 use Rattle.std.proofs.lemmas.List.{nil_from_length}
-use Rattle.std.proofs.lemmas.Option.{slice_get_past}
+use Rattle.std.proofs.lemmas.Option.{slice_get-get_or, slice_get_past}
 use Rattle.std.specs.declared.alloc.Global.{Global}
 use Rattle.fragment_graph.proofs.Lists.{contains_at, contains_get, contains_none}
+use Rattle.fragment_graph.proofs.NamePaths.{get_map}
 use Rattle.operation_scopes.specs.declared.index.ScopeIndex.{ScopeIndex}
 use Rattle.operation_scopes.specs.Index.{IsIndexOf, operation_names}
 use Rattle.operation_scopes.specs.Scopes.{IsOperationName}
@@ -18,7 +20,7 @@ use Rattle.operation_scopes.proofs.Once.{once_none}
 use Rattle.variable_usages.specs.declared.uses.VariableUse.{VariableUse}
 use Rattle.variable_usages.specs.InReachUses.{AddsPart, AllUses, InTurn, kept_uses}
 use Rattle.variable_usages.specs.Names.{NameAndSpan, defined_names, is_among}
-use Rattle.variable_usages.specs.Undefined.{UndefinedIn, UndefinedVariables, UsesNothing, told_undefined}
+use Rattle.variable_usages.specs.Undefined.{Undefined, UndefinedIn, UndefinedNumbered, UndefinedVariables, UsesNothing, told_undefined}
 use Rattle.variable_usages.specs.Unused.{DefinesNone, Unused, UnusedAmong, UnusedIn}
 use Rattle.variable_usages.specs.Uses.{definition_uses, use_of}
 use Rattle.variable_usages.proofs.Telling.{kept_there}
@@ -65,6 +67,15 @@ module _ {S : Type 0} (document : List (Definition S)) (index : ScopeIndex) (h :
         sym (append-nil old),
       )
 
+  -- some list tells what is undefined, also where nobody makes it
+  some_undefined : IsOperationName document name → (found : List Undefined) × UndefinedIn document name found
+  some_undefined named =
+      let (last, is) = some_last document name named in
+      let (places, reach) = some_reach document index h name in
+      let uses = flat_map (inside definition_uses document) places in
+      let found = flat_map (told_undefined (is_among (defined_names last)) name last.span.start) uses in
+      (found, record { last = last; is_last = is; uses = uses; used = (places, reach, refl); told = refl })
+
   module _ (all : List (Vec VariableUse Global)) (kept : AllUses document all) (nothing : UsesNothing all) where
     nothing_in : (places : List ℕ) → flat_map (inside definition_uses document) places ≡ []
     nothing_in [] = refl
@@ -81,6 +92,17 @@ module _ {S : Type 0} (document : List (Definition S)) (index : ScopeIndex) (h :
           used = (places, reach, refl);
           told = ap (flat_map (told_undefined (is_among (defined_names last)) name last.span.start)) (sym (nothing_in places));
         }
+
+module _ {S : Type 0} (document : List (Definition S)) (index : ScopeIndex) (h : IsIndexOf document index) where
+  -- the same by the number of a name
+  pub some_numbered : (i : ℕ) → i < vec_len index.names → (found : List Undefined) × UndefinedNumbered document index i found
+  some_numbered i low =
+      let now : Option (Bor (List ℕ)) → Option (List ℕ) = option_map (λ n. n.now) in
+      let same = index.names.ok.0 in
+      let item = get_or index.names.items i None in
+      let at = get_map now index.names.items i item (slice_get-get_or index.names.items i None (omega (arith, low, same))) in
+      let (found, is) = some_undefined document index h (now item) ((h.names.are (now item)).0 (contains_at (operation_names index) i (now item) at)) in
+      (found, (now item, at, is))
 
 module _ {S : Type 0} (document : List (Definition S)) (index : ScopeIndex) (h : IsIndexOf document index) (all : List (Vec VariableUse Global)) (kept : AllUses document all) (nothing : UsesNothing all) where
   none_of : (names : List (Option (List ℕ))) → ((name : Option (List ℕ)) → Contains names name → IsOperationName document name) → InTurn (UndefinedIn document) names []

@@ -1,5 +1,5 @@
 -- Lists that grow by a part for each of some others.
-use Rattle.std.proofs.Common.{◌≡◌, ℕ, ◌+◌, ◌<◌, List, [], ◌∷◌, ◌++◌, length, get_or, take, map, refl, sym, ap, ◌∙◌, append-nil, append_assoc, Option, Some, None, option_map, slice_get, Vec, Bool}
+use Rattle.std.proofs.Common.{◌≡◌, ℕ, ◌+◌, ◌<◌, List, [], ◌∷◌, ◌++◌, length, get_or, take, map, refl, subst, sym, ap, ◌∙◌, append-nil, append_assoc, Option, Some, None, option_map, slice_get, Vec, Bool}
 use Rattle.std.specs.List.{Contains, flat_map}
 use Rattle.std.specs.Option.{option_map_or, unwrap_or}
 use Rattle.std.specs.declared.alloc.Global.{Global}
@@ -20,6 +20,13 @@ use Rattle.variable_usages.specs.Uses.{Use, Uses, definition_uses, use_of}
 pub in_turn_more : {X Y : Type 0} (gives : X → List Y → Type 0) (xs : List X) (ys : List Y) (x : X) (part : List Y) → InTurn gives xs ys → gives x part → InTurn gives (xs ++ x ∷ []) (ys ++ part)
 in_turn_more gives [] ys x part e g = (part, [], g, refl, ap (λ z. z ++ part) e ∙ sym (append-nil part))
 in_turn_more gives (z ∷ xs) ys x part (p, r, g, t, e) h = (p, r ++ part, g, in_turn_more gives xs r x part t h, ap (λ w. w ++ part) e ∙ append_assoc p r part)
+
+-- and that of the item at a place, where those before it have theirs
+pub in_turn_at : {X Y : Type 0} (gives : X → List Y → Type 0) (xs : List X) (i : ℕ) (x : X) (ys part : List Y) → slice_get xs i ≡ Some x
+    → InTurn gives (take i xs) ys → gives x part → InTurn gives (take (i + 1) xs) (ys ++ part)
+in_turn_at gives xs i x ys part at before given =
+    subst (λ zs. InTurn gives zs (ys ++ part)) (sym (next_take xs i x (sym (get_or_from_slice_get xs i x x at)) (slice_get_within xs i x at)))
+    (in_turn_more gives (take i xs) ys x part before given)
 
 module _ {X Y : Type 0} (f : X → Y) (xs : List X) (i : ℕ) (x : X) (is : x ≡ get_or xs i x) (l : i < length xs) where
   pub mapped_at : slice_get (map f xs) i ≡ Some (f x)

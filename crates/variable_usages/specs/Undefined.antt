@@ -1,5 +1,5 @@
 -- Variables that are used where they are not defined (section 5.8.3).
-use Rattle.std.specs.Prelude.{◌≡◌, ℕ, List, [], ◌∷◌, ◌++◌, Bool, Option, Vec, option_map, if◌then◌else◌}
+use Rattle.std.specs.Prelude.{◌≡◌, ℕ, List, [], ◌∷◌, ◌++◌, Bool, Option, Some, Vec, option_map, slice_get, if◌then◌else◌}
 use Rattle.std.specs.List.{flat_map}
 use Rattle.std.specs.declared.alloc.Global.{Global}
 use Rattle.language.specs.declared.position.SourcePosition.{SourcePosition}
@@ -7,6 +7,8 @@ use Rattle.language.specs.declared.position.Span.{Span}
 use Rattle.language.specs.declared.position.Spanning.{Spanning}
 use Rattle.language.specs.declared.tree.Definition.{Definition}
 use Rattle.language.specs.declared.tree.Operation.{Operation}
+use Rattle.operation_scopes.specs.declared.index.ScopeIndex.{ScopeIndex}
+use Rattle.operation_scopes.specs.Index.{operation_names}
 use Rattle.operation_scopes.specs.Scopes.{IsLastOf, OperationNames}
 use Rattle.variable_usages.specs.declared.undefined.UndefinedVariable.{UndefinedVariable}
 use Rattle.variable_usages.specs.InReachUses.{InTurn, UsedIn, kept_uses}
@@ -52,6 +54,11 @@ module _ {S : Type 0} where
     pub uses : Uses
     pub used : UsedIn document name uses
     pub told : found ≡ flat_map (told_undefined (is_among (defined_names last)) name last.span.start) uses
+
+  -- Those of the name with this number in the index.
+  abbrev pub UndefinedNumbered : List (Definition S) → ScopeIndex → ℕ → List Undefined → Type 0
+  UndefinedNumbered document scopes number found =
+      (name : Option (List ℕ)) × (slice_get (operation_names scopes) number ≡ Some name) × UndefinedIn document name found
 
   -- Those of each name of operations.
   abbrev pub UndefinedVariables : List (Definition S) → List Undefined → Type 0

@@ -1,13 +1,13 @@
 //! Variables that are used but not defined (section 5.8.3).
-ghost use Rattle.std.specs.Prelude.{◌≡◌, ◌⊎◌, ◌++◌, IfOk, IsTrue, OnOk, map, option_copied};
+ghost use Rattle.std.specs.Prelude.{◌≡◌, ◌<◌, ◌⊎◌, ◌++◌, IfOk, IsTrue, OnOk, map, option_copied, vec_len};
 ghost use Rattle.std.specs.List.{flat_map};
 ghost use Rattle.operation_scopes.specs.Searches.{IsReady};
 ghost use Rattle.variable_usages.specs.DocumentIndex.{IsDocumentIndex, MayReach};
 ghost use Rattle.variable_usages.specs.InReachUses.{AddsPart};
 ghost use Rattle.variable_usages.specs.Names.{has_name};
 ghost use Rattle.variable_usages.specs.Uses.{use_of};
-ghost use Rattle.variable_usages.specs.Undefined.{TellsUndefined, UndefinedIn, UndefinedVariables, UsesNothing};
-ghost use Rattle.variable_usages.specs.Undefined.{told_undefined, undefined_of};
+ghost use Rattle.variable_usages.specs.Undefined.{TellsUndefined, UndefinedIn, UndefinedNumbered, UndefinedVariables};
+ghost use Rattle.variable_usages.specs.Undefined.{UsesNothing, told_undefined, undefined_of};
 
 use crate::document_index::{DocumentIndex, index_document};
 use crate::names::{is_named, name_set, variables};
@@ -105,6 +105,51 @@ fn add_undefined<'a, S>(
     }
 }
 
+// Reports those of the name with this number.
+fn add_numbered<'a, S>(
+    alloc: Global,
+    document: Document<'a, S>,
+    index: &DocumentIndex<'a>,
+    number: usize,
+    search: &mut UseSearch<'a>,
+    found: &mut Vec<UndefinedVariable<'a>>,
+) -> Result<(), OutOfMemory>
+    requires indexed { IsDocumentIndex document.now index.now }
+    requires ready { IsReady index.now.scopes search.old.search }
+    requires numbered { number < vec_len index.now.scopes.names }
+    ensures told { OnOk result (AddsPart (UndefinedNumbered document.now index.now.scopes number)
+        (map undefined_of found.old.items) (map undefined_of found.new.items)) }
+    ensures ready { OnOk result (IsReady index.now.scopes search.new.search) }
+{
+    let name = index.scopes.names[number];
+    let own = operation_places(&index.scopes, number);
+    add_undefined(alloc, document, index, name, own, search, found)
+}
+
+/// The part of [`undefined_in`] for the operations of one name, by its place in `index.scopes.names`, counted from 0.
+///
+/// # Errors
+///
+/// Out of memory. The search can't be used again then.
+pub fn undefined_by<'a, S>(
+    alloc: Global,
+    document: Document<'a, S>,
+    index: &DocumentIndex<'a>,
+    number: usize,
+    search: &mut UseSearch<'a>,
+) -> Result<Vec<UndefinedVariable<'a>>, OutOfMemory>
+    requires indexed { IsDocumentIndex document.now index.now }
+    requires ready { IsReady index.now.scopes search.old.search }
+    requires numbered { number < vec_len index.now.scopes.names }
+    ensures told { IfOk result (λ found. UndefinedNumbered document.now index.now.scopes number
+        (map undefined_of found.items)) }
+    ensures ready { OnOk result (IsReady index.now.scopes search.new.search) }
+{
+    let mut found = Vec::new(alloc);
+    add_numbered(alloc, document, index, number, search, &mut found)?;
+    Ok(found)
+}
+
 /// For each name of operations, the uses in their reach of variables that the last of them does not
 /// define (section 5.8.3).
 ///
@@ -122,9 +167,10 @@ pub fn undefined_variables<'a, S>(
     undefined_in(alloc, document, &index)
 }
 
-// Whether some definition uses a variable.
-fn is_any_used(all: &[Vec<VariableUse<'_>>]) -> bool
-    ensures { IsTrue result ⊎ UsesNothing all.now }
+/// Whether some definition uses a variable, by the list of uses of each definition.
+pub fn is_any_used(all: &[Vec<VariableUse<'_>>]) -> bool
+    ensures none { IsTrue result ⊎ UsesNothing all.now }
+    ensures some { IsTrue result → UsesNothing all.now → ⊥ }
 {
     for uses in all {
         if !uses.is_empty() {
@@ -136,6 +182,9 @@ fn is_any_used(all: &[Vec<VariableUse<'_>>]) -> bool
 
 /// The same as [`undefined_variables`], by the index of the document. Returns at once if the document
 /// uses no variables.
+///
+/// If many operations reach the same uses, the list is far longer than the document. [`undefined_by`] lists those of
+/// one name at a time.
 ///
 /// # Errors
 ///
@@ -156,9 +205,7 @@ pub fn undefined_in<'a, S>(
     }
     let mut search = new_use_search(alloc, scopes)?;
     for number in 0..scopes.names.len() {
-        let name = scopes.names[number];
-        let own = operation_places(scopes, number);
-        add_undefined(alloc, document, index, name, own, &mut search, &mut found)?;
+        add_numbered(alloc, document, index, number, &mut search, &mut found)?;
     }
     Ok(found)
 }

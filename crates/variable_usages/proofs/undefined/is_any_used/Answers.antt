@@ -11,8 +11,8 @@ loop-uses-preserved c =
     (no_uses all c.loop-uses.uses-index c.uses-item.result c.is_empty.result (slice_get_read all (length all) c.loop-uses.uses-index c.uses-item.result refl c.loop-uses-test.true c.uses-item.is)
     c.is_empty.ensures c.if-not-is_empty.false)
 
-pub returns : goal.returns
-returns c = inr (λ k. elim (cases_lt k c.loop-uses.uses-index) [
+pub returns-clause-none : goal.returns-clause-none
+returns-clause-none c = inr (λ k. elim (cases_lt k c.loop-uses.uses-index) [
   | inl before ↦ c.loop-uses.invariant k before
   | inr past ↦ past_uses c.args.all.now k (let end = c.loop-uses-test.false in omega (arith, past, end))
 ])
