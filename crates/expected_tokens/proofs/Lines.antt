@@ -1,8 +1,10 @@
 -- What is read of a text does not depend on what follows on another line.
-use Rattle.std.proofs.Common.{◌≡◌, ◌+◌, ◌⊎◌, inl, inr, ℕ, Bool, true, false, ◌&&◌, ◌==◌, if◌then◌else◌, List, [], ◌∷◌, ◌++◌, length, refl, sym, ap, subst, ◌∙◌, append_assoc, length-append, arith}
+use Rattle.std.proofs.Common.{◌≡◌, ◌+◌, ◌⊎◌, inl, inr, ℕ, Bool, true, false, ◌&&◌, ◌==◌, if◌then◌else◌, List, []}
+use Rattle.std.proofs.Common.{◌∷◌, ◌++◌, length, refl, sym, ap, subst, ◌∙◌, append_assoc, length-append, arith}
 use Rattle.expected_tokens.specs.Answers.{next_line}
 use Rattle.graphql_lexer.specs.Lexemes.{Lexeme, AreLexemes, Reads, nothing, ignored, token, is_last, last_at, origin, position}
-use Rattle.graphql_lexer.specs.Lexical.{Token, punctuator, name, int, float, string, block_string, end, fault, IsIgnored, IsToken, at, begins, three_quotes, is_comment_char, is_name_continue, is_number_byte}
+use Rattle.graphql_lexer.specs.Lexical.{Token, punctuator, name, int, float, string, block_string, end, fault, IsIgnored}
+use Rattle.graphql_lexer.specs.Lexical.{IsToken, at, begins, three_quotes, is_comment_char, is_name_continue, is_number_byte}
 use Rattle.graphql_lexer.specs.Places.{after, after_all}
 use Rattle.graphql_lexer.specs.declared.cursor.Cursor.{Cursor}
 use Rattle.graphql_lexer.proofs.Lists.{token_goes_on}
@@ -17,7 +19,8 @@ ignored_kept s c rest tail (inl e) = inl e
 ignored_kept s c rest tail (inr (inl h)) = inr (inl h)
 ignored_kept s c rest tail (inr (inr (cs, e, all, stop))) = inr (inr (cs, e, all, first_kept is_comment_char c rest tail refl stop))
 
-quotes_kept : (raw c rest tail : List ℕ) → begins three_quotes ((34 ∷ (raw ++ 34 ∷ [])) ++ (c ++ rest)) ≡ false → begins three_quotes ((34 ∷ (raw ++ 34 ∷ [])) ++ (c ++ 10 ∷ tail)) ≡ false
+quotes_kept : (raw c rest tail : List ℕ) → begins three_quotes ((34 ∷ (raw ++ 34 ∷ [])) ++ (c ++ rest)) ≡ false
+    → begins three_quotes ((34 ∷ (raw ++ 34 ∷ [])) ++ (c ++ 10 ∷ tail)) ≡ false
 quotes_kept [] [] rest tail h = refl
 quotes_kept [] (x ∷ c) rest tail h = h
 quotes_kept (a ∷ []) c rest tail h = h
@@ -77,7 +80,10 @@ read (ignored p q s more rest xs i r) =
       bytes = s ++ h.bytes;
       joined = ap (λ z. s ++ z) h.joined ∙ sym (append_assoc s h.bytes rest);
       index = grown p q s h.bytes h.index;
-      again = λ tail. subst (λ z. Reads p z xs q (10 ∷ tail)) (sym (append_assoc s h.bytes (10 ∷ tail))) (ignored p q s (h.bytes ++ 10 ∷ tail) (10 ∷ tail) xs (ignored_kept s h.bytes rest tail (subst (IsIgnored s) h.joined i)) (h.again tail));
+      again = λ tail.
+          let kept = ignored_kept s h.bytes rest tail (subst (IsIgnored s) h.joined i) in
+          subst (λ z. Reads p z xs q (10 ∷ tail)) (sym (append_assoc s h.bytes (10 ∷ tail)))
+          (ignored p q s (h.bytes ++ 10 ∷ tail) (10 ∷ tail) xs kept (h.again tail));
     }
 read (token p q t s more rest xs i r) =
     let h = read r in
@@ -86,10 +92,14 @@ read (token p q t s more rest xs i r) =
       bytes = s ++ h.bytes;
       joined = ap (λ z. s ++ z) h.joined ∙ sym (append_assoc s h.bytes rest);
       index = grown p q s h.bytes h.index;
-      again = λ tail. subst (λ z. Reads p z (x ∷ xs) q (10 ∷ tail)) (sym (append_assoc s h.bytes (10 ∷ tail))) (token p q t s (h.bytes ++ 10 ∷ tail) (10 ∷ tail) xs (token_kept t s h.bytes rest tail (subst (IsToken t s) h.joined i)) (h.again tail));
+      again = λ tail.
+          let kept = token_kept t s h.bytes rest tail (subst (IsToken t s) h.joined i) in
+          subst (λ z. Reads p z (x ∷ xs) q (10 ∷ tail)) (sym (append_assoc s h.bytes (10 ∷ tail)))
+          (token p q t s (h.bytes ++ 10 ∷ tail) (10 ∷ tail) xs kept (h.again tail));
     }
 
-pub joined : {p q r : Cursor} {text mid rest : List ℕ} {xs ys : List Lexeme} → Reads p text xs q mid → Reads q mid ys r rest → Reads p text (xs ++ ys) r rest
+pub joined : {p q r : Cursor} {text mid rest : List ℕ} {xs ys : List Lexeme} → Reads p text xs q mid
+    → Reads q mid ys r rest → Reads p text (xs ++ ys) r rest
 joined (nothing p text) k = k
 joined {r = r} {rest = rest} {ys = ys} (ignored p q s more mid xs i h) k = ignored p r s more rest (xs ++ ys) i (joined h k)
 joined {r = r} {rest = rest} {ys = ys} (token p q t s more mid xs i h) k = token p r t s more rest (xs ++ ys) i (joined h k)
@@ -117,7 +127,8 @@ last_or_before (y ∷ w) (z ∷ b) m last x e =
     behind_one y z w b last x f (last_or_before w b m last x g)
 
 -- no token is the end
-pub no_end : {p q : Cursor} {text rest : List ℕ} {xs : List Lexeme} → Reads p text xs q rest → (b m : List Lexeme) (x : Lexeme) → xs ≡ b ++ x ∷ m → x.token ≡ end → ⊥
+pub no_end : {p q : Cursor} {text rest : List ℕ} {xs : List Lexeme} → Reads p text xs q rest
+    → (b m : List Lexeme) (x : Lexeme) → xs ≡ b ++ x ∷ m → x.token ≡ end → ⊥
 no_end (nothing p text) b m x e k = nil_not b m x e
 no_end (ignored p q s more rest xs i r) b m x e k = no_end r b m x e k
 no_end (token p q t s more rest xs i r) [] m x e k =
@@ -137,7 +148,8 @@ pub record Before (text : List ℕ) (origin : Cursor) (before : List Lexeme) (x 
   pub there : position place ≡ x.start
   pub reads : Reads origin text before place rest
 
-before_one : {p q : Cursor} {text rest : List ℕ} {xs : List Lexeme} → Reads p text xs q rest → (b m : List Lexeme) (x : Lexeme) → xs ≡ b ++ x ∷ m → Before text p b x
+before_one : {p q : Cursor} {text rest : List ℕ} {xs : List Lexeme} → Reads p text xs q rest
+    → (b m : List Lexeme) (x : Lexeme) → xs ≡ b ++ x ∷ m → Before text p b x
 before_one (nothing p text) b m x e = absurd (nil_not b m x e)
 before_one (ignored p q s more rest xs i r) b m x e =
     let f = before_one r b m x e in
@@ -158,7 +170,8 @@ before_one (token p q t s more rest xs i r) (z ∷ b) m x e =
       reads = subst (λ u. Reads p (s ++ more) (u ∷ b) f.place f.rest) h (token p f.place t s more f.rest b i f.reads);
     }
 
-before_any : {q : Cursor} {text rest : List ℕ} {xs : List Lexeme} (b : List Lexeme) (x last : Lexeme) → Reads origin text xs q rest → position q ≡ last.start → LastOrBefore xs last b x → Before text origin b x
+before_any : {q : Cursor} {text rest : List ℕ} {xs : List Lexeme} (b : List Lexeme) (x last : Lexeme)
+    → Reads origin text xs q rest → position q ≡ last.start → LastOrBefore xs last b x → Before text origin b x
 before_any {q} {text} {rest} b x last r starts (inl (e, f)) = record {
   place = q;
   rest = rest;
@@ -188,6 +201,8 @@ moved (token p q t s more rest xs i h) r =
     record { xs = x ∷ f.xs; place = f.place; reads = token r f.place t s more rest f.xs i f.reads }
 
 -- the tokens of a text that goes on on another line
-pub behind_line : (front next rest : List ℕ) (before ys : List Lexeme) (p u : Cursor) → ((tail : List ℕ) → Reads origin (front ++ 10 ∷ tail) before p (10 ∷ tail)) → Reads (next_line p) next ys u rest → Reads origin (front ++ 10 ∷ next) (before ++ ys) u rest
+pub behind_line : (front next rest : List ℕ) (before ys : List Lexeme) (p u : Cursor)
+    → ((tail : List ℕ) → Reads origin (front ++ 10 ∷ tail) before p (10 ∷ tail)) → Reads (next_line p) next ys u rest
+    → Reads origin (front ++ 10 ∷ next) (before ++ ys) u rest
 behind_line front next rest before ys p u begun r =
     joined (begun next) (ignored p u (10 ∷ []) next rest ys (inr (inl (10, refl, refl))) r)

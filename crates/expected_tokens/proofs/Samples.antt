@@ -30,7 +30,11 @@ written (e.Punctuator s) = inr refl
 written (e.Keyword w) = inr (refl, named w, refl)
 written e.Name = inr (refl, (97, [], refl, refl, refl), refl)
 written e.Int = inr (refl, inl (inl refl), refl)
-written e.Float = inr (refl, (codes "0", codes ".0", [], refl, inl (inl refl), inr (inl ((codes "0", refl, (omega arith, refl)), refl))), refl)
+written e.Float = inr (
+  refl,
+  (codes "0", codes ".0", [], refl, inl (inl refl), inr (inl ((codes "0", refl, (omega arith, refl)), refl))),
+  refl,
+)
 written e.String = inr (refl, no_char, IsUtf8-nil, refl)
 written e.BlockString = inr (refl, no_block_char, IsUtf8-nil)
 written e.End = inl refl

@@ -1,5 +1,6 @@
 -- Where reading stops.
-use Rattle.std.proofs.Common.{◌≡◌, ◌≤◌, ◌↔◌, IsTrue, ℕ, true, false, List, [], ◌∷◌, ◌++◌, length, take, None, refl, sym, ap, subst, ◌∙◌, append_assoc, append-nil, length-append, arith}
+use Rattle.std.proofs.Common.{◌≡◌, ◌≤◌, ◌↔◌, IsTrue, ℕ, true, false, List, [], ◌∷◌, ◌++◌, length, take, None}
+use Rattle.std.proofs.Common.{refl, sym, ap, subst, ◌∙◌, append_assoc, append-nil, length-append, arith}
 use Rattle.std.proofs.Math.Seq.{take-append_seam}
 use Rattle.expected_tokens.specs.Stops.{IsFront, Stops, StopsAt}
 use Rattle.expected_tokens.specs.declared.stops.Stop.{Stop}
@@ -20,7 +21,9 @@ use Rattle.language.specs.Position.{index_of}
 abbrev pub Tells : Stop → Tokens → Type 0
 Tells stop b = (stop.index ≡ index_of (ahead_of b).start) × (IsTrue stop.is_end ↔ ((ahead_of b).token ≡ end))
 
-pub stops_document : (text : List ℕ) (a b : Tokens) (ds : List Definition) (stop : Stop) → AreLexemes text (left a) → Reads (SpellsDocument None ds) a b → (ahead_of b).token ≡ end → Tells stop b → stop.is_document ≡ true → StopsAt text stop
+pub stops_document : (text : List ℕ) (a b : Tokens) (ds : List Definition) (stop : Stop) → AreLexemes text (left a)
+    → Reads (SpellsDocument None ds) a b → (ahead_of b).token ≡ end → Tells stop b → stop.is_document ≡ true
+    → StopsAt text stop
 stops_document text a b ds stop are (ts, took, h) ended tells is =
     record {
       before = ts;
@@ -36,7 +39,8 @@ stops_document text a b ds stop are (ts, took, h) ended tells is =
       document = (λ is. (ended, (ds, h)), λ so. is);
     }
 
-pub stops_fault : (text : List ℕ) (a b : Tokens) (e : SyntaxError) (stop : Stop) → AreLexemes text (left a) → IsFault None AtEnd ADocument a b (Syntax e) → Tells stop b → stop.is_document ≡ false → StopsAt text stop
+pub stops_fault : (text : List ℕ) (a b : Tokens) (e : SyntaxError) (stop : Stop) → AreLexemes text (left a)
+    → IsFault None AtEnd ADocument a b (Syntax e) → Tells stop b → stop.is_document ≡ false → StopsAt text stop
 stops_fault text a b e stop are f tells is =
     let s : Stuck None AtEnd ADocument a b = f.stuck tt in
     record {
@@ -46,7 +50,10 @@ stops_fault text a b e stop are f tells is =
         more = behind b;
         lexemes = subst (AreLexemes text) s.place are;
         begun = (s.goes_on.1.tree, s.goes_on.0, s.goes_on.1.spelled);
-        stuck = λ (ds, more, h). s.never more ((s.taken ++ ahead_of b ∷ []) ++ more) [] (record { tree = ds; spelled = h }) refl (sym (append_assoc s.taken (ahead_of b ∷ []) more) ∙ sym (append-nil ((s.taken ++ ahead_of b ∷ []) ++ more)));
+        stuck = λ (ds, more, h).
+            let begins = s.taken ++ ahead_of b ∷ [] in
+            let e = sym (append_assoc s.taken (ahead_of b ∷ []) more) ∙ sym (append-nil (begins ++ more)) in
+            s.never more (begins ++ more) [] (record { tree = ds; spelled = h }) refl e;
       };
       index = tells.0;
       ended = tells.1;
@@ -67,7 +74,8 @@ pub record Front (text : List ℕ) (n : ℕ) : Type 0 where
   pub within : n ≤ length text
   pub front : IsFront text (take n text)
 
-front_at : (text : List ℕ) (before : List Lexeme) (x : Lexeme) (n : ℕ) → Stops text before x → n ≡ index_of x.start → Before text origin before x → Front text n
+front_at : (text : List ℕ) (before : List Lexeme) (x : Lexeme) (n : ℕ) → Stops text before x → n ≡ index_of x.start
+    → Before text origin before x → Front text n
 front_at text before x n stops start b =
     let r = read b.reads in
     let h : n ≡ length r.bytes = start ∙ ap index_of (sym b.there) ∙ (let k = r.index in omega arith) in
@@ -85,8 +93,10 @@ front_at text before x n stops start b =
     }
 
 pub front_of_stop : (text : List ℕ) (stop : Stop) → StopsAt text stop → Front text stop.index
-front_of_stop text stop s = front_at text s.before s.x stop.index s.stops s.index (before_lexeme text s.before s.stops.more s.x s.stops.lexemes)
+front_of_stop text stop s =
+    front_at text s.before s.x stop.index s.stops s.index (before_lexeme text s.before s.stops.more s.x s.stops.lexemes)
 
 -- the text that is made
-pub made : (front next text grown whole bytes given : List ℕ) → text ≡ front → grown ≡ text ++ 10 ∷ [] → whole ≡ grown ++ bytes → bytes ≡ next → given ≡ whole → given ≡ front ++ 10 ∷ next
+pub made : (front next text grown whole bytes given : List ℕ) → text ≡ front → grown ≡ text ++ 10 ∷ []
+    → whole ≡ grown ++ bytes → bytes ≡ next → given ≡ whole → given ≡ front ++ 10 ∷ next
 made front next text grown whole bytes given a b c d e = let f = append_assoc front (10 ∷ []) next in cc

@@ -29,13 +29,16 @@ loop-candidate-preserved c =
       | then-branch+in_ok-push w ↦
           let e : grown ≡ found ++ get_or all n d ∷ [] = ap (λ v. v.items) w.found-is ∙ w.in_ok-push.ensures.items in
           record {
-            sifted = λ before p b. step_yes all found grown n d before p less e ((told before p b).0 w.if-branch.true) (so_far.sifted before p b);
+            sifted = λ before p b. step_yes all found grown n d before p less e
+                ((told before p b).0 w.if-branch.true) (so_far.sifted before p b);
             order = order_yes all found grown n d less e so_far.order;
           }
       | else-branch w ↦
           let e : grown ≡ found = ap (λ v. v.items) w.found-is in
           record {
-            sifted = λ before p b. step_no all found grown n d before p less e (λ m. not_both c.in_ok-may_follow.field-0 ((told before p b).1 m) w.if-branch.false) (so_far.sifted before p b);
+            sifted = λ before p b. step_no all found grown n d before p less e
+                (λ m. not_both c.in_ok-may_follow.field-0 ((told before p b).1 m) w.if-branch.false)
+                (so_far.sifted before p b);
             order = order_no all found grown n d less e so_far.order;
           }
     ]
@@ -46,4 +49,5 @@ returns c =
     let all = c.all-candidates in
     let loop = c.loop-candidate in
     let is : IsFront c.args.text.now front = subst (λ z. IsFront z front) c.as_bytes.ensures.value c.in_ok-front.ensures in
-    all_sifted c.args.text.now front all.result.now loop.found.items loop.candidate-index (omega arith) all.ensures.every all.ensures.listed loop.invariant.order is loop.invariant.sifted
+    all_sifted c.args.text.now front all.result.now loop.found.items loop.candidate-index (omega arith)
+    all.ensures.every all.ensures.listed loop.invariant.order is loop.invariant.sifted

@@ -5,4 +5,16 @@ use Rattle.expected_tokens.proofs.stops.stop_behind.Goals as goal
 
 pub returns : goal.returns
 returns c =
-    subst (λ z. IfOk c.stop_of.result (StopsAt z)) (made c.args.front.now c.args.next.now c.in_ok-text.text.items c.push.new.self.items c.extend_from_slice.new.self.items c.as_bytes.result.now c.as_slice.result.now c.in_ok-text.ensures.items c.in_ok-push.ensures.items c.in_ok-extend_from_slice.ensures.items c.as_bytes.ensures.value c.as_slice.ensures.value) c.stop_of.ensures
+    let front = c.args.front.now in
+    let next = c.args.next.now in
+    let text = c.in_ok-text.text.items in
+    let grown = c.push.new.self.items in
+    let whole = c.extend_from_slice.new.self.items in
+    let bytes = c.as_bytes in
+    let given = c.as_slice in
+    let copied = c.in_ok-text.ensures.items in
+    let pushed = c.in_ok-push.ensures.items in
+    let extended = c.in_ok-extend_from_slice.ensures.items in
+    let same = made front next text grown whole bytes.result.now given.result.now in
+    subst (λ z. IfOk c.stop_of.result (StopsAt z))
+    (same copied pushed extended bytes.ensures.value given.ensures.value) c.stop_of.ensures

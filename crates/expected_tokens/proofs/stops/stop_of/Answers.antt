@@ -1,5 +1,5 @@
 use Rattle.std.proofs.Common.{None, subst}
-use Rattle.expected_tokens.proofs.StopLaws.{stops_document, stops_fault}
+use Rattle.expected_tokens.proofs.StopLaws.{Tells, stops_document, stops_fault}
 use Rattle.graphql_reader.specs.Languages.{ADocument, AtEnd, IsFault}
 use Rattle.expected_tokens.proofs.stops.stop_of.Goals as goal
 use Rattle.expected_tokens.proofs.stops.stop_of.Goals.{in-Ok, in-Err-Syntax, in-Err-OutOfMemory}
@@ -11,7 +11,16 @@ returns c =
     let b = c.read_definitions.new.tokens in
     let are = c.new-tokens.ensures.lexemes in
     elim c.match-read_definitions.branch [
-      | in-Ok w ↦ rw w.result-is (stops_document text a b _ w.stop_at.result are w.in-Ok.ensures.tree w.in-Ok.ensures.ended (w.stop_at.ensures.index, w.stop_at.ensures.end) w.stop_at.ensures.document)
-      | in-Err-Syntax w ↦ rw w.result-is (stops_fault text a b w.in-Err-Syntax.field-0-0 w.stop_at-in-Err-Syntax.result are (subst (IsFault None AtEnd ADocument a b) w.in-Err-Syntax.field-0-is w.in-Err-Syntax.ensures.stuck) (w.stop_at-in-Err-Syntax.ensures.index, w.stop_at-in-Err-Syntax.ensures.end) w.stop_at-in-Err-Syntax.ensures.document)
+      | in-Ok w ↦
+          let read = w.in-Ok.ensures in
+          let stop = w.stop_at in
+          let tells : Tells stop.result b = (stop.ensures.index, stop.ensures.end) in
+          rw w.result-is (stops_document text a b _ stop.result are read.tree read.ended tells stop.ensures.document)
+      | in-Err-Syntax w ↦
+          let read = w.in-Err-Syntax in
+          let stuck = subst (IsFault None AtEnd ADocument a b) read.field-0-is read.ensures.stuck in
+          let stop = w.stop_at-in-Err-Syntax in
+          let tells : Tells stop.result b = (stop.ensures.index, stop.ensures.end) in
+          rw w.result-is (stops_fault text a b read.field-0-0 stop.result are stuck tells stop.ensures.document)
       | in-Err-OutOfMemory w ↦ rw w.result-is tt
     ]
