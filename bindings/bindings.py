@@ -4,6 +4,7 @@ import re
 import shutil
 import subprocess
 import sys
+import sysconfig
 import tempfile
 from pathlib import Path
 
@@ -12,12 +13,12 @@ TOP = HERE.parent
 LIB = TOP / "out" / "lib"
 BUILT = TOP / "out" / "bindings"
 
-NODE_HEADER = "node_api.h"
+NODE_HEADER, PYTHON_HEADER = "node_api.h", "Python.h"
 
 # Each binding, with the commands and the header that it needs, and the Debian packages that have them.
 ALL = {
     "c": {"cc": "gcc", "pkg-config": "pkg-config"},
-    "python": {"python3": "python3"},
+    "python": {"python3": "python3", PYTHON_HEADER: "python3-dev", "cc": "gcc"},
     "rust": {"cargo": "cargo", "cc": "gcc"},
     "go": {"go": "golang-go", "cc": "gcc", "pkg-config": "pkg-config"},
     "node": {"node": "nodejs", NODE_HEADER: "libnode-dev", "cc": "gcc", "pkg-config": "pkg-config"},
@@ -35,7 +36,9 @@ def has_library(script):
 
 
 def is_there(needed):
-    """Whether a command is found, or the header of node's."""
+    """Whether a command is found, or the header of node's or Python's."""
+    if needed == PYTHON_HEADER:
+        return Path(sysconfig.get_path("include"), PYTHON_HEADER).exists()
     if needed != NODE_HEADER:
         return shutil.which(needed) is not None
     node = shutil.which("node")
@@ -94,6 +97,11 @@ def passes_c():
     return True
 
 
+def forms(name):
+    """The forms of a binding by their names, each with the words by which its programs take it."""
+    return {"python": [], "python (ctypes)": ["--ctypes"]} if name == "python" else {name: []}
+
+
 def has_graphql():
     """Whether graphql-core 3 is there, by which the example for Python executes."""
     words = ["python3", "-c", "from graphql import build_schema"]
@@ -119,7 +127,7 @@ def passes_tests(name):
     """Whether the tests of a binding pass."""
     if name == "c":
         return passes_c()
-    if name == "node" and not runs(["./compile"], HERE / "node"):
+    if name in ("node", "python") and not runs(["./compile"], HERE / name):
         return False
     words = {
         "python": ["python3", "test.py"],
@@ -127,7 +135,7 @@ def passes_tests(name):
         "go": ["go", "test", "-count=1", "./..."],
         "node": ["node", "--test", "test.js"],
     }
-    return runs(words[name], HERE / name)
+    return all(runs([*words[name], *form], HERE / name) for form in forms(name).values())
 
 
 def many(name):
@@ -135,7 +143,7 @@ def many(name):
     if name == "c":
         return [BUILT / "many"] if compiles("many.c", BUILT / "many") else None
     if name == "python":
-        return [shutil.which("python3"), HERE / "python" / "many.py"]
+        return [shutil.which("python3"), HERE / "python" / "many.py"] if runs(["./compile"], HERE / "python") else None
     if name == "rust":
         built = runs(["cargo", "build", "--offline", "--quiet", "--release", "--example", "many"], HERE / "rust")
         return [BUILT / "rust" / "release" / "examples" / "many"] if built else None
@@ -168,16 +176,19 @@ def faults_of(said):
 
 
 def holds_memory(name):
-    """Whether many documents through a binding leave no fault and no leak of the library."""
+    """Whether many documents through each form of a binding leave no fault and no leak of the library."""
     words = many(name)
+    return bool(words) and all([holds_memory_of(form, [*words, *more]) for form, more in forms(name).items()])
+
+
+def holds_memory_of(form, words):
+    """Whether the many documents of a program leave no fault and no leak of the library."""
     options = ["--leak-check=full", "--show-leak-kinds=definite", "--num-callers=40", "--error-limit=no"]
-    if not words:
-        return False
     ran = under_valgrind([*words, DOCUMENTS], options, PYTHONMALLOC="malloc")
     if ran is None:
         return False
     written, said = ran
     faults = faults_of(said)
     print(*faults[:3], sep="\n", end="\n" if faults else "")
-    print(f"  {DOCUMENTS} documents with {written.strip()} errors: {len(faults)} faults of memory", flush=True)
+    print(f"  {form}: {DOCUMENTS} documents with {written.strip()} errors: {len(faults)} faults of memory", flush=True)
     return not faults

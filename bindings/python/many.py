@@ -1,5 +1,11 @@
-"""many.py COUNT [FORM]: validates so many documents, all of one form if it is given, and prints how many errors they have."""
+"""many.py [--ctypes] COUNT [FORM]: validates so many documents, all of one form if it is given, and prints how many
+errors they have. With --ctypes it does as where the native part is not there.
+"""
 import sys
+
+if sys.argv[1] == "--ctypes":
+    sys.modules["vorxindak._native"] = None
+    del sys.argv[1]
 
 from vorxindak import Schema
 

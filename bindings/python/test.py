@@ -1,10 +1,52 @@
-"""python3 test.py: what the binding does, from the specification and the contracts of the library."""
+"""python3 test.py [--ctypes]: what the binding does, from the specification and the contracts of the library.
+
+With --ctypes it is tested as where the native part is not there. Else the native part is, which ./compile compiles.
+"""
+import json
+import random
+import sys
 import threading
 import unittest
 
-from vorxindak import Error, Location, Schema, SchemaError, _errors, version
+BY_CTYPES = "--ctypes" in sys.argv
+if BY_CTYPES:
+    sys.argv.remove("--ctypes")
+    sys.modules["vorxindak._native"] = None
+
+from vorxindak import Error, Location, Schema, SchemaError, _errors, _Handle, _native, version
 
 SDL = "type Query { greeting(name: String!): String }"
+
+
+def read_reports(reports):
+    """For each text what the reader of reports in use makes of it: errors, or None where the text is no report."""
+    for text in reports:
+        try:
+            yield _errors(text.decode()) if BY_CTYPES else _native.read(text)
+        except (ValueError, KeyError, TypeError):
+            yield None
+
+
+def some_text(numbers):
+    """A text in which many characters have to be escaped, are long in UTF-8 or are one half of a pair."""
+    characters = 'ab "\\/\n\x00\x1f\x7fé\u2028\ud7ff\ud83d\ude00\uffff😀'
+    text = "".join(numbers.choices(characters, k=numbers.randrange(12)))
+    return text.encode("utf-16", "surrogatepass").decode("utf-16", "surrogatepass")
+
+
+def some_report(numbers):
+    """A report in one of the ways to write it, and its errors."""
+    errors, spelled = [], []
+    for _ in range(numbers.randrange(4)):
+        places = [Location(numbers.randrange(1, 10**9), numbers.randrange(1, 99)) for _ in range(numbers.randrange(3))]
+        path = numbers.choice((None, some_text(numbers)))
+        errors.append(Error(some_text(numbers), tuple(places), path))
+        members = [(name, value) for name, value in errors[-1]._asdict().items() if value is not None]
+        numbers.shuffle(members)
+        spelled.append({**dict(members), "locations": [at._asdict() for at in places]})
+    text = json.dumps(spelled, indent=numbers.choice((None, 2)), ensure_ascii=numbers.choice((False, True)))
+    # A half of a pair has to be escaped.
+    return text.encode(errors="backslashreplace"), errors
 
 
 class Tests(unittest.TestCase):
@@ -49,12 +91,26 @@ class Tests(unittest.TestCase):
         spelled = r'''[{"message": "\"\\\/\b\f\n\r\t\u001Fé\ud83d\ude00", "locations": [{"column": 2, "line": 1}]},
             {"message": "", "locations": [], "path": "0"}]'''
         meant = [Error('"\\/\b\f\n\r\t\x1fé😀', (Location(1, 2),)), Error("", (), "0")]
-        self.assertEqual(_errors(spelled), meant)
-        self.assertEqual(_errors("[ ]\n"), [])
         broken = [spelled[:length] for length in range(len(spelled))]
-        for text in [*broken, "{}", "null", "[1]", "[{}]", '[{"message": "a"}]', '[{"locations": []}]', spelled + "]"]:
-            with self.assertRaises((ValueError, KeyError, TypeError), msg=text):
-                _errors(text)
+        broken += ["{}", "null", "[1]", "[{}]", '[{"message": "a"}]', '[{"locations": []}]', spelled + "]"]
+        found = list(read_reports(it.encode() for it in [spelled, "[ ]\n", *broken]))
+        self.assertEqual(found, [meant, [], *[None] * len(broken)])
+        self.assertEqual([type(it) for it in (*found[0], *found[0][0].locations)], [Error, Error, Location])
+
+    def test_any_reports(self):
+        numbers = random.Random(1)
+        reports, meant = zip(*(some_report(numbers) for _ in range(1000)))
+        self.assertEqual(list(read_reports(reports)), list(meant))
+
+    def test_what_is_no_report(self):
+        numbers = random.Random(2)
+        for _ in range(3000):
+            text = bytearray(some_report(numbers)[0])
+            for _ in range(numbers.randrange(1, 4)):
+                text[numbers.randrange(len(text))] = numbers.choice(b'\\"u0dD{}[],:\xed\xa0\x80\xc3 \x1f')
+            (found,) = read_reports([bytes(text)])
+            if found is not None:
+                self.assertEqual(found, _errors(text.decode()))
 
     def test_columns_are_in_characters(self):
         with Schema(SDL) as schema:
@@ -114,6 +170,13 @@ class Tests(unittest.TestCase):
         with self.assertRaises(ValueError):
             schema.validate("{ a }")
 
+    def test_answers_without_a_report(self):
+        handle = _Handle()
+        self.assertEqual(handle.errors(0), [])
+        for status, raised in ((10, MemoryError), (1, ValueError)):
+            with self.assertRaises(raised):
+                handle.errors(status)
+
     def test_threads(self):
         with Schema(SDL) as schema:
             found = {}
@@ -131,6 +194,9 @@ class Tests(unittest.TestCase):
             self.assertEqual(len(found), 9)
             for name, messages in found.items():
                 self.assertEqual(messages, {f'Unknown field "{name}" on type "Query"'})
+
+    def test_form(self):
+        self.assertEqual(_native is None, BY_CTYPES)
 
     def test_version(self):
         self.assertRegex(version(), r"^\d+\.\d+\.\d+$")

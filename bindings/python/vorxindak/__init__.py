@@ -11,6 +11,12 @@ import threading
 from pathlib import Path
 from typing import Any, List, Mapping, NamedTuple, Optional, Tuple, Union
 
+try:
+    from . import _native
+except ImportError:
+    # ctypes does the same, with more instructions.
+    _native = None
+
 __all__ = ["Error", "Location", "Schema", "SchemaError", "version"]
 
 _VALID, _INVALID, _UNREADABLE, _FAULTY_SCHEMA, _NO_VALUES, _NOT_UTF8, _CLOSED = range(7)
@@ -77,6 +83,11 @@ class SchemaError(ValueError):
         self.errors = errors
 
 
+if _native:
+    _calls = (_validate, _validate_variables, _report)
+    _native.bind(*(ctypes.cast(it, ctypes.c_void_p).value for it in _calls), _new, Error, Location)
+
+
 def version() -> str:
     """The version of the library."""
     number = _library.vorxindak_version()
@@ -89,9 +100,10 @@ class _Handle:
     def __init__(self) -> None:
         self.raw = _Raw()
         self.at = ctypes.byref(self.raw)
+        self.address = ctypes.addressof(self.raw)
         self.needed = ctypes.c_size_t()
         self.needed_at = ctypes.byref(self.needed)
-        self.make_room(4096)
+        self.make_room(0 if _native else 4096)
 
     def make_room(self, size: int) -> None:
         self.size = _size(size)
@@ -100,6 +112,8 @@ class _Handle:
 
     def errors(self, status: int) -> List[Error]:
         """The errors that a call has found which answered so."""
+        if _native:
+            return _native.errors(self.address, status)
         if status == _VALID:
             return []
         if status == _OUT_OF_MEMORY:
@@ -185,8 +199,10 @@ class Schema:
         There are at most `max_errors` of them, or all for 0. A text that is not a document has its syntax error.
         """
         handle, text = self._threads.handle, _bytes(query)
-        limit = _DEFAULT_LIMIT if max_errors == 1000 else _size(max_errors)
         flags = 0 if introspection else _NO_INTROSPECTION
+        if _native:
+            return _native.validate(handle.address, text, None, max_errors, flags)
+        limit = _DEFAULT_LIMIT if max_errors == 1000 else _size(max_errors)
         status = _validate(handle.at, text, _size(len(text)), limit, flags)
         return handle.errors(status)
 
@@ -204,8 +220,10 @@ class Schema:
         """
         given = values if isinstance(values, (str, bytes)) else json.dumps(values)
         handle, text, given = self._threads.handle, _bytes(query), _bytes(given)
-        limit = _DEFAULT_LIMIT if max_errors == 1000 else _size(max_errors)
         flags = 0 if introspection else _NO_INTROSPECTION
+        if _native:
+            return _native.validate(handle.address, text, given, max_errors, flags)
+        limit = _DEFAULT_LIMIT if max_errors == 1000 else _size(max_errors)
         status = _validate_variables(
             handle.at, text, _size(len(text)), given, _size(len(given)), limit, flags
         )
