@@ -40,6 +40,11 @@ def pairs(count):
     return nested(count, "a: iq " * count + APART)
 
 
+def two_kinds(count):
+    """Fields of one name on two types that can't be one object: each is compared with all others."""
+    return nested(0, "a: iq " * count + "... on Being { ... on Dog { " + "a: barkVolume " * count + "} } ")
+
+
 def plain(count):
     """Fields in nested sets that are plainly alike."""
     return nested(count, "iq " * count)
@@ -48,6 +53,11 @@ def plain(count):
 def failing(levels):
     """Fields of one name, half of which differ from the others, in one set or in nested ones."""
     return lambda count: nested(levels * count, "a: iq " * count + "a: name " * count)
+
+
+def reasons(count):
+    """Two fields of one name, below which each field of the one conflicts with each of the other."""
+    return f"{{ human {{ relatives {{ {'a: iq ' * count}}} relatives {{ {'a: name ' * count}}} }} }}"
 
 
 def reopened(count):
@@ -89,6 +99,7 @@ def long_type(count):
 # A family: its name, how a document is made of a number of pieces, the first number, and whether the document is valid.
 WORST = [
     ("fields in nested sets", pairs, 20, True),
+    ("fields of two kinds", two_kinds, 40, True),
     ("plain fields in nested sets", plain, 100, True),
     ("a hub", hub("iq", "iq"), 20, True),
     ("a hub in nested sets", hub("iq", "iq", 1), 8, True),
@@ -100,6 +111,28 @@ WORST = [
     ("undefined in operations", operations(""), 40, False),
     ("a long type at each use", long_type, 200, False),
     ("failing fields", failing(0), 40, False),
+    ("one error of many reasons", reasons, 40, False),
     ("failing fields in nested sets", failing(1), 8, False),
     ("a hub with conflicts", hub("iq", "name"), 10, False),
 ]
+
+# The part of the sample schema `pets` that they ask for.
+PETS = """\
+schema { query: QueryRoot }
+interface Being { name(surname: Boolean): String }
+type Human implements Being { name(surname: Boolean): String iq: Int relatives: [Human] }
+type Dog implements Being { name(surname: Boolean): String barkVolume: Int }
+type ComplicatedArgs { stringListArgField(stringListArg: [String]): String }
+type QueryRoot { human: Human dog: Dog complicatedArgs: ComplicatedArgs }
+"""
+
+
+def longest(make, bytes_at_most):
+    """The longest text of a family that has at most so many bytes."""
+    least, most = 1, 2
+    while len(make(most)) <= bytes_at_most:
+        least, most = most, 2 * most
+    while most - least > 1:
+        between = (least + most) // 2
+        least, most = (between, most) if len(make(between)) <= bytes_at_most else (least, between)
+    return make(least)
