@@ -208,7 +208,7 @@ fn many_reasons(alloc: Global) -> Result<String, AllocError> {
     Ok(text)
 }
 
-/// Of at most two errors 1,032 findings are enough.
+/// Of at most two errors 1,002 findings are enough.
 #[test]
 fn a_search_that_stops_is_told(rt: HostRuntime) {
     let text = many_reasons(rt.alloc()).expect(&rt, "memory");

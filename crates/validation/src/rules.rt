@@ -126,5 +126,5 @@ fn enough_for(limit: usize) -> usize
     if limit == 0 {
         return 0;
     }
-    limit.saturating_mul(16).saturating_add(1000)
+    limit.saturating_add(1000)
 }
