@@ -97,7 +97,8 @@ module _ {S C : Type 0} (E : S → S → Bool) (schema : Catalog S C) (document 
       pub unmerged : 0 < length found → DocumentMerges E schema document → ⊥
       unmerged some h = not_all some (λ s c a b apart same.
           let o = places_out s a b c apart in
-          merges_in E schema document numbers m w is refl o.6 o.7 (h o.0 o.1 o.2 o.3 o.4 o.5 (same_out E schema document numbers m w is o.6 o.7 same)))
+          let merge = h o.0 o.1 o.2 o.3 o.4 o.5 (same_out E schema document numbers m w is o.6 o.7 same) in
+          merges_in E schema document numbers m w is refl o.6 o.7 merge)
 
       refuses : DocumentMerges E schema document → made.reports ≡ none
       refuses h = elim (found_some m.fields made.are) [
@@ -125,7 +126,8 @@ module _ {S C : Type 0} (E : S → S → Bool) (schema : Catalog S C) (document 
             let s = sets p set i in let t = apart_stand E schema document numbers m w is h in
             let a = stands_in E schema document numbers m w is (stands_whole E schema document numbers m w is (s.2).part t.0) (s.2).is in
             let b = stands_in E schema document numbers m w is (stands_whole E schema document numbers m w is (s.2).part t.1) (s.2).is in
-            merges_out E schema document numbers m w is (complete.exact (whole known) (nothing_found silent) s.0 a.0 b.0 a.1 b.1 (same_in E schema document numbers m w is a.2 b.2 same)) refl a.2 b.2
+            let one = same_in E schema document numbers m w is a.2 b.2 same in
+            merges_out E schema document numbers m w is (complete.exact (whole known) (nothing_found silent) s.0 a.0 b.0 a.1 b.1 one) refl a.2 b.2
 
         pub is_told : AreTold E schema document made.reports
         is_told = record {
@@ -134,7 +136,9 @@ module _ {S C : Type 0} (E : S → S → Bool) (schema : Catalog S C) (document 
               let s = sets h.0 h.1 h.2 in
               let a = stands_in E schema document numbers m w is (stands_whole E schema document numbers m w is (s.2).part h.3) (s.2).is in
               let b = stands_in E schema document numbers m w is (stands_whole E schema document numbers m w is (s.2).part h.4) (s.2).is in
-              elim (complete.failing s.0 a.0 b.0 s.1 a.1 b.1 (same_in E schema document numbers m w is a.2 b.2 h.5) (conflict_at E schema document numbers m w is a.2 b.2 false ∙ fails)) [
+              let one = same_in E schema document numbers m w is a.2 b.2 h.5 in
+              let fail = conflict_at E schema document numbers m w is a.2 b.2 false ∙ fails in
+              elim (complete.failing s.0 a.0 b.0 s.1 a.1 b.1 one fail) [
                 | inl t ↦ inl (tells a.0 b.0 false x y a.2 b.2 t.1)
                 | inr t ↦ inr (tells b.0 a.0 false y x b.2 a.2 t.1)
               ];
@@ -143,7 +147,9 @@ module _ {S C : Type 0} (E : S → S → Bool) (schema : Catalog S C) (document 
               let a = member_in E schema document numbers m w is (s.2).is ((s.2).part.fields x c) in
               let b = stands_in E schema document numbers m w is (stands_whole E schema document numbers m w is (s.2).part h) (s.2).is in
               let at = (own_field schema numbers m a.2).field in let bt = (own_field schema numbers m b.2).field in
-              elim (complete.at_the_top s.0 a.0 b.0 s.1 a.1 b.1 (same_in E schema document numbers m w is a.2 b.2 same) (conflict_at E schema document numbers m w is a.2 b.2 false ∙ fails)) [
+              let one = same_in E schema document numbers m w is a.2 b.2 same in
+              let fail = conflict_at E schema document numbers m w is a.2 b.2 false ∙ fails in
+              elim (complete.at_the_top s.0 a.0 b.0 s.1 a.1 b.1 one fail) [
                 | inl r ↦ inl (root_in m.fields made.are a.0 b.0 x y at bt (made.to (record { left = a.0; right = b.0 }) r))
                 | inr r ↦ inr (root_in m.fields made.are b.0 a.0 y x bt at (made.to (record { left = b.0; right = a.0 }) r))
               ];

@@ -86,19 +86,22 @@ module _ {S C : Type 0} (E : S → S → Bool) (schema : Catalog S C) (document 
       let room = λ (done : IsFinished f). subst (λ (n : ℕ). (n ≡ 0) ⊎ (length f.found.items < n)) bound done in
       let t = made E schema document is.numbers is.table its_world world_is g.order.items origins sets f.found.items j.real in
       let fields : map plain f.fields.items ≡ (is.table).fields = ap (λ v. map plain v.items) same ∙ (is.is).fields in
-      let lawful_where = λ (tidy : IsTidyDocument schema document). lawful
-      (subst AreTidy (sym (is.is).fields) (are_tidy E schema document is.numbers is.table its_world world_is g.order.items origins sets tidy)) in
+      let lawful_where = λ (tidy : IsTidyDocument schema document).
+      let fields_tidy = are_tidy E schema document is.numbers is.table its_world world_is g.order.items origins sets tidy in
+      lawful (subst AreTidy (sym (is.is).fields) fields_tidy) in
+      let found = f.found.items in
       record {
         numbered = t.numbered;
         reports = t.reports;
         found = (j.real).grown ∙ sym t.writes;
         are = subst (λ z. AreReportsOf z t.numbered t.reports) (sym fields) t.are;
-        real = is_real E schema document is.numbers is.table its_world world_is g.order.items origins sets f.found.items j.real;
-        refuses = λ some tidy. unmerged E schema document is.numbers is.table its_world world_is g.order.items origins sets f.found.items j.real
-            (j.refuses (lawful_where tidy)) some;
-        told = λ done tidy. is_told E schema document is.numbers is.table its_world world_is g.order.items origins sets f.found.items j.real
+        real = is_real E schema document is.numbers is.table its_world world_is g.order.items origins sets found j.real;
+        refuses = λ some tidy.
+            let refuted = j.refuses (lawful_where tidy) in
+            unmerged E schema document is.numbers is.table its_world world_is g.order.items origins sets found j.real refuted some;
+        told = λ done tidy. is_told E schema document is.numbers is.table its_world world_is g.order.items origins sets found j.real
             (j.refuses (lawful_where tidy)) (j.complete (room done) (lawful_where tidy));
-        all = λ done tidy. is_all E schema document is.numbers is.table its_world world_is g.order.items origins sets f.found.items j.real
+        all = λ done tidy. is_all E schema document is.numbers is.table its_world world_is g.order.items origins sets found j.real
             (j.refuses (lawful_where tidy)) (j.complete (room done) (lawful_where tidy));
       }
 

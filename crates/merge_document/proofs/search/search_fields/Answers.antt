@@ -26,11 +26,12 @@ pub returns-in_ok-search-in-Some-clause-judged : goal.returns-in_ok-search-in-So
 returns-in_ok-search-in-Some-clause-judged g c =
     let E = g.S.PartialEq.eq in
     let graph = c.limited-graph.result in
+    let search = c.in_ok-search-in-Some in
     judged E c.args.schema.now c.args.document.now graph (graph_is g c) c.found_in.result c.found_in.ensures.fields c.found_in.ensures.limit
-    (subst (λ v. Judged (world (judgement_of E) graph) graph.order.items v.items) (sym c.found_in.ensures.found) c.in_ok-search-in-Some.ensures.judged)
+    (subst (λ v. Judged (world (judgement_of E) graph) graph.order.items v.items) (sym c.found_in.ensures.found) search.ensures.judged)
     (subst (λ x. AreTidy (map plain x.judge.fields.items) → Lawful (judgement_of E x.judge)) (sym c.limited-graph.ensures)
-    (at_some (λ x. AreTidy (map plain x.judge.fields.items) → Lawful (judgement_of E x.judge)) c.in_ok-all.field-0 c.in-Some.all c.in-Some.is
-    c.in_ok-all.ensures.lawful))
+    (at_some (λ x. AreTidy (map plain x.judge.fields.items) → Lawful (judgement_of E x.judge))
+    c.in_ok-all.field-0 c.in-Some.all c.in-Some.is c.in_ok-all.ensures.lawful))
 
 pub returns-in_ok-search-in-Some-clause-few : goal.returns-in_ok-search-in-Some-clause-few
 returns-in_ok-search-in-Some-clause-few g c =
