@@ -1,4 +1,5 @@
--- Where no name and no key is repeated, the same arguments are the same in either order, and a list is the same as itself.
+-- "The same arguments" is transitive. Where no name and no key is repeated, it is so in either order, and of a list and
+-- itself.
 use Rattle.std.proofs.Common.{◌≡◌, ℕ, ◌≤◌, List, [], ◌∷◌, length, map, Bool, true, false, ◌&&◌, cond, nat_eq, Option, Some, None, find, option_map, refl, sym, ap, ◌∙◌, arith, inl, inr}
 use Rattle.std.specs.List.{list_any, list_all}
 use Rattle.std.specs.Option.{option_map_or}
@@ -14,6 +15,7 @@ use Rattle.language.specs.declared.value.InputValue.{InputValue}
 use Rattle.language.proofs.Members.{In, list_all-In, list_all-from_In, In-from_key, list_any-from_key, bytes_eq-same, bytes_eq-refl, same_from_key, all_listed}
 use Rattle.language.proofs.ValueLaws.{unlocated_eq-reflexive, unlocated_eq-symmetric}
 use Rattle.merge_field_pairs.specs.SameArguments.{Given, given_name, are_tidy, is_given, are_given, same_arguments}
+use Rattle.merge_field_pairs.proofs.EqualThrough.{unlocated_eq-through}
 
 pub both_directions : (b c : Bool) → (b ≡ true → c ≡ true) → (c ≡ true → b ≡ true) → b ≡ c
 both_directions true c f g = sym (f refl)
@@ -51,6 +53,37 @@ module _ {S : Type 0} (E : S → S → Bool) (laws : IsEquivalence E) where
 
   abbrev all_given : List (Given S) → List (Given S) → Bool
   all_given xs ys = list_all (λ p. is_given E ys p.0.item.now p.1.item) xs
+
+  -- a value is given where one that it equals is
+  given_as : (n : List ℕ) (v w : InputValue S) (zs : List (Given S)) → unlocated_eq E v w ≡ true → is_given E zs n w ≡ true → is_given E zs n v ≡ true
+  given_as n v w zs same = at (named n zs)
+    where
+      at : (o : Option (Given S)) → passes w o ≡ true → passes v o ≡ true
+      at None h = h
+      at (Some z) h = unlocated_eq-through E laws v w z.1.item same h
+
+  given_through : (xs ys zs : List (Given S)) → all_given xs ys ≡ true → all_given ys zs ≡ true → all_given xs zs ≡ true
+  given_through xs ys zs p q = list_all-from_In (λ x. is_given E zs x.0.item.now x.1.item) xs one
+    where
+      one : (x : Given S) → In x xs → is_given E zs x.0.item.now x.1.item ≡ true
+      one x i =
+          let y = given_found (given_name x) x.1.item ys (list_all-In (λ p. is_given E ys p.0.item.now p.1.item) xs x p i) in
+          given_as (given_name x) x.1.item y.0.1.item zs y.3
+          (ap (λ n. is_given E zs n y.0.1.item) (sym y.2) ∙ list_all-In (λ p. is_given E zs p.0.item.now p.1.item) ys y.0 q y.1)
+
+  -- two lists are the same where the one is the same as a third, and the third as the other, whatever they repeat
+  pub same_args_through : (l m r : Option (Spanning (Arguments S) Span)) → same_arguments E l m ≡ true → same_arguments E m r ≡ true → same_arguments E l r ≡ true
+  same_args_through None None r p q = q
+  same_args_through None (Some m) r p q = cc
+  same_args_through (Some l) None r p q = cc
+  same_args_through (Some l) (Some m) None p q = cc
+  same_args_through (Some l) (Some m) (Some r) p q =
+      let xs = l.item.items.items in
+      let ys = m.item.items.items in
+      let zs = r.item.items.items in
+      let ps = and_parts (nat_eq (length xs) (length ys)) (all_given xs ys) p in
+      let qs = and_parts (nat_eq (length ys) (length zs)) (all_given ys zs) q in
+      and_from _ _ (eq-eqb (length xs) (length zs) (eqb-true _ _ ps.0 ∙ eqb-true _ _ qs.0)) (given_through xs ys zs ps.1 qs.1)
 
   names_given : (xs ys : List (Given S)) → all_given xs ys ≡ true → (k : List ℕ) → list_any (bytes_eq k) (map given_name xs) ≡ true → list_any (bytes_eq k) (map given_name ys) ≡ true
   names_given xs ys all k h =

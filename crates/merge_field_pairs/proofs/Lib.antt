@@ -1,5 +1,6 @@
 pub mod TypeLemmas
 pub mod TypeLaws
+pub mod EqualThrough
 pub mod ArgumentLaws
 pub mod DirectLaws
 pub mod OwnFieldLaws

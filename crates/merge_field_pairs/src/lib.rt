@@ -6,6 +6,7 @@ pub mod alike;
 mod arguments;
 pub mod direct;
 pub mod entry;
+mod equal_values;
 pub mod numbered;
 pub mod own_fields;
 pub mod texts;

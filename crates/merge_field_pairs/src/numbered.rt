@@ -1,6 +1,6 @@
 //! Fields by number: what stands between two of them.
-ghost use Rattle.std.specs.Prelude.{◌≡◌, IfOk, IfSome, IsOk, map, option_copied, option_map, slice_get};
-ghost use Rattle.std.specs.Bool.{Decides};
+ghost use Rattle.std.specs.Prelude.{◌≡◌, IfOk, IfSome, IsOk, IsTrue, map, option_copied, option_map, slice_get};
+ghost use Rattle.std.specs.Bool.{OnTrue};
 ghost use Rattle.merge_field_pairs.specs.Alike.{AreAlikeBetween, AreAlikeAt};
 ghost use Rattle.merge_field_pairs.specs.Entries.{plain};
 ghost use Rattle.merge_field_pairs.specs.Numbered.{exclusive_between, exclusive_at, direct_between, direct_at};
@@ -48,9 +48,17 @@ pub fn direct_reason_at<S: ScalarValue, C>(
     )
 }
 
-/// Whether two fields are plainly alike. A number that is no field's is like no other.
-pub fn are_alike_at<S, C>(fields: &[Entry<'_, S, C>], left: usize, right: usize) -> bool
-    ensures { Decides result (AreAlikeAt (map plain fields.now) left right) }
+/// Whether two fields are plainly alike. A number that is no field's is like no other. Where an argument is a list or
+/// an object, `false` says nothing.
+pub fn are_alike_at<S: ScalarValue, C>(
+    fields: &[Entry<'_, S, C>],
+    left: usize,
+    right: usize,
+) -> bool
+    ensures value { OnTrue result (AreAlikeAt S.eq (map plain fields.now) left right) }
+    ensures found { IfSome (slice_get (map plain fields.now) left) HasSimpleArguments
+        → IfSome (slice_get (map plain fields.now) right) HasSimpleArguments
+        → AreAlikeAt S.eq (map plain fields.now) left right → IsTrue result }
 {
     are_alike_if_there(field_at(fields, left), field_at(fields, right))
 }
@@ -96,10 +104,17 @@ fn direct_reason_if_there<S: ScalarValue, C>(
     }
 }
 
-fn are_alike_if_there<S, C>(left: Option<&Entry<'_, S, C>>, right: Option<&Entry<'_, S, C>>) -> bool
-    ensures { Decides result
-        (AreAlikeBetween (option_map plain (option_copied left.entry))
+fn are_alike_if_there<S: ScalarValue, C>(
+    left: Option<&Entry<'_, S, C>>,
+    right: Option<&Entry<'_, S, C>>,
+) -> bool
+    ensures value { OnTrue result
+        (AreAlikeBetween S.eq (option_map plain (option_copied left.entry))
         (option_map plain (option_copied right.entry))) }
+    ensures found { IfSome (option_map plain (option_copied left.entry)) HasSimpleArguments
+        → IfSome (option_map plain (option_copied right.entry)) HasSimpleArguments
+        → AreAlikeBetween S.eq (option_map plain (option_copied left.entry))
+        (option_map plain (option_copied right.entry)) → IsTrue result }
 {
     match (left, right) {
         (Some(l), Some(r)) => are_alike(l, r),

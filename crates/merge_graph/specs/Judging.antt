@@ -1,5 +1,6 @@
 -- What a search asks of the fields of a document.
 use Rattle.std.specs.Prelude.{ℕ, List, map, Bool}
+use Rattle.std.specs.Cmp.{IsEquivalence}
 use Rattle.std.specs.Option.{is_some}
 use Rattle.schema.specs.Catalog.{Catalog}
 use Rattle.merge_field_pairs.specs.Entries.{PlainEntry, plain}
@@ -19,6 +20,9 @@ module _ {S C : Type 0} where
   abbrev pub judgement_of : (S → S → Bool) → FieldJudge S C → Judgement
   judgement_of E judge = judgement_by E judge.schema.now (map plain judge.fields.items)
 
-  -- one field, and another that is plainly like it
-  abbrev pub alike_of : FieldJudge S C → ℕ → ℕ → Type 0
-  alike_of judge one other = AreAlikeAt (map plain judge.fields.items) one other
+  -- one field, and another that is plainly like it, under a lawful equality of scalars
+  abbrev pub alike_by : (S → S → Bool) → List (PlainEntry S C) → ℕ → ℕ → Type 0
+  alike_by E fields one other = IsEquivalence E × AreAlikeAt E fields one other
+
+  abbrev pub alike_of : (S → S → Bool) → FieldJudge S C → ℕ → ℕ → Type 0
+  alike_of E judge = alike_by E (map plain judge.fields.items)

@@ -23,7 +23,7 @@ pub struct FieldJudge<'a, S, C> {
 impl<'a, S: ScalarValue, C> Judge for FieldJudge<'a, S, C> {
     ghost judgement = { judgement_of S.eq };
 
-    ghost are_alike = { alike_of };
+    ghost are_alike = { alike_of S.eq };
 
     ghost agree = { λ j. alike_agree S.eq j.schema.now (map plain j.fields.items) };
 

@@ -1,0 +1,12 @@
+use Rattle.std.proofs.Common.{map, subst}
+use Rattle.std.proofs.lemmas.Bool.{OnTrue_at, OnTrue_from}
+use Rattle.merge_field_pairs.specs.Alike.{AreAlikeAt}
+use Rattle.merge_field_pairs.specs.Entries.{plain}
+use Rattle.merge_graph.proofs.judge.FieldJudgeJudge.is_plainly_like.Goals as goal
+
+pub returns : goal.returns
+returns g c =
+    OnTrue_from c.are_alike_at.result _ (λ alike. (
+      g.met.S.Eq.laws,
+      subst (λ fields. AreAlikeAt g.S.PartialEq.eq (map plain fields) c.args.one c.args.other) c.as_slice.ensures.value (OnTrue_at alike c.are_alike_at.ensures.value),
+    ))
