@@ -1,10 +1,12 @@
--- Indices into a list of names, in the order of the names.
-use Rattle.std.specs.Prelude.{◌≡◌, ℕ, suc, List, [], ◌∷◌, Bool, cond, Option, Some, None, find, option_map}
-use Rattle.std.specs.Prelude.{slice_index_or}
+-- Indices into a list of names, in the order of the names and by slots.
+use Rattle.std.specs.Prelude.{◌≡◌, ℕ, suc, List, [], ◌∷◌, Bool, cond, Option, Some, None, find, option_map, ◌×◌}
+use Rattle.std.specs.Prelude.{⊥, slice_index_or}
 use Rattle.std.specs.Cmp.Lexicographic.{slice_cmp}
+use Rattle.std.specs.List.{Contains}
 use Rattle.std.specs.List.Sorted.{IsSortedBy}
 use Rattle.std.specs.Ordering.{is_lt, nat_cmp}
 use Rattle.std.specs.Str.{bytes_eq}
+use Rattle.meta.specs.declared.places.Places.{Places}
 
 -- the first place of a name
 abbrev pub first_place : List ℕ → List (List ℕ) → Option ℕ
@@ -31,6 +33,10 @@ module _ (names : List (List ℕ)) where
   abbrev pub StandFirst : List ℕ → Type 0
   StandFirst places = (name : List ℕ) → find (is_at name) places ≡ first_place name names
 
-  -- the places of all names in their order, or none
-  abbrev pub IsOrder : List ℕ → Type 0
-  IsOrder places = (places ≡ [] → ⊥) → AreAscending places × StandFirst places
+  -- each place in a slot is the first place of its name
+  abbrev pub AreFirst : List (Option ℕ) → Type 0
+  AreFirst slots = (place : ℕ) → Contains slots (Some place) → first_place (name_at place) names ≡ Some place
+
+  -- the places of all names in their order and by slots, or none
+  abbrev pub ArePlaces : Places → Type 0
+  ArePlaces p = (p.order.items ≡ [] → ⊥) → AreAscending p.order.items × StandFirst p.order.items × AreFirst p.slots.items

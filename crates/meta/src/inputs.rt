@@ -2,13 +2,13 @@
 ghost use Rattle.std.specs.Prelude.{◌≡◌, IfOk, None, Some, map, option_map, string_bytes};
 ghost use Rattle.meta.specs.Answers.{AnswersAlike, TakesAll};
 ghost use Rattle.meta.specs.Functions.{function_of};
-ghost use Rattle.meta.specs.Places.{IsOrder};
+ghost use Rattle.meta.specs.Places.{ArePlaces};
 
 use crate::arguments::Argument;
 use crate::check::CheckedScalar;
 use crate::default_check::{DefaultCheck, InputValueParseFn};
 use crate::kinds::MetaTypeOf;
-use crate::places::order_of;
+use crate::places::{Places, places_of};
 use language::error::OutOfMemory;
 use language::value::DefaultScalarValue;
 use std::alloc::Global;
@@ -20,9 +20,9 @@ pub struct InputObjectMetaOf<S, C> {
     pub description: Option<String>,
     pub input_fields: Vec<Argument<S>>,
     check: C,
-    // The indices of the input fields in the order of their names; none where there are few.
-    pub(crate) order: Vec<usize>,
-    ghost ordered: { IsOrder (map (λ a. string_bytes a.name) input_fields.items) order.items },
+    // Where the names of the input fields stand.
+    pub(crate) places: Places,
+    ghost ordered: { ArePlaces (map (λ a. string_bytes a.name) input_fields.items) places },
 }
 
 /// Metadata of an input object, with the check of the scalar type `S`.
@@ -76,13 +76,13 @@ impl<S: Drop, C: Drop> InputObjectMetaOf<S, C> {
         ensures input_fields { IfOk result (λ m. m.input_fields ≡ input_fields) }
         ensures check { IfOk result (λ m. input_object_check m ≡ check) }
     {
-        let order = order_of(alloc, &input_fields)?;
+        let places = places_of(alloc, &input_fields)?;
         Ok(InputObjectMetaOf {
             name: String::from_str(alloc, name)?,
             description: None,
             input_fields,
             check,
-            order,
+            places,
         })
     }
 

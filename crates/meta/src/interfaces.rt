@@ -1,11 +1,11 @@
 //! Interfaces.
 ghost use Rattle.std.specs.Prelude.{◌≡◌, IfOk, None, Some, [], map, option_map, string_bytes};
 ghost use Rattle.language.specs.Types.{shape};
-ghost use Rattle.meta.specs.Places.{IsOrder};
+ghost use Rattle.meta.specs.Places.{ArePlaces};
 
 use crate::fields::Field;
 use crate::kinds::MetaTypeOf;
-use crate::places::order_of;
+use crate::places::{Places, places_of};
 use crate::texts::innermost_names;
 use language::error::OutOfMemory;
 use language::types::Type;
@@ -19,9 +19,9 @@ pub struct InterfaceMeta<S> {
     pub fields: Vec<Field<S>>,
     /// The names of the interfaces that it implements, in order.
     pub interface_names: Vec<String>,
-    // The indices of the fields in the order of their names; none where there are few.
-    pub(crate) order: Vec<usize>,
-    ghost ordered: { IsOrder (map (λ f. string_bytes f.name) fields.items) order.items },
+    // Where the names of the fields stand.
+    pub(crate) places: Places,
+    ghost ordered: { ArePlaces (map (λ f. string_bytes f.name) fields.items) places },
 }
 
 impl<S: Drop> InterfaceMeta<S> {
@@ -36,13 +36,13 @@ impl<S: Drop> InterfaceMeta<S> {
         ensures fields { IfOk result (λ m. m.fields ≡ fields) }
         ensures interfaces { IfOk result (λ m. m.interface_names.items ≡ []) }
     {
-        let order = order_of(alloc, &fields)?;
+        let places = places_of(alloc, &fields)?;
         Ok(InterfaceMeta {
             name: String::from_str(alloc, name)?,
             description: None,
             fields,
             interface_names: Vec::new(alloc),
-            order,
+            places,
         })
     }
 

@@ -13,7 +13,7 @@ use crate::fields::Field;
 use crate::inputs::InputObjectMetaOf;
 use crate::interfaces::InterfaceMeta;
 use crate::objects::ObjectMeta;
-use crate::places::first_in_order;
+use crate::places::first_by_places;
 use crate::scalars::ScalarMetaOf;
 use crate::texts::as_text;
 use crate::unions::UnionMeta;
@@ -147,8 +147,8 @@ impl<S, C> MetaTypeOf<S, C> {
         ensures { option_copied result ≡ field_named name.now self.now }
     {
         match self {
-            MetaTypeOf::Object(meta) => first_in_order(&meta.fields, &meta.order, name),
-            MetaTypeOf::Interface(meta) => first_in_order(&meta.fields, &meta.order, name),
+            MetaTypeOf::Object(meta) => first_by_places(&meta.fields, &meta.places, name),
+            MetaTypeOf::Interface(meta) => first_by_places(&meta.fields, &meta.places, name),
             _ => None,
         }
     }
@@ -159,7 +159,7 @@ impl<S, C> MetaTypeOf<S, C> {
         ensures { option_copied result ≡ input_field_named name.now self.now }
     {
         match self {
-            MetaTypeOf::InputObject(meta) => first_in_order(&meta.input_fields, &meta.order, name),
+            MetaTypeOf::InputObject(meta) => first_by_places(&meta.input_fields, &meta.places, name),
             _ => None,
         }
     }

@@ -1,42 +1,101 @@
-//! Look-ups by name in long lists, by binary search over indices that are sorted by name.
-ghost use Rattle.std.specs.Prelude.{◌≡◌, IfOk, find, map, option_copied};
+//! Look-ups by name in long lists: by a hash of the name, and by binary search over indices that are sorted by name.
+ghost use Rattle.std.specs.Prelude.{◌≡◌, ℕ, IfOk, Some, find, map, option_copied};
+ghost use Rattle.std.specs.List.{Contains};
 ghost use Rattle.std.specs.Str.{bytes_eq};
-ghost use Rattle.meta.specs.Places.{AreAscending, IsOrder, StandFirst, name_at};
+ghost use Rattle.meta.specs.Places.{AreAscending, AreFirst, ArePlaces, StandFirst, first_place, name_at};
 
 use crate::named::{Named, first_named};
 use language::error::OutOfMemory;
+use name_tables::slots::{slot_count, slot_of};
 use std::alloc::Global;
 
 // The greatest number of items that are searched one by one: most names differ in length, which is seen at once.
-const FEW: usize = 32;
+const FEW: usize = 16;
 
-/// The indices of the items in the order of their names, or none where there are few.
+/// Where the names of a list stand; nothing is kept of few.
+#[derive(Drop)]
+pub struct Places {
+    // The indices of the items in the order of their names.
+    order: Vec<usize>,
+    // For each slot, by a hash, the index of the first item of a name that has this slot.
+    slots: Vec<Option<usize>>,
+}
+
+/// Where the names of these items stand.
 ///
 /// # Errors
 ///
 /// Out of memory.
-pub(crate) fn order_of<T: Named>(alloc: Global, items: &Vec<T>) -> Result<Vec<usize>, OutOfMemory>
-    ensures { IfOk result (λ v. IsOrder (map T.name_of items.now.items) v.items) }
+pub(crate) fn places_of<T: Named>(alloc: Global, items: &Vec<T>) -> Result<Places, OutOfMemory>
+    ensures { IfOk result (ArePlaces (map T.name_of items.now.items)) }
 {
     if items.len() <= FEW {
-        return Ok(Vec::new(alloc));
+        return Ok(Places {
+            order: Vec::new(alloc),
+            slots: Vec::new(alloc),
+        });
     }
-    places_by_name(alloc, items.as_slice())
+    let order = places_by_name(alloc, items.as_slice())?;
+    let slots = slots_of(alloc, items.as_slice(), order.as_slice())?;
+    Ok(Places { order, slots })
 }
 
-/// The first item of this name, by the order of their names, if there is one.
-pub(crate) fn first_in_order<'t, T: Named>(
+/// The first item of this name, if there is one.
+pub(crate) fn first_by_places<'t, T: Named>(
     items: &'t Vec<T>,
-    order: &Vec<usize>,
+    places: &Places,
     name: &str,
 ) -> Option<&'t T>
-    requires { IsOrder (map T.name_of items.now.items) order.now.items }
+    requires { ArePlaces (map T.name_of items.now.items) places.now }
     ensures { option_copied result ≡ find (λ x. bytes_eq (T.name_of x) name.now) items.now.items }
 {
-    if order.is_empty() {
+    if places.order.is_empty() {
         return first_named(items.as_slice(), name);
     }
-    first_at(items.as_slice(), order.as_slice(), name)
+    items.get(first_place(items.as_slice(), places, name)?)
+}
+
+// The first index of this name, by its slot, and if another name has that, by the order.
+fn first_place<T: Named>(items: &[T], places: &Places, name: &str) -> Option<usize>
+    requires ascending { AreAscending (map T.name_of items.now) places.now.order.items }
+    requires first { StandFirst (map T.name_of items.now) places.now.order.items }
+    requires slots { AreFirst (map T.name_of items.now) places.now.slots.items }
+    ensures { result ≡ first_place name.now (map T.name_of items.now) }
+{
+    if let Some(place) = place_held(places.slots.as_slice(), name) {
+        if name_of_place(items, place) == name {
+            return Some(place);
+        }
+    }
+    place_in_order(items, places.order.as_slice(), name)
+}
+
+// The index in the slot of a name, if there is one.
+fn place_held(slots: &[Option<usize>], name: &str) -> Option<usize>
+    ensures { (place : ℕ) → result ≡ Some place → Contains slots.now (Some place) }
+{
+    if slots.is_empty() {
+        return None;
+    }
+    slots[slot_of(name, slots.len())]
+}
+
+// For each slot the index of the first item of the last name that has this slot.
+fn slots_of<T: Named>(
+    alloc: Global,
+    items: &[T],
+    order: &[usize],
+) -> Result<Vec<Option<usize>>, OutOfMemory>
+    requires ascending { AreAscending (map T.name_of items.now) order.now }
+    requires first { StandFirst (map T.name_of items.now) order.now }
+    ensures { IfOk result (λ v. AreFirst (map T.name_of items.now) v.items) }
+{
+    let mut slots = vec![in alloc; None; slot_count(items.len())]?;
+    for item in items {
+        let slot = slot_of(item.name(), slots.len());
+        slots[slot] = place_in_order(items, order, item.name());
+    }
+    Ok(slots)
 }
 
 // The indices of the items in the order of their names; those of one name stay in order.
@@ -49,16 +108,16 @@ fn places_by_name<T: Named>(alloc: Global, items: &[T]) -> Result<Vec<usize>, Ou
     Ok(places)
 }
 
-// The first item of this name, by the indices of the items in the order of their names.
-fn first_at<'t, T: Named>(items: &'t [T], places: &[usize], name: &str) -> Option<&'t T>
-    requires ascending { AreAscending (map T.name_of items.now) places.now }
-    requires first { StandFirst (map T.name_of items.now) places.now }
-    ensures { option_copied result ≡ find (λ x. bytes_eq (T.name_of x) name.now) items.now }
+// The first index of this name, by the indices of the items in the order of their names.
+fn place_in_order<T: Named>(items: &[T], order: &[usize], name: &str) -> Option<usize>
+    requires ascending { AreAscending (map T.name_of items.now) order.now }
+    requires first { StandFirst (map T.name_of items.now) order.now }
+    ensures { result ≡ first_place name.now (map T.name_of items.now) }
 {
-    let start = places.partition_point(|place| name_of_place(items, *place) < name);
-    let item = items.get(*places.get(start)?)?;
-    if item.name() == name {
-        Some(item)
+    let start = order.partition_point(|place| name_of_place(items, *place) < name);
+    let place = *order.get(start)?;
+    if name_of_place(items, place) == name {
+        Some(place)
     } else {
         None
     }
