@@ -19,7 +19,7 @@ use Rattle.std.proofs.lemmas.Option.{slice_get_past, slice_get_read}
 use Rattle.std.proofs.lemmas.Map.Text.{is_eq-slice_cmp}
 use Rattle.std.proofs.lemmas.Slice.Eq.{bytes_eq-Decides}
 use denote.Param.Members.{Mut}
-use Rattle.meta.specs.Places.{AreAscending, StandFirst, first_place, is_at, is_below, name_at}
+use Rattle.meta.specs.Places.{AreAscending, IsFirst, StandFirst, first_place, is_at, is_below, name_at}
 
 first_of_one : (b : Bool) → cond {A = Option ℕ} b (Some 0) None ≡ option_or None (cond b (Some 0) None)
 first_of_one b = refl
@@ -185,6 +185,21 @@ module _ (names : List (List ℕ)) (name : List ℕ) where
         subst (λ i. is_at names name i ≡ false) (sym (get_or-drop at places k d))
         (never_true (is_at names name (get_or places (at + k) d)) (λ again. not_again y (get_or places (at + k) d) high (subst (λ z. is_below names z y ≡ false) (get_or_default places (at + k) y d inside) after) other again)))
 
+named_step : (b : Bool) (n name : List ℕ) (ns : List (List ℕ)) (o : Option ℕ) (i : ℕ) → bytes_eq n name ≡ b → ((j : ℕ) → o ≡ Some j → name_at ns j ≡ name)
+    → cond b (Some 0) (option_map suc o) ≡ Some i → name_at (n ∷ ns) i ≡ name
+named_step true n name ns o i e k h = let first : 0 ≡ i = cc in subst (λ (x : ℕ). name_at (n ∷ ns) x ≡ name) first ((bytes_eq-Decides n name).0 e)
+named_step false n name ns (Some j) i e k h = let next : suc j ≡ i = cc in subst (λ (x : ℕ). name_at (n ∷ ns) x ≡ name) next (k j refl)
+named_step false n name ns None i e k h = cc
+
+-- at the first place of a name stands that name
+named_there : (names : List (List ℕ)) (name : List ℕ) (i : ℕ) → first_place name names ≡ Some i → name_at names i ≡ name
+named_there [] name i h = cc
+named_there (n ∷ ns) name i h = named_step (bytes_eq n name) n name ns (first_place name ns) i refl (λ j k. named_there ns name j k) h
+
+-- so that place is the first of its name
+pub first_is_first : (names : List (List ℕ)) (name : List ℕ) → IsFirst names (first_place name names)
+first_is_first names name i h = subst (λ n. first_place n names ≡ Some i) (sym (named_there names name i h)) h
+
 -- Items that have names.
 module _ {X : Type 0} (name_of : X → List ℕ) (name : List ℕ) where
   item_step : (b : Bool) (x : X) (xs : List X) (o : Option X) (q : Option ℕ) → o ≡ option_and_then (slice_get xs) q → cond b (Some x) o ≡ option_and_then (slice_get (x ∷ xs)) (cond b (Some 0) (option_map suc q))
@@ -197,35 +212,3 @@ module _ {X : Type 0} (name_of : X → List ℕ) (name : List ℕ) where
   item_at_first [] = refl
   item_at_first (x ∷ xs) =
       item_step (bytes_eq (name_of x) name) x xs (find (λ y. bytes_eq (name_of y) name) xs) (first_place name (map name_of xs)) (item_at_first xs)
-
-  module _ (xs : List X) (places : List ℕ) (at : ℕ) (up : AreAscending (map name_of xs) places) (first : StandFirst (map name_of xs) places)
-      (point : IsPartitionPoint (λ i. is_less (map name_of xs) name i ≡ true) (λ i. is_less (map name_of xs) name i ≡ false) places at) where
-    abbrev Found : Option X → Type 0
-    Found o = o ≡ find (λ x. bytes_eq (name_of x) name) xs
-
-    from_first : (o : Option ℕ) → first_place name (map name_of xs) ≡ o → Found (option_and_then (slice_get xs) o)
-    from_first o h = sym (item_at_first xs ∙ ap (option_and_then (slice_get xs)) h)
-
-    -- the search ends past the places
-    pub ends_past : length places ≤ at → Found None
-    ends_past over = from_first None (none_left (map name_of xs) name places at up first point over)
-
-    no_item : (y : ℕ) → at < length places → get_or places at y ≡ y → length xs ≤ y → (b : Bool) → is_at (map name_of xs) name y ≡ b → Found None
-    no_item y here is over true h = sym (slice_get_past xs y over) ∙ from_first (Some y) (found_there (map name_of xs) name places at up first point y here is h)
-    no_item y here is over false h = from_first None (other_there (map name_of xs) name places at up first point y here is h)
-
-    -- no item is at the index
-    pub ends_nowhere : (y : ℕ) → at < length places → get_or places at y ≡ y → length xs ≤ y → Found None
-    ends_nowhere y here is over = no_item y here is over (is_at (map name_of xs) name y) refl
-
-    module _ (y : ℕ) (x : X) (here : at < length places) (is : get_or places at y ≡ y) (inside : y < length xs) (item : x ≡ get_or xs y x) where
-      named : (b : Bool) → bytes_eq (name_of x) name ≡ b → is_at (map name_of xs) name y ≡ b
-      named b h = ap (λ n. bytes_eq n name) (get_or-map name_of xs y x [] inside ∙ ap name_of (sym item)) ∙ h
-
-      -- the item at the place has the name
-      pub ends_at : bytes_eq (name_of x) name ≡ true → Found (Some x)
-      ends_at h = sym (slice_get_read xs (length xs) y x refl inside item) ∙ from_first (Some y) (found_there (map name_of xs) name places at up first point y here is (named true h))
-
-      -- it has another name
-      pub ends_at_other : bytes_eq (name_of x) name ≡ false → Found None
-      ends_at_other h = from_first None (other_there (map name_of xs) name places at up first point y here is (named false h))

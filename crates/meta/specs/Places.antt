@@ -1,8 +1,8 @@
 -- Indices into a list of names, in the order of the names and by slots.
-use Rattle.std.specs.Prelude.{◌≡◌, ℕ, suc, List, [], ◌∷◌, Bool, cond, Option, Some, None, find, option_map, ◌×◌}
-use Rattle.std.specs.Prelude.{⊥, slice_index_or}
+use Rattle.std.specs.Prelude.{◌≡◌, ℕ, suc, List, [], ◌∷◌, Bool, cond, Option, Some, None, find, option_map}
+use Rattle.std.specs.Prelude.{slice_index_or}
 use Rattle.std.specs.Cmp.Lexicographic.{slice_cmp}
-use Rattle.std.specs.List.{Contains}
+use Rattle.std.specs.List.{All}
 use Rattle.std.specs.List.Sorted.{IsSortedBy}
 use Rattle.std.specs.Ordering.{is_lt, nat_cmp}
 use Rattle.std.specs.Str.{bytes_eq}
@@ -33,10 +33,10 @@ module _ (names : List (List ℕ)) where
   abbrev pub StandFirst : List ℕ → Type 0
   StandFirst places = (name : List ℕ) → find (is_at name) places ≡ first_place name names
 
-  -- each place in a slot is the first place of its name
-  abbrev pub AreFirst : List (Option ℕ) → Type 0
-  AreFirst slots = (place : ℕ) → Contains slots (Some place) → first_place (name_at place) names ≡ Some place
+  -- the place, if there is one, is the first of its name
+  abbrev pub IsFirst : Option ℕ → Type 0
+  IsFirst held = (place : ℕ) → held ≡ Some place → first_place (name_at place) names ≡ Some place
 
   -- the places of all names in their order and by slots, or none
   abbrev pub ArePlaces : Places → Type 0
-  ArePlaces p = (p.order.items ≡ [] → ⊥) → AreAscending p.order.items × StandFirst p.order.items × AreFirst p.slots.items
+  ArePlaces p = (p.order.items ≡ [] → ⊥) → AreAscending p.order.items × StandFirst p.order.items × All IsFirst p.slots.items

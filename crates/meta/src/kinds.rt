@@ -159,7 +159,11 @@ impl<S, C> MetaTypeOf<S, C> {
         ensures { option_copied result ≡ input_field_named name.now self.now }
     {
         match self {
-            MetaTypeOf::InputObject(meta) => first_by_places(&meta.input_fields, &meta.places, name),
+            MetaTypeOf::InputObject(meta) => first_by_places(
+                &meta.input_fields,
+                &meta.places,
+                name,
+            ),
             _ => None,
         }
     }

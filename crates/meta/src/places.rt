@@ -1,8 +1,8 @@
 //! Look-ups by name in long lists: by a hash of the name, and by binary search over indices that are sorted by name.
 ghost use Rattle.std.specs.Prelude.{◌≡◌, ℕ, IfOk, Some, find, map, option_copied};
-ghost use Rattle.std.specs.List.{Contains};
+ghost use Rattle.std.specs.List.{All, Contains};
 ghost use Rattle.std.specs.Str.{bytes_eq};
-ghost use Rattle.meta.specs.Places.{AreAscending, AreFirst, ArePlaces, StandFirst, first_place, name_at};
+ghost use Rattle.meta.specs.Places.{AreAscending, ArePlaces, IsFirst, StandFirst, first_place, name_at};
 
 use crate::named::{Named, first_named};
 use language::error::OutOfMemory;
@@ -52,14 +52,25 @@ pub(crate) fn first_by_places<'t, T: Named>(
     if places.order.is_empty() {
         return first_named(items.as_slice(), name);
     }
-    items.get(first_place(items.as_slice(), places, name)?)
+    first_at(items.as_slice(), places, name)
+}
+
+// The first item of this name, by the places of all names.
+fn first_at<'t, T: Named>(items: &'t [T], places: &Places, name: &str) -> Option<&'t T>
+    requires ascending { AreAscending (map T.name_of items.now) places.now.order.items }
+    requires first { StandFirst (map T.name_of items.now) places.now.order.items }
+    requires slots { All (IsFirst (map T.name_of items.now)) places.now.slots.items }
+    ensures { option_copied result ≡ find (λ x. bytes_eq (T.name_of x) name.now) items.now }
+{
+    let item = items.get(first_place(items, places, name)?)?;
+    Some(item)
 }
 
 // The first index of this name, by its slot, and if another name has that, by the order.
 fn first_place<T: Named>(items: &[T], places: &Places, name: &str) -> Option<usize>
     requires ascending { AreAscending (map T.name_of items.now) places.now.order.items }
     requires first { StandFirst (map T.name_of items.now) places.now.order.items }
-    requires slots { AreFirst (map T.name_of items.now) places.now.slots.items }
+    requires slots { All (IsFirst (map T.name_of items.now)) places.now.slots.items }
     ensures { result ≡ first_place name.now (map T.name_of items.now) }
 {
     if let Some(place) = place_held(places.slots.as_slice(), name) {
@@ -88,7 +99,7 @@ fn slots_of<T: Named>(
 ) -> Result<Vec<Option<usize>>, OutOfMemory>
     requires ascending { AreAscending (map T.name_of items.now) order.now }
     requires first { StandFirst (map T.name_of items.now) order.now }
-    ensures { IfOk result (λ v. AreFirst (map T.name_of items.now) v.items) }
+    ensures { IfOk result (λ v. All (IsFirst (map T.name_of items.now)) v.items) }
 {
     let mut slots = vec![in alloc; None; slot_count(items.len())]?;
     for item in items {
