@@ -11,11 +11,10 @@ use Rattle.std.specs.List.Sorted.{IsStableBy, IsPartitionPoint, IsPartitionedBy,
 use Rattle.std.specs.Option.{option_and_then, option_or}
 use Rattle.std.specs.Ordering.{is_eq, is_lt, nat_cmp, ordering_reverse}
 use Rattle.std.specs.Str.{bytes_eq}
-use Rattle.std.proofs.lemmas.List.{length-take, length-drop, get_or_default, get_or-map, get_or-take, get_or-drop, take-append-drop, take_more}
+use Rattle.std.proofs.lemmas.List.{length-take, length-drop, get_or_default, get_or-take, get_or-drop, take-append-drop, take_more}
 use Rattle.std.proofs.lemmas.List.Elements.{All-head, All-tail, filter_agree}
 use Rattle.std.proofs.lemmas.List.Folds.{find-append}
 use Rattle.std.proofs.lemmas.List.Sorted.{IsPartitionPoint-from_clause, ranks_by, sorted_far}
-use Rattle.std.proofs.lemmas.Option.{slice_get_past, slice_get_read}
 use Rattle.std.proofs.lemmas.Map.Text.{is_eq-slice_cmp}
 use Rattle.std.proofs.lemmas.Slice.Eq.{bytes_eq-Decides}
 use denote.Param.Members.{Mut}

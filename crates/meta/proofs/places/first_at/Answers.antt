@@ -1,4 +1,4 @@
-use Rattle.std.proofs.Common.{refl, map, ap, sym, ◌∙◌, length}
+use Rattle.std.proofs.Common.{refl, ap, sym, ◌∙◌, length}
 use Rattle.std.specs.List.{slice_get}
 use Rattle.std.specs.Option.{option_and_then, option_copied}
 use Rattle.std.proofs.lemmas.Option.{slice_get_past, slice_get_read}
