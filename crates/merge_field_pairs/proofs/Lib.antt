@@ -7,3 +7,4 @@ pub mod OwnFieldLaws
 pub mod NumberedLaws
 pub mod SameTypes
 pub mod AlikeLaws
+pub mod KinLaws

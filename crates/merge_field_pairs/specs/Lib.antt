@@ -7,3 +7,4 @@ pub mod Texts
 pub mod OwnFields
 pub mod Numbered
 pub mod Alike
+pub mod Kinds

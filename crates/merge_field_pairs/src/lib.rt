@@ -7,6 +7,7 @@ mod arguments;
 pub mod direct;
 pub mod entry;
 mod equal_values;
+pub mod kinds;
 pub mod numbered;
 pub mod own_fields;
 pub mod texts;

@@ -3,12 +3,14 @@ ghost use Rattle.std.specs.Prelude.{◌≡◌, IfOk, IfSome, IsOk, IsTrue, map, 
 ghost use Rattle.std.specs.Bool.{OnTrue};
 ghost use Rattle.merge_field_pairs.specs.Alike.{AreAlikeBetween, AreAlikeAt};
 ghost use Rattle.merge_field_pairs.specs.Entries.{plain};
+ghost use Rattle.merge_field_pairs.specs.Kinds.{IsKinBetween, IsKinAt};
 ghost use Rattle.merge_field_pairs.specs.Numbered.{exclusive_between, exclusive_at, direct_between, direct_at};
 ghost use Rattle.merge_field_pairs.specs.SimpleArguments.{HasSimpleArguments};
 
 use crate::alike::are_alike;
 use crate::direct::{DirectReason, direct_reason};
 use crate::entry::{Entry, are_exclusive};
+use crate::kinds::are_kin;
 use language::scalar::ScalarValue;
 use schema::model::SchemaTypeOf;
 use std::alloc::AllocError;
@@ -61,6 +63,17 @@ pub fn are_alike_at<S: ScalarValue, C>(
         → AreAlikeAt S.eq (map plain fields.now) left right → IsTrue result }
 {
     are_alike_if_there(field_at(fields, left), field_at(fields, right))
+}
+
+/// Whether it is plain that two fields are of one kind. A number that is no field's is of no kind. Where an argument is
+/// a list or an object, `false` says nothing.
+pub fn are_kin_at<S: ScalarValue, C>(fields: &[Entry<'_, S, C>], left: usize, right: usize) -> bool
+    ensures value { OnTrue result (IsKinAt S.eq (map plain fields.now) left right) }
+    ensures found { IfSome (slice_get (map plain fields.now) left) HasSimpleArguments
+        → IfSome (slice_get (map plain fields.now) right) HasSimpleArguments
+        → IsKinAt S.eq (map plain fields.now) left right → IsTrue result }
+{
+    are_kin_if_there(field_at(fields, left), field_at(fields, right))
 }
 
 fn field_at<'e, 'a, S, C>(
@@ -118,6 +131,24 @@ fn are_alike_if_there<S: ScalarValue, C>(
 {
     match (left, right) {
         (Some(l), Some(r)) => are_alike(l, r),
+        _ => false,
+    }
+}
+
+fn are_kin_if_there<S: ScalarValue, C>(
+    left: Option<&Entry<'_, S, C>>,
+    right: Option<&Entry<'_, S, C>>,
+) -> bool
+    ensures value { OnTrue result
+        (IsKinBetween S.eq (option_map plain (option_copied left.entry))
+        (option_map plain (option_copied right.entry))) }
+    ensures found { IfSome (option_map plain (option_copied left.entry)) HasSimpleArguments
+        → IfSome (option_map plain (option_copied right.entry)) HasSimpleArguments
+        → IsKinBetween S.eq (option_map plain (option_copied left.entry))
+        (option_map plain (option_copied right.entry)) → IsTrue result }
+{
+    match (left, right) {
+        (Some(l), Some(r)) => are_kin(l, r),
         _ => false,
     }
 }

@@ -5,6 +5,7 @@ use Rattle.std.specs.Option.{is_some}
 use Rattle.schema.specs.Catalog.{Catalog}
 use Rattle.merge_field_pairs.specs.Entries.{PlainEntry, plain}
 use Rattle.merge_field_pairs.specs.Alike.{AreAlikeAt}
+use Rattle.merge_field_pairs.specs.Kinds.{IsKinAt}
 use Rattle.merge_field_pairs.specs.Numbered.{exclusive_at, direct_at}
 use Rattle.merge_search.specs.Judgement.{Judgement}
 use Rattle.merge_graph.specs.declared.judge.FieldJudge.{FieldJudge}
@@ -26,3 +27,10 @@ module _ {S C : Type 0} where
 
   abbrev pub alike_of : (S → S → Bool) → FieldJudge S C → ℕ → ℕ → Type 0
   alike_of E judge = alike_by E (map plain judge.fields.items)
+
+  -- one field, and another of its kind, under a lawful equality of scalars
+  abbrev pub kin_by : (S → S → Bool) → List (PlainEntry S C) → ℕ → ℕ → Type 0
+  kin_by E fields one other = IsEquivalence E × IsKinAt E fields one other
+
+  abbrev pub kin_of : (S → S → Bool) → FieldJudge S C → ℕ → ℕ → Type 0
+  kin_of E judge = kin_by E (map plain judge.fields.items)

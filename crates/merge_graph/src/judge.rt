@@ -4,11 +4,12 @@ ghost use Rattle.merge_field_pairs.specs.Entries.{plain};
 ghost use Rattle.merge_field_pairs.specs.Numbered.{AreTidy};
 ghost use Rattle.merge_search.specs.Judgement.{Lawful};
 ghost use Rattle.merge_graph.specs.AlikeLaw.{alike_agree};
-ghost use Rattle.merge_graph.specs.Judging.{judgement_of, alike_of};
+ghost use Rattle.merge_graph.specs.Judging.{judgement_of, alike_of, kin_of};
+ghost use Rattle.merge_graph.specs.KinLaw.{kin_judged_alike};
 
 use language::scalar::ScalarValue;
 use merge_field_pairs::entry::Entry;
-use merge_field_pairs::numbered::{are_alike_at, are_exclusive_at, direct_reason_at};
+use merge_field_pairs::numbered::{are_alike_at, are_exclusive_at, are_kin_at, direct_reason_at};
 use merge_search::judge::Judge;
 use schema::model::SchemaTypeOf;
 use std::alloc::AllocError;
@@ -25,7 +26,11 @@ impl<'a, S: ScalarValue, C> Judge for FieldJudge<'a, S, C> {
 
     ghost are_alike = { alike_of S.eq };
 
+    ghost are_kin = { kin_of S.eq };
+
     ghost agree = { λ j. alike_agree S.eq j.schema.now (map plain j.fields.items) };
+
+    ghost kin_agree = { λ j. kin_judged_alike S.eq j.schema.now (map plain j.fields.items) };
 
     fn are_exclusive(&self, exclusive: bool, left: usize, right: usize) -> bool {
         are_exclusive_at(self.fields.as_slice(), exclusive, left, right)
@@ -33,6 +38,10 @@ impl<'a, S: ScalarValue, C> Judge for FieldJudge<'a, S, C> {
 
     fn is_plainly_like(&self, one: usize, other: usize) -> bool {
         are_alike_at(self.fields.as_slice(), one, other)
+    }
+
+    fn is_kin(&self, one: usize, other: usize) -> bool {
+        are_kin_at(self.fields.as_slice(), one, other)
     }
 
     fn are_in_conflict(

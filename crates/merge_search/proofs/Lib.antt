@@ -9,6 +9,7 @@ pub mod Distinct
 pub mod Falls
 pub mod Flips
 pub mod Judging
+pub mod OneOfKind
 pub mod Laws
 pub mod Leading
 pub mod Logs

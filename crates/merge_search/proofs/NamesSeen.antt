@@ -1,16 +1,20 @@
 -- What is known of response names while fields are looked through.
-use Rattle.std.proofs.Common.{◌≡◌, ◌∷◌, [], ℕ, zero, suc, ◌+◌, ◌<◌, ◌≤◌, List, Some, Option, true, false, inl, inr, refl, sym, subst, arith, length, take, get_or, slice_get}
+use Rattle.std.proofs.Common.{◌≡◌, ◌∷◌, [], ℕ, zero, suc, ◌+◌, ◌<◌, ◌≤◌, List, Some, Option, Bool, true, false, inl, inr, refl, sym, subst, ◌∙◌, arith, length, take, get_or, slice_get}
 use Rattle.std.specs.List.{All, Contains}
 use Rattle.std.proofs.lemmas.List.{take_all}
 use Rattle.std.proofs.lemmas.List.Elements.{All-more, All-contains, Contains-get_or}
 use Rattle.bit_matrix.specs.Set.{has}
+use Rattle.bit_matrix.specs.declared.set.BitSet.{BitSet}
 use Rattle.merge_search.specs.declared.node.Entry.{Entry}
 use Rattle.merge_search.specs.declared.plain_names.Seen.{Seen}
 use Rattle.merge_search.specs.World.{World, conflict_of}
-use Rattle.merge_search.specs.Judgement.{AlikeAgree}
+use Rattle.merge_search.specs.Judgement.{Judgement, AlikeAgree}
+use Rattle.merge_search.specs.Names.{named, AreListed}
+use Rattle.merge_search.specs.Kinds.{IsToldOf}
 use Rattle.merge_search.specs.Firsts.{IsFirst, IsNoted, Notes}
-use Rattle.merge_search.specs.Plain.{Occurs, IsPlainName}
+use Rattle.merge_search.specs.Plain.{ArePlainBut, HasAllMarked, Occurs, IsPlainName}
 use Rattle.merge_search.proofs.Laws.{clash}
+use Rattle.merge_search.proofs.Rows.{named_in, listed_in}
 use Rattle.merge_search.proofs.Work.{no_entry}
 
 one_first : {one two : ℕ} (o : Option (Option ℕ)) → o ≡ Some (Some one) → o ≡ Some (Some two) → one ≡ two
@@ -64,3 +68,34 @@ module _ (alike : ℕ → ℕ → Type 0) where
 
   pub notes_all : (fields own : List Entry) (k : ℕ) {old new : Seen} → length fields ≤ k → fields ≡ own → Notes alike (take k fields) old new → Notes alike own old new
   notes_all fields own k {old} {new} l is h = subst (λ xs. Notes alike xs old new) is (subst (λ xs. Notes alike xs old new) (take_all k fields l) h)
+
+-- what is told of a name stays true
+pub told_more : (j : Judgement) (own : List Entry) (old new : BitSet) (n : ℕ) → ((m : ℕ) → has old m ≡ true → has new m ≡ true) → IsToldOf j own old n → IsToldOf j own new n
+told_more j own old new n kept (inl h) = inl (kept n h)
+told_more j own old new n kept (inr h) = inr h
+
+-- what is told of the first field of each name is told of all
+pub told_all : (P : ℕ → Type 0) (firsts own : List Entry) → AreListed firsts own → All (λ (f : Entry). P f.response) firsts → All (λ (a : Entry). P a.response) own
+told_all P firsts own listed told k d l =
+    let (f, there, is) = listed_in firsts own (get_or own k d) listed (Contains-get_or own k d l) in
+    subst P (sym is) (All-contains (λ (f : Entry). P f.response) firsts f told there)
+
+-- a name is plain that was plain before, or of whose fields no two fail with each other
+pub names_plain : (w : World) (marked mixed : BitSet) (own : List Entry) → ArePlainBut w marked → HasAllMarked w marked own
+    → All (λ (a : Entry). IsToldOf w.judgement own mixed a.response) own → ArePlainBut w mixed
+names_plain w marked mixed own but all told n clean = cases (has marked n) refl
+  where
+    agreed : {a b : Entry} (e : Bool) → a.response ≡ n → b.response ≡ n → Contains own a → Contains own b → IsToldOf w.judgement own mixed a.response → conflict_of w e a b ≡ false
+    agreed {a} {b} e here there x y (inl h) = absurd (clash (has mixed n) (subst (λ (m : ℕ). has mixed m ≡ true) here h) clean)
+    agreed {a} {b} e here there x y (inr none) =
+        let group = named a.response own in
+        All-contains (λ (z : Entry). conflict_of w e a z ≡ false) group b
+        (All-contains (λ (y : Entry). All (λ (z : Entry). conflict_of w e y z ≡ false) group) group a (none e) (named_in a.response own a x refl))
+        (named_in a.response own b y (there ∙ sym here))
+
+    cases : (b : Bool) → has marked n ≡ b → IsPlainName w n
+    cases false h = but n h
+    cases true h = λ e a b p q here there.
+        let x : Contains own a = all a p (subst (λ (m : ℕ). has marked m ≡ true) (sym here) h) in
+        let y : Contains own b = all b q (subst (λ (m : ℕ). has marked m ≡ true) (sym there) h) in
+        agreed e here there x y (All-contains (λ (z : Entry). IsToldOf w.judgement own mixed z.response) own a told x)

@@ -24,3 +24,7 @@ NoneConflict j left right = (e : Bool) → All (λ a. All (λ b. j.conflict e a.
 -- Two fields that are like a third fail with each other under no flag.
 abbrev pub AlikeAgree : Judgement → (ℕ → ℕ → Type 0) → Type 0
 AlikeAgree j alike = (e : Bool) (one a b : ℕ) → alike one a → alike one b → j.conflict e a b ≡ false
+
+-- Fields fail with each other as those do whose kinds they are of.
+abbrev pub KinAgree : Judgement → (ℕ → ℕ → Type 0) → Type 0
+KinAgree j kin = (e : Bool) (one other a b : ℕ) → kin one a → kin other b → j.conflict e a b ≡ j.conflict e one other

@@ -1,5 +1,6 @@
 pub mod Judgement
 pub mod Names
+pub mod Kinds
 pub mod Indexed
 pub mod Graph
 pub mod World

@@ -1,6 +1,6 @@
 -- Sets in which nothing can fail: each field in them, and below, has a response name under which all fields of the
 -- graph agree.
-use Rattle.std.specs.Prelude.{ℕ, Bool, Some, false, true, ◌≡◌, ◌⊎◌}
+use Rattle.std.specs.Prelude.{ℕ, List, Bool, Some, false, true, ◌≡◌, ◌⊎◌}
 use Rattle.std.specs.List.{Contains}
 use Rattle.bit_matrix.specs.Set.{has}
 use Rattle.bit_matrix.specs.declared.set.BitSet.{BitSet}
@@ -42,3 +42,7 @@ ArePlain w sets = (s : ℕ) → has sets s ≡ true → IsPlain w s
 -- Each name without its bit is plain.
 abbrev pub ArePlainBut : World → BitSet → Type 0
 ArePlainBut w mixed = (n : ℕ) → has mixed n ≡ false → IsPlainName w n
+
+-- Each field whose name has its bit is among these.
+abbrev pub HasAllMarked : World → BitSet → List Entry → Type 0
+HasAllMarked w marked fields = (a : Entry) → Occurs w a → has marked a.response ≡ true → Contains fields a

@@ -14,7 +14,12 @@ pub record World : Type 0 where
   pub limit : ℕ
 
 abbrev pub world : {J : Type 0} → (J → Judgement) → Graph J → World
-world judgement graph = record { judgement = judgement graph.judge; sets = graph.sets.items; fragments = graph.fragments.items; limit = graph.limit }
+world judgement graph = record {
+  judgement = judgement graph.judge;
+  sets = graph.sets.items;
+  fragments = graph.fragments.items;
+  limit = graph.limit;
+}
 
 abbrev pub own_of : World → ℕ → List Entry
 own_of w s = own_at w.sets s

@@ -10,9 +10,7 @@ use crate::judge::Judge;
 use crate::node::Entry;
 use crate::state::{Finding, Search, report};
 use crate::task::{Partner, Task, wait};
-use crate::view::{
-    are_exclusive, are_in_conflict, are_plainly_alike, first_of_names, group, spreads,
-};
+use crate::view::{are_clear, are_exclusive, are_in_conflict, first_of_names, group, spreads};
 use std::alloc::AllocError;
 
 /// Compares two fields of one response name; what stands below them waits.
@@ -103,8 +101,8 @@ pub(crate) fn next_with<J: Judge>(
     begin_fields(graph, a, fields[n], e, tasks, search)
 }
 
-/// Compares the next of the own fields of one response name with those of another set. Many that are alike are passed
-/// at once, since there is nothing to find.
+/// Compares the next of the own fields of one response name with those of another set. Where none of
+/// them fails with one of those, all are passed at once.
 ///
 /// # Errors
 ///
@@ -127,7 +125,8 @@ pub(crate) fn next_named<J: Judge>(
     if m >= fields.len() {
         return Ok(());
     }
-    if m == 0 && fields.len() > 1 && are_plainly_alike(graph, fields, group(graph, j, name)) {
+    let others = group(graph, j, name);
+    if m == 0 && fields.len() > 1 && are_clear(search.alloc, graph, fields, others)? {
         return Ok(());
     }
     wait(

@@ -23,7 +23,7 @@ use crate::pairs::{compare_each, compare_rest};
 use crate::passing::set_of_numbers;
 use crate::repeats::Seeker;
 use crate::state::{Search, put_opening};
-use crate::view::{are_plainly_alike, group, own, set, spreads};
+use crate::view::{are_clear, group, own, set, spreads};
 use bit_matrix::set::BitSet;
 use std::alloc::{AllocError, Global};
 
@@ -81,7 +81,8 @@ fn compare_own_part<J: Judge>(
     Ok(())
 }
 
-// Compares some fields of a response name with some others. Many that are alike are passed at once.
+// Compares some fields of a response name with some others. Where none of them fails with one of those, all are passed
+// at once.
 fn compare_groups<J: Judge>(
     graph: &Graph<J>,
     left: &[Entry],
@@ -92,7 +93,7 @@ fn compare_groups<J: Judge>(
     ensures real { let w = world J.judgement graph.now in
         OnOk result (Finds w false (AtLists left.now right.now) search.old search.new) }
 {
-    if left.len() > 1 && are_plainly_alike(graph, left, right) {
+    if left.len() > 1 && are_clear(search.alloc, graph, left, right)? {
         return Ok(());
     }
     for a in left {

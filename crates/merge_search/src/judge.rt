@@ -1,7 +1,7 @@
 //! The judgement of one pair of fields, which comes from outside.
 ghost use Rattle.std.specs.Prelude.{◌≡◌, IfOk, ℕ};
 ghost use Rattle.std.specs.Bool.{OnTrue};
-ghost use Rattle.merge_search.specs.Judgement.{AlikeAgree, Judgement};
+ghost use Rattle.merge_search.specs.Judgement.{AlikeAgree, Judgement, KinAgree};
 
 use std::alloc::AllocError;
 
@@ -11,7 +11,12 @@ pub trait Judge {
     // one field, and another that is plainly like it
     ghost are_alike: { Self → ℕ → ℕ → Type 0 };
 
+    // one field, and another of its kind
+    ghost are_kin: { Self → ℕ → ℕ → Type 0 };
+
     ghost agree: { (j : Self) → AlikeAgree (judgement j) (are_alike j) };
+
+    ghost kin_agree: { (j : Self) → KinAgree (judgement j) (are_kin j) };
 
     /// Whether no object is asked for both; `exclusive` says that this holds already for the fields around them.
     fn are_exclusive(&self, exclusive: bool, left: usize, right: usize) -> bool
@@ -23,6 +28,11 @@ pub trait Judge {
     /// by pair.
     fn is_plainly_like(&self, one: usize, other: usize) -> bool
         ensures { OnTrue result (are_alike self.now one other) };
+
+    /// Whether it is plain that a field is of the kind of another one: no judgement tells the two apart. `false` says
+    /// nothing.
+    fn is_kin(&self, one: usize, other: usize) -> bool
+        ensures { OnTrue result (are_kin self.now one other) };
 
     /// Whether the two conflict by themselves: by their names, arguments or types.
     ///

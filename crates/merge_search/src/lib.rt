@@ -7,6 +7,7 @@ pub mod graph;
 pub mod groups;
 mod inner;
 pub mod judge;
+mod kinds;
 pub mod log;
 pub mod node;
 pub mod opening;

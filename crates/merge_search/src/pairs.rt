@@ -4,6 +4,7 @@ ghost use Rattle.std.specs.Bool.{OnTrue};
 ghost use Rattle.std.specs.List.{All};
 ghost use Rattle.merge_search.specs.World.{world};
 ghost use Rattle.merge_search.specs.Clear.{AreClear};
+ghost use Rattle.merge_search.specs.Kinds.{NeverFailsWith};
 ghost use Rattle.merge_search.specs.Plain.{ArePlain};
 ghost use Rattle.merge_search.specs.Work.{Did, Done};
 ghost use Rattle.merge_search.specs.Reports.{FindsAll};
@@ -11,8 +12,9 @@ ghost use Rattle.merge_search.specs.Tops.{AllBefore, AtBefore, AtRest};
 
 use crate::graph::Graph;
 use crate::judge::Judge;
+use crate::kinds::clear_rows;
 use crate::node::Entry;
-use crate::plain::are_plain_below;
+use crate::plain::{are_plain_below, is_plain_below};
 use crate::search::compare_fields;
 use crate::state::Search;
 use crate::view::{agree_plainly, is_full};
@@ -55,8 +57,30 @@ fn are_passed<J: Judge>(graph: &Graph<J>, fields: &[Entry], plain: &BitSet) -> b
         && agree_plainly(graph, fields, fields)
 }
 
-/// Compares each field with those after it. Many that are alike are passed at once where what stands below them is
-/// plain, since there is nothing to find.
+// Compares a field with some others, unless it is known to fail with none of them, and what stands below it is plain.
+fn compare_unless<J: Judge>(
+    graph: &Graph<J>,
+    a: Entry,
+    rest: &[Entry],
+    is_clear: bool,
+    plain: &BitSet,
+    search: &mut Search,
+) -> Result<(), AllocError>
+    requires clear { OnTrue is_clear (NeverFailsWith (J.judgement graph.now.judge) a rest.now) }
+    requires plain { ArePlain (world J.judgement graph.now) plain.now }
+    ensures done { let w = world J.judgement graph.now in
+        OnOk result (Did w (λ M. All (λ b. Done w M false a b) rest.now) search.old search.new) }
+    ensures real { let w = world J.judgement graph.now in
+        OnOk result (FindsAll w false (AtRest a rest.now) (AtRest a rest.now) search.old search.new) }
+{
+    if is_clear && is_plain_below(graph, a, plain) {
+        return Ok(());
+    }
+    compare_rest(graph, a, rest, search)
+}
+
+/// Compares each field with those after it. Where what stands below is plain, many that are alike are passed at
+/// once, and so is each that fails with none of the others, by their kinds: there is nothing to find.
 ///
 /// # Errors
 ///
@@ -76,8 +100,16 @@ pub(crate) fn compare_each<J: Judge>(
     if fields.len() > 1 && are_passed(graph, fields, plain) {
         return Ok(());
     }
+    let clear = clear_rows(search.alloc, graph, fields, fields)?;
     for k in 0..fields.len() {
-        compare_rest(graph, fields[k], &fields[k + 1..], search)?;
+        compare_unless(
+            graph,
+            fields[k],
+            &fields[k + 1..],
+            clear.contains(k),
+            plain,
+            search,
+        )?;
     }
     Ok(())
 }

@@ -45,7 +45,8 @@ pub(crate) fn are_plain_below<J: Judge>(graph: &Graph<J>, fields: &[Entry], sets
     true
 }
 
-fn is_plain_below<J: Judge>(graph: &Graph<J>, field: Entry, sets: &BitSet) -> bool
+/// Whether all that stands below a field is marked as plain.
+pub(crate) fn is_plain_below<J: Judge>(graph: &Graph<J>, field: Entry, sets: &BitSet) -> bool
     requires { ArePlain (world J.judgement graph.now) sets.now }
     ensures { OnTrue result (IsPlainBelow (world J.judgement graph.now) field) }
 {
@@ -114,8 +115,11 @@ fn plain_sets<J: Judge>(alloc: Global, graph: &Graph<J>) -> Result<BitSet, Alloc
 /// nothing.
 pub const MANY: usize = 8;
 
+// A set with fewer fields has few pairs of one response name.
+const WIDE: usize = 64;
+
 // Whether some set may be met more than once: one spreads two fragments, or a fragment with fields of its own spreads
-// another. Or many sets have fields of one response name.
+// another. Or many sets have fields of one response name, or one that is wide has.
 fn is_worthwhile<J>(graph: &Graph<J>) -> bool {
     let fragments = graph.fragments.as_slice();
     let sets = graph.sets.as_slice();
@@ -123,6 +127,9 @@ fn is_worthwhile<J>(graph: &Graph<J>) -> bool {
         && (sets.iter().any(|set| set.spreads.len() > 1)
             || fragments.iter().any(|s| may_be_met_again(sets, *s)))
         || sets.iter().filter(|set| repeats_names(set)).count() >= MANY
+        || sets
+            .iter()
+            .any(|set| repeats_names(set) && set.own.len() >= WIDE)
 }
 
 fn repeats_names(set: &SetNode) -> bool {

@@ -1,12 +1,17 @@
 //! Response names under which all fields agree, wherever they stand.
-ghost use Rattle.std.specs.Prelude.{◌≡◌, ◌∷◌, [], ◌<◌, ℕ, None, OnOk, IfOk, length};
+ghost use Rattle.std.specs.Prelude.{◌≡◌, ◌∷◌, [], ◌<◌, ℕ, None, OnOk, IfOk, length, true};
+ghost use Rattle.std.specs.List.{All, Contains};
+ghost use Rattle.bit_matrix.specs.Set.{has};
 ghost use Rattle.merge_search.specs.World.{world, own_of};
 ghost use Rattle.merge_search.specs.Firsts.{IsFirst, Notes};
-ghost use Rattle.merge_search.specs.Plain.{ArePlainBut};
+ghost use Rattle.merge_search.specs.Kinds.{IsToldOf};
+ghost use Rattle.merge_search.specs.Plain.{ArePlainBut, HasAllMarked};
 
 use crate::graph::Graph;
+use crate::groups::{fields_named, first_fields, make_set, sorted_fields};
 use crate::judge::Judge;
-use crate::node::Entry;
+use crate::kinds::agree_by_kinds;
+use crate::node::{Entry, SetNode};
 use crate::view::own;
 use bit_matrix::set::BitSet;
 use std::alloc::{AllocError, Global};
@@ -81,19 +86,110 @@ fn note_own<J: Judge>(graph: &Graph<J>, s: usize, seen: &mut Seen) -> Result<(),
     Ok(())
 }
 
-/// Lists the response names of which two fields may conflict. All others are plain.
-///
-/// Each field is compared with the first one of its name alone, so the time is linear in the number of fields.
-///
-/// # Errors
-///
-/// Out of memory.
-pub fn mixed_names<J: Judge>(alloc: Global, graph: &Graph<J>) -> Result<BitSet, AllocError>
-    ensures { IfOk result (λ mixed. ArePlainBut (world J.judgement graph.now) mixed) }
+// The response names that have a field which isn't plainly like the first. Each field is compared with that one alone.
+fn unlike_names<J: Judge>(alloc: Global, graph: &Graph<J>) -> Result<BitSet, AllocError>
+    ensures { IfOk result (ArePlainBut (world J.judgement graph.now)) }
 {
     let mut seen = none_seen(alloc);
     for s in 0..graph.sets.len() {
         note_own(graph, s, &mut seen)?;
     }
     Ok(seen.mixed)
+}
+
+// Adds a field whose name is marked.
+fn add_marked(field: Entry, marked: &BitSet, fields: &mut Vec<Entry>) -> Result<(), AllocError>
+    ensures there { OnOk result (has marked.now field.response ≡ true → Contains fields.new.items field) }
+    ensures kept { OnOk result ((a : Entry) → Contains fields.old.items a → Contains fields.new.items a) }
+{
+    if !marked.contains(field.response) {
+        return Ok(());
+    }
+    fields.push(field)?;
+    Ok(())
+}
+
+// Adds the own fields of a set whose names are marked.
+fn add_own<J: Judge>(
+    graph: &Graph<J>,
+    s: usize,
+    marked: &BitSet,
+    fields: &mut Vec<Entry>,
+) -> Result<(), AllocError>
+    ensures there { let w = world J.judgement graph.now in OnOk result ((a : Entry) → Contains (own_of w s) a
+        → has marked.now a.response ≡ true → Contains fields.new.items a) }
+    ensures kept { OnOk result ((a : Entry) → Contains fields.old.items a → Contains fields.new.items a) }
+{
+    for field in own(graph, s) {
+        add_marked(*field, marked, fields)?;
+    }
+    Ok(())
+}
+
+// All fields whose names are marked.
+fn marked_fields<J: Judge>(
+    alloc: Global,
+    graph: &Graph<J>,
+    marked: &BitSet,
+) -> Result<Vec<Entry>, AllocError>
+    ensures { IfOk result (λ v. HasAllMarked (world J.judgement graph.now) marked.now v.items) }
+{
+    let mut fields = Vec::new(alloc);
+    for s in 0..graph.sets.len() {
+        add_own(graph, s, marked, &mut fields)?;
+    }
+    Ok(fields)
+}
+
+// Marks a response name of a set, unless it is known by their kinds that no two of its fields fail with each other.
+fn mark_name<J: Judge>(
+    alloc: Global,
+    graph: &Graph<J>,
+    set: &SetNode,
+    name: usize,
+    mixed: &mut BitSet,
+) -> Result<(), AllocError>
+    ensures told { OnOk result (IsToldOf (J.judgement graph.now.judge) set.now.own.items mixed.new name) }
+    ensures kept { OnOk result ((n : ℕ) → has mixed.old n ≡ true → has mixed.new n ≡ true) }
+{
+    let group = fields_named(sorted_fields(set), name);
+    let agree = agree_by_kinds(alloc, graph, group, group)?;
+    if agree {
+        return Ok(());
+    }
+    mixed.insert(name)?;
+    Ok(())
+}
+
+// The response names of a set of which two fields may fail with each other.
+fn marked_names<J: Judge>(
+    alloc: Global,
+    graph: &Graph<J>,
+    set: &SetNode,
+) -> Result<BitSet, AllocError>
+    ensures { IfOk result (λ mixed. All
+        (λ a. IsToldOf (J.judgement graph.now.judge) set.now.own.items mixed a.response) set.now.own.items) }
+{
+    let mut mixed = BitSet::new(alloc);
+    for first in first_fields(set) {
+        mark_name(alloc, graph, set, first.response, &mut mixed)?;
+    }
+    Ok(mixed)
+}
+
+/// Lists the response names of which two fields may conflict. All others are plain.
+///
+/// Each field is compared with the first one of its name, and where they are not alike, with those of other kinds.
+///
+/// # Errors
+///
+/// Out of memory.
+pub fn mixed_names<J: Judge>(alloc: Global, graph: &Graph<J>) -> Result<BitSet, AllocError>
+    ensures { IfOk result (ArePlainBut (world J.judgement graph.now)) }
+{
+    let unlike = unlike_names(alloc, graph)?;
+    let fields = marked_fields(alloc, graph, &unlike)?;
+    let set = make_set(alloc, fields, Vec::new(alloc))?;
+    let mixed = marked_names(alloc, graph, &set)?;
+    Ok(mixed)
 }

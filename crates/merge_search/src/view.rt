@@ -11,9 +11,10 @@ ghost use Rattle.merge_search.specs.World.{world, HasRoom, own_of, spreads_of, s
 use crate::graph::Graph;
 use crate::groups::{fields_named, first_fields, sorted_fields};
 use crate::judge::Judge;
+use crate::kinds::agree_by_kinds;
 use crate::node::Entry;
 use crate::state::Search;
-use std::alloc::AllocError;
+use std::alloc::{AllocError, Global};
 
 /// The first own field of each response name of a set, in the order in which they stand.
 pub fn firsts<J: Judge>(graph: &Graph<J>, s: usize) -> &[Entry]
@@ -112,14 +113,30 @@ pub fn are_in_conflict<J: Judge>(
     graph.judge.are_in_conflict(e, a.field, b.field)
 }
 
-/// Whether it is plain that no field of the one list, nor any below it, conflicts with one of the other. `false` says
+/// Whether it is known that no field of the one list, nor any below it, conflicts with one of the other. `false` says
 /// nothing.
 ///
-/// Nothing stands below the first list, so there is nothing below to compare. The time is linear in the two lists.
-pub fn are_plainly_alike<J: Judge>(graph: &Graph<J>, left: &[Entry], right: &[Entry]) -> bool
-    ensures { OnTrue result (AreClear (world J.judgement graph.now) left.now right.now) }
+/// Nothing stands below the first list, so there is nothing below to compare. Where the fields are plainly alike, the
+/// time is linear in the two lists; else it is that of judging each two of their kinds.
+///
+/// # Errors
+///
+/// Out of memory.
+pub(crate) fn are_clear<J: Judge>(
+    alloc: Global,
+    graph: &Graph<J>,
+    left: &[Entry],
+    right: &[Entry],
+) -> Result<bool, AllocError>
+    ensures { IfOk result (λ b. OnTrue b (AreClear (world J.judgement graph.now) left.now right.now)) }
 {
-    are_leaves(left) && agree_plainly(graph, left, right)
+    if !are_leaves(left) {
+        return Ok(false);
+    }
+    if agree_plainly(graph, left, right) {
+        return Ok(true);
+    }
+    agree_by_kinds(alloc, graph, left, right)
 }
 
 /// Whether it is plain that no field of the one list conflicts with one of the other. `false` says nothing.

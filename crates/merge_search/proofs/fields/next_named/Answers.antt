@@ -1,9 +1,11 @@
 use Rattle.std.proofs.Common.{◌≡◌, ◌+◌, ◌<◌, ℕ, length, arith, drop, get_or, rules, subst, sym}
+use Rattle.std.specs.Bool.{OnTrue}
 use Rattle.std.proofs.lemmas.Result.{on_ok_weaker}
 use Rattle.merge_search.specs.declared.task.Task.TheVariants.{With, Named}
 use Rattle.merge_search.specs.declared.node.Entry.{Entry}
 use Rattle.merge_search.specs.Names.{named}
 use Rattle.merge_search.specs.World.{world, own_of}
+use Rattle.merge_search.specs.Clear.{AreClear}
 use Rattle.merge_search.specs.Reports.{AtWith, AtNamed}
 use Rattle.merge_search.specs.Tasks.{Meets, WithDone}
 use Rattle.merge_search.proofs.Work.{no_entry, did_none}
@@ -22,8 +24,8 @@ returns-then-m-fields g c =
     leads_done v (Meets v (Named i j c.args.name e c.args.m)) _
     (each_none v e (WithDone v e j) (AtNamed v i j c.args.name) (λ a. AtWith v a j) _ c.args.search.now (drop_end _ (named c.args.name (own_of v i)) c.args.m c.group-fields.ensures (search rules)))
 
-pub returns-then-are_plainly_alike : goal.returns-then-are_plainly_alike
-returns-then-are_plainly_alike g c =
+pub returns-then-branch : goal.returns-then-branch
+returns-then-branch g c =
     let v = world g.J.Judge.judgement c.args.graph.now in
     let e = c.args.e in
     let i = c.args.i in
@@ -31,10 +33,13 @@ returns-then-are_plainly_alike g c =
     let n = c.args.name in
     let s = c.args.search.now in
     let zero_is : c.args.m ≡ 0 = search rules in
+    let lefts = c.group-fields.result.now in
+    let rights = c.group-others.result.now in
+    let clear : AreClear v lefts rights = subst (λ b. OnTrue b (AreClear v lefts rights)) c.if-branch.true c.in_ok-are_clear.ensures in
     leads_done v (Meets v (Named i j n e c.args.m)) _
     (subst (λ (m : ℕ). Meets v (Named i j n e m) s s) (sym zero_is) (named_alike v e i j n s s (record {
-      done = did_none v _ s (λ M grown. named_done v e i j n c.group-fields.result.now c.group.result.now c.group-fields.ensures c.group.ensures c.if-are_plainly_alike.ensures M);
-      real = named_tells v e i j n c.group-fields.result.now c.group.result.now c.group-fields.ensures c.group.ensures c.if-are_plainly_alike.ensures s.found.items;
+      done = did_none v _ s (λ M grown. named_done v e i j n lefts rights c.group-fields.ensures c.group-others.ensures clear M);
+      real = named_tells v e i j n lefts rights c.group-fields.ensures c.group-others.ensures clear s.found.items;
     })))
 
 pub returns : goal.returns

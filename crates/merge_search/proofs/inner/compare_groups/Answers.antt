@@ -27,8 +27,8 @@ loop-a-preserved g c =
 pub returns : goal.returns
 returns g c = record { done = c.loop-a.invariant.0; real = c.loop-a.invariant.1 }
 
-pub returns-then-are_plainly_alike-clause-done : goal.returns-then-are_plainly_alike-clause-done
-returns-then-are_plainly_alike-clause-done g c = did_none (world g.J.Judge.judgement c.args.graph.now) _ c.args.search.now (λ M k. tt)
+pub returns-then-branch-clause-done : goal.returns-then-branch-clause-done
+returns-then-branch-clause-done g c = did_none (world g.J.Judge.judgement c.args.graph.now) _ c.args.search.now (λ M k. tt)
 
-pub returns-then-are_plainly_alike-clause-real : goal.returns-then-are_plainly_alike-clause-real
-returns-then-are_plainly_alike-clause-real g c = adds_none (world g.J.Judge.judgement c.args.graph.now) false (AtLists c.args.left.now c.args.right.now) _
+pub returns-then-branch-clause-real : goal.returns-then-branch-clause-real
+returns-then-branch-clause-real g c = adds_none (world g.J.Judge.judgement c.args.graph.now) false (AtLists c.args.left.now c.args.right.now) _

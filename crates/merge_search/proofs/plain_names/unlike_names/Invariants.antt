@@ -3,7 +3,7 @@ use Rattle.std.specs.List.{Contains}
 use Rattle.merge_search.specs.declared.node.Entry.{Entry}
 use Rattle.merge_search.specs.World.{world, own_of}
 use Rattle.merge_search.specs.Firsts.{IsNoted}
-use Rattle.merge_search.proofs.plain_names.mixed_names.Given as goal
+use Rattle.merge_search.proofs.plain_names.unlike_names.Given as goal
 
 abbrev pub invariant-loop-s : goal.invariant-loop-s
 invariant-loop-s g l =
