@@ -1,5 +1,5 @@
 -- Conflicts of fields as trees: two fields fail by themselves, or by the fields below them (section 5.3.2).
-use Rattle.std.specs.Prelude.{◌≡◌, List, [], ◌∷◌, ◌++◌, Bool, Some, length, slice_get}
+use Rattle.std.specs.Prelude.{◌≡◌, ◌+◌, ℕ, suc, List, [], ◌∷◌, ◌++◌, Bool, Some, length, slice_get}
 use Rattle.merge_search.specs.declared.node.Entry.{Entry}
 use Rattle.merge_search.specs.declared.state.Finding.{Finding}
 use Rattle.merge_search.specs.declared.state.Finding.TheVariants.{Direct, Nested}
@@ -17,6 +17,12 @@ abbrev pub roots : {X : Type 0} → Reports X → List (X × X)
 roots none = []
 roots (direct a b e rest) = (a, b) ∷ roots rest
 roots (nested a b below rest) = (a, b) ∷ roots rest
+
+-- their number, with those below others
+abbrev pub count_of : {X : Type 0} → Reports X → ℕ
+count_of none = 0
+count_of (direct a b e rest) = suc (count_of rest)
+count_of (nested a b below rest) = count_of below + suc (count_of rest)
 
 -- what a search finds of them: a nested conflict stands after those below it, with their number
 abbrev pub postfix : Reports Entry → List Finding

@@ -1,5 +1,5 @@
 -- The errors of a document that was searched.
-use Rattle.std.proofs.Common.{◌≡◌, ◌<◌, ◌≤◌, ◌*◌, ◌-◌, ◌↔◌, ◌++◌, ◌∷◌, ◌∙◌, ℕ, List, [], inl, inr, length, map, Option, Some, None, Bool, refl, sym, ap, subst, arith}
+use Rattle.std.proofs.Common.{◌≡◌, ◌<◌, ◌≤◌, ◌*◌, ◌-◌, ◌↔◌, ◌++◌, ◌∷◌, ◌∙◌, ℕ, suc, List, [], inl, inr, length, length-append, map, Option, Some, None, Bool, refl, sym, ap, subst, arith}
 use Rattle.std.specs.Option.{IsSome, is_some}
 use Rattle.std.proofs.lemmas.Bool.{true≢false}
 use Rattle.std.proofs.lemmas.List.Elements.{All-nil}
@@ -8,7 +8,11 @@ use Rattle.language.specs.declared.tree.Definition.{Definition}
 use Rattle.schema.specs.Catalog.{Catalog}
 use Rattle.fragment_graph.specs.DocumentCycles.{HasNoCycle}
 use Rattle.merge_graph.specs.Definitions.{fragment_count}
-use Rattle.merge_conflicts.specs.Reports.{none}
+use Rattle.merge_conflicts.specs.Reports as trees
+use Rattle.merge_conflicts.specs.Reports.{AreReportsOf, Reports, count_of, none, postfix}
+use Rattle.merge_field_pairs.specs.Entries.{PlainEntry}
+use Rattle.merge_search.specs.declared.node.Entry.{Entry}
+use Rattle.merge_search.specs.declared.state.Finding.TheVariants.{Nested}
 use Rattle.merge_conflicts.specs.Texts.{errors_of}
 use Rattle.merge_document.specs.Conflicts.{true_none}
 use Rattle.merge_document.specs.Found.{IsFinished, IsJudged, AreTogether}
@@ -55,13 +59,22 @@ module _ {S C : Type 0} (E : S → S → Bool) (schema : Catalog S C) (document 
         opened = subst (λ (k : ℕ). k ≤ fragment_count document * end.lists) (sym opened) (subst (λ (k : ℕ). f.opened ≤ fragment_count document * k) (sym lists) opens);
       }
 
+  -- conflicts are as many as what a search finds of them
+  counted : (fields : List (PlainEntry S C)) (p : Reports Entry) (r : Reports (PlainEntry S C)) → AreReportsOf fields p r → length (postfix p) ≡ count_of r
+  counted fields p r trees.of_none = refl
+  counted fields p r (trees.of_direct {rest = rest} {others = others} e x y h) = ap suc (counted fields rest others h)
+  counted fields p r (trees.of_nested {a = a} {b = b} {below = below} {rest = rest} {inner = inner} {others = others} x y i h) =
+      let long = length-append (postfix below) (Nested a b (length (postfix below)) ∷ postfix rest) in
+      omega (arith, long, counted fields below inner i, counted fields rest others h)
+
   -- and what a search had found that stopped
   pub of_stopped : (f : FoundConflicts S C) (j : IsJudged E schema document f) → 0 < f.limit → f.limit ≤ length f.found.items
       → f.compared ≤ fragment_count document * (fragment_count document - 1) → f.opened ≤ fragment_count document * f.lists
       → (end : OverlappingFieldsCanBeMerged) → end.compared ≡ f.compared → end.opened ≡ f.opened → end.lists ≡ f.lists
-      → StoppedErrors E schema document end (map error_value (errors_of E schema j.reports) ++ stop_error ∷ [])
+      → StoppedErrors E f.limit schema document end (map error_value (errors_of E schema j.reports) ++ stop_error ∷ [])
   of_stopped f j limited full few opens end compared opened lists = record {
     reports = j.reports;
+    enough = omega (arith, full, ap length j.found, counted _ j.numbered j.reports j.are);
     told = refl;
     real = j.real;
     refuses = j.refuses (omega (arith, limited, full));
@@ -80,4 +93,6 @@ module _ {S C : Type 0} (E : S → S → Bool) (schema : Catalog S C) (document 
   of_search enough o f is bound none_where j few together opens end compared opened lists es (inl (done, told)) =
       inl (subst (MergeErrors E schema document end) (sym told) (of_some o f is none_where j done few together opens end compared opened lists))
   of_search enough o f is bound none_where j few together opens end compared opened lists es (inr (limited, full, told)) =
-      inr (subst (λ (n : ℕ). 0 < n) bound limited, subst (StoppedErrors E schema document end) (sym told) (of_stopped f j limited full few opens end compared opened lists))
+      inr (subst (λ (n : ℕ). 0 < n) bound limited,
+        subst (λ (n : ℕ). StoppedErrors E n schema document end es) bound
+        (subst (StoppedErrors E f.limit schema document end) (sym told) (of_stopped f j limited full few opens end compared opened lists)))

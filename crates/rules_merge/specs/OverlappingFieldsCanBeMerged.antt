@@ -6,7 +6,7 @@ use Rattle.fragment_graph.specs.DocumentCycles.{HasNoCycle}
 use Rattle.merge_field_pairs.specs.Entries.{PlainEntry}
 use Rattle.merge_graph.specs.Definitions.{fragment_count}
 use Rattle.merge_graph.specs.SetsIn.{HasKnownConditions}
-use Rattle.merge_conflicts.specs.Reports.{Reports, none}
+use Rattle.merge_conflicts.specs.Reports.{Reports, count_of, none}
 use Rattle.merge_conflicts.specs.Texts.{ConflictValue, errors_of}
 use Rattle.merge_document.specs.Conflicts.{AreReal, AreTold, AreAll, IsTidyDocument}
 use Rattle.merge_document.specs.Merging.{DocumentMerges}
@@ -45,11 +45,12 @@ abbrev pub IsToldOfSearch : {S C : Type 0} → FoundConflicts S C → List Error
 IsToldOfSearch f conflicts es =
     (IsFinished f × (es ≡ conflicts)) ⊎ ((0 < f.limit) × (f.limit ≤ length f.found.items) × (es ≡ conflicts ++ stop_error ∷ []))
 
--- The errors of a search that stopped: those of some conflicts, each of them a true one, and that there may be more.
--- Where no field repeats an argument or a key in one, not all sets merge.
-pub record StoppedErrors {S C : Type 0} (E : S → S → Bool) (schema : Catalog S C) (document : List (Definition S))
-    (end : OverlappingFieldsCanBeMerged) (es : List ErrorValue) : Type 0 where
+-- The errors of a search that stopped: those of as many conflicts as are asked for, or more, each of them a true one,
+-- and that there may be more. Where no field repeats an argument or a key in one, not all sets merge.
+pub record StoppedErrors {S C : Type 0} (E : S → S → Bool) (asked : ℕ) (schema : Catalog S C)
+    (document : List (Definition S)) (end : OverlappingFieldsCanBeMerged) (es : List ErrorValue) : Type 0 where
   pub reports : Reports (PlainEntry S C)
+  pub enough : asked ≤ count_of reports
   pub told : map error_value (errors_of E schema reports) ++ stop_error ∷ [] ≡ es
   pub real : AreReal E schema document reports
   pub refuses : IsTidyDocument schema document → DocumentMerges E schema document → ⊥
@@ -60,7 +61,7 @@ pub record StoppedErrors {S C : Type 0} (E : S → S → Bool) (schema : Catalog
 abbrev pub ErrorsWithin : {S C : Type 0} → (S → S → Bool) → ℕ → Catalog S C → List (Definition S) → OverlappingFieldsCanBeMerged
     → List ErrorValue → Type 0
 ErrorsWithin E enough schema document end es =
-    MergeErrors E schema document end es ⊎ ((0 < enough) × StoppedErrors E schema document end es)
+    MergeErrors E schema document end es ⊎ ((0 < enough) × StoppedErrors E enough schema document end es)
 
 abbrev pub merge_errors : {S C : Type 0} → (S → S → Bool) → DocumentScope S C → List (Definition S)
     → OverlappingFieldsCanBeMerged → List ErrorValue → Type 0

@@ -15,7 +15,7 @@ use Rattle.merge_conflicts.specs.Texts.{errors_of}
 use Rattle.merge_document.specs.Merging.{DocumentMerges}
 use Rattle.merge_document.specs.Conflicts.{IsTidyDocument}
 use Rattle.rules_merge.specs.declared.overlapping_fields_can_be_merged.OverlappingFieldsCanBeMerged.{OverlappingFieldsCanBeMerged}
-use Rattle.rules_merge.specs.OverlappingFieldsCanBeMerged.{ErrorsWithin, MergeErrors, error_value, stop_error}
+use Rattle.rules_merge.specs.OverlappingFieldsCanBeMerged.{ErrorsWithin, MergeErrors, StoppedErrors, error_value, stop_error}
 use Rattle.walk.specs.ContextState.{ContextState, DocumentScope, fitting, has_some, scope_of, typing, with_errors}
 use Rattle.walk.specs.ErrorValue.{ErrorValue}
 use Rattle.walk.specs.Rule.{AppendsAllowed}
@@ -165,3 +165,16 @@ module _ {S C : Type 0} (rules : Rules S C) (old new : ContextState S C) (docume
 pub some_kept : (limit enough : ℕ) → (limit ≡ 0 → enough ≡ 0) → 0 < enough → 0 < limit
 some_kept zero enough all some = absurd (omega (arith, all refl, some))
 some_kept (suc limit) enough all some = omega arith
+
+-- a search that stopped has found as many conflicts as fewer that are asked for
+pub fewer_asked : {S C : Type 0} {E : S → S → Bool} {asked enough : ℕ} {schema : Catalog S C} {document : List (Definition S)} {end : OverlappingFieldsCanBeMerged} {es : List ErrorValue}
+    → asked ≤ enough → StoppedErrors E enough schema document end es → StoppedErrors E asked schema document end es
+fewer_asked less s = record {
+  reports = s.reports;
+  enough = omega (arith, less, s.enough);
+  told = s.told;
+  real = s.real;
+  refuses = s.refuses;
+  few = s.few;
+  opened = s.opened;
+}

@@ -22,7 +22,8 @@ module _ {S C : Type 0} (rules : Rules S C) where
   -- In a context that keeps so many errors, with these before, and with this number of pairs that were compared. If the
   -- context has an error after the first stage, the errors are those of the first stage's rules, none if and only if
   -- these find nothing, and no pair was compared. Otherwise they are those of fields that can't be merged, and no
-  -- conflict is missed; but where not all errors are kept the search for conflicts may have stopped, and tells so.
+  -- conflict is missed. Where not all errors are kept the search for conflicts may have stopped, and tells so: it has
+  -- then found as many as are kept, or more.
   pub data Reported (limit : ℕ) (before : List ErrorValue) (scope : DocumentScope S C) (t : Typing S C)
       (doc : List (Definition S)) : List ErrorValue → ℕ → Type 0 where
     of_stage_one : {es : List ErrorValue}
@@ -33,7 +34,7 @@ module _ {S C : Type 0} (rules : Rules S C) where
         → AreAll rules.same scope.schema doc told.reports → Reported limit before scope t doc es end.compared
     of_stopped_search : {es : List ErrorValue} {end : OverlappingFieldsCanBeMerged}
         → before ≡ [] → rules.first_stage.find_nothing scope t doc → 0 < limit
-        → StoppedErrors rules.same scope.schema doc end es → Reported limit before scope t doc es end.compared
+        → StoppedErrors rules.same limit scope.schema doc end es → Reported limit before scope t doc es end.compared
 
   -- The document is valid: the rules of the first stage find nothing, and each of its selection sets merges, with its
   -- spreads written out.
