@@ -3,10 +3,12 @@
 # Each differs from its neighbours, and all have as many digits, so that texts grow by the number of pieces alone.
 FIRST = 1_000
 
-# A field with an argument is not passed over as plainly alike.
-WITH_ARGUMENT = "name(surname: true)"
+# A field that no `a` of another type can be merged with, where it stands beside none. So the name is plain nowhere,
+# though nothing conflicts.
+HUMAN_ELSEWHERE = "human { a: iq } "
+DOG_ELSEWHERE = "dog { a: name } "
 
-# Two parents of a field `a` that can't be one object: no field `a` beside them is plainly alike, and none conflicts.
+# A field of a type that can't be one object with `Human`: no `a` beside it is plainly alike, and none conflicts.
 APART = "... on Being { ... on Dog { a: barkVolume } } "
 
 
@@ -18,9 +20,9 @@ def spreads(count):
     return "".join(f"...F{n} " for n in numbers(count))
 
 
-def nested(levels, inmost):
+def nested(levels, inmost, elsewhere=""):
     """A selection set below so many inline fragments."""
-    return "{ human { " + "... { " * levels + inmost + "} " * levels + "} }"
+    return "{ human { " + "... { " * levels + inmost + "} " * levels + "} " + elsewhere + "}"
 
 
 def hub(own, below, levels=0):
@@ -30,19 +32,38 @@ def hub(own, below, levels=0):
         around = "".join(f"fragment F{n} on Being {{ ...Hub }} " for n in numbers(count))
         fields = "... on Human { " + f"a: {below} " * count + "} " + APART
         inmost = f"a: {own} " * count + APART + spreads(count)
-        return nested(levels * count, inmost) + f" {around}fragment Hub on Being {{ {fields}}}"
+        return nested(levels * count, inmost, DOG_ELSEWHERE) + f" {around}fragment Hub on Being {{ {fields}}}"
 
     return text
 
 
 def pairs(count):
     """Fields of one name in nested sets, which have to be compared in pairs."""
-    return nested(count, "a: iq " * count + APART)
+    return nested(count, "a: iq " * count + APART, DOG_ELSEWHERE)
 
 
 def two_kinds(count):
     """Fields of one name on two types that can't be one object: each is compared with all others."""
     return nested(0, "a: iq " * count + "... on Being { ... on Dog { " + "a: barkVolume " * count + "} } ")
+
+
+def kinds_and_a_conflict(count):
+    """The same, with one field that conflicts with half of them."""
+    return nested(0, "a: iq " * count + "... on Being { ... on Dog { " + "a: barkVolume " * count + "} } a: relatives { iq } ")
+
+
+def two_fragments(count):
+    """Two fragments with fields of one name, of which each has one that conflicts with one of the other."""
+
+    def fragment(name, other):
+        return f"fragment {name} on Human {{ {'a: name ' * count}... on Being {{ ... on Dog {{ a: {other} }} }} }} "
+
+    return "{ human { ...F ...G } } " + fragment("F", "name") + fragment("G", "nickname")
+
+
+def below_one_name(count):
+    """Fields of one name, below each of which stands a field that is not plain."""
+    return nested(0, "relatives { a: iq } " * count, DOG_ELSEWHERE)
 
 
 def plain(count):
@@ -65,19 +86,19 @@ def reopened(count):
     chain = "".join(f"fragment F{n} on Human {{ ...F{n + 1} }} " for n in numbers(count))
     back = "".join(f"...F{n} " for n in reversed(numbers(count)))
     sets = "relatives { a: iq } " * count
-    return f"{{ human {{ {sets}relatives {{ {back}}} }} }} {chain}fragment F{FIRST + count} on Human {{ a: iq }}"
+    return f"{{ human {{ {sets}relatives {{ {back}}} }} {DOG_ELSEWHERE}}} {chain}fragment F{FIRST + count} on Human {{ a: iq }}"
 
 
 def chained(count):
-    """A chain of fragments, each with a field that has an argument."""
-    chain = "".join(f"fragment F{n} on Dog {{ {WITH_ARGUMENT} ...F{n + 1} }} " for n in numbers(count))
-    return f"{{ dog {{ ...F{FIRST} }} }} {chain}fragment F{FIRST + count} on Dog {{ {WITH_ARGUMENT} }}"
+    """A chain of fragments, each with a field that is not plain."""
+    chain = "".join(f"fragment F{n} on Dog {{ a: name ...F{n + 1} }} " for n in numbers(count))
+    return f"{{ dog {{ ...F{FIRST} }} {HUMAN_ELSEWHERE}}} {chain}fragment F{FIRST + count} on Dog {{ a: name }}"
 
 
 def each_later(count):
     """Fragments that each spread all later ones, with such a field."""
     later = {n: "".join(f"...F{it} " for it in range(n + 1, FIRST + count)) for n in numbers(count)}
-    return f"{{ dog {{ ...F{FIRST} }} }} " + "".join(f"fragment F{n} on Dog {{ {WITH_ARGUMENT} {later[n]}}} " for n in later)
+    return f"{{ dog {{ ...F{FIRST} }} {HUMAN_ELSEWHERE}}} " + "".join(f"fragment F{n} on Dog {{ a: name {later[n]}}} " for n in later)
 
 
 def operations(definition):
@@ -100,17 +121,20 @@ def long_type(count):
 WORST = [
     ("fields in nested sets", pairs, 20, True),
     ("fields of two kinds", two_kinds, 40, True),
+    ("fields below one name", below_one_name, 40, True),
     ("plain fields in nested sets", plain, 100, True),
     ("a hub", hub("iq", "iq"), 20, True),
     ("a hub in nested sets", hub("iq", "iq", 1), 8, True),
     ("sets against a chain", reopened, 40, True),
-    ("arguments in a chain", chained, 200, True),
-    ("arguments in all later", each_later, 30, True),
+    ("fields in a chain", chained, 200, True),
+    ("fields in all later", each_later, 30, True),
     ("uses in operations", operations("($a: String) "), 40, True),
     ("wrong uses in operations", operations("($a: Int) "), 40, False),
     ("undefined in operations", operations(""), 40, False),
     ("a long type at each use", long_type, 200, False),
     ("failing fields", failing(0), 40, False),
+    ("two kinds and a conflict", kinds_and_a_conflict, 40, False),
+    ("a conflict of two fragments", two_fragments, 40, False),
     ("one error of many reasons", reasons, 40, False),
     ("failing fields in nested sets", failing(1), 8, False),
     ("a hub with conflicts", hub("iq", "name"), 10, False),
@@ -121,7 +145,7 @@ PETS = """\
 schema { query: QueryRoot }
 interface Being { name(surname: Boolean): String }
 type Human implements Being { name(surname: Boolean): String iq: Int relatives: [Human] }
-type Dog implements Being { name(surname: Boolean): String barkVolume: Int }
+type Dog implements Being { name(surname: Boolean): String nickname: String barkVolume: Int }
 type ComplicatedArgs { stringListArgField(stringListArg: [String]): String }
 type QueryRoot { human: Human dog: Dog complicatedArgs: ComplicatedArgs }
 """
