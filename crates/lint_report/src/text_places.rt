@@ -8,6 +8,7 @@ ghost use Rattle.lint_report.specs.ShownLines.{IsLineOf, before_place, begins_ch
 ghost use Rattle.lint_report.specs.ShownLines.{column_after, is_in_line};
 
 use language::position::SourcePosition;
+use memchr::memchr2;
 
 /// The position of a byte index: its 0-based line and column, in bytes.
 pub fn position_at(text: &[u8], index: usize) -> SourcePosition
@@ -67,10 +68,17 @@ fn more_ended(byte: u8, after_return: bool) -> usize
 pub fn characters_before(text: &str, position: SourcePosition) -> usize
     ensures { result ≡ characters_before text.now position }
 {
-    before_place(text.as_bytes(), position)
-        .iter()
-        .filter(|byte| begins_character(**byte))
-        .count()
+    characters_in(before_place(text.as_bytes(), position))
+}
+
+// The number of characters that begin in a text. In one of ASCII, as most are, each byte does, which is faster to see.
+fn characters_in(text: &[u8]) -> usize
+    ensures { result ≡ count_by begins_character text.now }
+{
+    if text.is_ascii() {
+        return text.len();
+    }
+    text.iter().filter(|byte| begins_character(**byte)).count()
 }
 
 // What a line has before a position, whose column counts bytes.
@@ -111,7 +119,8 @@ fn first_line(text: &str) -> &str
 fn first_length(text: &str) -> usize
     ensures { result ≡ prefix_len is_in_line text.now }
 {
-    text.bytes()
-        .take_while(|byte| *byte != b'\n' && *byte != b'\r')
-        .count()
+    match memchr2(b'\n', b'\r', text.as_bytes()) {
+        Some(length) => length,
+        None => text.len(),
+    }
 }
