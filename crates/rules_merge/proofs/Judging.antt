@@ -93,6 +93,8 @@ module _ {S C : Type 0} (E : S → S → Bool) (schema : Catalog S C) (document 
   of_search enough o f is bound none_where j few together opens end compared opened lists es (inl (done, told)) =
       inl (subst (MergeErrors E schema document end) (sym told) (of_some o f is none_where j done few together opens end compared opened lists))
   of_search enough o f is bound none_where j few together opens end compared opened lists es (inr (limited, full, told)) =
-      inr (subst (λ (n : ℕ). 0 < n) bound limited,
+      inr (
+        subst (λ (n : ℕ). 0 < n) bound limited,
         subst (λ (n : ℕ). StoppedErrors E n schema document end es) bound
-        (subst (StoppedErrors E f.limit schema document end) (sym told) (of_stopped f j limited full few opens end compared opened lists)))
+            (subst (StoppedErrors E f.limit schema document end) (sym told) (of_stopped f j limited full few opens end compared opened lists)),
+      )
