@@ -35,12 +35,6 @@ const FRAGMENTS_THAT_CONFLICT: &str =
 
 const FIELDS_THAT_CONFLICT: &str = "{ dog { x: name } dog { x: barks } }";
 
-const FIELDS_OF_TWO_KINDS: &str =
-    "{ pet { ... on Dog { a: name a: name a: name a: name } ... on Cat { a: nickname a: nickname a: nickname a: nickname } } }";
-
-const FRAGMENTS_OF_TWO_KINDS: &str =
-    "{ pet { ...A ...B } } fragment A on Dog { a: name a: name a: name a: name ...C } fragment B on Cat { a: nickname a: nickname a: nickname a: nickname ...D } fragment C on Dog { name ...E } fragment D on Cat { name ...F } fragment E on Dog { name ...G } fragment F on Cat { name ...H } fragment G on Dog { name } fragment H on Cat { name }";
-
 const LISTS_THAT_ARE_COMPARED: &str =
     "{ complicatedArgs { x: stringListArgField(stringListArg: [\"a\", \"b\"]) x: stringListArgField(stringListArg: [\"a\", \"c\"]) } }";
 
@@ -160,8 +154,6 @@ fn a_refused_request_among_pets(rt: HostRuntime) {
         FIELDS_THAT_CONFLICT,
         "Fields \"dog\" conflict because subfields \"x\" conflict because name and barks are different fields. Use different aliases on the fields to fetch both if this was intentional. At 0:2, 0:8, 0:18, 0:24\n0",
     );
-    told(&rt, rt.alloc(), &schema, FIELDS_OF_TWO_KINDS, "0");
-    told(&rt, rt.alloc(), &schema, FRAGMENTS_OF_TWO_KINDS, "1");
     told(
         &rt,
         rt.alloc(),
