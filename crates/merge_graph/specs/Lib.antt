@@ -1,5 +1,6 @@
 pub mod Judging
 pub mod AlikeLaw
+pub mod ExclusiveLaw
 pub mod KinLaw
 pub mod Sets
 pub mod TableGraph

@@ -5,6 +5,7 @@ ghost use Rattle.merge_field_pairs.specs.Numbered.{AreTidy};
 ghost use Rattle.merge_search.specs.Judgement.{Lawful};
 ghost use Rattle.merge_graph.specs.AlikeLaw.{alike_agree};
 ghost use Rattle.merge_graph.specs.Judging.{judgement_of, alike_of, kin_of};
+ghost use Rattle.merge_graph.specs.ExclusiveLaw.{exclusive_judged};
 ghost use Rattle.merge_graph.specs.KinLaw.{kin_judged_alike};
 
 use language::scalar::ScalarValue;
@@ -31,6 +32,8 @@ impl<'a, S: ScalarValue, C> Judge for FieldJudge<'a, S, C> {
     ghost agree = { λ j. alike_agree S.eq j.schema.now (map plain j.fields.items) };
 
     ghost kin_agree = { λ j. kin_judged_alike S.eq j.schema.now (map plain j.fields.items) };
+
+    ghost exclusive_stays = { λ j. exclusive_judged S.eq j.schema.now (map plain j.fields.items) };
 
     fn are_exclusive(&self, exclusive: bool, left: usize, right: usize) -> bool {
         are_exclusive_at(self.fields.as_slice(), exclusive, left, right)

@@ -179,7 +179,7 @@ module _ (w : World) (e : Bool) where
 pub flip_below : {w : World} {a b c d : Entry} → Below w a b c d → Below w b a d c
 flip_below (below sa tb p q same) = below tb sa q p (sym same)
 
-merges_none : {w : World} {e : Bool} {a b : Entry} → Merges w e a b → conflict_of w e a b ≡ false
+pub merges_none : {w : World} {e : Bool} {a b : Entry} → Merges w e a b → conflict_of w e a b ≡ false
 merges_none (merges n next) = n
 
 merges_next : {w : World} {e : Bool} {a b c d : Entry} → Merges w e a b → Below w a b c d → Merges w (exclusive_of w e a b) c d

@@ -12,13 +12,14 @@ use Rattle.merge_search.specs.Judgement.{Lawful}
 use Rattle.merge_search.specs.Graph.{Falling, IsWhole, height}
 use Rattle.merge_search.specs.World.{World, own_of, spreads_of, set_of, conflict_of, exclusive_of, Same}
 use Rattle.merge_search.specs.Log.{Covers}
-use Rattle.merge_search.specs.Work.{pair_in, Searched, Pair, Asked, Done, stood, shallow, deep, clear, OwnPairs, FollowedUp, AllClosed}
+use Rattle.merge_search.specs.Work.{pair_in, Searched, Pair, Asked, Done, stood, shallow, deep, merged, OwnPairs, FollowedUp, AllClosed}
 use Rattle.merge_search.specs.Plain.{IsOnePlain}
-use Rattle.merge_search.specs.Merging.{Stands, own, spread, Below, below, Merges, merges, Way, here, down, Good, Passes, Top}
+use Rattle.merge_search.specs.Merging.{Stands, own, spread, Below, below, Merges, merges, Way, here, down, Good, Passes}
+use Rattle.merge_search.specs.Tops.{Top}
 use Rattle.merge_search.specs.Reports.{Told}
 use Rattle.merge_search.proofs.Laws.{Le, least, even, up, both, conflict_up, exclusive_up, conflict_flip, exclusive_flip, conflict_self, clash, clash_some, same_some}
 use Rattle.merge_search.proofs.Flips.{flip_pair}
-use Rattle.merge_search.proofs.Harmless.{below_clear, sets_clear}
+use Rattle.merge_search.proofs.Harmless.{sets_clear}
 
 place_of : {X : Type 0} (xs : List X) (a : X) (p : Contains xs a) → slice_get xs p.0 ≡ Some a
 place_of xs a p = slice_get-get_or xs p.0 a p.1 ∙ ap (λ x. Some x) p.2
@@ -234,7 +235,7 @@ module _ (w : World) (M : Search) (falling : Falling w.sets w.fragments) (closed
   open_one {e} (stood h r) = good (inl (e, r))
   open_one {e} (shallow n none) = pass e even n (λ c d f. absurd (none_below none f))
   open_one {e} (deep n sa tb oo asked) = pass e even n (λ c d f. at_sets sa tb oo asked f)
-  open_one {e} (clear quiet h) = pass e even (quiet e) (λ c d f. inr (forth (below_clear w h f)))
+  open_one {e} (merged (merges n next)) = pass e even n (λ c d f. inr (forth (merged (next c d f))))
 
   flip_below : {a b c d : Entry} → Below w a b c d → Below w b a d c
   flip_below (below sa tb p q same) = below tb sa q p (sym same)
@@ -275,7 +276,7 @@ module _ (w : World) (M : Search) (falling : Falling w.sets w.fragments) (closed
     exact_one {a = a} {b = b} eq (stood h r) = inl (subst (λ x. conflict_of w x a b ≡ true) eq h, subst (λ x. Contains M.found.items (Direct a b x)) eq r)
     exact_one {a = a} {b = b} eq (shallow n none) = inr (subst (λ x. conflict_of w x a b ≡ false) eq n)
     exact_one {a = a} {b = b} eq (deep n sa tb oo asked) = inr (subst (λ x. conflict_of w x a b ≡ false) eq n)
-    exact_one eq (clear quiet h) = inr (quiet false)
+    exact_one {a = a} {b = b} eq (merged (merges n next)) = inr (subst (λ x. conflict_of w x a b ≡ false) eq n)
 
     exact_pair : {e : Bool} {a b : Entry} → e ≡ false → DoneW e a b → Told w M.found.items a b ⊎ (conflict_of w false a b ≡ false)
     exact_pair eq (forth d) = elim (exact_one eq d) [ inl r ↦ inl (inl r) | inr n ↦ inr n ]

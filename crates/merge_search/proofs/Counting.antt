@@ -9,10 +9,9 @@ use Rattle.std.proofs.lemmas.Bool.{cases_order}
 use Rattle.merge_search.specs.declared.state.Search.{Search}
 use Rattle.merge_search.specs.World.{World, spreads_of}
 use Rattle.merge_search.specs.Work.{pair_in, Pair}
-use Rattle.merge_search.specs.Merging.{Top}
 use Rattle.merge_search.specs.Counts.{Compared, Distinct, Repeats, Tally, greatest}
 use Rattle.merge_search.specs.Sound.{NoRepeats}
-use Rattle.merge_search.specs.Tops.{SamePair, Together}
+use Rattle.merge_search.specs.Tops.{SamePair, Together, Top}
 use Rattle.merge_search.proofs.Distinct.{few_below}
 use Rattle.merge_search.proofs.Flips.{flip_pair}
 use Rattle.merge_search.proofs.Laws.{same_some}

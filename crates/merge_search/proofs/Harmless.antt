@@ -4,10 +4,11 @@ use Rattle.std.specs.List.{All, Contains}
 use Rattle.std.proofs.lemmas.List.Elements.{All-contains}
 use Rattle.merge_search.specs.declared.node.Entry.{Entry}
 use Rattle.merge_search.specs.declared.state.Search.{Search}
-use Rattle.merge_search.specs.World.{World, own_of, spreads_of, set_of, conflict_of, Same}
+use Rattle.merge_search.specs.World.{World, own_of, spreads_of, set_of, conflict_of, exclusive_of, Same}
 use Rattle.merge_search.specs.Plain.{Occurs, IsPlain, plain, IsPlainBelow, IsPlainField}
-use Rattle.merge_search.specs.Merging.{Stands, own, spread, Below, below}
-use Rattle.merge_search.specs.Work.{Done, clear}
+use Rattle.merge_search.specs.Merging.{Stands, own, spread, below, Merges, merges}
+use Rattle.merge_search.specs.Clear.{IsClearBelow}
+use Rattle.merge_search.specs.Work.{Done, merged}
 
 module _ (w : World) where
   pub stands_occur : {s : ℕ} {a : Entry} → Stands w s a → Occurs w a
@@ -34,17 +35,26 @@ module _ (w : World) where
   none_fails {a} {b} e same p q (inl h) = h.name e a b p q refl (sym same)
   none_fails {a} {b} e same p q (inr h) = h.name e a b p q same refl
 
-  -- two fields of one response name, of which one is plain
-  plain_clear : {M : Search} {e : Bool} {a b : Entry} → Same a b → Occurs w a → Occurs w b → IsPlainField w a ⊎ IsPlainField w b → Done w M e a b
-  plain_clear same p q h = clear (λ x. none_fails x same p q h) (elim h [ inl f ↦ inl f.below | inr f ↦ inr f.below ])
+  -- a field of a plain set merges with each field of its response name, and so does each with it
+  plain_left : {x : Bool} {s : ℕ} {c d : Entry} → IsPlain w s → Stands w s c → Occurs w d → Same c d → Merges w x c d
+  plain_left {x} {s} {c} {d} (plain names sets spreads) (own p) q same =
+      merges {a = c} {b = d} (names c p x c d (s, p) q refl (sym same)) (λ c' d' f. elim f [ below {s = u} sa tb p' q' same' ↦ plain_left {x = exclusive_of w x c d} (sets c u p sa) p' (stands_occur q') same' ])
+  plain_left (plain names sets spreads) (spread {f = f} v p) q same = plain_left (spreads f v) p q same
 
-  pub below_clear : {M : Search} {e : Bool} {a b c d : Entry} → IsPlainBelow w a ⊎ IsPlainBelow w b → Below w a b c d → Done w M e c d
-  below_clear (inl h) (below {s = s} sa tb p q same) = plain_clear same (stands_occur p) (stands_occur q) (inl (stands_plain (h s sa) p))
-  below_clear (inr h) (below {t = t} sa tb p q same) = plain_clear same (stands_occur p) (stands_occur q) (inr (stands_plain (h t tb) q))
+  plain_right : {x : Bool} {t : ℕ} {c d : Entry} → IsPlain w t → Occurs w c → Stands w t d → Same c d → Merges w x c d
+  plain_right {x} {t} {c} {d} (plain names sets spreads) q (own p) same =
+      merges {a = c} {b = d} (names d p x c d q (t, p) same refl) (λ c' d' f. elim f [ below {t = u} sa tb p' q' same' ↦ plain_right {x = exclusive_of w x c d} (sets d u p tb) (stands_occur p') q' same' ])
+  plain_right (plain names sets spreads) q (spread {f = f} v p) same = plain_right (spreads f v) q p same
+
+  pub sets_merge : {x : Bool} {s t : ℕ} {a b : Entry} → IsPlain w s ⊎ IsPlain w t → Stands w s a → Stands w t b → Same a b → Merges w x a b
+  sets_merge (inl h) p q same = plain_left h p (stands_occur q) same
+  sets_merge (inr h) p q same = plain_right h (stands_occur p) q same
+
+  pub below_merges : {e : Bool} {a b : Entry} → IsPlainBelow w a → IsClearBelow w e a b
+  below_merges h c d (below {s = s} sa tb p q same) = plain_left (h s sa) p (stands_occur q) same
 
   pub sets_clear : {M : Search} {e : Bool} {s t : ℕ} {a b : Entry} → IsPlain w s ⊎ IsPlain w t → Stands w s a → Stands w t b → Same a b → Done w M e a b
-  sets_clear (inl h) p q same = plain_clear same (stands_occur p) (stands_occur q) (inl (stands_plain h p))
-  sets_clear (inr h) p q same = plain_clear same (stands_occur p) (stands_occur q) (inr (stands_plain h q))
+  sets_clear h p q same = merged (sets_merge h p q same)
 
   pub sets_quiet : {s t : ℕ} {a b : Entry} (e : Bool) → IsPlain w s ⊎ IsPlain w t → Stands w s a → Stands w t b → Same a b → conflict_of w e a b ≡ false
   sets_quiet e (inl h) p q same = none_fails e same (stands_occur p) (stands_occur q) (inl (stands_plain h p))

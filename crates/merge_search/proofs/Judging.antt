@@ -15,10 +15,10 @@ use Rattle.merge_search.specs.Graph.{Falling, AreListed, IsWhole}
 use Rattle.merge_search.specs.World.{World, HasRoom, own_of, spreads_of, set_of, conflict_of, Same}
 use Rattle.merge_search.specs.Opening.{ReachedFrom, Opens}
 use Rattle.merge_search.specs.Work.{pair_in, search_in, OwnPairs, Done, AllClosed, Grows, Did}
-use Rattle.merge_search.specs.Merging.{Stands, own, spread, Apart, own_own, own_spread, spread_own, two_spreads, one_spread, SetMerges, Merges, Top, OwnWritten}
+use Rattle.merge_search.specs.Merging.{Stands, own, spread, Apart, own_own, own_spread, spread_own, two_spreads, one_spread, SetMerges, Merges}
 use Rattle.merge_search.specs.Reports.{Root, Judged, Real, AddsAll, AtOwn, AtPlaces, AtSearched, IsRoot}
 use Rattle.merge_search.specs.State.{Begins}
-use Rattle.merge_search.specs.Tops.{AtTop, AtWithin, AtWritten, AtSpreads, AtListed}
+use Rattle.merge_search.specs.Tops.{AtTop, AtWithin, AtWritten, AtSpreads, AtListed, OwnWritten, Top}
 use Rattle.merge_search.proofs.Adding.{Upto, refuted, roots_of, no_root}
 use Rattle.merge_search.proofs.Laws.{clash, conflict_self, same_some}
 use Rattle.merge_search.proofs.Work.{grows_same, grows_then}

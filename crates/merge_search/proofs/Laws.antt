@@ -1,5 +1,6 @@
 -- The judgement of two fields, under both flags and in both orders.
 use Rattle.std.proofs.Common.{ℕ, Option, Some, Bool, false, true, ◌≡◌, refl, sym, subst, ◌∙◌}
+use Rattle.std.specs.Bool.{OnTrue}
 use Rattle.merge_search.specs.declared.node.Entry.{Entry}
 use Rattle.merge_search.specs.Judgement.{Lawful}
 use Rattle.merge_search.specs.World.{World, conflict_of, exclusive_of}
@@ -15,6 +16,14 @@ up even = least
 pub both : {a b c : Bool} → Le a b → Le b c → Le a c
 both least k = least
 both even k = k
+
+pub on_true_weaker : {P Q : Type 0} (b : Bool) → (P → Q) → OnTrue b P → OnTrue b Q
+on_true_weaker true f h = f h
+on_true_weaker false f h = h
+
+pub both_flags : (P : Bool → Type 0) (e : Bool) → P true → P false → P e
+both_flags P true p q = p
+both_flags P false p q = q
 
 pub clash : (b : Bool) → b ≡ true → b ≡ false → ⊥
 clash b p q = cc

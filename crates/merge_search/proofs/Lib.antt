@@ -1,6 +1,6 @@
 pub mod Adding
 pub mod Again
-pub mod Clear
+pub mod Clearing
 pub mod Harmless
 pub mod NamesSeen
 pub mod Core
@@ -12,6 +12,7 @@ pub mod Judging
 pub mod OneOfKind
 pub mod Laws
 pub mod Leading
+pub mod Merged
 pub mod Logs
 pub mod Opened
 pub mod Order

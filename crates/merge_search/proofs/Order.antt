@@ -9,9 +9,8 @@ use Rattle.merge_search.specs.declared.state.Search.{Search}
 use Rattle.merge_search.specs.Names.{named, AreListed}
 use Rattle.merge_search.specs.World.{World, own_of}
 use Rattle.merge_search.specs.Work.{Done}
-use Rattle.merge_search.specs.Merging.{OwnWithin}
 use Rattle.merge_search.specs.Reports.{Root}
-use Rattle.merge_search.specs.Tops.{AllBefore, AtBefore, AtRest, AtWithin}
+use Rattle.merge_search.specs.Tops.{AllBefore, AtBefore, AtRest, AtWithin, OwnWithin}
 use Rattle.merge_search.proofs.Rows.{listed_in, named_is, kept}
 use Rattle.merge_search.proofs.Work.{no_entry}
 
@@ -108,7 +107,7 @@ row_rest xs k lt r h =
     let z = rest_places xs k r.right h.1 in
     (k, z.0, z.1, slice_get-get_or xs k no_entry lt ∙ ap (λ y. Some y) (sym h.0), z.2)
 
-in_rest : {X : Type 0} (xs : List X) (k l : ℕ) (x : X) → k < l → slice_get xs l ≡ Some x → Contains (drop (k + 1) xs) x
+pub in_rest : {X : Type 0} (xs : List X) (k l : ℕ) (x : X) → k < l → slice_get xs l ≡ Some x → Contains (drop (k + 1) xs) x
 in_rest xs k l x lt p =
     let inside : l < length xs = slice_get_within xs l x p in
     let moved : (k + 1) + (l - (k + 1)) ≡ l = omega (arith, lt) in

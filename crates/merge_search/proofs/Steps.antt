@@ -11,17 +11,21 @@ use Rattle.merge_search.specs.declared.node.SetNode.{SetNode}
 use Rattle.merge_search.specs.declared.state.Search.{Search}
 use Rattle.merge_search.specs.Names.{named, AreListed}
 use Rattle.merge_search.specs.Indexed.{firsts_of}
-use Rattle.merge_search.specs.World.{World, HasRoom, own_of, spreads_of, set_of, exclusive_of}
+use Rattle.merge_search.specs.World.{World, HasRoom, own_of, spreads_of, set_of, conflict_of, exclusive_of}
 use Rattle.merge_search.specs.Opening.{Opens}
 use Rattle.merge_search.specs.State.{Keeps, NotesPair, NotesSearch, CountsList}
+use Rattle.merge_search.specs.Work as done
+use Rattle.merge_search.specs.Merging.{Merges}
+use Rattle.merge_search.specs.Clear.{IsClear}
 use Rattle.merge_search.specs.Work.{pair_in, Did, Owes, Done, Searched, Pair, OwnPairs, AllClosed}
 use Rattle.merge_search.specs.Reports.{Root, Adds, AddsAll, AtFields, AtWith, AtNamed, AtOwn, AtSearch, AtFirst}
 use Rattle.merge_search.specs.declared.task.Partner.TheVariants as partner
 use Rattle.merge_search.specs.declared.task.Task.{Task}
-use Rattle.merge_search.specs.declared.task.Task.TheVariants.{With, Named, Own, Close, Opened, Mark, Spreads}
-use Rattle.merge_search.specs.Tasks.{Meets, firsts_at, AtPartners, Compares, Searches, SearchesOwing, ComparesEach, MeetsNested, MeetsBelow, MeetsNamed, MeetsOne, MeetsSearch, MeetsFragments, WithDone, NameDone, SpreadsSearched, Closes}
+use Rattle.merge_search.specs.declared.task.Task.TheVariants.{With, Own, Close, Opened, Mark, Spreads}
+use Rattle.merge_search.specs.Tasks.{Meets, firsts_at, AtPartners, Compares, Searches, SearchesOwing, ComparesEach, MeetsNested, MeetsBelow, MeetsNamed, MeetsRows, MeetsOne, MeetsSearch, MeetsFragments, WithDone, NameDone, SpreadsSearched, Closes}
 use Rattle.merge_search.proofs.Work.{did_none, did_full, owes_full, did_then, did_map, did_list, did_opened, did_fragments, did_report, did_kept, owes_search, grows_then}
-use Rattle.merge_search.proofs.Adding.{all_full, adds_none, adds_map, adds_then, adds_from, adds_node, adds_same, all_both, all_map, all_told}
+use Rattle.merge_search.proofs.Laws.{clash}
+use Rattle.merge_search.proofs.Adding.{all_full, merges_none, adds_none, adds_map, adds_then, adds_from, adds_node, adds_same, all_both, all_map, all_told}
 use Rattle.merge_search.proofs.Rows.{named_in, named_is, row_named, tell_with, tell_named, tell_own, own_pairs, row_first, row_second, row_fragments, row_nested, row_below_own, row_below_forth, row_below_back, row_below_spreads}
 
 pub drop_next : {X : Type 0} (ys xs : List X) (k : ℕ) (d : X) → ys ≡ xs → k < length ys → drop k xs ≡ get_or ys k d ∷ drop (k + 1) xs
@@ -107,9 +111,25 @@ module _ (w : World) (e : Bool) where
     };
   }
 
-  -- fields of one response name that are all alike
-  pub named_alike : (i j n : ℕ) (s t : Search) → MeetsNamed w e i j n s t → ComparesEach w e (WithDone w e j) (AtNamed w i j n) (λ a. AtWith w a j) (named n (own_of w i)) s t
-  named_alike i j n s t d = record { done = d.done; real = all_told w e _ _ _ (λ r at. row_named w (at.0) i j n r (at.1) (at.2)) d.real }
+  -- the fields of one response name, one after the other
+  pub rows_named : (i j n : ℕ) (fields : List Entry) (s t : Search) → fields ≡ named n (own_of w i) → MeetsRows w e j fields s t → MeetsNamed w e i j n s t
+  rows_named i j n fields s t is d = named_whole i j n s t (subst (λ xs. ComparesEach w e (WithDone w e j) (AtNamed w i j n) (λ a. AtWith w a j) xs s t) is (record {
+    done = d.done;
+    real = all_map w e _ (AtNamed w i j n) _ (λ r at. row_named w at.0 i j n r (subst (λ xs. Contains xs (at.0)) is at.1) at.2) d.real;
+  }))
+
+  -- a field that merges with all of its response name
+  pub with_clear : (a : Entry) (j : ℕ) (s : Search) → IsClear w e a (named a.response (own_of w j)) → Compares w e (WithDone w e j a) (AtWith w a j) (AtWith w a j) s s
+  with_clear a j s clear = record {
+    done = did_none w _ s (λ M grown k d l. done.merged (clear k d l));
+    real = record {
+      adds = adds_none w e (AtWith w a j) s.found.items;
+      tells = λ room r at fails.
+          let z = tell_with w a j r at in
+          absurd (clash (conflict_of w e r.left r.right) fails
+          (subst (λ x. conflict_of w e x r.right ≡ false) (sym (at.0)) (subst (λ y. conflict_of w e a y ≡ false) (sym (z.2.1)) (merges_none (All-contains (λ b. Merges w e a b) (named a.response (own_of w j)) (z.0) clear (z.1))))));
+    };
+  }
 
   -- the sets below two fields, and the report of the two
   pub nested_closed : (a b : Entry) (i j : ℕ) (s t u : Search) → MeetsBelow w (exclusive_of w e a b) i j s t → Closes a b (length s.found.items) t u → MeetsNested w e a b i j s u
@@ -246,7 +266,6 @@ module _ (w : World) (e : Bool) where
 
 pub skipped : (w : World) (t : Task) (s : Search) → (HasRoom w s.found.items → ⊥) → ((a b : Entry) (n : ℕ) → t ≡ Close a b n → ⊥) → ((i n : ℕ) → t ≡ Mark i n → ⊥) → Meets w t s s
 skipped w (With a j e n) s full close mark = compares_full w e _ _ _ s full
-skipped w (Named i j name e m) s full close mark = compares_full w e _ _ _ s full
 skipped w (Own i j e k) s full close mark = compares_full w e _ _ _ s full
 skipped w (Close a b n) s full close mark = absurd (close a b n refl)
 skipped w (Opened i g e opening k) s full close mark = λ reached. owing_full w e _ _ _ s full

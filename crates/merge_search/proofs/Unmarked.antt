@@ -5,10 +5,10 @@ use Rattle.std.proofs.lemmas.List.Elements.{All-contains, All-weaker}
 use Rattle.merge_search.specs.declared.state.Search.{Search}
 use Rattle.merge_search.specs.declared.state.Finding.{Finding}
 use Rattle.merge_search.specs.World.{World, set_of}
-use Rattle.merge_search.specs.Merging.{own, OwnWritten}
+use Rattle.merge_search.specs.Merging.{own}
 use Rattle.merge_search.specs.Plain.{IsPlain}
 use Rattle.merge_search.specs.Reports.{AddsAll}
-use Rattle.merge_search.specs.Tops.{AreAllBut, AtSpreads}
+use Rattle.merge_search.specs.Tops.{AreAllBut, AtSpreads, OwnWritten}
 use Rattle.merge_search.proofs.Adding.{all_map}
 use Rattle.merge_search.proofs.Harmless.{sets_clear, sets_quiet}
 use Rattle.merge_search.proofs.Laws.{clash}

@@ -1,15 +1,54 @@
 -- Fields between which there is nothing to find.
-use Rattle.std.specs.Prelude.{List, None, ◌≡◌}
-use Rattle.std.specs.List.{All}
+use Rattle.std.specs.Prelude.{ℕ, List, Bool, Some, None, true, false, ◌≡◌, ◌⊎◌, slice_get}
+use Rattle.std.specs.List.{All, Contains}
+use Rattle.bit_matrix.specs.Set.{has}
+use Rattle.bit_matrix.specs.declared.set.BitSet.{BitSet}
 use Rattle.merge_search.specs.declared.node.Entry.{Entry}
-use Rattle.merge_search.specs.Judgement.{NoneConflict}
-use Rattle.merge_search.specs.Plain.{IsPlainBelow}
-use Rattle.merge_search.specs.World.{World}
+use Rattle.merge_search.specs.declared.below.Below.{Below}
+use Rattle.merge_search.specs.Merging.{Merges}
+use Rattle.merge_search.specs.Merging as merging
+use Rattle.merge_search.specs.World.{World, exclusive_of}
 
 -- Nothing stands below any of them.
 abbrev pub AreLeaves : List Entry → Type 0
 AreLeaves fields = All (λ a. a.below ≡ None) fields
 
--- No field of the one list fails with one of the other, and what stands below those of the first is plain.
-abbrev pub AreClear : World → List Entry → List Entry → Type 0
-AreClear w left right = All (IsPlainBelow w) left × NoneConflict w.judgement left right
+-- The field merges with each of some others.
+abbrev pub IsClear : World → Bool → Entry → List Entry → Type 0
+IsClear w e a others = All (λ b. Merges w e a b) others
+
+-- Each field of the one list merges with each of the other.
+abbrev pub AreClear : World → Bool → List Entry → List Entry → Type 0
+AreClear w e left right = All (λ a. IsClear w e a right) left
+
+-- Each field whose place is listed merges with each of the others.
+abbrev pub AreClearRows : World → Bool → List Entry → List Entry → BitSet → Type 0
+AreClearRows w e left right rows = (k : ℕ) (a : Entry) → slice_get left k ≡ Some a → has rows k ≡ true → IsClear w e a right
+
+-- What stands below the two fields merges.
+abbrev pub IsClearBelow : World → Bool → Entry → Entry → Type 0
+IsClearBelow w e a b = (c d : Entry) → merging.Below w a b c d → Merges w (exclusive_of w e a b) c d
+
+-- What stands below a field of the one list merges with what stands below one of the other.
+abbrev pub AreClearBelow : World → Bool → List Entry → List Entry → Type 0
+AreClearBelow w e left right = (a b : Entry) → Contains left a → Contains right b → IsClearBelow w e a b
+
+-- What stands below each two of the fields at some places merges.
+abbrev pub MergeBelow : World → List Entry → List ℕ → Type 0
+MergeBelow w fields places =
+    (k l : ℕ) (a b : Entry) → Contains places k → Contains places l → slice_get fields k ≡ Some a → slice_get fields l ≡ Some b
+    → IsClearBelow w false a b
+
+-- The fields at the two places are among those of which this is known.
+abbrev pub IsKnownBelow : Below → ℕ → ℕ → Type 0
+IsKnownBelow known k l = (known.of_all ≡ true) ⊎ ((has known.places k ≡ true) × (has known.places l ≡ true))
+
+-- What is known is true.
+abbrev pub KnowsBelow : World → List Entry → Below → Type 0
+KnowsBelow w fields known =
+    (k l : ℕ) (a b : Entry) → IsKnownBelow known k l → slice_get fields k ≡ Some a → slice_get fields l ≡ Some b → IsClearBelow w false a b
+
+-- Some of the fields after one: all but those below which it merges with the one.
+pub record AreOthers (w : World) (a : Entry) (rest others : List Entry) : Type 0 where
+  pub all : All (λ b. Contains others b ⊎ IsClearBelow w false a b) rest
+  pub only : All (λ b. Contains rest b) others

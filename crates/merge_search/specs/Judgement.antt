@@ -17,9 +17,13 @@ pub record Lawful (j : Judgement) : Type 0 where
   pub conflict_flip : (e : Bool) (a b : ℕ) → j.conflict e b a ≡ j.conflict e a b
   pub conflict_self : (e : Bool) (a : ℕ) → j.conflict e a a ≡ false
 
--- No field of the one list fails with one of the other, whatever the flag.
-abbrev pub NoneConflict : Judgement → List Entry → List Entry → Type 0
-NoneConflict j left right = (e : Bool) → All (λ a. All (λ b. j.conflict e a.field b.field ≡ false) right) left
+-- No field of the one list fails with one of the other.
+abbrev pub NoneConflict : Judgement → Bool → List Entry → List Entry → Type 0
+NoneConflict j e left right = All (λ a. All (λ b. j.conflict e a.field b.field ≡ false) right) left
+
+-- Below fields that are exclusive all are.
+abbrev pub ExclusiveStays : Judgement → Type 0
+ExclusiveStays j = (a b : ℕ) → j.exclusive true a b ≡ true
 
 -- Two fields that are like a third fail with each other under no flag.
 abbrev pub AlikeAgree : Judgement → (ℕ → ℕ → Type 0) → Type 0

@@ -4,13 +4,14 @@ pub mod Kinds
 pub mod Indexed
 pub mod Graph
 pub mod World
+pub mod Merging
 pub mod Clear
+pub mod Quiet
 pub mod Plain
 pub mod Firsts
 pub mod Log
 pub mod Opening
 pub mod Work
-pub mod Merging
 pub mod Reports
 pub mod Counts
 pub mod State

@@ -1,12 +1,10 @@
 -- When fields can be merged, over a graph of numbered sets.
-use Rattle.std.specs.Prelude.{ℕ, ◌<◌, List, Some, Bool, true, false, ◌≡◌, ◌⊎◌, slice_get}
-use Rattle.std.specs.List.{All, Contains}
+use Rattle.std.specs.Prelude.{ℕ, List, Some, Bool, true, false, ◌≡◌, ◌⊎◌, slice_get}
+use Rattle.std.specs.List.{Contains}
 use Rattle.merge_search.specs.declared.node.Entry.{Entry}
-use Rattle.merge_search.specs.declared.state.Search.{Search}
 use Rattle.merge_search.specs.declared.state.Finding.{Finding}
 use Rattle.merge_search.specs.declared.state.Finding.TheVariants.{Direct}
 use Rattle.merge_search.specs.World.{World, own_of, spreads_of, set_of, conflict_of, exclusive_of, Same}
-use Rattle.merge_search.specs.Work.{Pair, Done}
 
 -- The field stands in the set, what it spreads written out.
 pub data Stands (w : World) : ℕ → Entry → Type 0 where
@@ -46,22 +44,3 @@ Passes found {a = a} {b = b} (down f v) = Good found a b ⊎ Passes found v
 
 abbrev pub SetMerges : World → ℕ → Type 0
 SetMerges w s = (a b : Entry) → Apart w s a b → Same a b → Merges w false a b
-
--- Two own fields, the first before the second.
-abbrev pub OwnWithin : World → Search → ℕ → Type 0
-OwnWithin w M s = (k l : ℕ) (a b : Entry) → k < l → slice_get (own_of w s) k ≡ Some a
-    → slice_get (own_of w s) l ≡ Some b → Same a b → Done w M false a b
-
--- The own fields of a set, and a fragment written out.
-abbrev pub OwnWritten : World → Search → ℕ → ℕ → Type 0
-OwnWritten w M s f = (a b : Entry) → Contains (own_of w s) a → Stands w (set_of w f) b → Same a b → Done w M false a b
-
--- Each two fragments that a set spreads.
-abbrev pub SpreadsWithin : World → Search → ℕ → Type 0
-SpreadsWithin w M s =
-    (k l f g : ℕ) → k < l → slice_get (spreads_of w s) k ≡ Some f → slice_get (spreads_of w s) l ≡ Some g
-    → Pair M false f g
-
--- What the search asks of one set.
-abbrev pub Top : World → Search → ℕ → Type 0
-Top w M s = OwnWithin w M s × All (λ f. OwnWritten w M s f) (spreads_of w s) × SpreadsWithin w M s

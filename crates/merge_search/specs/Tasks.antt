@@ -1,16 +1,19 @@
 -- What the tasks of a search make of its state.
-use Rattle.std.specs.Prelude.{ℕ, ◌<◌, ◌≤◌, ◌-◌, List, [], ◌∷◌, length, drop, reverse, Bool, Some, false, ◌≡◌, ◌⊎◌}
+use Rattle.std.specs.Prelude.{ℕ, ◌<◌, ◌≤◌, ◌-◌, List, [], ◌∷◌, length, drop, reverse, Bool, Some, true, false, ◌≡◌, ◌⊎◌}
 use Rattle.std.specs.Prelude.{slice_get}
 use Rattle.std.specs.Option.{option_map_or}
 use Rattle.std.specs.List.{All, Contains}
+use Rattle.bit_matrix.specs.Set.{has}
+use Rattle.bit_matrix.specs.declared.set.BitSet.{BitSet}
 use Rattle.merge_search.specs.declared.node.Entry.{Entry}
 use Rattle.merge_search.specs.declared.node.SetNode.{SetNode}
 use Rattle.merge_search.specs.declared.state.Search.{Search}
 use Rattle.merge_search.specs.declared.state.Finding.TheVariants.{Nested}
 use Rattle.merge_search.specs.declared.task.Task.{Task}
-use Rattle.merge_search.specs.declared.task.Task.TheVariants.{With, Named, Own, Close, Opened, Mark, Spreads}
+use Rattle.merge_search.specs.declared.task.Task.TheVariants.{With, Own, Close, Opened, Mark, Spreads}
 use Rattle.merge_search.specs.declared.task.Partner.{Partner}
 use Rattle.merge_search.specs.declared.task.Partner.TheVariants as partner
+use Rattle.merge_search.specs.Clear.{IsClear}
 use Rattle.merge_search.specs.Names.{named}
 use Rattle.merge_search.specs.Indexed.{firsts_of}
 use Rattle.merge_search.specs.World.{World, own_of, spreads_of, set_of, conflict_of, exclusive_of}
@@ -66,6 +69,21 @@ NameDone w e i j f M = All (λ a. All (λ b. Done w M e a b) (named a.response (
 abbrev pub MeetsNamed : World → Bool → ℕ → ℕ → ℕ → Search → Search → Type 0
 MeetsNamed w e i j n = Compares w e (λ M. All (λ a. WithDone w e j a M) (named n (own_of w i))) (AtNamed w i j n) (AtNamed w i j n)
 
+abbrev pub MeetsWith : World → Bool → Entry → ℕ → Search → Search → Type 0
+MeetsWith w e a j = Compares w e (WithDone w e j a) (AtWith w a j) (AtWith w a j)
+
+-- Some fields, each with the own fields of a set that have its response name.
+abbrev pub AtRows : World → ℕ → List Entry → Root → Type 0
+AtRows w j fields r = (a : Entry) × Contains fields a × AtWith w a j r
+
+abbrev pub MeetsRows : World → Bool → ℕ → List Entry → Search → Search → Type 0
+MeetsRows w e j fields = ComparesEach w e (WithDone w e j) (AtRows w j fields) (λ a. AtWith w a j) fields
+
+-- Each field whose place is listed merges with those of the set.
+abbrev pub AreClearWith : World → Bool → ℕ → List Entry → BitSet → Type 0
+AreClearWith w e j fields rows =
+    (k : ℕ) (a : Entry) → slice_get fields k ≡ Some a → has rows k ≡ true → IsClear w e a (named a.response (own_of w j))
+
 -- What a fragment spreads was compared with the set.
 abbrev pub SpreadsSearched : World → Search → Bool → ℕ → ℕ → Type 0
 SpreadsSearched w M e i g = All (λ h. Searched M e i h) (spreads_of w (set_of w g))
@@ -117,9 +135,6 @@ abbrev pub Meets : World → Task → Search → Search → Type 0
 Meets w (With a j e n) old new =
     ComparesEach w e (λ b M. Done w M e a b) (AtWith w a j) (λ b. AtFields a b)
     (drop n (named a.response (own_of w j))) old new
-Meets w (Named i j name e m) old new =
-    ComparesEach w e (WithDone w e j) (AtNamed w i j name) (λ a. AtWith w a j)
-    (drop m (named name (own_of w i))) old new
 Meets w (Own i j e k) old new =
     ComparesEach w e (NameDone w e i j) (AtOwn w i j) (λ f. AtNamed w i j f.response)
     (drop k (firsts_at w.sets i)) old new

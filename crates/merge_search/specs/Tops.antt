@@ -7,9 +7,28 @@ use Rattle.merge_search.specs.declared.node.Entry.{Entry}
 use Rattle.merge_search.specs.declared.state.Search.{Search}
 use Rattle.merge_search.specs.World.{World, own_of, spreads_of, set_of, Same}
 use Rattle.merge_search.specs.Plain.{IsPlain}
-use Rattle.merge_search.specs.Work.{Pair}
+use Rattle.merge_search.specs.Work.{Pair, Done}
 use Rattle.merge_search.specs.Merging.{Stands}
 use Rattle.merge_search.specs.Reports.{Root, AtFragments}
+
+-- Two own fields, the first before the second.
+abbrev pub OwnWithin : World → Search → ℕ → Type 0
+OwnWithin w M s = (k l : ℕ) (a b : Entry) → k < l → slice_get (own_of w s) k ≡ Some a
+    → slice_get (own_of w s) l ≡ Some b → Same a b → Done w M false a b
+
+-- The own fields of a set, and a fragment written out.
+abbrev pub OwnWritten : World → Search → ℕ → ℕ → Type 0
+OwnWritten w M s f = (a b : Entry) → Contains (own_of w s) a → Stands w (set_of w f) b → Same a b → Done w M false a b
+
+-- Each two fragments that a set spreads.
+abbrev pub SpreadsWithin : World → Search → ℕ → Type 0
+SpreadsWithin w M s =
+    (k l f g : ℕ) → k < l → slice_get (spreads_of w s) k ≡ Some f → slice_get (spreads_of w s) l ≡ Some g
+    → Pair M false f g
+
+-- What the search asks of one set.
+abbrev pub Top : World → Search → ℕ → Type 0
+Top w M s = OwnWithin w M s × All (λ f. OwnWritten w M s f) (spreads_of w s) × SpreadsWithin w M s
 
 abbrev pub AtRest : Entry → List Entry → Root → Type 0
 AtRest a rest r = (r.left ≡ a) × Contains rest r.right

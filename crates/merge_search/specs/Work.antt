@@ -7,7 +7,8 @@ use Rattle.merge_search.specs.declared.state.Finding.{Finding}
 use Rattle.merge_search.specs.declared.state.Finding.TheVariants.{Direct}
 use Rattle.merge_search.specs.World.{World, HasRoom, own_of, spreads_of, set_of, conflict_of, exclusive_of, Same}
 use Rattle.merge_search.specs.Log.{in_log, Covers}
-use Rattle.merge_search.specs.Plain.{IsPlainBelow, IsOnePlain}
+use Rattle.merge_search.specs.Plain.{IsOnePlain}
+use Rattle.merge_search.specs.Merging.{Merges}
 use Rattle.merge_search.specs.Counts.{Tally}
 
 -- Two fragments were compared under the flag, in either order.
@@ -30,16 +31,15 @@ Asked w M x s t =
     × All (λ h. Searched M x t h) (spreads_of w s)
     × All (λ g. All (λ h. Pair M x g h) (spreads_of w t)) (spreads_of w s)
 
--- The pair was compared: its fault is in the list, or all that stands below was asked for. Or the two never fail, and what
--- stands below one of them is plain.
+-- The pair was compared: its fault is in the list, or all that stands below was asked for. Or it is known that the two
+-- merge.
 pub data Done (w : World) (M : Search) : Bool → Entry → Entry → Type 0 where
   stood : {e : Bool} {a b : Entry} → conflict_of w e a b ≡ true → Contains M.found.items (Direct a b e) → Done w M e a b
   shallow : {e : Bool} {a b : Entry} → conflict_of w e a b ≡ false → (a.below ≡ None) ⊎ (b.below ≡ None) → Done w M e a b
   deep : {e : Bool} {a b : Entry} {s t : ℕ} → conflict_of w e a b ≡ false → a.below ≡ Some s → b.below ≡ Some t
       → ((c d : Entry) → Contains (own_of w s) c → Contains (own_of w t) d → Same c d → Done w M (exclusive_of w e a b) c d)
       → Asked w M (exclusive_of w e a b) s t → Done w M e a b
-  clear : {e : Bool} {a b : Entry} → ((x : Bool) → conflict_of w x a b ≡ false) → IsPlainBelow w a ⊎ IsPlainBelow w b
-      → Done w M e a b
+  merged : {e : Bool} {a b : Entry} → Merges w e a b → Done w M e a b
 
 abbrev pub OwnPairs : World → Search → Bool → ℕ → ℕ → Type 0
 OwnPairs w M e s t = (c d : Entry) → Contains (own_of w s) c → Contains (own_of w t) d → Same c d → Done w M e c d

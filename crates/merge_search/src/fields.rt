@@ -1,16 +1,23 @@
 //! The steps of a search that compare fields.
 ghost use Rattle.std.specs.Prelude.{◌≡◌, OnOk, Bool, reverse};
 ghost use Rattle.merge_search.specs.declared.state.Search.{Search};
-ghost use Rattle.merge_search.specs.World.{world};
-ghost use Rattle.merge_search.specs.Tasks.{Turns, Waits, Meets, MeetsFields, MeetsNested, MeetsBelow, Closes};
+ghost use Rattle.std.specs.Bool.{OnTrue};
+ghost use Rattle.merge_search.specs.Clear.{IsClear};
+ghost use Rattle.merge_search.specs.Names.{named};
+ghost use Rattle.merge_search.specs.World.{World, world, own_of};
+ghost use Rattle.merge_search.specs.Tasks.{Turns, Waits, Meets, MeetsFields, MeetsNamed, MeetsNested, MeetsBelow};
+ghost use Rattle.merge_search.specs.Tasks.{AreClearWith, Closes, MeetsRows, MeetsWith};
 ghost use Rattle.merge_search.specs.declared.task.Task.{Task};
 
+use crate::clear::{are_clear, clear_rows};
 use crate::graph::Graph;
 use crate::judge::Judge;
+use crate::leaves::compare_leaves;
 use crate::node::Entry;
 use crate::state::{Finding, Search, report};
 use crate::task::{Partner, Task, wait};
-use crate::view::{are_clear, are_exclusive, are_in_conflict, first_of_names, group, spreads};
+use crate::view::{are_exclusive, are_in_conflict, first_of_names, group, spreads};
+use bit_matrix::set::BitSet;
 use std::alloc::AllocError;
 
 /// Compares two fields of one response name; what stands below them waits.
@@ -97,44 +104,74 @@ pub(crate) fn next_with<J: Judge>(
     if n >= fields.len() {
         return Ok(());
     }
+    if a.below.is_none() {
+        return compare_leaves(graph, a, &fields[n..], e, search);
+    }
     wait(tasks, Task::With(a, j, e, n + 1), fields.len() - (n + 1))?;
     begin_fields(graph, a, fields[n], e, tasks, search)
 }
 
-/// Compares the next of the own fields of one response name with those of another set. Where none of
-/// them fails with one of those, all are passed at once.
-///
-/// # Errors
-///
-/// Out of memory.
-pub(crate) fn next_named<J: Judge>(
+// Lets a field wait, unless it is known to merge with the own fields of a set.
+fn wait_with(
+    a: Entry,
+    is_clear: bool,
+    j: usize,
+    e: bool,
+    tasks: &mut Vec<Task>,
+) -> Result<(), AllocError>
+    ensures { OnOk result ((w : World) → OnTrue is_clear (IsClear w e a (named a.response (own_of w j)))
+        → Waits w (reverse tasks.new.items) (MeetsWith w e a j) (reverse tasks.old.items)) }
+{
+    if is_clear {
+        return Ok(());
+    }
+    tasks.push(Task::With(a, j, e, 0))?;
+    Ok(())
+}
+
+// Lets those of some fields wait of which it isn't known that they merge with the own fields of a set.
+fn wait_rows(
+    fields: &[Entry],
+    clear: &BitSet,
+    j: usize,
+    e: bool,
+    tasks: &mut Vec<Task>,
+) -> Result<(), AllocError>
+    ensures { OnOk result ((w : World) → AreClearWith w e j fields.now clear.now
+        → Waits w (reverse tasks.new.items) (MeetsRows w e j fields.now) (reverse tasks.old.items)) }
+{
+    let mut k = fields.len();
+    while k > 0 {
+        k -= 1;
+        wait_with(fields[k], clear.contains(k), j, e, tasks)?;
+    }
+    Ok(())
+}
+
+/// Compares the own fields of one response name with those of another set. Those that are known to merge with all of
+/// them are passed.
+fn next_named<J: Judge>(
     graph: &Graph<J>,
     i: usize,
     j: usize,
     name: usize,
     e: bool,
-    m: usize,
     tasks: &mut Vec<Task>,
     search: &mut Search,
 ) -> Result<(), AllocError>
     ensures { let w = world J.judgement graph.now in
-        OnOk result (Turns w (Meets w (Task.Named i j name e m)) tasks.old.items tasks.new.items
-        search.old search.new) }
+        OnOk result (Turns w (MeetsNamed w e i j name) tasks.old.items tasks.new.items search.old search.new) }
 {
     let fields = group(graph, i, name);
-    if m >= fields.len() {
-        return Ok(());
+    if fields.len() == 1 {
+        return next_with(graph, fields[0], j, e, 0, tasks, search);
     }
     let others = group(graph, j, name);
-    if m == 0 && fields.len() > 1 && are_clear(search.alloc, graph, fields, others)? {
+    if are_clear(graph, search, e, fields, others)? {
         return Ok(());
     }
-    wait(
-        tasks,
-        Task::Named(i, j, name, e, m + 1),
-        fields.len() - (m + 1),
-    )?;
-    next_with(graph, fields[m], j, e, 0, tasks, search)
+    let clear = clear_rows(graph, search, e, fields, others)?;
+    wait_rows(fields, &clear, j, e, tasks)
 }
 
 /// The next place from that one on whose response name the other set has too.
@@ -180,7 +217,7 @@ pub(crate) fn next_own<J: Judge>(
         Task::Own(i, j, e, next + 1),
         firsts.len() - (next + 1),
     )?;
-    next_named(graph, i, j, firsts[next].response, e, 0, tasks, search)
+    next_named(graph, i, j, firsts[next].response, e, tasks, search)
 }
 
 /// Reports two fields, if something was found below them.

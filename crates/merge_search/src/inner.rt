@@ -14,6 +14,7 @@ ghost use Rattle.merge_search.specs.Reports.{Finds, AtPlaces};
 ghost use Rattle.merge_search.specs.Inner.{IsPart, IsStart, AtLists, AtPart, AtParts};
 ghost use Rattle.merge_search.specs.Plain.{ArePlain};
 
+use crate::clear::are_clear;
 use crate::graph::Graph;
 use crate::groups::{fields_named, first_fields, make_set, sorted_fields};
 use crate::judge::Judge;
@@ -23,7 +24,7 @@ use crate::pairs::{compare_each, compare_rest};
 use crate::passing::set_of_numbers;
 use crate::repeats::Seeker;
 use crate::state::{Search, put_opening};
-use crate::view::{are_clear, group, own, set, spreads};
+use crate::view::{group, own, set, spreads};
 use bit_matrix::set::BitSet;
 use std::alloc::{AllocError, Global};
 
@@ -93,7 +94,7 @@ fn compare_groups<J: Judge>(
     ensures real { let w = world J.judgement graph.now in
         OnOk result (Finds w false (AtLists left.now right.now) search.old search.new) }
 {
-    if left.len() > 1 && are_clear(search.alloc, graph, left, right)? {
+    if left.len() > 1 && are_clear(graph, search, false, left, right)? {
         return Ok(());
     }
     for a in left {

@@ -1,7 +1,7 @@
 //! The judgement of one pair of fields, which comes from outside.
 ghost use Rattle.std.specs.Prelude.{◌≡◌, IfOk, ℕ};
 ghost use Rattle.std.specs.Bool.{OnTrue};
-ghost use Rattle.merge_search.specs.Judgement.{AlikeAgree, Judgement, KinAgree};
+ghost use Rattle.merge_search.specs.Judgement.{AlikeAgree, ExclusiveStays, Judgement, KinAgree};
 
 use std::alloc::AllocError;
 
@@ -17,6 +17,8 @@ pub trait Judge {
     ghost agree: { (j : Self) → AlikeAgree (judgement j) (are_alike j) };
 
     ghost kin_agree: { (j : Self) → KinAgree (judgement j) (are_kin j) };
+
+    ghost exclusive_stays: { (j : Self) → ExclusiveStays (judgement j) };
 
     /// Whether no object is asked for both; `exclusive` says that this holds already for the fields around them.
     fn are_exclusive(&self, exclusive: bool, left: usize, right: usize) -> bool

@@ -1,6 +1,8 @@
 //! The search for fields that can't be merged, over numbered sets of numbered fields.
 #![tactic(auto)]
 
+mod below;
+mod clear;
 mod fields;
 mod fragments;
 pub mod graph;
@@ -8,6 +10,7 @@ pub mod groups;
 mod inner;
 pub mod judge;
 mod kinds;
+mod leaves;
 pub mod log;
 pub mod node;
 pub mod opening;
@@ -15,6 +18,7 @@ mod pairs;
 mod passing;
 pub mod plain;
 pub mod plain_names;
+mod quiet;
 pub mod repeats;
 pub mod search;
 pub mod state;

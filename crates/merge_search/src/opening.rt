@@ -85,8 +85,12 @@ fn close_all(opening: &mut Opening)
     opening.waiting.clear();
 }
 
-// Opens what some fragments reach, but for what a search need not go on with, and nothing else.
-fn open_from<J: Judge>(
+/// Opens what some fragments reach, but for what a search need not go on with, and nothing else.
+///
+/// # Errors
+///
+/// Out of memory.
+pub(crate) fn open_from<J: Judge>(
     graph: &Graph<J>,
     starts: &[usize],
     seeker: Seeker,

@@ -3,16 +3,19 @@ ghost use Rattle.std.specs.Prelude.{OnOk, false};
 ghost use Rattle.std.specs.Bool.{OnTrue};
 ghost use Rattle.std.specs.List.{All};
 ghost use Rattle.merge_search.specs.World.{world};
-ghost use Rattle.merge_search.specs.Clear.{AreClear};
+ghost use Rattle.merge_search.specs.Clear.{AreClear, AreOthers};
 ghost use Rattle.merge_search.specs.Kinds.{NeverFailsWith};
 ghost use Rattle.merge_search.specs.Plain.{ArePlain};
 ghost use Rattle.merge_search.specs.Work.{Did, Done};
 ghost use Rattle.merge_search.specs.Reports.{FindsAll};
 ghost use Rattle.merge_search.specs.Tops.{AllBefore, AtBefore, AtRest};
 
+use crate::below::{known_below, others_after};
+use crate::clear::WIDE;
 use crate::graph::Graph;
 use crate::judge::Judge;
-use crate::kinds::clear_rows;
+use crate::kinds::agreeing_rows;
+use crate::leaves::compare_leaves;
 use crate::node::Entry;
 use crate::plain::{are_plain_below, is_plain_below};
 use crate::search::compare_fields;
@@ -40,6 +43,9 @@ pub(crate) fn compare_rest<J: Judge>(
     if is_full(graph, search) {
         return Ok(());
     }
+    if a.below.is_none() {
+        return compare_leaves(graph, a, rest, false, search);
+    }
     for b in rest {
         compare_fields(graph, a, *b, false, search)?;
     }
@@ -50,11 +56,13 @@ pub(crate) fn compare_rest<J: Judge>(
 // once.
 fn are_passed<J: Judge>(graph: &Graph<J>, fields: &[Entry], plain: &BitSet) -> bool
     requires { ArePlain (world J.judgement graph.now) plain.now }
-    ensures { OnTrue result (AreClear (world J.judgement graph.now) fields.now fields.now) }
+    ensures { OnTrue result (AreClear (world J.judgement graph.now) false fields.now fields.now) }
 {
-    (fields.len() > 2 || fields.iter().any(|a| a.below.is_some()))
-        && are_plain_below(graph, fields, plain)
-        && agree_plainly(graph, fields, fields)
+    let is_wide = fields.len() > 2 || fields.iter().any(|a| a.below.is_some());
+    if !is_wide || !are_plain_below(graph, fields, plain) {
+        return false;
+    }
+    agree_plainly(graph, fields, fields)
 }
 
 // Compares a field with some others, unless it is known to fail with none of them, and what stands below it is plain.
@@ -66,7 +74,7 @@ fn compare_unless<J: Judge>(
     plain: &BitSet,
     search: &mut Search,
 ) -> Result<(), AllocError>
-    requires clear { OnTrue is_clear (NeverFailsWith (J.judgement graph.now.judge) a rest.now) }
+    requires clear { OnTrue is_clear (NeverFailsWith (J.judgement graph.now.judge) false a rest.now) }
     requires plain { ArePlain (world J.judgement graph.now) plain.now }
     ensures done { let w = world J.judgement graph.now in
         OnOk result (Did w (λ M. All (λ b. Done w M false a b) rest.now) search.old search.new) }
@@ -79,8 +87,94 @@ fn compare_unless<J: Judge>(
     compare_rest(graph, a, rest, search)
 }
 
-/// Compares each field with those after it. Where what stands below is plain, many that are alike are passed at
-/// once, and so is each that fails with none of the others, by their kinds: there is nothing to find.
+// Compares each field with those after it, but for those that fail with none, by their kinds, where what stands below
+// is plain.
+fn compare_few<J: Judge>(
+    graph: &Graph<J>,
+    fields: &[Entry],
+    plain: &BitSet,
+    search: &mut Search,
+) -> Result<(), AllocError>
+    requires { ArePlain (world J.judgement graph.now) plain.now }
+    ensures done { let w = world J.judgement graph.now in
+        OnOk result (Did w (λ M. AllBefore (Done w M false) fields.now) search.old search.new) }
+    ensures real { let w = world J.judgement graph.now in
+        OnOk result (FindsAll w false (AtBefore fields.now) (AtBefore fields.now) search.old search.new) }
+{
+    let clear = agreeing_rows(search.alloc, graph, false, fields, fields)?;
+    for k in 0..fields.len() {
+        compare_unless(
+            graph,
+            fields[k],
+            &fields[k + 1..],
+            clear.contains(k),
+            plain,
+            search,
+        )?;
+    }
+    Ok(())
+}
+
+// Compares a field with some others: with all of them, or if it fails with none, with those alone of which it isn't
+// known that what stands below merges.
+fn compare_others<J: Judge>(
+    graph: &Graph<J>,
+    a: Entry,
+    rest: &[Entry],
+    others: &[Entry],
+    is_clear: bool,
+    plain: &BitSet,
+    search: &mut Search,
+) -> Result<(), AllocError>
+    requires clear { OnTrue is_clear (NeverFailsWith (J.judgement graph.now.judge) false a rest.now) }
+    requires others { AreOthers (world J.judgement graph.now) a rest.now others.now }
+    requires plain { ArePlain (world J.judgement graph.now) plain.now }
+    ensures done { let w = world J.judgement graph.now in
+        OnOk result (Did w (λ M. All (λ b. Done w M false a b) rest.now) search.old search.new) }
+    ensures real { let w = world J.judgement graph.now in
+        OnOk result (FindsAll w false (AtRest a rest.now) (AtRest a rest.now) search.old search.new) }
+{
+    if !is_clear {
+        return compare_rest(graph, a, rest, search);
+    }
+    if is_plain_below(graph, a, plain) {
+        return compare_unless(graph, a, rest, is_clear, plain, search);
+    }
+    compare_rest(graph, a, others, search)
+}
+
+// Compares each field with those after it, but for those of which it is known, of many at once, that they merge.
+fn compare_many<J: Judge>(
+    graph: &Graph<J>,
+    fields: &[Entry],
+    plain: &BitSet,
+    search: &mut Search,
+) -> Result<(), AllocError>
+    requires { ArePlain (world J.judgement graph.now) plain.now }
+    ensures done { let w = world J.judgement graph.now in
+        OnOk result (Did w (λ M. AllBefore (Done w M false) fields.now) search.old search.new) }
+    ensures real { let w = world J.judgement graph.now in
+        OnOk result (FindsAll w false (AtBefore fields.now) (AtBefore fields.now) search.old search.new) }
+{
+    let clear = agreeing_rows(search.alloc, graph, false, fields, fields)?;
+    let below = known_below(graph, search, fields)?;
+    for k in 0..fields.len() {
+        let others = others_after(search.alloc, fields, k, &below)?;
+        compare_others(
+            graph,
+            fields[k],
+            &fields[k + 1..],
+            others.as_slice(),
+            clear.contains(k),
+            plain,
+            search,
+        )?;
+    }
+    Ok(())
+}
+
+/// Compares each field with those after it. Where what stands below is plain, or merges, many that are alike are passed
+/// at once, and so is each that fails with none of the others, by their kinds: there is nothing to find.
 ///
 /// # Errors
 ///
@@ -100,16 +194,8 @@ pub(crate) fn compare_each<J: Judge>(
     if fields.len() > 1 && are_passed(graph, fields, plain) {
         return Ok(());
     }
-    let clear = clear_rows(search.alloc, graph, fields, fields)?;
-    for k in 0..fields.len() {
-        compare_unless(
-            graph,
-            fields[k],
-            &fields[k + 1..],
-            clear.contains(k),
-            plain,
-            search,
-        )?;
+    if fields.len() < WIDE {
+        return compare_few(graph, fields, plain, search);
     }
-    Ok(())
+    compare_many(graph, fields, plain, search)
 }

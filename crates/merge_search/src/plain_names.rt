@@ -1,9 +1,11 @@
 //! Response names under which all fields agree, wherever they stand.
-ghost use Rattle.std.specs.Prelude.{◌≡◌, ◌∷◌, [], ◌<◌, ℕ, None, OnOk, IfOk, length, true};
+ghost use Rattle.std.specs.Prelude.{◌≡◌, ◌∷◌, [], ◌<◌, ℕ, Bool, None, OnOk, IfOk, length, true};
+ghost use Rattle.std.specs.Bool.{OnTrue};
 ghost use Rattle.std.specs.List.{All, Contains};
 ghost use Rattle.bit_matrix.specs.Set.{has};
 ghost use Rattle.merge_search.specs.World.{world, own_of};
 ghost use Rattle.merge_search.specs.Firsts.{IsFirst, Notes};
+ghost use Rattle.merge_search.specs.Judgement.{NoneConflict};
 ghost use Rattle.merge_search.specs.Kinds.{IsToldOf};
 ghost use Rattle.merge_search.specs.Plain.{ArePlainBut, HasAllMarked};
 
@@ -141,6 +143,21 @@ fn marked_fields<J: Judge>(
     Ok(fields)
 }
 
+// Whether it is known by their kinds that no two fields fail with each other, whatever the flag.
+fn agree_always<J: Judge>(
+    alloc: Global,
+    graph: &Graph<J>,
+    fields: &[Entry],
+) -> Result<bool, AllocError>
+    ensures { IfOk result (λ b. OnTrue b
+        ((e : Bool) → NoneConflict (J.judgement graph.now.judge) e fields.now fields.now)) }
+{
+    if !agree_by_kinds(alloc, graph, false, fields, fields)? {
+        return Ok(false);
+    }
+    agree_by_kinds(alloc, graph, true, fields, fields)
+}
+
 // Marks a response name of a set, unless it is known by their kinds that no two of its fields fail with each other.
 fn mark_name<J: Judge>(
     alloc: Global,
@@ -153,8 +170,7 @@ fn mark_name<J: Judge>(
     ensures kept { OnOk result ((n : ℕ) → has mixed.old n ≡ true → has mixed.new n ≡ true) }
 {
     let group = fields_named(sorted_fields(set), name);
-    let agree = agree_by_kinds(alloc, graph, group, group)?;
-    if agree {
+    if agree_always(alloc, graph, group)? {
         return Ok(());
     }
     mixed.insert(name)?;

@@ -9,7 +9,7 @@ ghost use Rattle.merge_search.specs.Reports.{Finds, FindsAll, AtFields, AtOwn, A
 ghost use Rattle.merge_search.specs.Tasks.{Meets, MeetsAll, Turns};
 ghost use Rattle.merge_search.specs.declared.state.Search.{Search};
 
-use crate::fields::{begin_fields, close, next_named, next_own, next_with};
+use crate::fields::{begin_fields, close, next_own, next_with};
 use crate::fragments::{begin_fragments, next_opened, next_spread};
 use crate::graph::Graph;
 use crate::judge::Judge;
@@ -152,7 +152,6 @@ fn step<J: Judge>(
     }
     match task {
         Task::With(a, j, e, n) => next_with(graph, a, j, e, n, tasks, search),
-        Task::Named(i, j, name, e, m) => next_named(graph, i, j, name, e, m, tasks, search),
         Task::Own(i, j, e, k) => next_own(graph, i, j, e, k, tasks, search),
         Task::Close(a, b, start) => close(a, b, start, search),
         Task::Opened(i, g, e, opening, k) => {

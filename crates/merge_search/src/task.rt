@@ -29,8 +29,6 @@ pub enum Partner {
 pub enum Task {
     /// A field with the own fields of a set that have its response name, from that place on.
     With(Entry, usize, bool, usize),
-    /// The own fields of a set, from that place on among those of one response name, with another set.
-    Named(usize, usize, usize, bool, usize),
     /// The own fields of a set, from that response name on, with those of another set.
     Own(usize, usize, bool, usize),
     /// The end of two fields: what was found since then stands below them.

@@ -4,11 +4,10 @@ ghost use Rattle.std.specs.List.{All};
 ghost use Rattle.merge_search.specs.World.{world, HasRoom, set_of, spreads_of};
 ghost use Rattle.merge_search.specs.Opening.{Opens};
 ghost use Rattle.merge_search.specs.Work.{Did, OwnPairs, Pair};
-ghost use Rattle.merge_search.specs.Merging.{Top, OwnWithin, OwnWritten};
 ghost use Rattle.merge_search.specs.Reports.{Finds, FindsAll, AtFragments, AtPlaces, Judged};
 ghost use Rattle.merge_search.specs.Plain.{ArePlain};
 ghost use Rattle.merge_search.specs.Tops.{AddsUnmarked, AllBefore, AreAllBut, AtListed, AtSpread, AtSpreads, AtTop};
-ghost use Rattle.merge_search.specs.Tops.{AtTwo, AtWithin, MarkedDone, SpreadDone, Together};
+ghost use Rattle.merge_search.specs.Tops.{AtTwo, AtWithin, MarkedDone, OwnWithin, OwnWritten, SpreadDone, Together, Top};
 
 use crate::graph::Graph;
 use crate::inner::search_inner;

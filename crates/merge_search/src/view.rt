@@ -1,20 +1,19 @@
 //! What a search reads of a graph.
-ghost use Rattle.std.specs.Prelude.{◌≡◌, IfOk};
+ghost use Rattle.std.specs.Prelude.{◌≡◌, Bool, IfOk};
 ghost use Rattle.merge_search.specs.Names.{named, AreListed};
 ghost use Rattle.std.specs.Bool.{OnTrue};
 ghost use Rattle.std.specs.List.{All};
 ghost use Rattle.merge_search.specs.Tasks.{firsts_at};
-ghost use Rattle.merge_search.specs.Clear.{AreClear, AreLeaves};
+ghost use Rattle.merge_search.specs.Clear.{AreLeaves};
 ghost use Rattle.merge_search.specs.Judgement.{NoneConflict};
 ghost use Rattle.merge_search.specs.World.{world, HasRoom, own_of, spreads_of, set_of, exclusive_of, conflict_of};
 
 use crate::graph::Graph;
 use crate::groups::{fields_named, first_fields, sorted_fields};
 use crate::judge::Judge;
-use crate::kinds::agree_by_kinds;
 use crate::node::Entry;
 use crate::state::Search;
-use std::alloc::{AllocError, Global};
+use std::alloc::AllocError;
 
 /// The first own field of each response name of a set, in the order in which they stand.
 pub fn firsts<J: Judge>(graph: &Graph<J>, s: usize) -> &[Entry]
@@ -113,35 +112,9 @@ pub fn are_in_conflict<J: Judge>(
     graph.judge.are_in_conflict(e, a.field, b.field)
 }
 
-/// Whether it is known that no field of the one list, nor any below it, conflicts with one of the other. `false` says
-/// nothing.
-///
-/// Nothing stands below the first list, so there is nothing below to compare. Where the fields are plainly alike, the
-/// time is linear in the two lists; else it is that of judging each two of their kinds.
-///
-/// # Errors
-///
-/// Out of memory.
-pub(crate) fn are_clear<J: Judge>(
-    alloc: Global,
-    graph: &Graph<J>,
-    left: &[Entry],
-    right: &[Entry],
-) -> Result<bool, AllocError>
-    ensures { IfOk result (λ b. OnTrue b (AreClear (world J.judgement graph.now) left.now right.now)) }
-{
-    if !are_leaves(left) {
-        return Ok(false);
-    }
-    if agree_plainly(graph, left, right) {
-        return Ok(true);
-    }
-    agree_by_kinds(alloc, graph, left, right)
-}
-
 /// Whether it is plain that no field of the one list conflicts with one of the other. `false` says nothing.
 pub(crate) fn agree_plainly<J: Judge>(graph: &Graph<J>, left: &[Entry], right: &[Entry]) -> bool
-    ensures { OnTrue result (NoneConflict (J.judgement graph.now.judge) left.now right.now) }
+    ensures { OnTrue result ((e : Bool) → NoneConflict (J.judgement graph.now.judge) e left.now right.now) }
 {
     match left.first() {
         Some(first) => {
@@ -164,8 +137,8 @@ fn are_like<J: Judge>(graph: &Graph<J>, one: usize, others: &[Entry]) -> bool
     true
 }
 
-// Whether nothing stands below any of them.
-fn are_leaves(fields: &[Entry]) -> bool
+/// Whether nothing stands below any of them.
+pub(crate) fn are_leaves(fields: &[Entry]) -> bool
     ensures { OnTrue result (AreLeaves fields.now) }
 {
     for field in fields {

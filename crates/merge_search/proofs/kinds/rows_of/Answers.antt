@@ -18,8 +18,8 @@ loop-k-preserved g c =
       c.in_ok-is_clear_kind.ensures.kinds,
       λ k a p h. elim c.if-branch.branch [
         | then-branch+in_ok-insert w ↦
-            rows_more (λ (x : Entry). IsClearKind j kin c.args.others.now x.field) left n c.loop-k.rows c.if-branch.rows (λ m ne. ap (λ (r : BitSet). has r m) w.rows-is ∙ w.insert.ensures.others m ne)
-            (subst (λ b. OnTrue b (IsClearKind j kin c.args.others.now (get_or left n no_entry).field)) w.if-branch.true c.in_ok-is_clear_kind.ensures.clear) c.loop-k.invariant.1 k a p h
+            rows_more (λ (x : Entry). IsClearKind j kin c.args.e c.args.others.now x.field) left n c.loop-k.rows c.if-branch.rows (λ m ne. ap (λ (r : BitSet). has r m) w.rows-is ∙ w.insert.ensures.others m ne)
+            (subst (λ b. OnTrue b (IsClearKind j kin c.args.e c.args.others.now (get_or left n no_entry).field)) w.if-branch.true c.in_ok-is_clear_kind.ensures.clear) c.loop-k.invariant.1 k a p h
         | else-branch w ↦ c.loop-k.invariant.1 k a p (ap (λ (r : BitSet). has r k) (sym w.rows-is) ∙ h)
       ],
     )

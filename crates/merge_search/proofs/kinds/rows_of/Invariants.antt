@@ -7,6 +7,6 @@ use Rattle.merge_search.proofs.kinds.rows_of.Given as goal
 
 abbrev pub invariant-loop-k : goal.invariant-loop-k
 invariant-loop-k g l =
-    All (IsTrueOf (g.J.Judge.judgement l.graph.judge) l.others) l.kinds.items
+    All (IsTrueOf (g.J.Judge.judgement l.graph.judge) l.e l.others) l.kinds.items
     × ((k : ℕ) (a : Entry) → slice_get l.left k ≡ Some a → has l.rows k ≡ true
-    → IsClearKind (g.J.Judge.judgement l.graph.judge) (g.J.Judge.are_kin l.graph.judge) l.others a.field)
+    → IsClearKind (g.J.Judge.judgement l.graph.judge) (g.J.Judge.are_kin l.graph.judge) l.e l.others a.field)

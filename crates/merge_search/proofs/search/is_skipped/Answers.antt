@@ -1,12 +1,7 @@
-use Rattle.std.proofs.Common.{Bool, true, false}
-use Rattle.std.specs.Bool.{OnTrue}
 use Rattle.merge_search.specs.World.{world}
+use Rattle.merge_search.proofs.Laws.{on_true_weaker}
 use Rattle.merge_search.proofs.Steps.{skipped}
 use Rattle.merge_search.proofs.search.is_skipped.Goals as goal
-
-on_true_weaker : {P Q : Type 0} (b : Bool) → (P → Q) → OnTrue b P → OnTrue b Q
-on_true_weaker true f h = f h
-on_true_weaker false f h = h
 
 pub returns-in_default : goal.returns-in_default
 returns-in_default g c =

@@ -8,9 +8,6 @@ use Rattle.merge_search.proofs.search.step.Goals as goal
 pub returns-in-With : goal.returns-in-With
 returns-in-With g c = let v = world g.J.Judge.judgement c.args.graph.now in on_ok_weaker c.next_with.result (λ go. leads_is v (Meets v) c.args.task _ _ _ _ _ c.in-With.is go) c.next_with.ensures
 
-pub returns-in-Named : goal.returns-in-Named
-returns-in-Named g c = let v = world g.J.Judge.judgement c.args.graph.now in on_ok_weaker c.next_named.result (λ go. leads_is v (Meets v) c.args.task _ _ _ _ _ c.in-Named.is go) c.next_named.ensures
-
 pub returns-in-Own : goal.returns-in-Own
 returns-in-Own g c = let v = world g.J.Judge.judgement c.args.graph.now in on_ok_weaker c.next_own.result (λ go. leads_is v (Meets v) c.args.task _ _ _ _ _ c.in-Own.is go) c.next_own.ensures
 

@@ -7,10 +7,9 @@ use Rattle.std.proofs.lemmas.Result.{on_ok_weaker}
 use Rattle.merge_search.specs.World.{World, world, spreads_of, set_of}
 use Rattle.merge_search.specs.Graph.{Falling}
 use Rattle.merge_search.specs.declared.state.Search.{Search}
-use Rattle.merge_search.specs.Merging.{OwnWritten}
 use Rattle.merge_search.specs.Work.{Pair}
 use Rattle.merge_search.specs.Reports.{AtPlaces}
-use Rattle.merge_search.specs.Tops.{AllBefore, AtSpread, AtSpreads, AtTwo}
+use Rattle.merge_search.specs.Tops.{AllBefore, AtSpread, AtSpreads, AtTwo, OwnWritten}
 use Rattle.merge_search.proofs.Adding.{adds_none, all_map, all_told, all_plus}
 use Rattle.merge_search.proofs.Falls.{spread_falls}
 use Rattle.merge_search.proofs.Judging.{places_written, places_listed}

@@ -3,7 +3,7 @@ use Rattle.std.proofs.lemmas.List.{take_all}
 use Rattle.std.proofs.lemmas.List.Elements.{All-more}
 use Rattle.merge_search.specs.declared.node.Entry.{Entry}
 use Rattle.merge_search.specs.Clear.{AreLeaves}
-use Rattle.merge_search.proofs.Clear.{is_leaf}
+use Rattle.merge_search.proofs.Clearing.{is_leaf}
 use Rattle.merge_search.proofs.Work.{no_entry}
 use Rattle.merge_search.proofs.view.are_leaves.Goals as goal
 

@@ -6,7 +6,7 @@ use Rattle.merge_search.specs.Reports.{AddsAll}
 use Rattle.merge_search.specs.Tops.{AtBefore, AtRest}
 use Rattle.merge_search.proofs.Adding.{UptoIndex}
 use Rattle.merge_search.proofs.Work.{no_entry}
-use Rattle.merge_search.proofs.pairs.compare_each.Given as goal
+use Rattle.merge_search.proofs.pairs.compare_few.Given as goal
 
 abbrev pub invariant-loop-k : goal.invariant-loop-k
 invariant-loop-k g l =

@@ -1,0 +1,77 @@
+-- What is known of sets below fields says it of the sets in which the fields stand.
+use Rattle.std.proofs.Common.{◌≡◌, ℕ, List, [], ◌∷◌, ◌++◌, Bool, true, false, Vec, inl, inr, ◌⊎◌, get_or, sym, subst, ◌∙◌, Some}
+use Rattle.std.specs.List.{All, Contains}
+use Rattle.std.specs.declared.alloc.Global.{Global}
+use Rattle.std.proofs.lemmas.List.Elements.{All-contains, All-push, Contains-append_left, Contains-push, Contains-get_or}
+use Rattle.merge_search.specs.declared.node.Entry.{Entry}
+use Rattle.merge_search.specs.Judgement.{ExclusiveStays, NoneConflict}
+use Rattle.merge_search.specs.Merging.{Stands, own, spread, below, merges}
+use Rattle.merge_search.specs.Names.{named, AreListed}
+use Rattle.merge_search.specs.Opening.{Opens}
+use Rattle.merge_search.specs.Quiet.{AllMerge, AllQuiet, AreQuiet, AreWrittenOut, HoldAll, HoldBelow, IsFrom}
+use Rattle.merge_search.specs.Clear.{AreClearBelow}
+use Rattle.merge_search.specs.World.{World, own_of, spreads_of, set_of, conflict_of, exclusive_of}
+use Rattle.merge_search.proofs.Rows.{listed_in, named_in}
+
+module _ (w : World) where
+  -- what stands in sets that are written out is an own field of one of them
+  stands_in : (some sets : List ℕ) (fields : List Entry) → AreWrittenOut w some sets → All (λ s. (a : Entry) → Contains (own_of w s) a → Contains fields a) sets
+      → (s : ℕ) (a : Entry) → Contains sets s → Stands w s a → Contains fields a
+  stands_in some sets fields out owns s a i (own p) = All-contains (λ t. (b : Entry) → Contains (own_of w t) b → Contains fields b) sets s owns i a p
+  stands_in some sets fields out owns s a i (spread {f = f} v p) = stands_in some sets fields out owns (set_of w f) a (out.closed s f i v) p
+
+  pub written_holds : (some sets : List ℕ) (fields : List Entry) → AreWrittenOut w some sets → All (λ s. (a : Entry) → Contains (own_of w s) a → Contains fields a) sets
+      → HoldAll w some fields
+  written_holds some sets fields out owns s a i p = stands_in some sets fields out owns s a (All-contains (λ t. Contains sets t) some s out.first i) p
+
+  -- the sets of all fragments that some sets reach
+  pub opened_out : (some starts order sets : List ℕ) → All (λ s. All (λ f. Contains starts f) (spreads_of w s)) some → Opens w (λ h. ⊥) starts order
+      → ((s : ℕ) → Contains some s → Contains sets s) → All (λ f. Contains sets (set_of w f)) order
+      → ((s : ℕ) → Contains sets s → Contains some s ⊎ ((f : ℕ) × Contains order f × (s ≡ set_of w f))) → AreWrittenOut w some sets
+  opened_out some starts order sets spreads opens kept added only = record {
+    first = λ k d l. kept (get_or some k d) (Contains-get_or some k d l);
+    closed = λ s f i v. All-contains (λ h. Contains sets (set_of w h)) order f added (elim (only s i) [
+      | inl at ↦ All-contains (λ g. Contains order g) starts f opens.first (All-contains (λ h. Contains starts h) (spreads_of w s) f (All-contains (λ t. All (λ h. Contains starts h) (spreads_of w t)) some s spreads at) v)
+      | inr of ↦ elim (opens.followed of.0 f of.1 (subst (λ (t : ℕ). Contains (spreads_of w t) f) of.2 v)) [ inl there ↦ there | inr never ↦ absurd never ]
+    ]);
+  }
+
+module _ (w : World) (x : Bool) where
+  pub quiet_pushed : (vs us : List (Vec ℕ Global)) (v : Vec ℕ Global) → us ≡ vs ++ v ∷ [] → AllQuiet w x us → AllQuiet w x vs × AreQuiet w x v.items
+  quiet_pushed vs us v is all =
+      let at : (u : Vec ℕ Global) → Contains (vs ++ v ∷ []) u → AreQuiet w x u.items = λ u c. All-contains (λ (z : Vec ℕ Global). AreQuiet w x z.items) us u all (subst (λ zs. Contains zs u) (sym is) c) in
+      (λ k d l. at (get_or vs k d) (Contains-append_left vs (v ∷ []) (get_or vs k d) (Contains-get_or vs k d l)), at v (Contains-push vs v))
+
+  pub quiet_popped : (vs us : List (Vec ℕ Global)) (v : Vec ℕ Global) → us ≡ vs ++ v ∷ [] → AllQuiet w x vs → AreQuiet w x v.items → AllQuiet w x us
+  quiet_popped vs us v is all one = subst (λ zs. AllQuiet w x zs) (sym is) (All-push (λ (z : Vec ℕ Global). AreQuiet w x z.items) vs v all one)
+
+  pub sets_merged : (sets : List ℕ) (fields : List Entry) → HoldAll w sets fields → AllMerge w x fields → AreQuiet w x sets
+  sets_merged sets fields hold all e s t a b from i j p q same = all e a b from (hold s a i p) (hold t b j q) same
+
+  pub groups_merged : (firsts fields : List Entry) → AreListed firsts fields → All (λ (f : Entry). AllMerge w x (named f.response fields)) firsts → AllMerge w x fields
+  groups_merged firsts fields listed all e a b from p q same =
+      let (f, there, is) = listed_in firsts fields a listed p in
+      All-contains (λ (y : Entry). AllMerge w x (named y.response fields)) firsts f all there e a b from
+      (named_in f.response fields a p is) (named_in f.response fields b q (sym same ∙ is)) same
+
+  module _ (stays : ExclusiveStays w.judgement) where
+    from_next : (e : Bool) (a b : Entry) → IsFrom x e → IsFrom x (exclusive_of w e a b)
+    from_next e a b from is = subst (λ (f : Bool). exclusive_of w f a b ≡ true) (sym (from is)) (stays a.field b.field)
+
+    pub group_merged : (group : List Entry) (sets : List ℕ) → ((e : Bool) → IsFrom x e → NoneConflict w.judgement e group group) → HoldBelow sets group
+        → AreQuiet w x sets → AllMerge w x group
+    group_merged group sets none hold quiet e a b from p q same = merges {a = a} {b = b}
+        (All-contains (λ (y : Entry). conflict_of w e a y ≡ false) group b (All-contains (λ (z : Entry). All (λ (y : Entry). conflict_of w e z y ≡ false) group) group a (none e from) p) q)
+        (λ c d f. elim f [
+          | below {s = s} {t = t} sa tb i j is ↦ quiet (exclusive_of w e a b) s t c d (from_next e a b from)
+              (All-contains (λ (y : Entry). (u : ℕ) → y.below ≡ Some u → Contains sets u) group a hold p s sa)
+              (All-contains (λ (y : Entry). (u : ℕ) → y.below ≡ Some u → Contains sets u) group b hold q t tb) i j is
+        ])
+
+    -- what stands below fields, if the sets below them are quiet
+    pub fields_below : (fields : List Entry) (sets : List ℕ) → HoldBelow sets fields → AreQuiet w x sets → AreClearBelow w x fields fields
+    fields_below fields sets hold quiet a b p q c d f = elim f [
+      | below {s = s} {t = t} sa tb i j is ↦ quiet (exclusive_of w x a b) s t c d (from_next x a b (λ h. h))
+          (All-contains (λ (y : Entry). (u : ℕ) → y.below ≡ Some u → Contains sets u) fields a hold p s sa)
+          (All-contains (λ (y : Entry). (u : ℕ) → y.below ≡ Some u → Contains sets u) fields b hold q t tb) i j is
+    ]

@@ -1,0 +1,13 @@
+use Rattle.merge_search.specs.World.{world}
+use Rattle.merge_search.proofs.Clearing.{leaves_clear, rows_below}
+use Rattle.merge_search.proofs.clear.clear_rows.Goals as goal
+
+pub returns-then-branch : goal.returns-then-branch
+returns-then-branch g c =
+    let v = world g.J.Judge.judgement c.args.graph.now in
+    rows_below v c.args.e _ c.args.left.now c.args.right.now c.in_ok-rows.rows c.in_ok-rows.ensures c.in_ok-are_clear_between.ensures c.if-branch.true
+
+pub returns : goal.returns
+returns g c =
+    let v = world g.J.Judge.judgement c.args.graph.now in
+    leaves_clear v c.args.e c.args.left.now c.args.right.now c.in_ok-rows.rows c.in_ok-leaves.leaves c.in_ok-rows.ensures c.in_ok-leaves.ensures

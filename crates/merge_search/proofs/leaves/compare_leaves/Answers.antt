@@ -1,0 +1,30 @@
+use Rattle.std.proofs.Common.{refl, sym, subst}
+use Rattle.std.specs.List.{Contains}
+use Rattle.std.proofs.lemmas.List.Elements.{Contains-get_or}
+use Rattle.merge_search.specs.World.{world}
+use Rattle.merge_search.specs.Work.{Done}
+use Rattle.merge_search.specs.Reports.{AtFields}
+use Rattle.merge_search.proofs.Adding.{all_start, all_more, all_done}
+use Rattle.merge_search.proofs.Work.{no_entry, did_start, did_more, did_all}
+use Rattle.merge_search.proofs.leaves.compare_leaves.Goals as goal
+
+pub loop-b-init : goal.loop-b-init
+loop-b-init g c =
+    let v = world g.J.Judge.judgement c.args.graph.now in
+    (did_start v (λ b M. Done v M c.args.e c.args.a b) c.args.rest.now c.args.search.now, all_start v c.args.e _ (λ b. AtFields c.args.a b) c.args.rest.now no_entry _)
+
+pub loop-b-preserved : goal.loop-b-preserved
+loop-b-preserved g c =
+    let v = world g.J.Judge.judgement c.args.graph.now in (
+      did_more v (λ b M. Done v M c.args.e c.args.a b) c.args.rest.now c.loop-b.b-index no_entry c.loop-b-test.true c.loop-b.invariant.0 c.in_ok-compare_leaf.ensures.done,
+      all_more v c.args.e _ _ (λ b. AtFields c.args.a b) c.args.rest.now c.loop-b.b-index no_entry
+          (λ r z. (z.0, subst (λ x. Contains c.args.rest.now x) (sym z.1) (Contains-get_or c.args.rest.now c.loop-b.b-index no_entry c.loop-b-test.true))) c.loop-b.invariant.1 c.in_ok-compare_leaf.ensures.real,
+    )
+
+pub returns : goal.returns
+returns g c =
+    let v = world g.J.Judge.judgement c.args.graph.now in
+    record {
+      done = did_all v (λ b M. Done v M c.args.e c.args.a b) c.args.rest.now c.args.rest.now c.loop-b.b-index c.loop-b-test.false refl c.loop-b.invariant.0;
+      real = all_done v c.args.e _ _ (λ b. AtFields c.args.a b) c.args.rest.now c.loop-b.b-index no_entry c.loop-b-test.false (λ r z. (r.right, z.1, (z.0, refl))) c.loop-b.invariant.1;
+    }

@@ -1,0 +1,42 @@
+use Rattle.std.proofs.Common.{◌+◌, drop, get_or, sym, subst, arith, false}
+use Rattle.std.specs.Bool.{OnTrue}
+use Rattle.std.specs.List.{All}
+use Rattle.merge_search.specs.World.{world}
+use Rattle.merge_search.specs.Work.{Done}
+use Rattle.merge_search.specs.Kinds.{NeverFailsWith}
+use Rattle.merge_search.specs.Tops.{AtRest}
+use Rattle.merge_search.proofs.Adding.{all_begin, all_next, all_told, all_change}
+use Rattle.merge_search.proofs.Order.{rest_is, row_rest, tell_rest, rest_all}
+use Rattle.merge_search.proofs.OneOfKind.{rows_after}
+use Rattle.merge_search.proofs.Work.{no_entry, did_none, did_map, did_next}
+use Rattle.merge_search.proofs.pairs.compare_few.Goals as goal
+
+pub compare_unless-requires-clause-clear : goal.compare_unless-requires-clause-clear
+compare_unless-requires-clause-clear g c =
+    let j = g.J.Judge.judgement c.args.graph.now.judge in
+    let xs = c.args.fields.now in
+    let k = c.loop-k.k in
+    subst (λ ys. OnTrue c.contains.result (NeverFailsWith j false (get_or xs k no_entry) ys)) (sym (rest_is xs (k + 1)))
+    (rows_after j false xs c.in_ok-clear.clear k c.loop-k-test.true c.in_ok-clear.ensures c.contains.result c.contains.ensures)
+
+pub loop-k-init : goal.loop-k-init
+loop-k-init g c =
+    let v = world g.J.Judge.judgement c.args.graph.now in
+    (did_none v _ c.args.search.now (λ M z i l. absurd (omega (arith, l))), all_begin v false _ (λ m. AtRest (get_or c.args.fields.now m no_entry) (drop (m + 1) c.args.fields.now)) _)
+
+pub loop-k-preserved : goal.loop-k-preserved
+loop-k-preserved g c =
+    let v = world g.J.Judge.judgement c.args.graph.now in
+    let x = get_or c.args.fields.now c.loop-k.k no_entry in (
+      did_next v (λ i M. All (Done v M false (get_or c.args.fields.now i no_entry)) (drop (i + 1) c.args.fields.now)) c.loop-k.k c.loop-k.invariant.0 (did_map v _ _ (λ M z. subst (λ ys. All (Done v M false x) ys) (rest_is c.args.fields.now (c.loop-k.k + 1)) z) c.in_ok-compare_unless.ensures.done),
+      all_next v false _ _ (λ m. AtRest (get_or c.args.fields.now m no_entry) (drop (m + 1) c.args.fields.now)) c.loop-k.k (row_rest c.args.fields.now c.loop-k.k c.loop-k-test.true) c.loop-k.invariant.1
+          (all_change v false _ (AtRest x (drop (c.loop-k.k + 1) c.args.fields.now)) _ (AtRest x (drop (c.loop-k.k + 1) c.args.fields.now)) (λ r z. subst (λ ys. AtRest x ys r) (rest_is c.args.fields.now (c.loop-k.k + 1)) z) (λ r z. subst (λ ys. AtRest x ys r) (sym (rest_is c.args.fields.now (c.loop-k.k + 1))) z) c.in_ok-compare_unless.ensures.real),
+    )
+
+pub returns : goal.returns
+returns g c =
+    let v = world g.J.Judge.judgement c.args.graph.now in
+    record {
+      done = did_map v _ _ (λ M h. rest_all (Done v M false) c.args.fields.now no_entry c.loop-k.k c.loop-k-test.false h) c.loop-k.invariant.0;
+      real = all_told v false _ _ _ (tell_rest c.args.fields.now c.loop-k.k c.loop-k-test.false) c.loop-k.invariant.1;
+    }

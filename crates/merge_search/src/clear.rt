@@ -1,0 +1,152 @@
+//! Fields between which a search finds nothing, known of many at once.
+ghost use Rattle.std.specs.Prelude.{◌≡◌, ℕ, IfOk, None, Some, slice_get, true};
+ghost use Rattle.std.specs.Bool.{OnTrue};
+ghost use Rattle.bit_matrix.specs.Set.{has};
+ghost use Rattle.merge_search.specs.Judgement.{NoneConflict};
+ghost use Rattle.merge_search.specs.Clear.{AreClear, AreClearBelow, AreClearRows};
+ghost use Rattle.merge_search.specs.World.{world};
+
+use crate::graph::Graph;
+use crate::judge::Judge;
+use crate::kinds::{FEW, agree_by_kinds, agreeing_rows};
+use crate::node::Entry;
+use crate::quiet::{are_quiet, sets_below};
+use crate::state::Search;
+use crate::view::{agree_plainly, are_leaves};
+use bit_matrix::set::BitSet;
+use std::alloc::{AllocError, Global};
+
+/// With fewer fields of a response name, comparing each two is as fast.
+pub(crate) const WIDE: usize = 32;
+
+// So many pairs these fields have.
+const MANY: usize = WIDE * WIDE;
+
+/// Whether what stands below each two of some fields is known to merge. `false` says nothing. It looks at no more than
+/// `most` fields there.
+///
+/// # Errors
+///
+/// Out of memory.
+pub(crate) fn are_clear_below<J: Judge>(
+    graph: &Graph<J>,
+    search: &Search,
+    e: bool,
+    fields: &[Entry],
+    most: usize,
+) -> Result<bool, AllocError>
+    ensures { IfOk result (λ b. OnTrue b (AreClearBelow (world J.judgement graph.now) e fields.now fields.now)) }
+{
+    if are_leaves(fields) {
+        return Ok(true);
+    }
+    if most < MANY {
+        return Ok(false);
+    }
+    let sets = sets_below(search.alloc, fields)?;
+    let is_quiet = are_quiet(graph, search, e, sets, most)?;
+    Ok(is_quiet)
+}
+
+// Whether what stands below the fields of two lists is known to merge. It takes no longer than comparing them would.
+fn are_clear_between<J: Judge>(
+    graph: &Graph<J>,
+    search: &Search,
+    e: bool,
+    left: &[Entry],
+    right: &[Entry],
+) -> Result<bool, AllocError>
+    ensures { IfOk result (λ b. OnTrue b (AreClearBelow (world J.judgement graph.now) e left.now right.now)) }
+{
+    if are_leaves(left) {
+        return Ok(true);
+    }
+    if are_leaves(right) {
+        return Ok(true);
+    }
+    let most = left.len().saturating_mul(right.len());
+    if most < MANY {
+        return Ok(false);
+    }
+    let mut fields = Vec::from_slice(search.alloc, left)?;
+    fields.extend_from_slice(right)?;
+    let is_clear = are_clear_below(graph, search, e, fields.as_slice(), most)?;
+    Ok(is_clear)
+}
+
+// Whether no field of the one list fails with one of the other. `false` says nothing.
+fn are_agreeing<J: Judge>(
+    alloc: Global,
+    graph: &Graph<J>,
+    e: bool,
+    left: &[Entry],
+    right: &[Entry],
+) -> Result<bool, AllocError>
+    ensures { IfOk result (λ b. OnTrue b (NoneConflict (J.judgement graph.now.judge) e left.now right.now)) }
+{
+    if agree_plainly(graph, left, right) {
+        return Ok(true);
+    }
+    agree_by_kinds(alloc, graph, e, left, right)
+}
+
+/// Whether each field of the one list is known to merge with each of the other. `false` says nothing.
+///
+/// # Errors
+///
+/// Out of memory.
+pub(crate) fn are_clear<J: Judge>(
+    graph: &Graph<J>,
+    search: &Search,
+    e: bool,
+    left: &[Entry],
+    right: &[Entry],
+) -> Result<bool, AllocError>
+    ensures { IfOk result (λ b. OnTrue b (AreClear (world J.judgement graph.now) e left.now right.now)) }
+{
+    if !are_agreeing(search.alloc, graph, e, left, right)? {
+        return Ok(false);
+    }
+    let is_clear = are_clear_between(graph, search, e, left, right)?;
+    Ok(is_clear)
+}
+
+// The places of those fields, of some that are listed, below which nothing stands.
+fn leaf_rows(alloc: Global, fields: &[Entry], rows: &BitSet) -> Result<BitSet, AllocError>
+    ensures { IfOk result (λ leaves. (k : ℕ) (a : Entry) → slice_get fields.now k ≡ Some a → has leaves k ≡ true
+        → (has rows.now k ≡ true) × (a.below ≡ None)) }
+{
+    let mut leaves = BitSet::new(alloc);
+    for k in 0..fields.len() {
+        if rows.contains(k) && fields[k].below.is_none() {
+            leaves.insert(k)?;
+        }
+    }
+    Ok(leaves)
+}
+
+/// The places of fields of which it is known that they merge with each of some others. Of a place that isn't listed
+/// nothing is said.
+///
+/// # Errors
+///
+/// Out of memory.
+pub(crate) fn clear_rows<J: Judge>(
+    graph: &Graph<J>,
+    search: &Search,
+    e: bool,
+    left: &[Entry],
+    right: &[Entry],
+) -> Result<BitSet, AllocError>
+    ensures { IfOk result (AreClearRows (world J.judgement graph.now) e left.now right.now) }
+{
+    if left.len() < FEW || right.len() < FEW {
+        return Ok(BitSet::new(search.alloc));
+    }
+    let rows = agreeing_rows(search.alloc, graph, e, left, right)?;
+    if are_clear_between(graph, search, e, left, right)? {
+        return Ok(rows);
+    }
+    let leaves = leaf_rows(search.alloc, left, &rows)?;
+    Ok(leaves)
+}

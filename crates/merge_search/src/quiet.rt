@@ -1,0 +1,210 @@
+//! Sets whose fields merge, however the sets stand beside each other.
+//!
+//! The sets are written out as one, and under each response name the sets below its fields in turn. So each field is
+//! looked at once where a search compares it with all others.
+ghost use Rattle.std.specs.Prelude.{◌≡◌, ◌<◌, ◌⊎◌, ℕ, Bool, IfOk, OnOk, length};
+ghost use Rattle.std.specs.Bool.{OnTrue};
+ghost use Rattle.std.specs.List.{All, Contains};
+ghost use Rattle.merge_search.specs.Judgement.{NoneConflict};
+ghost use Rattle.merge_search.specs.Quiet.{AllMerge, AllQuiet, AreQuiet, AreWrittenOut, HoldAll, HoldBelow, IsFrom};
+ghost use Rattle.merge_search.specs.World.{world, own_of, set_of, spreads_of};
+
+use crate::graph::Graph;
+use crate::groups::{fields_named, first_fields, make_set, sorted_fields};
+use crate::judge::Judge;
+use crate::kinds::agree_together;
+use crate::node::{Entry, SetNode};
+use crate::opening::{no_opening, open_from};
+use crate::repeats::Seeker;
+use crate::state::Search;
+use crate::view::{agree_plainly, own, set, spreads};
+use std::alloc::{AllocError, Global};
+
+// The fragments that some sets spread.
+fn spreads_in<J: Judge>(
+    alloc: Global,
+    graph: &Graph<J>,
+    sets: &[usize],
+) -> Result<Vec<usize>, AllocError>
+    ensures all { let w = world J.judgement graph.now in
+        IfOk result (λ v. All (λ s. All (λ f. Contains v.items f) (spreads_of w s)) sets.now) }
+    ensures there { IfOk result (λ v. All (λ f. f < length graph.now.fragments.items) v.items) }
+{
+    let mut fragments = Vec::new(alloc);
+    for s in sets {
+        fragments.extend_from_slice(spreads(graph, *s))?;
+    }
+    Ok(fragments)
+}
+
+// Adds the sets of some fragments.
+fn add_sets<J: Judge>(
+    graph: &Graph<J>,
+    fragments: &[usize],
+    sets: &mut Vec<usize>,
+) -> Result<(), AllocError>
+    ensures kept { OnOk result ((s : ℕ) → Contains sets.old.items s → Contains sets.new.items s) }
+    ensures added { let w = world J.judgement graph.now in
+        OnOk result (All (λ f. Contains sets.new.items (set_of w f)) fragments.now) }
+    ensures only { let w = world J.judgement graph.now in OnOk result ((s : ℕ) → Contains sets.new.items s
+        → Contains sets.old.items s ⊎ ((f : ℕ) × Contains fragments.now f × (s ≡ set_of w f))) }
+{
+    for f in fragments {
+        sets.push(set(graph, *f))?;
+    }
+    Ok(())
+}
+
+// Some sets, and those of all fragments that they reach.
+fn written_out<J: Judge>(
+    graph: &Graph<J>,
+    search: &Search,
+    sets: &[usize],
+) -> Result<Vec<usize>, AllocError>
+    ensures { IfOk result (λ v. AreWrittenOut (world J.judgement graph.now) sets.now v.items) }
+{
+    let starts = spreads_in(search.alloc, graph, sets)?;
+    let mut written = Vec::from_slice(search.alloc, sets)?;
+    let mut opening = no_opening(search.alloc);
+    open_from(graph, starts.as_slice(), Seeker::Top, search, &mut opening)?;
+    add_sets(graph, opening.order.as_slice(), &mut written)?;
+    Ok(written)
+}
+
+// The own fields of some sets.
+fn own_fields<J: Judge>(
+    alloc: Global,
+    graph: &Graph<J>,
+    sets: &[usize],
+) -> Result<Vec<Entry>, AllocError>
+    ensures { let w = world J.judgement graph.now in
+        IfOk result (λ v. All (λ s. (a : Entry) → Contains (own_of w s) a → Contains v.items a) sets.now) }
+{
+    let mut fields = Vec::new(alloc);
+    for s in sets {
+        fields.extend_from_slice(own(graph, *s))?;
+    }
+    Ok(fields)
+}
+
+// All that stands in some sets, what they spread written out, as one set.
+fn united<J: Judge>(
+    graph: &Graph<J>,
+    search: &Search,
+    sets: &[usize],
+) -> Result<SetNode, AllocError>
+    ensures { IfOk result (λ set. HoldAll (world J.judgement graph.now) sets.now set.own.items) }
+{
+    let alloc = search.alloc;
+    let written = written_out(graph, search, sets)?;
+    let fields = own_fields(alloc, graph, written.as_slice())?;
+    let set = make_set(alloc, fields, Vec::new(alloc))?;
+    Ok(set)
+}
+
+/// The sets below some fields.
+///
+/// # Errors
+///
+/// Out of memory.
+pub(crate) fn sets_below(alloc: Global, fields: &[Entry]) -> Result<Vec<usize>, AllocError>
+    ensures { IfOk result (λ v. HoldBelow v.items fields.now) }
+{
+    let mut sets = Vec::new(alloc);
+    for field in fields {
+        if let Some(s) = field.below {
+            sets.push(s)?;
+        }
+    }
+    Ok(sets)
+}
+
+// Whether no two of some fields fail with each other, under each flag from `x` on. `false` says nothing.
+fn agree_from<J: Judge>(
+    alloc: Global,
+    graph: &Graph<J>,
+    x: bool,
+    fields: &[Entry],
+) -> Result<bool, AllocError>
+    ensures { IfOk result (λ b. OnTrue b
+        ((e : Bool) → IsFrom x e → NoneConflict (J.judgement graph.now.judge) e fields.now fields.now)) }
+{
+    if agree_plainly(graph, fields, fields) {
+        return Ok(true);
+    }
+    let is_found = agree_together(alloc, graph, true, fields)?;
+    if x || !is_found {
+        return Ok(is_found);
+    }
+    agree_together(alloc, graph, false, fields)
+}
+
+// Whether some fields of one response name merge if the sets do that wait from now on. `false` says nothing.
+fn is_quiet_group<J: Judge>(
+    alloc: Global,
+    graph: &Graph<J>,
+    x: bool,
+    group: &[Entry],
+    waiting: &mut Vec<Vec<usize>>,
+) -> Result<bool, AllocError>
+    ensures { let w = world J.judgement graph.now in IfOk result (λ b. OnTrue b
+        (AllQuiet w x waiting.new.items → AllQuiet w x waiting.old.items × AllMerge w x group.now)) }
+{
+    if !agree_from(alloc, graph, x, group)? {
+        return Ok(false);
+    }
+    let below = sets_below(alloc, group)?;
+    waiting.push(below)?;
+    Ok(true)
+}
+
+// The same of the fields of a set.
+fn is_quiet_set<J: Judge>(
+    alloc: Global,
+    graph: &Graph<J>,
+    x: bool,
+    set: &SetNode,
+    waiting: &mut Vec<Vec<usize>>,
+) -> Result<bool, AllocError>
+    ensures { let w = world J.judgement graph.now in IfOk result (λ b. OnTrue b
+        (AllQuiet w x waiting.new.items → AllQuiet w x waiting.old.items × AllMerge w x set.now.own.items)) }
+{
+    for first in first_fields(set) {
+        let group = fields_named(sorted_fields(set), first.response);
+        if !is_quiet_group(alloc, graph, x, group, waiting)? {
+            return Ok(false);
+        }
+    }
+    Ok(true)
+}
+
+/// Whether all that stands in some sets, what they spread written out, is known to merge under each flag from `x` on.
+/// `false` says nothing. It looks at no more fields and sets than `most`.
+///
+/// # Errors
+///
+/// Out of memory.
+pub(crate) fn are_quiet<J: Judge>(
+    graph: &Graph<J>,
+    search: &Search,
+    x: bool,
+    sets: Vec<usize>,
+    most: usize,
+) -> Result<bool, AllocError>
+    ensures { IfOk result (λ b. OnTrue b (AreQuiet (world J.judgement graph.now) x sets.items)) }
+{
+    let mut waiting = Vec::new(search.alloc);
+    waiting.push(sets)?;
+    let mut left = most;
+    while left > 0 {
+        let Some(next) = waiting.pop() else {
+            return Ok(true);
+        };
+        let set = united(graph, search, next.as_slice())?;
+        left = (left - 1).saturating_sub(set.own.len());
+        if !is_quiet_set(search.alloc, graph, x, &set, &mut waiting)? {
+            return Ok(false);
+        }
+    }
+    Ok(false)
+}
