@@ -13,13 +13,11 @@ use Rattle.merge_search.specs.Graph.{Falling, IsWhole, height}
 use Rattle.merge_search.specs.World.{World, own_of, spreads_of, set_of, conflict_of, exclusive_of, Same}
 use Rattle.merge_search.specs.Log.{Covers}
 use Rattle.merge_search.specs.Work.{pair_in, Searched, Pair, Asked, Done, stood, shallow, deep, merged, OwnPairs, FollowedUp, AllClosed}
-use Rattle.merge_search.specs.Plain.{IsOnePlain}
-use Rattle.merge_search.specs.Merging.{Stands, own, spread, Below, below, Merges, merges, Way, here, down, Good, Passes}
+use Rattle.merge_search.specs.Merging.{Stands, own, spread, Below, below, Merges, merges, MergeEither, Way, here, down, Good, Passes}
 use Rattle.merge_search.specs.Tops.{Top}
 use Rattle.merge_search.specs.Reports.{Told}
 use Rattle.merge_search.proofs.Laws.{Le, least, even, up, both, conflict_up, exclusive_up, conflict_flip, exclusive_flip, conflict_self, clash, clash_some, same_some}
 use Rattle.merge_search.proofs.Flips.{flip_pair}
-use Rattle.merge_search.proofs.Harmless.{sets_clear}
 
 place_of : {X : Type 0} (xs : List X) (a : X) (p : Contains xs a) → slice_get xs p.0 ≡ Some a
 place_of xs a p = slice_get-get_or xs p.0 a p.1 ∙ ap (λ x. Some x) p.2
@@ -85,29 +83,34 @@ module _ (w : World) (M : Search) (falling : Falling w.sets w.fragments) (closed
   at_pair : (e : Bool) (f g : ℕ) → K e f g → (x : Bool) × ((x ≡ e) ⊎ (x ≡ false)) × FollowedUp w M x f g
   at_pair e f g c = (c.0, c.1, closed.pairs_closed c.0 f g c.2)
 
+  -- two fragments that merge, in one order
+  either : (e : Bool) (f g : ℕ) (a b : Entry) → MergeEither w f g → Stands w (set_of w f) a → Stands w (set_of w g) b → Same a b → DoneW e a b
+  either e f g a b (inl z) p q same = forth (merged (z e a b p q same))
+  either e f g a b (inr z) p q same = back (merged (z e b a q p (sym same)))
+
   own_from : (x : Bool) (f g : ℕ) (a b : Entry) → FollowedUp w M x f g
       → Contains (own_of w (set_of w f)) a → Contains (own_of w (set_of w g)) b → Same a b → DoneW x a b
   own_from x f g a b (inl (inl z)) p q same = forth (z.0 a b p q same)
   own_from x f g a b (inl (inr z)) p q same = back (z.0 b a q p (sym same))
-  own_from x f g a b (inr z) p q same = forth (sets_clear w z (own p) (own q) same)
+  own_from x f g a b (inr z) p q same = either x f g a b z (own p) (own q) same
 
   closed_own : (e : Bool) (f g : ℕ) (a b : Entry) → K e f g → Contains (own_of w (set_of w f)) a → Contains (own_of w (set_of w g)) b → Same a b → DoneW e a b
   closed_own e f g a b c p q same = let z = at_pair e f g c in at_flag z.1 (own_from z.0 f g a b z.2 p q same)
 
-  right_from : (x e : Bool) (f g h : ℕ) → (x ≡ e) ⊎ (x ≡ false) → FollowedUp w M x f g → Contains (spreads_of w (set_of w g)) h → Pair M e f h ⊎ IsOnePlain w f g
+  right_from : (x e : Bool) (f g h : ℕ) → (x ≡ e) ⊎ (x ≡ false) → FollowedUp w M x f g → Contains (spreads_of w (set_of w g)) h → Pair M e f h ⊎ MergeEither w f g
   right_from x e f g h l (inl (inl z)) v = inl (pair_at x e f h l (All-contains (λ k. Pair M x f k) (spreads_of w (set_of w g)) h z.1 v))
   right_from x e f g h l (inl (inr z)) v = inl (pair_at x e f h l (flip_pair M x h f (All-contains (λ k. Pair M x k f) (spreads_of w (set_of w g)) h z.2 v)))
   right_from x e f g h l (inr z) v = inr z
 
-  closed_right : (e : Bool) (f g h : ℕ) → K e f g → Contains (spreads_of w (set_of w g)) h → Pair M e f h ⊎ IsOnePlain w f g
+  closed_right : (e : Bool) (f g h : ℕ) → K e f g → Contains (spreads_of w (set_of w g)) h → Pair M e f h ⊎ MergeEither w f g
   closed_right e f g h c v = let z = at_pair e f g c in right_from z.0 e f g h z.1 z.2 v
 
-  left_from : (x e : Bool) (f g h : ℕ) → (x ≡ e) ⊎ (x ≡ false) → FollowedUp w M x f g → Contains (spreads_of w (set_of w f)) h → Pair M e h g ⊎ IsOnePlain w f g
+  left_from : (x e : Bool) (f g h : ℕ) → (x ≡ e) ⊎ (x ≡ false) → FollowedUp w M x f g → Contains (spreads_of w (set_of w f)) h → Pair M e h g ⊎ MergeEither w f g
   left_from x e f g h l (inl (inl z)) v = inl (pair_at x e h g l (All-contains (λ k. Pair M x k g) (spreads_of w (set_of w f)) h z.2 v))
   left_from x e f g h l (inl (inr z)) v = inl (pair_at x e h g l (flip_pair M x g h (All-contains (λ k. Pair M x g k) (spreads_of w (set_of w f)) h z.1 v)))
   left_from x e f g h l (inr z) v = inr z
 
-  closed_left : (e : Bool) (f g h : ℕ) → K e f g → Contains (spreads_of w (set_of w f)) h → Pair M e h g ⊎ IsOnePlain w f g
+  closed_left : (e : Bool) (f g h : ℕ) → K e f g → Contains (spreads_of w (set_of w f)) h → Pair M e h g ⊎ MergeEither w f g
   closed_left e f g h c v = let z = at_pair e f g c in left_from z.0 e f g h z.1 z.2 v
 
   -- a search that was asked for met everything that stands there
@@ -158,7 +161,7 @@ module _ (w : World) (M : Search) (falling : Falling w.sets w.fragments) (closed
       elim (closed_right e f g h k (subst (λ u. Contains (spreads_of w u) h) is v)) [
         | inl (inl eq) ↦ common (set_of w f) o (omega arith) (own p) (subst (λ x. Stands w (set_of w x) b) (sym eq) q)
         | inl (inr k') ↦ meet_own f h o refl k' p q same
-        | inr one ↦ done (forth (sets_clear w one (own p) (subst (λ u. Stands w u b) is (spread v q)) same))
+        | inr one ↦ done (either e f g a b one (own p) (subst (λ u. Stands w u b) is (spread v q)) same)
       ]
 
   raise : {e : Bool} {m n : ℕ} {a b : Entry} → m < n → Meet e m a b → Meet e n a b
@@ -172,7 +175,7 @@ module _ (w : World) (M : Search) (falling : Falling w.sets w.fragments) (closed
       elim (closed_left e f g h k (subst (λ u. Contains (spreads_of w u) h) is v)) [
         | inl (inl eq) ↦ common (set_of w h) (in_order s h v) (omega (arith, falls s h v)) p (subst (λ x. Stands w (set_of w x) b) (sym eq) q)
         | inl (inr k') ↦ raise (falls s h v) (meet_in h g (in_order s h v) refl k' p q same)
-        | inr one ↦ done (forth (sets_clear w one (subst (λ u. Stands w u a) is (spread v p)) q same))
+        | inr one ↦ done (either e f g a b one (subst (λ u. Stands w u a) is (spread v p)) q same)
       ]
 
   meet : {e : Bool} {a b : Entry} (f g : ℕ) → Contains order (set_of w f) → K e f g → Stands w (set_of w f) a → Stands w (set_of w g) b → Same a b → Meet e (set_of w f) a b

@@ -1,12 +1,13 @@
 -- Where one of two fields is plain there is nothing to find between them.
-use Rattle.std.proofs.Common.{◌≡◌, ◌⊎◌, ℕ, Bool, false, inl, inr, refl, sym}
+use Rattle.std.proofs.Common.{◌≡◌, ◌⊎◌, ℕ, arith, max, subst, Bool, false, inl, inr, refl, sym}
 use Rattle.std.specs.List.{All, Contains}
+use Rattle.std.proofs.lemmas.Bool.{cases_lt}
 use Rattle.std.proofs.lemmas.List.Elements.{All-contains}
 use Rattle.merge_search.specs.declared.node.Entry.{Entry}
 use Rattle.merge_search.specs.declared.state.Search.{Search}
 use Rattle.merge_search.specs.World.{World, own_of, spreads_of, set_of, conflict_of, exclusive_of, Same}
-use Rattle.merge_search.specs.Plain.{Occurs, IsPlain, plain, IsPlainBelow, IsPlainField}
-use Rattle.merge_search.specs.Merging.{Stands, own, spread, below, Merges, merges}
+use Rattle.merge_search.specs.Plain.{Occurs, IsPlain, plain, IsPlainBelow, IsPlainField, IsOnePlain}
+use Rattle.merge_search.specs.Merging.{Stands, own, spread, below, Merges, merges, MergeEither, MergeWritten}
 use Rattle.merge_search.specs.Clear.{IsClearBelow}
 use Rattle.merge_search.specs.Work.{Done, merged}
 
@@ -49,6 +50,16 @@ module _ (w : World) where
   pub sets_merge : {x : Bool} {s t : ℕ} {a b : Entry} → IsPlain w s ⊎ IsPlain w t → Stands w s a → Stands w t b → Same a b → Merges w x a b
   sets_merge (inl h) p q same = plain_left h p (stands_occur q) same
   sets_merge (inr h) p q same = plain_right h (stands_occur p) q same
+
+  pub one_merges : (f g : ℕ) → IsOnePlain w f g → MergeWritten w f g
+  one_merges f g one e a b p q same = sets_merge one p q same
+
+  -- a plain fragment, and one that has a smaller number
+  pub plain_either : (f i j : ℕ) → max i j ≡ f → IsPlain w (set_of w f) → MergeEither w i j
+  plain_either f i j is h = inl (one_merges i j (elim (cases_lt j i) [
+    | inl more ↦ inl (subst (λ (k : ℕ). IsPlain w (set_of w k)) (omega (arith, more, is)) h)
+    | inr le ↦ inr (subst (λ (k : ℕ). IsPlain w (set_of w k)) (omega (arith, le, is)) h)
+  ]))
 
   pub below_merges : {e : Bool} {a b : Entry} → IsPlainBelow w a → IsClearBelow w e a b
   below_merges h c d (below {s = s} sa tb p q same) = plain_left (h s sa) p (stands_occur q) same

@@ -15,6 +15,7 @@ pub mod Leading
 pub mod Merged
 pub mod Logs
 pub mod Opened
+pub mod Passed
 pub mod Order
 pub mod Rows
 pub mod Spreads

@@ -35,6 +35,19 @@ module _ (w : World) (M : Search) (plain : BitSet) (list : List ℕ) (all : All 
   pub spreads_done : AllBefore (Pair M false) list
   spreads_done k l f g less p q = two f g (at k f p) (at l g q)
 
+-- each fragment of a list was noted with all that have smaller numbers
+pub all_noted : (M : Search) (list : List ℕ) → All (λ f. (g : ℕ) → Contains list g → g < f → Pair M false f g) list → AllBefore (Pair M false) list
+all_noted M list all k l f g less p q =
+    let here : Contains list f = (k, slice_get_within list k f p, get_or_from_slice_get list k f f p) in
+    let there : Contains list g = (l, slice_get_within list l g q, get_or_from_slice_get list l g g q) in
+    elim (cases_order f g) [
+      | inl same ↦ inl same
+      | inr o ↦ elim o [
+        | inl fewer ↦ flip_pair M false g f (All-contains (λ x. (y : ℕ) → Contains list y → y < x → Pair M false x y) list g all there f here fewer)
+        | inr more ↦ All-contains (λ x. (y : ℕ) → Contains list y → y < x → Pair M false x y) list f all here g there more
+      ]
+    ]
+
 -- one more of a list
 pub unmarked_more : (w : World) (list old new : List ℕ) (k d : ℕ) → k < length list → AreAllBut w list (take k list) old → AddsUnmarked w (get_or list k d) old new → AreAllBut w list (take (k + 1) list) new
 unmarked_more w list old new k d l u (inl h) =

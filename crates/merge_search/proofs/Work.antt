@@ -9,9 +9,8 @@ use Rattle.merge_search.specs.declared.state.Finding.{Finding}
 use Rattle.merge_search.specs.World.{World, HasRoom, spreads_of, set_of}
 use Rattle.merge_search.specs.Log.{in_log, covers_of, Covers}
 use Rattle.merge_search.specs.Work.{pair_in, search_in, Searched, Pair, OwnPairs, ClosedSearch, ClosedPair, AllClosed, Grows, Did, Owes}
-use Rattle.merge_search.specs.Plain.{IsPlain, IsOnePlain}
+use Rattle.merge_search.specs.Merging.{MergeEither}
 use Rattle.merge_search.specs.State.{NotesBelow, NotesPair, NotesSearch, Reports, CountsList, Keeps}
-use Rattle.std.proofs.lemmas.Bool.{cases_lt}
 use Rattle.merge_search.proofs.Tallying.{tally_same, tally_pair, tally_list}
 use Rattle.merge_search.proofs.TallyingBelow.{tally_below}
 
@@ -161,41 +160,35 @@ module _ (w : World) where
         };
       }
 
-  one_plain : (e x : Bool) (f g i j : ℕ) → (x ≡ e) × (((i ≡ f) × (j ≡ g)) ⊎ ((i ≡ g) × (j ≡ f))) → IsOnePlain w f g → IsOnePlain w i j
-  one_plain e x f g i j (is, inl p) (inl h) = inl (subst (λ (k : ℕ). IsPlain w (set_of w k)) (sym p.0) h)
-  one_plain e x f g i j (is, inl p) (inr h) = inr (subst (λ (k : ℕ). IsPlain w (set_of w k)) (sym p.1) h)
-  one_plain e x f g i j (is, inr p) (inl h) = inr (subst (λ (k : ℕ). IsPlain w (set_of w k)) (sym p.1) h)
-  one_plain e x f g i j (is, inr p) (inr h) = inl (subst (λ (k : ℕ). IsPlain w (set_of w k)) (sym p.0) h)
+  same_two : (e x : Bool) (f g i j : ℕ) → (x ≡ e) × (((i ≡ f) × (j ≡ g)) ⊎ ((i ≡ g) × (j ≡ f))) → MergeEither w f g → MergeEither w i j
+  same_two e x f g i j (is, inl p) z = subst (λ (k : ℕ). MergeEither w k j) (sym p.0) (subst (λ (k : ℕ). MergeEither w f k) (sym p.1) z)
+  same_two e x f g i j (is, inr p) z =
+      subst (λ (k : ℕ). MergeEither w k j) (sym p.0) (subst (λ (k : ℕ). MergeEither w g k) (sym p.1) (elim z [ inl forth ↦ inr forth | inr back ↦ inl back ]))
 
-  -- a pair of fragments was recorded, of which one is plain
+  -- a pair of fragments was recorded that is known to merge
   pub did_passed : (f g : ℕ) {s t : Search} → NotesPair f g false s t → (f ≡ g → ⊥) → f < length w.fragments → g < length w.fragments
-      → (pair_in s false f g ≡ true → ⊥) → IsOnePlain w f g → Did w (λ M. Pair M false f g) s t
+      → (pair_in s false f g ≡ true → ⊥) → MergeEither w f g → Did w (λ M. Pair M false f g) s t
   did_passed f g {s} {t} n ne lf lg fresh one = record {
     keeps = tally_pair n ne lf lg fresh;
     grows = record { more_pairs = n.notes.kept; more_searched = search_from s t n.searched; more_found = λ y h. subst (λ zs. Contains zs y) (sym n.found) h; longer = omega (arith, ap length n.found) };
     holds = λ M k r. inr (false, inl refl, k.more_pairs false f g n.notes.noted);
     closes = λ M k r c. record {
       searches_closed = λ x i h z. c.searches_closed x i h (search_back s t n.searched x i h z);
-      pairs_closed = λ x i j z. elim (n.notes.only x i j z) [ inl old ↦ c.pairs_closed x i j old | inr is ↦ inr (one_plain false x f g i j is one) ];
+      pairs_closed = λ x i j z. elim (n.notes.only x i j z) [ inl old ↦ c.pairs_closed x i j old | inr is ↦ inr (same_two false x f g i j is one) ];
     };
   }
 
-  below_plain : (f i j : ℕ) → max i j ≡ f → IsPlain w (set_of w f) → IsOnePlain w i j
-  below_plain f i j is h = elim (cases_lt j i) [
-    | inl more ↦ inl (subst (λ (k : ℕ). IsPlain w (set_of w k)) (omega (arith, more, is)) h)
-    | inr le ↦ inr (subst (λ (k : ℕ). IsPlain w (set_of w k)) (omega (arith, le, is)) h)
-  ]
-
-  -- a plain fragment was recorded with some of smaller numbers
-  pub did_below : (f : ℕ) (among : ℕ → Bool) {s t : Search} → NotesBelow f among s t → f < length w.fragments → IsPlain w (set_of w f)
+  -- a fragment was recorded with some of smaller numbers, with which it is known to merge
+  pub did_below : (f : ℕ) (among : ℕ → Bool) {s t : Search} → NotesBelow f among s t → f < length w.fragments
+      → ((i j : ℕ) → max i j ≡ f → among (min i j) ≡ true → MergeEither w i j)
       → Did w (λ M. (g : ℕ) → among g ≡ true → g < f → Pair M false f g) s t
-  did_below f among {s} {t} n lf one = record {
+  did_below f among {s} {t} n lf merge = record {
     keeps = tally_below f among n lf;
     grows = record { more_pairs = n.kept; more_searched = search_from s t n.searched; more_found = λ y h. subst (λ zs. Contains zs y) (sym n.found) h; longer = omega (arith, ap length n.found) };
     holds = λ M k r g there less. inr (false, inl refl, k.more_pairs false f g (n.noted g there less));
     closes = λ M k r c. record {
       searches_closed = λ x i h z. c.searches_closed x i h (search_back s t n.searched x i h z);
-      pairs_closed = λ x i j z. elim (n.only x i j z) [ inl old ↦ c.pairs_closed x i j old | inr is ↦ inr (below_plain f i j is.1 one) ];
+      pairs_closed = λ x i j z. elim (n.only x i j z) [ inl old ↦ c.pairs_closed x i j old | inr is ↦ inr (merge i j is.1 is.3) ];
     };
   }
 

@@ -29,6 +29,15 @@ pub data Merges (w : World) : Bool → Entry → Entry → Type 0 where
   merges : {e : Bool} {a b : Entry} → conflict_of w e a b ≡ false
       → ((c d : Entry) → Below w a b c d → Merges w (exclusive_of w e a b) c d) → Merges w e a b
 
+-- The two fragments written out: each field of the one merges with each of the other that has its response name,
+-- whatever the flag.
+abbrev pub MergeWritten : World → ℕ → ℕ → Type 0
+MergeWritten w f g = (e : Bool) (a b : Entry) → Stands w (set_of w f) a → Stands w (set_of w g) b → Same a b → Merges w e a b
+
+-- The same, in one of the two orders.
+abbrev pub MergeEither : World → ℕ → ℕ → Type 0
+MergeEither w f g = MergeWritten w f g ⊎ MergeWritten w g f
+
 -- A way from a pair down to one that fails.
 pub data Way (w : World) : Bool → Entry → Entry → Type 0 where
   here : {e : Bool} {a b : Entry} → conflict_of w e a b ≡ true → Way w e a b

@@ -7,8 +7,7 @@ use Rattle.merge_search.specs.declared.state.Finding.{Finding}
 use Rattle.merge_search.specs.declared.state.Finding.TheVariants.{Direct}
 use Rattle.merge_search.specs.World.{World, HasRoom, own_of, spreads_of, set_of, conflict_of, exclusive_of, Same}
 use Rattle.merge_search.specs.Log.{in_log, Covers}
-use Rattle.merge_search.specs.Plain.{IsOnePlain}
-use Rattle.merge_search.specs.Merging.{Merges}
+use Rattle.merge_search.specs.Merging.{Merges, MergeEither}
 use Rattle.merge_search.specs.Counts.{Tally}
 
 -- Two fragments were compared under the flag, in either order.
@@ -56,9 +55,9 @@ ClosedPair w M x f g =
     × All (λ h. Pair M x f h) (spreads_of w (set_of w g))
     × All (λ h. Pair M x h g) (spreads_of w (set_of w f))
 
--- Two fragments were compared, in either order, or one of them is plain.
+-- Two fragments were compared, in either order, or they are known to merge.
 abbrev pub FollowedUp : World → Search → Bool → ℕ → ℕ → Type 0
-FollowedUp w M x f g = (ClosedPair w M x f g ⊎ ClosedPair w M x g f) ⊎ IsOnePlain w f g
+FollowedUp w M x f g = (ClosedPair w M x f g ⊎ ClosedPair w M x g f) ⊎ MergeEither w f g
 
 -- Everything that is recorded in s is followed up in M.
 pub record AllClosed (w : World) (M s : Search) : Type 0 where

@@ -19,8 +19,8 @@ use std::alloc::{AllocError, Global};
 /// With fewer fields of a response name, comparing each two is as fast.
 pub(crate) const WIDE: usize = 32;
 
-// So many pairs these fields have.
-const MANY: usize = WIDE * WIDE;
+/// So many pairs these fields have.
+pub(crate) const MANY: usize = WIDE * WIDE;
 
 /// Whether what stands below each two of some fields is known to merge. `false` says nothing. It looks at no more than
 /// `most` fields there.
@@ -39,9 +39,6 @@ pub(crate) fn are_clear_below<J: Judge>(
 {
     if are_leaves(fields) {
         return Ok(true);
-    }
-    if most < MANY {
-        return Ok(false);
     }
     let sets = sets_below(search.alloc, fields)?;
     let is_quiet = are_quiet(graph, search, e, sets, most)?;

@@ -6,7 +6,8 @@ ghost use Rattle.bit_matrix.specs.Set.{has};
 ghost use Rattle.merge_search.specs.World.{world, set_of};
 ghost use Rattle.merge_search.specs.Work.{Did, Pair};
 ghost use Rattle.merge_search.specs.Plain.{ArePlain, IsOnePlain};
-ghost use Rattle.merge_search.specs.Tops.{MarkedDone};
+ghost use Rattle.merge_search.specs.Merging.{MergeWritten};
+ghost use Rattle.merge_search.specs.Tops.{AllBefore, MarkedDone};
 
 use crate::graph::Graph;
 use crate::judge::Judge;
@@ -94,6 +95,30 @@ pub(crate) fn note_plain<J: Judge>(
     let all = set_of_numbers(search.alloc, list)?;
     for f in list {
         note_with(graph, *f, &all, plain, search)?;
+    }
+    Ok(())
+}
+
+/// Notes each two of some fragments that are known to merge, many at once.
+///
+/// # Errors
+///
+/// Out of memory.
+pub(crate) fn note_merged<J: Judge>(
+    graph: &Graph<J>,
+    list: &[usize],
+    search: &mut Search,
+) -> Result<(), AllocError>
+    requires list { All (λ g. g < length graph.now.fragments.items) list.now }
+    requires merged { let w = world J.judgement graph.now in
+        (f g : ℕ) → Contains list.now f → Contains list.now g → MergeWritten w f g }
+    ensures done { let w = world J.judgement graph.now in
+        OnOk result (Did w (λ M. AllBefore (Pair M false) list.now) search.old search.new) }
+    ensures real { OnOk result (search.new.found.items ≡ search.old.found.items) }
+{
+    let all = set_of_numbers(search.alloc, list)?;
+    for f in list {
+        note_below(search, *f, &all)?;
     }
     Ok(())
 }

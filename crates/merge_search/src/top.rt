@@ -1,25 +1,29 @@
 //! The search over all sets.
-ghost use Rattle.std.specs.Prelude.{◌≡◌, ◌<◌, ◌≤◌, ◌*◌, ◌-◌, ℕ, List, OnOk, IfOk, length, false};
+ghost use Rattle.std.specs.Prelude.{◌≡◌, ◌<◌, ◌≤◌, ◌*◌, ◌-◌, ◌∷◌, [], ℕ, List, OnOk, IfOk, length, false};
+ghost use Rattle.std.specs.Bool.{OnTrue};
 ghost use Rattle.std.specs.List.{All};
 ghost use Rattle.merge_search.specs.World.{world, HasRoom, set_of, spreads_of};
 ghost use Rattle.merge_search.specs.Opening.{Opens};
 ghost use Rattle.merge_search.specs.Work.{Did, OwnPairs, Pair};
 ghost use Rattle.merge_search.specs.Reports.{Finds, FindsAll, AtFragments, AtPlaces, Judged};
 ghost use Rattle.merge_search.specs.Plain.{ArePlain};
+ghost use Rattle.merge_search.specs.Quiet.{AreQuiet};
 ghost use Rattle.merge_search.specs.Tops.{AddsUnmarked, AllBefore, AreAllBut, AtListed, AtSpread, AtSpreads, AtTop};
 ghost use Rattle.merge_search.specs.Tops.{AtTwo, AtWithin, MarkedDone, OwnWithin, OwnWritten, SpreadDone, Together, Top};
 
+use crate::clear::MANY;
 use crate::graph::Graph;
 use crate::inner::search_inner;
 use crate::judge::Judge;
 use crate::opening::opened;
 use crate::pairs::compare_each;
-use crate::passing::{note_plain, pass_over};
+use crate::passing::{note_merged, note_plain, pass_over};
 use crate::plain::{is_plain, passed_over};
+use crate::quiet::are_quiet;
 use crate::repeats::Seeker;
 use crate::search::{compare_fragments, compare_own};
 use crate::state::{Search, no_search, put_opening};
-use crate::view::{firsts, group, is_full, order, set, spreads};
+use crate::view::{firsts, group, is_full, order, own, set, spreads};
 use bit_matrix::set::BitSet;
 use std::alloc::{AllocError, Global};
 
@@ -247,6 +251,33 @@ fn compare_set<J: Judge>(
     compare_spreads(graph, s, plain, search)
 }
 
+// Whether all that stands in a set is known to merge. It takes no longer than comparing its spreads with all that it has
+// would; where these pairs are few, `false` says nothing.
+fn is_merged<J: Judge>(graph: &Graph<J>, s: usize, search: &Search) -> Result<bool, AllocError>
+    ensures { IfOk result (λ b. OnTrue b (AreQuiet (world J.judgement graph.now) false (s ∷ []))) }
+{
+    let list = spreads(graph, s).len();
+    let pairs = list.saturating_mul(list.saturating_add(own(graph, s).len()));
+    if pairs < MANY {
+        return Ok(false);
+    }
+    let mut sets = Vec::new(search.alloc);
+    sets.push(s)?;
+    let is_quiet = are_quiet(graph, search, false, sets, pairs)?;
+    Ok(is_quiet)
+}
+
+// Passes over a set in which all merges.
+fn pass_set<J: Judge>(graph: &Graph<J>, s: usize, search: &mut Search) -> Result<(), AllocError>
+    requires { AreQuiet (world J.judgement graph.now) false (s ∷ []) }
+    ensures done { let w = world J.judgement graph.now in
+        OnOk result (Did w (λ M. Top w M s) search.old search.new) }
+    ensures real { let w = world J.judgement graph.now in
+        OnOk result (FindsAll w false (AtPlaces w s) (AtTop w s) search.old search.new) }
+{
+    note_merged(graph, spreads(graph, s), search)
+}
+
 // Compares all that stands in one set, and where that finds something, once more what stands in its inline fragments:
 // a conflict there is one of each set round it.
 fn search_set<J: Judge>(
@@ -263,6 +294,9 @@ fn search_set<J: Judge>(
 {
     if is_full(graph, search) {
         return Ok(());
+    }
+    if is_merged(graph, s, search)? {
+        return pass_set(graph, s, search);
     }
     let start = search.found.len();
     compare_set(graph, s, plain, search)?;

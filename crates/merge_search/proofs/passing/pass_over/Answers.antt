@@ -1,7 +1,8 @@
-use Rattle.std.proofs.Common.{inr, sym, ◌∙◌, false}
+use Rattle.std.proofs.Common.{inl, inr, sym, ◌∙◌, false}
 use Rattle.std.proofs.lemmas.Result.{on_ok_weaker}
 use Rattle.merge_search.specs.World.{world}
 use Rattle.merge_search.specs.Work.{pair_in}
+use Rattle.merge_search.proofs.Harmless.{one_merges}
 use Rattle.merge_search.proofs.Work.{did_none, did_passed, covers_yes, covers_no}
 use Rattle.merge_search.proofs.passing.pass_over.Goals as goal
 
@@ -15,4 +16,4 @@ pub returns-clause-done : goal.returns-clause-done
 returns-clause-done g c =
     let v = world g.J.Judge.judgement c.args.graph.now in
     on_ok_weaker c.note_pair.result (λ n. did_passed v c.args.f c.args.g n c.if-f-g.false c.requires.first c.requires.second
-    (covers_no (pair_in c.args.search.now) false c.args.f c.args.g (sym c.is_compared.ensures ∙ c.if-is_compared.false)) c.requires.plain) c.note_pair.ensures
+    (covers_no (pair_in c.args.search.now) false c.args.f c.args.g (sym c.is_compared.ensures ∙ c.if-is_compared.false)) (inl (one_merges v c.args.f c.args.g c.requires.plain))) c.note_pair.ensures

@@ -1,11 +1,10 @@
-use Rattle.std.proofs.Common.{◌≡◌, ℕ, ◌<◌, List, [], length, sym, subst, false, arith, ap, ◌∙◌}
+use Rattle.std.proofs.Common.{◌≡◌, ℕ, ◌<◌, [], length, sym, subst, false, arith, ap, ◌∙◌}
 use Rattle.std.specs.List.{All, Contains}
 use Rattle.std.proofs.lemmas.List.{nil_from_length}
-use Rattle.std.proofs.lemmas.List.Elements.{All-weaker, All-nil}
+use Rattle.std.proofs.lemmas.List.Elements.{All-nil}
 use Rattle.std.proofs.lemmas.Option.{slice_get_within}
 use Rattle.std.proofs.lemmas.Result.{on_ok_weaker}
-use Rattle.merge_search.specs.World.{World, world, spreads_of, set_of}
-use Rattle.merge_search.specs.Graph.{Falling}
+use Rattle.merge_search.specs.World.{World, world, spreads_of}
 use Rattle.merge_search.specs.declared.state.Search.{Search}
 use Rattle.merge_search.specs.Work.{Pair}
 use Rattle.merge_search.specs.Reports.{AtPlaces}
@@ -13,13 +12,9 @@ use Rattle.merge_search.specs.Tops.{AllBefore, AtSpread, AtSpreads, AtTwo, OwnWr
 use Rattle.merge_search.proofs.Adding.{adds_none, all_map, all_told, all_plus}
 use Rattle.merge_search.proofs.Falls.{spread_falls}
 use Rattle.merge_search.proofs.Judging.{places_written, places_listed}
+use Rattle.merge_search.proofs.Passed.{are_there}
 use Rattle.merge_search.proofs.Work.{did_none, did_then, did_map}
 use Rattle.merge_search.proofs.top.compare_spreads.Goals as goal
-
--- what a set spreads is there
-are_there : (w : World) (s : ℕ) (list : List ℕ) → Falling w.sets w.fragments → list ≡ spreads_of w s → All (λ k. k < length w.fragments) list
-are_there w s list falling is = subst (λ zs. All (λ k. k < length w.fragments) zs) (sym is)
-    (All-weaker (λ k. (k < length w.fragments) × (set_of w k < s)) (λ k. k < length w.fragments) (λ k z. z.0) (spreads_of w s) (falling s).1)
 
 -- where nothing is spread
 none_spread : (w : World) (M : Search) (s : ℕ) → spreads_of w s ≡ [] → All (λ f. OwnWritten w M s f) (spreads_of w s) × AllBefore (Pair M false) (spreads_of w s)

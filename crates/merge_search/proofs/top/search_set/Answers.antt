@@ -1,4 +1,6 @@
-use Rattle.std.proofs.Common.{false}
+use Rattle.std.proofs.Common.{◌∷◌, [], false, subst}
+use Rattle.std.specs.Bool.{OnTrue}
+use Rattle.merge_search.specs.Quiet.{AreQuiet}
 use Rattle.std.proofs.lemmas.Result.{on_ok_weaker}
 use Rattle.merge_search.specs.World.{world}
 use Rattle.merge_search.proofs.Adding.{all_full, all_plus}
@@ -18,3 +20,6 @@ returns-then-is_full g c =
     let v = world g.J.Judge.judgement c.args.graph.now in
     let full = c.if-is_full.ensures in
     record { done = did_full v _ c.args.search.now full; real = all_full v false _ _ _ full }
+
+pub pass_set-requires : goal.pass_set-requires
+pass_set-requires g c = subst (λ b. OnTrue b (AreQuiet (world g.J.Judge.judgement c.args.graph.now) false (c.args.s ∷ []))) c.if-branch.true c.in_ok-is_merged.ensures
