@@ -20,6 +20,7 @@ pub mod Order
 pub mod Rows
 pub mod Spreads
 pub mod Unmarked
+pub mod Settling
 pub mod Steps
 pub mod Tallying
 pub mod TallyingBelow

@@ -16,6 +16,7 @@ pub mod Reports
 pub mod Counts
 pub mod State
 pub mod Tasks
+pub mod Settle
 pub mod Sound
 pub mod Tops
 pub mod Inner

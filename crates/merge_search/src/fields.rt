@@ -12,11 +12,11 @@ ghost use Rattle.merge_search.specs.declared.task.Task.{Task};
 use crate::clear::{are_clear, clear_rows};
 use crate::graph::Graph;
 use crate::judge::Judge;
-use crate::leaves::compare_leaves;
 use crate::node::Entry;
+use crate::settle::{settle, settle_from};
 use crate::state::{Finding, Search, report};
 use crate::task::{Partner, Task, wait};
-use crate::view::{are_exclusive, are_in_conflict, first_of_names, group, spreads};
+use crate::view::{are_exclusive, first_of_names, group, spreads};
 use bit_matrix::set::BitSet;
 use std::alloc::AllocError;
 
@@ -36,9 +36,8 @@ pub(crate) fn begin_fields<J: Judge>(
     ensures { let w = world J.judgement graph.now in
         OnOk result (Turns w (MeetsFields w e a b) tasks.old.items tasks.new.items search.old search.new) }
 {
-    let in_conflict = are_in_conflict(graph, e, a, b)?;
-    if in_conflict {
-        return report(search, Finding::Direct(a, b, e));
+    if settle(graph, a, b, e, search)? {
+        return Ok(());
     }
     match (a.below, b.below) {
         (Some(i), Some(j)) => begin_nested(graph, a, b, i, j, e, tasks, search),
@@ -100,15 +99,13 @@ pub(crate) fn next_with<J: Judge>(
     ensures { let w = world J.judgement graph.now in
         OnOk result (Turns w (Meets w (Task.With a j e n)) tasks.old.items tasks.new.items search.old search.new) }
 {
+    let k = settle_from(graph, a, j, e, n, search)?;
     let fields = group(graph, j, a.response);
-    if n >= fields.len() {
+    if k >= fields.len() {
         return Ok(());
     }
-    if a.below.is_none() {
-        return compare_leaves(graph, a, &fields[n..], e, search);
-    }
-    wait(tasks, Task::With(a, j, e, n + 1), fields.len() - (n + 1))?;
-    begin_fields(graph, a, fields[n], e, tasks, search)
+    wait(tasks, Task::With(a, j, e, k + 1), fields.len() - (k + 1))?;
+    begin_fields(graph, a, fields[k], e, tasks, search)
 }
 
 // Lets a field wait, unless it is known to merge with the own fields of a set.

@@ -15,7 +15,6 @@ use crate::clear::WIDE;
 use crate::graph::Graph;
 use crate::judge::Judge;
 use crate::kinds::agreeing_rows;
-use crate::leaves::compare_leaves;
 use crate::node::Entry;
 use crate::plain::{are_plain_below, is_plain_below};
 use crate::search::compare_fields;
@@ -42,9 +41,6 @@ pub(crate) fn compare_rest<J: Judge>(
 {
     if is_full(graph, search) {
         return Ok(());
-    }
-    if a.below.is_none() {
-        return compare_leaves(graph, a, rest, false, search);
     }
     for b in rest {
         compare_fields(graph, a, *b, false, search)?;

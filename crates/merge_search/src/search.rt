@@ -14,6 +14,7 @@ use crate::fragments::{begin_fragments, next_opened, next_spread};
 use crate::graph::Graph;
 use crate::judge::Judge;
 use crate::node::Entry;
+use crate::settle::settle;
 use crate::state::{Search, note_conflicts};
 use crate::task::{Task, put_tasks, take_tasks};
 use crate::view::is_full;
@@ -36,7 +37,7 @@ pub fn compare_fields<J: Judge>(
     ensures real { let w = world J.judgement graph.now in
         OnOk result (FindsAll w e (AtFields a b) (AtFields a b) search.old search.new) }
 {
-    if is_full(graph, search) {
+    if settle(graph, a, b, e, search)? {
         return Ok(());
     }
     let mut tasks = take_tasks(search);

@@ -1,12 +1,10 @@
 use Rattle.std.proofs.Common.{refl, sym, subst, false}
 use Rattle.std.specs.List.{Contains}
 use Rattle.std.proofs.lemmas.List.Elements.{Contains-get_or}
-use Rattle.std.proofs.lemmas.Result.{on_ok_weaker}
 use Rattle.merge_search.specs.World.{world}
 use Rattle.merge_search.specs.Work.{Done}
 use Rattle.merge_search.specs.Reports.{AtFields}
 use Rattle.merge_search.proofs.Adding.{all_full, all_start, all_more, all_done}
-use Rattle.merge_search.proofs.Clearing.{is_leaf}
 use Rattle.merge_search.proofs.Work.{did_full, no_entry, did_start, did_more, did_all}
 use Rattle.merge_search.proofs.pairs.compare_rest.Goals as goal
 
@@ -36,12 +34,3 @@ returns-then-is_full g c =
     let v = world g.J.Judge.judgement c.args.graph.now in
     let full = c.if-is_full.ensures in
     record { done = did_full v _ c.args.search.now full; real = all_full v false _ _ _ full }
-
-pub returns-then-is_none-clause-done : goal.returns-then-is_none-clause-done
-returns-then-is_none-clause-done g c = on_ok_weaker c.compare_leaves.result (λ d. d.done) c.compare_leaves.ensures
-
-pub returns-then-is_none-clause-real : goal.returns-then-is_none-clause-real
-returns-then-is_none-clause-real g c = on_ok_weaker c.compare_leaves.result (λ d. d.real) c.compare_leaves.ensures
-
-pub compare_leaves-requires : goal.compare_leaves-requires
-compare_leaves-requires g c = is_leaf _ c.if-is_none.ensures

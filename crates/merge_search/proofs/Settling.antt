@@ -1,0 +1,39 @@
+-- Pairs that are settled at once.
+use Rattle.std.proofs.Common.{◌≡◌, ℕ, Bool, true, false, Some, None, inl, refl, subst, length, ap, arith}
+use Rattle.std.specs.Bool.{OnTrue}
+use Rattle.std.specs.List.{Contains}
+use Rattle.std.proofs.lemmas.List.Elements.{All-contains}
+use Rattle.merge_search.specs.declared.node.Entry.{Entry}
+use Rattle.merge_search.specs.declared.state.Search.{Search}
+use Rattle.merge_search.specs.Clear.{AreLeaves, IsClearBelow}
+use Rattle.merge_search.specs.Merging.{Stands, own, spread, below, merges}
+use Rattle.merge_search.specs.Settle.{AgreesWith, AgreeFlatly, IsSpreadless, Settles}
+use Rattle.merge_search.specs.Work as done
+use Rattle.merge_search.specs.World.{World, own_of, conflict_of, exclusive_of, Same}
+use Rattle.merge_search.proofs.Adding.{adds_none, all_quiet}
+use Rattle.merge_search.proofs.Clearing.{leaf_below}
+use Rattle.merge_search.proofs.Laws.{same_some}
+use Rattle.merge_search.proofs.Work.{did_none}
+
+module _ (w : World) where
+  -- what stands in a set that spreads nothing is an own field
+  stands_own : (s : ℕ) (c : Entry) → IsSpreadless w s → Stands w s c → Contains (own_of w s) c
+  stands_own s c none (own p) = p
+  stands_own s c none (spread v p) = absurd (omega (arith, v.1, ap length none))
+
+  pub flat_below : (e : Bool) (a b : Entry) (i j : ℕ) → a.below ≡ Some i → b.below ≡ Some j → IsSpreadless w i → IsSpreadless w j → AreLeaves (own_of w i)
+      → AgreeFlatly w (exclusive_of w e a b) (own_of w i) (own_of w j) → IsClearBelow w e a b
+  flat_below e a b i j left right nothing none leaves agree c d (below {s = s} {t = t} sa tb p q same) =
+      let p' : Contains (own_of w i) c = stands_own i c nothing (subst (λ (u : ℕ). Stands w u c) (same_some s i a.below sa left) p) in
+      let q' : Contains (own_of w j) d = stands_own j d none (subst (λ (u : ℕ). Stands w u d) (same_some t j b.below tb right) q) in
+      merges {a = c} {b = d}
+      (All-contains (λ (y : Entry). Same c y → conflict_of w (exclusive_of w e a b) c y ≡ false) (own_of w j) d (All-contains (λ (x : Entry). AgreesWith w (exclusive_of w e a b) x (own_of w j)) (own_of w i) c agree p') q' same)
+      (leaf_below w (exclusive_of w e a b) c d (inl (All-contains (λ (x : Entry). x.below ≡ None) (own_of w i) c leaves p')))
+
+  -- two fields that don't fail are done if it is known that what stands below merges
+  pub settles : (e : Bool) (a b : Entry) (s : Search) → conflict_of w e a b ≡ false → (is : Bool) → OnTrue is (IsClearBelow w e a b) → Settles w e a b is s s
+  settles e a b s passes true clear = record {
+    done = did_none w _ s (λ M grown. done.merged (merges {a = a} {b = b} passes clear));
+    real = all_quiet w e a b passes (adds_none w e _ _);
+  }
+  settles e a b s passes false clear = (refl, passes)

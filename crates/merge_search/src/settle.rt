@@ -1,0 +1,161 @@
+//! Pairs of fields that are settled at once, so that no task has to wait: most are.
+ghost use Rattle.std.specs.Prelude.{◌≡◌, IfOk, Some, false};
+ghost use Rattle.std.specs.Bool.{OnTrue};
+ghost use Rattle.merge_search.specs.Settle.{AgreesWith, AgreeFlatly, IsSpreadless, Settles};
+ghost use Rattle.merge_search.specs.Clear.{IsClearBelow};
+ghost use Rattle.merge_search.specs.Tasks.{Meets};
+ghost use Rattle.merge_search.specs.World.{world, conflict_of, Same};
+ghost use Rattle.merge_search.specs.declared.state.Search.{Search};
+ghost use Rattle.merge_search.specs.declared.task.Task.{Task};
+
+use crate::graph::Graph;
+use crate::judge::Judge;
+use crate::node::Entry;
+use crate::state::{Finding, Search, report};
+use crate::view::{are_exclusive, are_in_conflict, are_leaves, group, is_full, own, spreads};
+use std::alloc::AllocError;
+
+// Of more fields each two are not looked at.
+const FEW: usize = 4;
+
+// Whether a set has few fields, and spreads nothing.
+fn is_small<J: Judge>(graph: &Graph<J>, s: usize) -> bool
+    ensures { OnTrue result (IsSpreadless (world J.judgement graph.now) s) }
+{
+    if !spreads(graph, s).is_empty() {
+        return false;
+    }
+    own(graph, s).len() <= FEW
+}
+
+// Whether two fields have one response name and fail with each other.
+fn fails_with<J: Judge>(graph: &Graph<J>, e: bool, c: Entry, d: Entry) -> Result<bool, AllocError>
+    ensures { IfOk result (λ b. b ≡ false → Same c d → conflict_of (world J.judgement graph.now) e c d ≡ false) }
+{
+    if c.response != d.response {
+        return Ok(false);
+    }
+    are_in_conflict(graph, e, c, d)
+}
+
+// Whether a field fails with none of some others that has its response name.
+fn agrees_with<J: Judge>(
+    graph: &Graph<J>,
+    e: bool,
+    c: Entry,
+    others: &[Entry],
+) -> Result<bool, AllocError>
+    ensures { IfOk result (λ b. OnTrue b (AgreesWith (world J.judgement graph.now) e c others.now)) }
+{
+    for d in others {
+        if fails_with(graph, e, c, *d)? {
+            return Ok(false);
+        }
+    }
+    Ok(true)
+}
+
+// Whether no field of the one list fails with one of the other that has its response name.
+fn agree_flatly<J: Judge>(
+    graph: &Graph<J>,
+    e: bool,
+    left: &[Entry],
+    right: &[Entry],
+) -> Result<bool, AllocError>
+    ensures { IfOk result (λ b. OnTrue b (AgreeFlatly (world J.judgement graph.now) e left.now right.now)) }
+{
+    for c in left {
+        if !agrees_with(graph, e, *c, right)? {
+            return Ok(false);
+        }
+    }
+    Ok(true)
+}
+
+// Whether what stands below two fields is seen to merge: few fields, with nothing below those of the first.
+fn is_clear_below<J: Judge>(
+    graph: &Graph<J>,
+    e: bool,
+    a: Entry,
+    b: Entry,
+    i: usize,
+    j: usize,
+) -> Result<bool, AllocError>
+    requires left { a.below ≡ Some i }
+    requires right { b.below ≡ Some j }
+    ensures { IfOk result (λ is. OnTrue is (IsClearBelow (world J.judgement graph.now) e a b)) }
+{
+    if !is_small(graph, i) {
+        return Ok(false);
+    }
+    if !is_small(graph, j) {
+        return Ok(false);
+    }
+    if !are_leaves(own(graph, i)) {
+        return Ok(false);
+    }
+    let below = are_exclusive(graph, e, a, b);
+    let agree = agree_flatly(graph, below, own(graph, i), own(graph, j))?;
+    Ok(agree)
+}
+
+/// Compares two fields of one response name, if that takes no task; else it does nothing, and says so. Where enough was
+/// found, there is nothing to do.
+///
+/// # Errors
+///
+/// Out of memory.
+pub(crate) fn settle<J: Judge>(
+    graph: &Graph<J>,
+    a: Entry,
+    b: Entry,
+    e: bool,
+    search: &mut Search,
+) -> Result<bool, AllocError>
+    ensures { let w = world J.judgement graph.now in
+        IfOk result (λ is. Settles w e a b is search.old search.new) }
+{
+    if is_full(graph, search) {
+        return Ok(true);
+    }
+    let in_conflict = are_in_conflict(graph, e, a, b)?;
+    if in_conflict {
+        report(search, Finding::Direct(a, b, e))?;
+        return Ok(true);
+    }
+    match (a.below, b.below) {
+        (Some(i), Some(j)) => {
+            let is_clear = is_clear_below(graph, e, a, b, i, j)?;
+            Ok(is_clear)
+        }
+        _ => Ok(true),
+    }
+}
+
+/// Compares a field with the own fields of a set that have its response name, from a place on, as long as they are settled
+/// at once. Returns the place of the first that isn't.
+///
+/// # Errors
+///
+/// Out of memory.
+pub(crate) fn settle_from<J: Judge>(
+    graph: &Graph<J>,
+    a: Entry,
+    j: usize,
+    e: bool,
+    n: usize,
+    search: &mut Search,
+) -> Result<usize, AllocError>
+    ensures { let w = world J.judgement graph.now in
+        IfOk result (λ k. (t : Search) → Meets w (Task.With a j e k) search.new t → Meets w (Task.With a j e n) search.old t) }
+{
+    let fields = group(graph, j, a.response);
+    let mut k = n;
+    while k < fields.len() {
+        if !settle(graph, a, fields[k], e, search)? {
+            return Ok(k);
+        }
+        k += 1;
+    }
+    Ok(k)
+}
