@@ -11,6 +11,12 @@ DOG_ELSEWHERE = "dog { a: name } "
 # A field of a type that can't be one object with `Human`: no `a` beside it is plainly alike, and none conflicts.
 APART = "... on Being { ... on Dog { a: barkVolume } } "
 
+# A field below which stands one that is not plain.
+BELOW = "relatives { a: iq } "
+
+# Two fields below which something conflicts, though not with what stands below others.
+CONFLICT_BELOW = ["relatives { b: iq } ", "relatives { b: name } "]
+
 
 def numbers(count):
     return range(FIRST, FIRST + count)
@@ -63,7 +69,37 @@ def two_fragments(count):
 
 def below_one_name(count):
     """Fields of one name, below each of which stands a field that is not plain."""
-    return nested(0, "relatives { a: iq } " * count, DOG_ELSEWHERE)
+    return nested(0, BELOW * count, DOG_ELSEWHERE)
+
+
+def below_and_a_conflict(count):
+    """The same, with one conflict below two others."""
+    return nested(0, BELOW * count + "".join(CONFLICT_BELOW), DOG_ELSEWHERE)
+
+
+def two_fragments_below(rest):
+    """Such fields in two fragments, which may have one more each."""
+
+    def text(count):
+        one, other = (f"fragment {name} on Human {{ {BELOW * count}{more}}} " for name, more in zip("FG", rest))
+        return f"{{ human {{ ...F ...G }} {DOG_ELSEWHERE}}} {one}{other}"
+
+    return text
+
+
+def fragments_below(own):
+    """As many fragments with one such field each, all spread in one set, which may have fields of its own."""
+
+    def text(count):
+        around = "".join(f"fragment F{n} on Human {{ {BELOW}}} " for n in numbers(count))
+        return f"{{ human {{ {BELOW * own * count}{spreads(count)}}} {DOG_ELSEWHERE}}} {around}"
+
+    return text
+
+
+def conflicts_below(count):
+    """Fields of one name, of which each has a conflict below it with just one other."""
+    return nested(0, "".join(f"relatives {{ a{n}: iq }} relatives {{ a{n}: name }} " for n in numbers(count)))
 
 
 def plain(count):
@@ -122,6 +158,9 @@ WORST = [
     ("fields in nested sets", pairs, 20, True),
     ("fields of two kinds", two_kinds, 40, True),
     ("fields below one name", below_one_name, 40, True),
+    ("below one name in two fragments", two_fragments_below(["", ""]), 40, True),
+    ("fragments below one name", fragments_below(0), 40, True),
+    ("fields and fragments below one name", fragments_below(1), 20, True),
     ("plain fields in nested sets", plain, 100, True),
     ("a hub", hub("iq", "iq"), 20, True),
     ("a hub in nested sets", hub("iq", "iq", 1), 8, True),
@@ -135,6 +174,9 @@ WORST = [
     ("failing fields", failing(0), 40, False),
     ("two kinds and a conflict", kinds_and_a_conflict, 40, False),
     ("a conflict of two fragments", two_fragments, 40, False),
+    ("below one name and a conflict", below_and_a_conflict, 40, False),
+    ("a conflict below two fragments", two_fragments_below(CONFLICT_BELOW), 40, False),
+    ("each a conflict below", conflicts_below, 20, False),
     ("one error of many reasons", reasons, 40, False),
     ("failing fields in nested sets", failing(1), 8, False),
     ("a hub with conflicts", hub("iq", "name"), 10, False),
