@@ -40,7 +40,7 @@ fn add_places<J: Judge>(
     fields: &[Entry],
     from: usize,
     to: usize,
-    most: usize,
+    left: &mut usize,
     good: &mut Vec<usize>,
 ) -> Result<bool, AllocError>
     ensures { let w = world J.judgement graph.now in
@@ -51,7 +51,7 @@ fn add_places<J: Judge>(
         more.push(k)?;
     }
     let entries = entries_at(search.alloc, fields, more.as_slice())?;
-    let is_clear = are_clear_below(graph, search, false, entries.as_slice(), most)?;
+    let is_clear = are_clear_below(graph, search, false, entries.as_slice(), left)?;
     if !is_clear {
         return Ok(false);
     }
@@ -75,8 +75,10 @@ fn good_places<J: Judge>(
     let mut size = fields.len();
     while left > 0 && next < fields.len() {
         let end = fields.len().min(next.saturating_add(size));
-        left = (left - 1).saturating_sub(good.len()).saturating_sub(size);
-        if add_places(graph, search, fields, next, end, left, &mut good)? {
+        let mut rest = left.saturating_sub(good.len()).saturating_sub(size);
+        let is_good = add_places(graph, search, fields, next, end, &mut rest, &mut good)?;
+        left = rest.min(left - 1);
+        if is_good {
             next = end;
             size = size.saturating_mul(2);
         } else if size > 1 {
@@ -100,15 +102,15 @@ pub(crate) fn known_below<J: Judge>(
 ) -> Result<Below, AllocError>
     ensures { IfOk result (KnowsBelow (world J.judgement graph.now) fields.now) }
 {
-    let most = fields.len().saturating_mul(fields.len()) / 4;
-    let of_all = are_clear_below(graph, search, false, fields, most)?;
+    let mut left = fields.len().saturating_mul(fields.len()) / 4;
+    let of_all = are_clear_below(graph, search, false, fields, &mut left)?;
     if of_all {
         return Ok(Below {
             of_all,
             places: BitSet::new(search.alloc),
         });
     }
-    let good = good_places(graph, search, fields, most)?;
+    let good = good_places(graph, search, fields, left)?;
     let places = set_of_numbers(search.alloc, good.as_slice())?;
     Ok(Below { of_all, places })
 }

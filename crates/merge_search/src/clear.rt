@@ -22,8 +22,8 @@ pub(crate) const WIDE: usize = 32;
 /// So many pairs these fields have.
 pub(crate) const MANY: usize = WIDE * WIDE;
 
-/// Whether what stands below each two of some fields is known to merge. `false` says nothing. It looks at no more than
-/// `most` fields there.
+/// Whether what stands below each two of some fields is known to merge. `false` says nothing. It takes what it has looked
+/// at there off what is `left`.
 ///
 /// # Errors
 ///
@@ -33,7 +33,7 @@ pub(crate) fn are_clear_below<J: Judge>(
     search: &Search,
     e: bool,
     fields: &[Entry],
-    most: usize,
+    left: &mut usize,
 ) -> Result<bool, AllocError>
     ensures { IfOk result (λ b. OnTrue b (AreClearBelow (world J.judgement graph.now) e fields.now fields.now)) }
 {
@@ -41,7 +41,7 @@ pub(crate) fn are_clear_below<J: Judge>(
         return Ok(true);
     }
     let sets = sets_below(search.alloc, fields)?;
-    let is_quiet = are_quiet(graph, search, e, sets, most)?;
+    let is_quiet = are_quiet(graph, search, e, sets, left)?;
     Ok(is_quiet)
 }
 
@@ -61,13 +61,13 @@ fn are_clear_between<J: Judge>(
     if are_leaves(right) {
         return Ok(true);
     }
-    let most = left.len().saturating_mul(right.len());
-    if most < MANY {
+    let mut pairs = left.len().saturating_mul(right.len());
+    if pairs < MANY {
         return Ok(false);
     }
     let mut fields = Vec::from_slice(search.alloc, left)?;
     fields.extend_from_slice(right)?;
-    let is_clear = are_clear_below(graph, search, e, fields.as_slice(), most)?;
+    let is_clear = are_clear_below(graph, search, e, fields.as_slice(), &mut pairs)?;
     Ok(is_clear)
 }
 

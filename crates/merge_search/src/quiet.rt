@@ -2,7 +2,7 @@
 //!
 //! The sets are written out as one, and under each response name the sets below its fields in turn. So each field is
 //! looked at once where a search compares it with all others.
-ghost use Rattle.std.specs.Prelude.{◌≡◌, ◌<◌, ◌⊎◌, ℕ, Bool, IfOk, OnOk, length};
+ghost use Rattle.std.specs.Prelude.{◌≡◌, ◌<◌, ◌⊎◌, ℕ, Bool, IfOk, IfSome, OnOk, length};
 ghost use Rattle.std.specs.Bool.{OnTrue};
 ghost use Rattle.std.specs.List.{All, Contains};
 ghost use Rattle.merge_search.specs.Judgement.{NoneConflict};
@@ -55,20 +55,33 @@ fn add_sets<J: Judge>(
     Ok(())
 }
 
-// Some sets, and those of all fragments that they reach.
+// Some sets, and those of all fragments that they reach. None where there are more fragments than `most`.
 fn written_out<J: Judge>(
     graph: &Graph<J>,
     search: &Search,
     sets: &[usize],
-) -> Result<Vec<usize>, AllocError>
-    ensures { IfOk result (λ v. AreWrittenOut (world J.judgement graph.now) sets.now v.items) }
+    most: usize,
+) -> Result<Option<Vec<usize>>, AllocError>
+    ensures { IfOk result (λ o. IfSome o (λ v. AreWrittenOut (world J.judgement graph.now) sets.now v.items)) }
 {
     let starts = spreads_in(search.alloc, graph, sets)?;
+    if !starts.is_empty() && graph.fragments.len() > most {
+        return Ok(None);
+    }
     let mut written = Vec::from_slice(search.alloc, sets)?;
     let mut opening = no_opening(search.alloc);
     open_from(graph, starts.as_slice(), Seeker::Top, search, &mut opening)?;
     add_sets(graph, opening.order.as_slice(), &mut written)?;
-    Ok(written)
+    Ok(Some(written))
+}
+
+// How many own fields some sets have.
+fn count_fields<J: Judge>(graph: &Graph<J>, sets: &[usize]) -> usize {
+    let mut count: usize = 0;
+    for s in sets {
+        count = count.saturating_add(own(graph, *s).len());
+    }
+    count
 }
 
 // The own fields of some sets.
@@ -87,19 +100,29 @@ fn own_fields<J: Judge>(
     Ok(fields)
 }
 
-// All that stands in some sets, what they spread written out, as one set.
+// All that stands in some sets, what they spread written out, as one set, and how much was looked at. None where that is
+// more than `most`.
 fn united<J: Judge>(
     graph: &Graph<J>,
     search: &Search,
     sets: &[usize],
-) -> Result<SetNode, AllocError>
-    ensures { IfOk result (λ set. HoldAll (world J.judgement graph.now) sets.now set.own.items) }
+    most: usize,
+) -> Result<Option<(SetNode, usize)>, AllocError>
+    ensures { IfOk result (λ o. IfSome o (λ p. HoldAll (world J.judgement graph.now) sets.now p.0.own.items)) }
 {
     let alloc = search.alloc;
-    let written = written_out(graph, search, sets)?;
+    let Some(written) = written_out(graph, search, sets, most)? else {
+        return Ok(None);
+    };
+    let size = written
+        .len()
+        .saturating_add(count_fields(graph, written.as_slice()));
+    if size > most {
+        return Ok(None);
+    }
     let fields = own_fields(alloc, graph, written.as_slice())?;
     let set = make_set(alloc, fields, Vec::new(alloc))?;
-    Ok(set)
+    Ok(Some((set, size)))
 }
 
 /// The sets below some fields.
@@ -179,7 +202,7 @@ fn is_quiet_set<J: Judge>(
 }
 
 /// Whether all that stands in some sets, what they spread written out, is known to merge under each flag from `x` on.
-/// `false` says nothing. It looks at no more fields and sets than `most`.
+/// `false` says nothing. It looks at no more fields and sets than are `left`, and takes off those that it has looked at.
 ///
 /// # Errors
 ///
@@ -189,22 +212,27 @@ pub(crate) fn are_quiet<J: Judge>(
     search: &Search,
     x: bool,
     sets: Vec<usize>,
-    most: usize,
+    left: &mut usize,
 ) -> Result<bool, AllocError>
     ensures { IfOk result (λ b. OnTrue b (AreQuiet (world J.judgement graph.now) x sets.items)) }
 {
     let mut waiting = Vec::new(search.alloc);
     waiting.push(sets)?;
-    let mut left = most;
-    while left > 0 {
+    let mut rest = *left;
+    while rest > 0 {
         let Some(next) = waiting.pop() else {
+            *left = rest;
             return Ok(true);
         };
-        let set = united(graph, search, next.as_slice())?;
-        left = (left - 1).saturating_sub(set.own.len());
+        let Some((set, size)) = united(graph, search, next.as_slice(), rest)? else {
+            break;
+        };
+        rest = (rest - 1).saturating_sub(size);
         if !is_quiet_set(search.alloc, graph, x, &set, &mut waiting)? {
+            *left = rest;
             return Ok(false);
         }
     }
+    *left = rest;
     Ok(false)
 }

@@ -257,13 +257,13 @@ fn is_merged<J: Judge>(graph: &Graph<J>, s: usize, search: &Search) -> Result<bo
     ensures { IfOk result (λ b. OnTrue b (AreQuiet (world J.judgement graph.now) false (s ∷ []))) }
 {
     let list = spreads(graph, s).len();
-    let pairs = list.saturating_mul(list.saturating_add(own(graph, s).len()));
+    let mut pairs = list.saturating_mul(list.saturating_add(own(graph, s).len()));
     if pairs < MANY {
         return Ok(false);
     }
     let mut sets = Vec::new(search.alloc);
     sets.push(s)?;
-    let is_quiet = are_quiet(graph, search, false, sets, pairs)?;
+    let is_quiet = are_quiet(graph, search, false, sets, &mut pairs)?;
     Ok(is_quiet)
 }
 
