@@ -94,9 +94,10 @@ uint32_t vorxindak_version(void);
 uint32_t vorxindak_open(vorxindak *handle, const uint8_t *texts, size_t length, uint32_t flags);
 
 /* Validates a document, which is UTF-8, by the rules of the schema's dialect. The flag is NO_INTROSPECTION. The report has
- * at most `max_errors` errors, or all for 0. Each is an error of the document, but for one without locations: that says
- * that the search for fields that conflict was stopped, which a limit on errors does. Where there is such a one, or as
- * many errors as the limit, there may be more.
+ * at most `max_errors` errors, or all for 0. One with a long message counts as several: one, and one more for each 4,096
+ * bytes of its message. Each is an error of the document, but for one without locations: that says that the search for
+ * fields that conflict was stopped, which a limit on errors does. Where there is such a one, or the errors count as many
+ * as the limit or more, there may be more.
  *
  * Answers VALID exactly where the document of the text is valid, INVALID where it is not, UNREADABLE where the text is no
  * document, NOT_UTF8, CLOSED, UNKNOWN_FLAG or OUT_OF_MEMORY. The handle keeps the report until the next call that makes one. */

@@ -61,7 +61,8 @@ const (
 type Options struct {
 	// Fields __schema and __type are errors.
 	NoIntrospection bool
-	// How many errors of a document are reported at most: 1,000 for 0, and all for a negative number.
+	// How many errors of a document are reported at most: 1,000 for 0, and all for a negative number. One with a long
+	// message counts as several: one, and one more for each 4,096 bytes of its message.
 	MaxErrors int
 }
 

@@ -14,7 +14,10 @@ export interface Fault {
 export interface Options {
   /** Whether fields `__schema` and `__type` are allowed; true if left out. */
   introspection?: boolean;
-  /** How many errors of a document are reported at most, or 0 for all; 1,000 if left out. */
+  /**
+   * How many errors of a document are reported at most, or 0 for all; 1,000 if left out. One with a long message counts
+   * as several: one, and one more for each 4,096 bytes of its message.
+   */
   maxErrors?: number;
 }
 

@@ -196,7 +196,8 @@ class Schema:
     ) -> List[Error]:
         """The errors of a document, in ascending order; none if and only if it is valid.
 
-        There are at most `max_errors` of them, or all for 0. A text that is not a document has its syntax error.
+        There are at most `max_errors` of them, or all for 0. One with a long message counts as several: one, and one
+        more for each 4,096 bytes of its message. A text that is not a document has its syntax error.
         """
         handle, text = self._threads.handle, _bytes(query)
         flags = 0 if introspection else _NO_INTROSPECTION

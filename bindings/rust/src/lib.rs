@@ -148,7 +148,8 @@ impl Dialect {
 pub struct Options {
     /// Whether fields `__schema` and `__type` are allowed.
     pub introspection: bool,
-    /// How many errors of a document are reported at most, or 0 for all.
+    /// How many errors of a document are reported at most, or 0 for all. One with a long message counts as several:
+    /// one, and one more for each 4,096 bytes of its message.
     pub max_errors: usize,
 }
 

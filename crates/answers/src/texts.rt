@@ -11,8 +11,8 @@ use std::alloc::Global;
 use validation::{Definition, RootNode, RuleError};
 
 /// Reads the document of a text and validates it against a root node. Returns its errors in ascending order. There are
-/// none if and only if it is valid. Where there are as many as the root node's `max_errors`, or one without a
-/// place, there may be more.
+/// none if and only if it is valid. Where they count as many as the root node's `max_errors` or more, or
+/// there is one without a place, there may be more.
 ///
 /// # Errors
 ///

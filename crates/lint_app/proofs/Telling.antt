@@ -1,7 +1,7 @@
 -- What is told of documents, as loops go on.
 use denote.Ref.{Bor}
 use mir.Val.{bool_byte}
-use Rattle.std.proofs.Common.{◌≡◌, ◌↔◌, ◌∙◌, ℕ, ◌+◌, ◌<◌, ◌≤◌, ◌==◌, arith, Bool, true, false, IsPermutation, IsSorted, List, [], ◌∷◌, ◌++◌, Option, Some, None, append_assoc, length, suc, get_or, drop, take, refl, sym, subst, ap, cond, ◌||◌, String, string_bytes}
+use Rattle.std.proofs.Common.{◌≡◌, ◌↔◌, ◌∙◌, ℕ, ◌+◌, ◌<◌, ◌≤◌, ◌==◌, arith, Bool, true, false, IsPermutation, IsSorted, List, [], ◌∷◌, ◌++◌, Option, Some, None, append_assoc, length, suc, get_or, drop, take, refl, sym, subst, ap, cond, not, ◌||◌, String, string_bytes}
 use Rattle.std.specs.declared.alloc.Global.{Global}
 use Rattle.std.specs.List.{AllZip, flat_map, count_by, list_any}
 use Rattle.std.specs.Option.{IfSome, is_some, option_to_list}
@@ -32,7 +32,8 @@ use Rattle.validation.specs.RootRules.{IsRootReportUpTo}
 use Rattle.lint_app.specs.Rules.{SourceRules}
 use Rattle.variable_values.proofs.InTurns.{Done, done_all, done_more}
 use Rattle.variable_values.specs.Messages.{OfOperation}
-use Rattle.walk.specs.ErrorValue.{ErrorValue, error_cmp}
+use Rattle.walk.specs.ContextState.{has_place}
+use Rattle.walk.specs.ErrorValue.{ErrorValue, error_cmp, shares}
 
 -- two lists one behind the other
 pub zip_append : {A B : Type 0} (R : A → B → Type 0) (xs ys : List A) (vs ws : List B) → AllZip R xs vs → AllZip R ys ws → AllZip R (xs ++ ys) (vs ++ ws)
@@ -40,6 +41,14 @@ zip_append R [] ys [] ws h k = k
 zip_append R [] ys (v ∷ vs) ws h k = absurd h
 zip_append R (x ∷ xs) ys [] ws h k = absurd h
 zip_append R (x ∷ xs) ys (v ∷ vs) ws h k = (h.0, zip_append R xs ys vs ws h.1 k)
+
+has_none : (b : Bool) → not b ≡ true → b ≡ false
+has_none true e = cc
+has_none false e = refl
+
+has_one : (b : Bool) → not b ≡ false → b ≡ true
+has_one true e = refl
+has_one false e = cc
 
 module _ (joined : Joined) (file : ℕ) where
   -- one more error is told
@@ -63,24 +72,24 @@ module _ (joined : Joined) (file : ℕ) where
     all = k.all ∙ ap (λ xs. xs ++ k.more) h.all ∙ append_assoc old h.more k.more;
   }
 
-  -- as many errors as may be reported, or fewer
-  pub one_note : (limit count : ℕ) (text : List ℕ) (issue : Issue) (old new : List Issue) → limit ≡ count → text ≡ limit_text limit
-      → IsIssueIn joined file text [] issue → new ≡ old ++ issue ∷ [] → Adds (AreToldAs joined file (limit_notes limit count)) old new
-  one_note limit count text issue old new same is told added =
+  -- errors fill the limit on them, or leave a place
+  pub one_note : (limit : ℕ) (errors : List ErrorValue) (full : Bool) (text : List ℕ) (issue : Issue) (old new : List Issue)
+      → full ≡ not (has_place limit (shares errors)) → full ≡ true → text ≡ limit_text limit
+      → IsIssueIn joined file text [] issue → new ≡ old ++ issue ∷ [] → Adds (AreToldAs joined file (limit_notes limit errors)) old new
+  one_note limit errors full text issue old new fills some is told added =
       let note : ErrorValue = record { locations = []; message = limit_text limit } in
-      let equal : (limit == count) ≡ true = grind (arith, nat_tests, same) in
-      let one : limit_notes limit count ≡ note ∷ [] = ap (λ b. cond b (note ∷ []) []) equal in
+      let one : limit_notes limit errors ≡ note ∷ [] = ap (λ b. cond b [] (note ∷ [])) (has_none (has_place limit (shares errors)) (sym fills ∙ some)) in
       record {
         more = issue ∷ [];
         told = subst (λ es. AreToldAs joined file es (issue ∷ [])) (sym one) (subst (λ m. IsIssueIn joined file m [] issue) is told, tt);
         all = added;
       }
 
-  pub no_note : (limit count : ℕ) (old : List Issue) → (limit ≡ count → ⊥) → Adds (AreToldAs joined file (limit_notes limit count)) old old
-  no_note limit count old apart =
+  pub no_note : (limit : ℕ) (errors : List ErrorValue) (full : Bool) (old : List Issue) → full ≡ not (has_place limit (shares errors)) → full ≡ false
+      → Adds (AreToldAs joined file (limit_notes limit errors)) old old
+  no_note limit errors full old fills some =
       let note : ErrorValue = record { locations = []; message = limit_text limit } in
-      let other : (limit == count) ≡ false = grind (arith, nat_tests, apart) in
-      let none : limit_notes limit count ≡ [] = ap (λ b. cond b (note ∷ []) []) other in
+      let none : limit_notes limit errors ≡ [] = ap (λ b. cond b [] (note ∷ [])) (has_one (has_place limit (shares errors)) (sym fills ∙ some)) in
       record {
         more = [];
         told = subst (λ es. AreToldAs joined file es []) (sym none) tt;
@@ -89,7 +98,7 @@ module _ (joined : Joined) (file : ℕ) where
 
 -- where there is an error, no value is judged
 not_judged : (root : Root) (values : Option GivenValues) (document : Document) (errors : List ErrorValue) → (errors ≡ [] → ⊥)
-    → FurtherOf root values document errors (limit_notes root.max_errors (length errors))
+    → FurtherOf root values document errors (limit_notes root.max_errors errors)
 not_judged root values document [] h = absurd (h refl)
 not_judged root values document (error ∷ errors) h = refl
 
@@ -118,9 +127,9 @@ module _ (rules : SourceRules) (root : Root) (values : Option GivenValues) (join
 
   -- a document with errors, and whether there may be more
   pub tells_errors : (errors : List ErrorValue) (old before new : List Issue) → AreErrorsOf rules root document errors → (errors ≡ [] → ⊥) → Adds (AreToldAs joined file errors) old before
-      → Adds (AreToldAs joined file (limit_notes root.max_errors (length errors))) before new → Adds (TellsDocument rules root values joined file document) old new
+      → Adds (AreToldAs joined file (limit_notes root.max_errors errors)) before new → Adds (TellsDocument rules root values joined file document) old new
   tells_errors errors old before new are some h k =
-      let notes = limit_notes root.max_errors (length errors) in
+      let notes = limit_notes root.max_errors errors in
       let both = told_both joined file errors notes old before new h k in
       record {
         more = both.more;

@@ -1,6 +1,6 @@
 -- What is told of files of queries.
 use Rattle.std.specs.Prelude.{◌≡◌, ◌↔◌, ⊤, Bool, true, false, ℕ, ◌+◌, List, [], ◌∷◌, ◌++◌, Option, Some, None}
-use Rattle.std.specs.Prelude.{IsPermutation, IsSorted, IfSome, if◌then◌else◌, ◌==◌, codes, count_by, is_some, length}
+use Rattle.std.specs.Prelude.{IsPermutation, IsSorted, IfSome, if◌then◌else◌, codes, count_by, is_some, length}
 use Rattle.std.specs.Prelude.{map, String, string_bytes}
 use Rattle.std.specs.declared.alloc.Global.{Global}
 use Rattle.std.specs.Fmt.{decimal}
@@ -28,7 +28,8 @@ use Rattle.validation.specs.RootRules.{IsRootReportUpTo, IsRootValid}
 use Rattle.variable_values.specs.Inputs.{HasInputTypes}
 use Rattle.variable_values.specs.InTurn.{InTurn}
 use Rattle.variable_values.specs.Messages.{OfOperation, Values}
-use Rattle.walk.specs.ErrorValue.{ErrorValue, error_cmp}
+use Rattle.walk.specs.ContextState.{has_place}
+use Rattle.walk.specs.ErrorValue.{ErrorValue, error_cmp, shares}
 
 abbrev pub Root : Type 0
 Root = RootNodeOf SourceScalar SourceCheck
@@ -127,14 +128,15 @@ TellsFaultsIn root values joined file document issues =
 abbrev pub limit_text : ℕ → List ℕ
 limit_text limit = codes "There may be more errors: --max-errors is " ++ decimal limit
 
--- where there are as many errors as may be reported, that there may be more
-abbrev pub limit_notes : ℕ → ℕ → List ErrorValue
-limit_notes limit count = if limit == count then record { locations = []; message = limit_text limit } ∷ [] else []
+-- where errors fill the limit on them, that there may be more
+abbrev pub limit_notes : ℕ → List ErrorValue → List ErrorValue
+limit_notes limit errors =
+    if has_place limit (shares errors) then [] else record { locations = []; message = limit_text limit } ∷ []
 
 -- What is told behind the errors: where there is none, values are judged; else that there may be more, if that is so.
 abbrev pub FurtherOf : Root → Option GivenValues → Document → List ErrorValue → List ErrorValue → Type 0
 FurtherOf root values document [] further = FaultsIn root values document further
-FurtherOf root values document (error ∷ errors) further = further ≡ limit_notes root.max_errors (length (error ∷ errors))
+FurtherOf root values document (error ∷ errors) further = further ≡ limit_notes root.max_errors (error ∷ errors)
 
 -- By what is known of the rules of each dialect.
 module _ (rules : SourceRules) where

@@ -15,6 +15,7 @@ use lint_report::sources::{Joined, Place, Source};
 use std::alloc::Global;
 use validation::dialects::clean_by_each_dialect;
 use validation::{Definition, OutOfMemory, RootNode, RuleError, Variables, validate_input_values};
+use walk::fill_limit;
 
 /// The schema and the values by which files of queries are judged, and the files.
 #[derive(Clone, Copy)]
@@ -187,7 +188,7 @@ impl Judge<'_> {
         add_errors(alloc, joined, file, errors, issues)?;
         if !errors.is_empty() {
             let limit = self.root.max_errors;
-            return add_limit_note(alloc, joined, file, limit, errors.len(), issues);
+            return add_limit_note(alloc, joined, file, limit, errors, issues);
         }
         self.add_faults(alloc, joined, file, document, issues)?;
         Ok(())
@@ -291,19 +292,19 @@ fn add_errors(
     Ok(())
 }
 
-// Adds that there may be more errors, where so many are as many as may be reported.
+// Adds that there may be more errors, where these fill the limit on them.
 fn add_limit_note(
     alloc: Global,
     joined: &Joined,
     file: usize,
     limit: usize,
-    count: usize,
+    errors: &[RuleError],
     issues: &mut Vec<Issue>,
 ) -> Result<(), OutOfMemory>
-    ensures { OnOk result (Adds (AreToldAs joined.now file (limit_notes limit count)) issues.old.items
+    ensures { OnOk result (Adds (AreToldAs joined.now file (limit_notes limit errors.now)) issues.old.items
         issues.new.items) }
 {
-    if limit != count {
+    if !fill_limit(errors, limit) {
         return Ok(());
     }
     let message = limit_message(alloc, limit)?;

@@ -36,27 +36,3 @@ module _ (t : Told) (name : List ℕ) (a b c d : Account) (same : name ≡ t.res
 
   pub error_made : (places : List SourcePosition) → places ≡ d.lefts.items ++ d.rights.items → with_places (string_bytes d.text) places ≡ error_of t
   error_made places is = same_error message_made (is ∙ ap (λ x. x ++ d.rights.items) lefts_made ∙ ap (λ x. t.lefts ++ x) rights_made)
-
--- the error of one more
-errors_next : (cs new : List Conflict) (c : Conflict) (t : Told) (left : List Told) → plain_conflict c ≡ error_of t → new ≡ cs ++ c ∷ []
-    → map plain_conflict new ++ map error_of left ≡ map plain_conflict cs ++ map error_of (t ∷ left)
-errors_next cs new c t left same is =
-    ap (λ x. map plain_conflict x ++ map error_of left) is
-    ∙ ap (λ x. x ++ map error_of left) (map-append plain_conflict cs (c ∷ []))
-    ∙ append_assoc (map plain_conflict cs) (plain_conflict c ∷ []) (map error_of left)
-    ∙ ap (λ x. map plain_conflict cs ++ x ∷ map error_of left) same
-
-module _ {S C : Type 0} (E : S → S → Bool) (schema : Catalog S C) (fields : List (PlainEntry S C)) (all : List ConflictValue) (cs : List Conflict) where
-  next_error : {p : Part} {ps : List Part} {t : Told} {left : List Told} (c : Conflict) (new : List Conflict) → IsToldOf E schema fields p t → AreToldOf E schema fields ps left
-      → map plain_conflict cs ++ map error_of (t ∷ left) ≡ all → ((t : Told) → IsToldOf E schema fields p t → plain_conflict c ≡ error_of t) → new ≡ cs ++ c ∷ []
-      → (others : List Told) × AreToldOf E schema fields ps others × (map plain_conflict new ++ map error_of others ≡ all)
-  next_error {t = t} {left = left} c new h k whole next is = (left, k, errors_next cs new c t left (next t h) is ∙ whole)
-
-  pub errors_more : {p : Part} {ps : List Part} {left : List Told} (c : Conflict) (new : List Conflict) → AreToldOf E schema fields (p ∷ ps) left
-      → map plain_conflict cs ++ map error_of left ≡ all → ((t : Told) → IsToldOf E schema fields p t → plain_conflict c ≡ error_of t) → new ≡ cs ++ c ∷ []
-      → (others : List Told) × AreToldOf E schema fields ps others × (map plain_conflict new ++ map error_of others ≡ all)
-  errors_more c new (more h k) whole next is = next_error c new h k whole next is
-
-  pub errors_end : {ps : List Part} {left : List Told} → ps ≡ [] → AreToldOf E schema fields ps left → map plain_conflict cs ++ map error_of left ≡ all → map plain_conflict cs ≡ all
-  errors_end e none whole = sym (append-nil _) ∙ whole
-  errors_end e (more h k) whole = cc

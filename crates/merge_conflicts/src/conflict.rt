@@ -1,19 +1,16 @@
-//! The errors of conflicts, in the order in which they were found.
+//! The error of a conflict.
 ghost use Rattle.std.specs.Prelude.{◌≡◌, IfOk, map};
-ghost use Rattle.merge_search.specs.declared.node.Entry as numbered;
-ghost use Rattle.merge_field_pairs.specs.Entries.{PlainEntry, plain};
-ghost use Rattle.merge_conflicts.specs.Reports.{Reports, postfix, AreReportsOf};
+ghost use Rattle.merge_field_pairs.specs.Entries.{plain};
 ghost use Rattle.merge_conflicts.specs.Telling.{IsToldOf, plain_conflict};
-ghost use Rattle.merge_conflicts.specs.Texts.{Told, error_of, errors_of};
+ghost use Rattle.merge_conflicts.specs.Texts.{Told, error_of};
 
 use crate::account::{add_name, add_text, no_account};
-use crate::parts::{Part, parts_of};
+use crate::parts::Part;
 use crate::reasons::{add_why, response_at};
 use language::error::OutOfMemory;
 use language::position::SourcePosition;
 use language::scalar::ScalarValue;
 use merge_field_pairs::entry::Entry;
-use merge_search::state::Finding;
 use schema::model::SchemaTypeOf;
 use std::alloc::Global;
 
@@ -24,33 +21,14 @@ pub struct Conflict {
     pub places: Vec<SourcePosition>,
 }
 
-/// The errors of the conflicts whose trees the findings write out, in order, each with all that was found below it.
+/// The error of a conflict, with all that was found below it.
 ///
-/// For findings that are not the trees of these fields, some errors are returned.
+/// For a part that is not a conflict of these fields, some error is returned.
 ///
 /// # Errors
 ///
 /// Out of memory.
-pub fn conflicts_found<'a, S: ScalarValue, C>(
-    alloc: Global,
-    schema: &SchemaTypeOf<S, C>,
-    fields: &[Entry<'a, S, C>],
-    found: &[Finding],
-) -> Result<Vec<Conflict>, OutOfMemory>
-    ensures { (rs : Reports numbered.Entry) (ts : Reports (PlainEntry S C)) → found.now ≡ postfix rs
-        → AreReportsOf (map plain fields.now) rs ts
-        → IfOk result (λ v. map plain_conflict v.items ≡ errors_of S.eq schema.now ts) }
-{
-    let parts = parts_of(alloc, found)?;
-    let mut conflicts = Vec::new(alloc);
-    for part in &parts {
-        conflicts.push(conflict_of(alloc, schema, fields, part)?)?;
-    }
-    Ok(conflicts)
-}
-
-// The error of a part.
-fn conflict_of<'a, S: ScalarValue, C>(
+pub fn conflict_of<'a, S: ScalarValue, C>(
     alloc: Global,
     schema: &SchemaTypeOf<S, C>,
     fields: &[Entry<'a, S, C>],

@@ -3,5 +3,5 @@
 
 mod account;
 pub mod conflict;
-mod parts;
+pub mod parts;
 mod reasons;

@@ -15,7 +15,7 @@ use Rattle.merge_search.specs.Kinds.{NeverFailsWith, AreAgreeingRows}
 use Rattle.merge_search.specs.Names.{named}
 use Rattle.merge_search.specs.World.{World, own_of, conflict_of}
 use Rattle.merge_search.specs.Merging.{Merges, merges, below}
-use Rattle.merge_search.specs.Clear.{IsClear, AreClear, AreClearRows, AreLeaves, AreOthers, IsClearBelow, AreClearBelow}
+use Rattle.merge_search.specs.Clear.{IsClear, AreClear, AreClearRows, AreLeaves, AreOthers, IsClearBelow, AreClearBelow, AreClearRowsBelow}
 use Rattle.merge_search.specs.Work as done
 use Rattle.merge_search.specs.Work.{Done}
 use Rattle.merge_search.specs.Reports.{Root, AddsAll, AtNamed}
@@ -63,12 +63,17 @@ module _ (w : World) (e : Bool) where
   rows_below true left right rows agree rest is = rows_clear left right rows agree rest
   rows_below false left right rows agree rest is = cc
 
-  -- where nothing stands below the fields whose places are listed
-  pub leaves_clear : (left right : List Entry) (rows leaves : BitSet) → AreAgreeingRows w.judgement e left right rows
-      → ((k : ℕ) (a : Entry) → slice_get left k ≡ Some a → has leaves k ≡ true → (has rows k ≡ true) × (a.below ≡ None)) → AreClearRows w e left right leaves
-  leaves_clear left right rows leaves agree leaf k a p h =
-      let z = leaf k a p h in
-      one_clear a right (agree k a p z.0) (λ m f l. leaf_below a (get_or right m f) (inl z.1))
+  -- where nothing stands below the fields whose places are listed, or what does merges
+  pub both_clear : (left right : List Entry) (rows lower both : BitSet) → AreAgreeingRows w.judgement e left right rows
+      → AreClearRowsBelow w e left right lower
+      → ((k : ℕ) (a : Entry) → slice_get left k ≡ Some a → has both k ≡ true → (has rows k ≡ true) × ((a.below ≡ None) ⊎ (has lower k ≡ true)))
+      → AreClearRows w e left right both
+  both_clear left right rows lower both agree clear is k a p h =
+      let z = is k a p h in
+      one_clear a right (agree k a p z.0) (elim z.1 [
+        | inl leaf ↦ λ m f l. leaf_below a (get_or right m f) (inl leaf)
+        | inr there ↦ clear k a p there
+      ])
 
 module _ (w : World) (e : Bool) (left right : List Entry) (clear : AreClear w e left right) where
   pair : (a b : Entry) → Contains left a → Contains right b → Merges w e a b

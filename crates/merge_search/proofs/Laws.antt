@@ -38,7 +38,7 @@ le_from : (x y : Bool) → (x ≡ true → y ≡ true) → Le x y
 le_from false y h = least
 le_from true y h = subst (λ z. Le true z) (sym (h refl)) even
 
-not_true : (b : Bool) → (b ≡ true → ⊥) → b ≡ false
+pub not_true : (b : Bool) → (b ≡ true → ⊥) → b ≡ false
 not_true false h = refl
 not_true true h = absurd (h refl)
 

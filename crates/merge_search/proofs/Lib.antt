@@ -16,6 +16,8 @@ pub mod Merged
 pub mod Logs
 pub mod Opened
 pub mod Passed
+pub mod Touching
+pub mod Nearness
 pub mod Order
 pub mod Rows
 pub mod Spreads

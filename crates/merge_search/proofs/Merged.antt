@@ -1,16 +1,21 @@
 -- What is known of sets below fields says it of the sets in which the fields stand.
-use Rattle.std.proofs.Common.{◌≡◌, ℕ, List, [], ◌∷◌, ◌++◌, Bool, true, false, Vec, inl, inr, ◌⊎◌, get_or, sym, subst, ◌∙◌, Some}
+use Rattle.std.proofs.Common.{◌≡◌, ℕ, List, [], ◌∷◌, ◌++◌, Bool, true, false, Vec, inl, inr, ◌⊎◌, get_or, ap, refl, sym, subst, ◌∙◌, Some}
 use Rattle.std.specs.List.{All, Contains}
 use Rattle.std.specs.declared.alloc.Global.{Global}
+use Rattle.std.proofs.lemmas.Bool.{cases_eq}
 use Rattle.std.proofs.lemmas.List.Elements.{All-contains, All-push, Contains-append_left, Contains-push, Contains-get_or}
+use Rattle.bit_matrix.specs.Set.{has}
+use Rattle.bit_matrix.specs.declared.set.BitSet.{BitSet}
 use Rattle.merge_search.specs.declared.node.Entry.{Entry}
 use Rattle.merge_search.specs.Judgement.{ExclusiveStays, NoneConflict}
-use Rattle.merge_search.specs.Merging.{Stands, own, spread, below, merges}
+use Rattle.merge_search.specs.Merging.{Stands, own, spread, below, Merges, merges}
 use Rattle.merge_search.specs.Names.{named, AreListed}
 use Rattle.merge_search.specs.Opening.{Opens}
-use Rattle.merge_search.specs.Quiet.{AllMerge, AllQuiet, AreQuiet, AreWrittenOut, HoldAll, HoldBelow, IsFrom}
+use Rattle.merge_search.specs.Quiet.{AllMergeBut, AllQuietBut, AreQuiet, AreQuietBut, AreWrittenOut, HoldAll, HoldBelow, IsFrom}
+use Rattle.merge_search.specs.Quiet.{Covers, MergesBut, merges_but}
 use Rattle.merge_search.specs.Clear.{AreClearBelow}
 use Rattle.merge_search.specs.World.{World, own_of, spreads_of, set_of, conflict_of, exclusive_of}
+use Rattle.merge_search.proofs.Laws.{clash, not_true}
 use Rattle.merge_search.proofs.Rows.{listed_in, named_in}
 
 module _ (w : World) where
@@ -36,42 +41,65 @@ module _ (w : World) where
     ]);
   }
 
+-- a number was added, and those before it stay
+pub stays : (old new : BitSet) (n : ℕ) → has new n ≡ true → ((m : ℕ) → (m ≡ n → ⊥) → has new m ≡ has old m) → (m : ℕ) → has old m ≡ true → has new m ≡ true
+stays old new n there others m h = elim (cases_eq m n) [
+  | inl is ↦ subst (λ (k : ℕ). has new k ≡ true) (sym is) there
+  | inr other ↦ others m other ∙ h
+]
+
+-- what isn't covered isn't in the set
+pub uncovered : (apart : ℕ → Bool) (names : BitSet) (n : ℕ) → Covers apart names → apart n ≡ false → has names n ≡ false
+uncovered apart names n covers is = not_true (has names n) (λ h. clash (apart n) (covers n h) is)
+
 module _ (w : World) (x : Bool) where
-  pub quiet_pushed : (vs us : List (Vec ℕ Global)) (v : Vec ℕ Global) → us ≡ vs ++ v ∷ [] → AllQuiet w x us → AllQuiet w x vs × AreQuiet w x v.items
+  -- where no name is set apart all merges
+  pub none_but : {e : Bool} {a b : Entry} → MergesBut w (λ n. false) e a b → Merges w e a b
+  none_but {a = a} {b = b} (merges_but ok rest) = merges {a = a} {b = b} (ok refl) (λ c d f. none_but (rest c d f))
+
+  pub quiet_whole : (sets : List ℕ) → AreQuietBut w (λ n. false) x sets → AreQuiet w x sets
+  quiet_whole sets quiet e s t a b from i j p q same = none_but (quiet e s t a b from i j p q same)
+
+  pub from_next : ExclusiveStays w.judgement → (e : Bool) (a b : Entry) → IsFrom x e → IsFrom x (exclusive_of w e a b)
+  from_next stays e a b from is = subst (λ (f : Bool). exclusive_of w f a b ≡ true) (sym (from is)) (stays a.field b.field)
+
+  -- what stands below fields, if the sets below them are quiet
+  pub fields_below : ExclusiveStays w.judgement → (fields : List Entry) (sets : List ℕ) → HoldBelow sets fields → AreQuiet w x sets → AreClearBelow w x fields fields
+  fields_below stays fields sets hold quiet a b p q c d f = elim f [
+    | below {s = s} {t = t} sa tb i j is ↦ quiet (exclusive_of w x a b) s t c d (from_next stays x a b (λ h. h))
+        (All-contains (λ (y : Entry). (u : ℕ) → y.below ≡ Some u → Contains sets u) fields a hold p s sa)
+        (All-contains (λ (y : Entry). (u : ℕ) → y.below ≡ Some u → Contains sets u) fields b hold q t tb) i j is
+  ]
+
+module _ (w : World) (apart : ℕ → Bool) (x : Bool) where
+  pub quiet_pushed : (vs us : List (Vec ℕ Global)) (v : Vec ℕ Global) → us ≡ vs ++ v ∷ [] → AllQuietBut w apart x us → AllQuietBut w apart x vs × AreQuietBut w apart x v.items
   quiet_pushed vs us v is all =
-      let at : (u : Vec ℕ Global) → Contains (vs ++ v ∷ []) u → AreQuiet w x u.items = λ u c. All-contains (λ (z : Vec ℕ Global). AreQuiet w x z.items) us u all (subst (λ zs. Contains zs u) (sym is) c) in
+      let at : (u : Vec ℕ Global) → Contains (vs ++ v ∷ []) u → AreQuietBut w apart x u.items = λ u c. All-contains (λ (z : Vec ℕ Global). AreQuietBut w apart x z.items) us u all (subst (λ zs. Contains zs u) (sym is) c) in
       (λ k d l. at (get_or vs k d) (Contains-append_left vs (v ∷ []) (get_or vs k d) (Contains-get_or vs k d l)), at v (Contains-push vs v))
 
-  pub quiet_popped : (vs us : List (Vec ℕ Global)) (v : Vec ℕ Global) → us ≡ vs ++ v ∷ [] → AllQuiet w x vs → AreQuiet w x v.items → AllQuiet w x us
-  quiet_popped vs us v is all one = subst (λ zs. AllQuiet w x zs) (sym is) (All-push (λ (z : Vec ℕ Global). AreQuiet w x z.items) vs v all one)
+  pub quiet_popped : (vs us : List (Vec ℕ Global)) (v : Vec ℕ Global) → us ≡ vs ++ v ∷ [] → AllQuietBut w apart x vs → AreQuietBut w apart x v.items → AllQuietBut w apart x us
+  quiet_popped vs us v is all one = subst (λ zs. AllQuietBut w apart x zs) (sym is) (All-push (λ (z : Vec ℕ Global). AreQuietBut w apart x z.items) vs v all one)
 
-  pub sets_merged : (sets : List ℕ) (fields : List Entry) → HoldAll w sets fields → AllMerge w x fields → AreQuiet w x sets
+  pub sets_merged : (sets : List ℕ) (fields : List Entry) → HoldAll w sets fields → AllMergeBut w apart x fields → AreQuietBut w apart x sets
   sets_merged sets fields hold all e s t a b from i j p q same = all e a b from (hold s a i p) (hold t b j q) same
 
-  pub groups_merged : (firsts fields : List Entry) → AreListed firsts fields → All (λ (f : Entry). AllMerge w x (named f.response fields)) firsts → AllMerge w x fields
+  pub groups_merged : (firsts fields : List Entry) → AreListed firsts fields → All (λ (f : Entry). AllMergeBut w apart x (named f.response fields)) firsts
+      → AllMergeBut w apart x fields
   groups_merged firsts fields listed all e a b from p q same =
       let (f, there, is) = listed_in firsts fields a listed p in
-      All-contains (λ (y : Entry). AllMerge w x (named y.response fields)) firsts f all there e a b from
+      All-contains (λ (y : Entry). AllMergeBut w apart x (named y.response fields)) firsts f all there e a b from
       (named_in f.response fields a p is) (named_in f.response fields b q (sym same ∙ is)) same
 
-  module _ (stays : ExclusiveStays w.judgement) where
-    from_next : (e : Bool) (a b : Entry) → IsFrom x e → IsFrom x (exclusive_of w e a b)
-    from_next e a b from is = subst (λ (f : Bool). exclusive_of w f a b ≡ true) (sym (from is)) (stays a.field b.field)
-
-    pub group_merged : (group : List Entry) (sets : List ℕ) → ((e : Bool) → IsFrom x e → NoneConflict w.judgement e group group) → HoldBelow sets group
-        → AreQuiet w x sets → AllMerge w x group
-    group_merged group sets none hold quiet e a b from p q same = merges {a = a} {b = b}
-        (All-contains (λ (y : Entry). conflict_of w e a y ≡ false) group b (All-contains (λ (z : Entry). All (λ (y : Entry). conflict_of w e z y ≡ false) group) group a (none e from) p) q)
-        (λ c d f. elim f [
-          | below {s = s} {t = t} sa tb i j is ↦ quiet (exclusive_of w e a b) s t c d (from_next e a b from)
-              (All-contains (λ (y : Entry). (u : ℕ) → y.below ≡ Some u → Contains sets u) group a hold p s sa)
-              (All-contains (λ (y : Entry). (u : ℕ) → y.below ≡ Some u → Contains sets u) group b hold q t tb) i j is
-        ])
-
-    -- what stands below fields, if the sets below them are quiet
-    pub fields_below : (fields : List Entry) (sets : List ℕ) → HoldBelow sets fields → AreQuiet w x sets → AreClearBelow w x fields fields
-    fields_below fields sets hold quiet a b p q c d f = elim f [
-      | below {s = s} {t = t} sa tb i j is ↦ quiet (exclusive_of w x a b) s t c d (from_next x a b (λ h. h))
-          (All-contains (λ (y : Entry). (u : ℕ) → y.below ≡ Some u → Contains sets u) fields a hold p s sa)
-          (All-contains (λ (y : Entry). (u : ℕ) → y.below ≡ Some u → Contains sets u) fields b hold q t tb) i j is
-    ]
+  -- the fields of one name, which is set apart or of which no two fail
+  pub group_merged : ExclusiveStays w.judgement → (name : ℕ) (group : List Entry) (sets : List ℕ) → All (λ (a : Entry). a.response ≡ name) group
+      → (apart name ≡ false → (e : Bool) → IsFrom x e → NoneConflict w.judgement e group group) → HoldBelow sets group
+      → AreQuietBut w apart x sets → AllMergeBut w apart x group
+  group_merged stays name group sets named none hold quiet e a b from p q same = merges_but {a = a} {b = b}
+      (λ is.
+      let at = none (sym (ap apart (All-contains (λ (y : Entry). y.response ≡ name) group a named p)) ∙ is) e from in
+      All-contains (λ (y : Entry). conflict_of w e a y ≡ false) group b (All-contains (λ (z : Entry). All (λ (y : Entry). conflict_of w e z y ≡ false) group) group a at p) q)
+      (λ c d f. elim f [
+        | below {s = s} {t = t} sa tb i j is ↦ quiet (exclusive_of w e a b) s t c d (from_next w x stays e a b from)
+            (All-contains (λ (y : Entry). (u : ℕ) → y.below ≡ Some u → Contains sets u) group a hold p s sa)
+            (All-contains (λ (y : Entry). (u : ℕ) → y.below ≡ Some u → Contains sets u) group b hold q t tb) i j is
+      ])

@@ -4,7 +4,6 @@ use Rattle.std.specs.List.{All, Contains}
 use Rattle.bit_matrix.specs.Set.{has}
 use Rattle.bit_matrix.specs.declared.set.BitSet.{BitSet}
 use Rattle.merge_search.specs.declared.node.Entry.{Entry}
-use Rattle.merge_search.specs.declared.below.Below.{Below}
 use Rattle.merge_search.specs.Merging.{Merges}
 use Rattle.merge_search.specs.Merging as merging
 use Rattle.merge_search.specs.World.{World, exclusive_of}
@@ -33,20 +32,15 @@ IsClearBelow w e a b = (c d : Entry) → merging.Below w a b c d → Merges w (e
 abbrev pub AreClearBelow : World → Bool → List Entry → List Entry → Type 0
 AreClearBelow w e left right = (a b : Entry) → Contains left a → Contains right b → IsClearBelow w e a b
 
+-- What stands below each field whose place is listed merges with what stands below each of the others.
+abbrev pub AreClearRowsBelow : World → Bool → List Entry → List Entry → BitSet → Type 0
+AreClearRowsBelow w e left right rows = (k : ℕ) (a : Entry) → slice_get left k ≡ Some a → has rows k ≡ true → All (λ b. IsClearBelow w e a b) right
+
 -- What stands below each two of the fields at some places merges.
 abbrev pub MergeBelow : World → List Entry → List ℕ → Type 0
 MergeBelow w fields places =
     (k l : ℕ) (a b : Entry) → Contains places k → Contains places l → slice_get fields k ≡ Some a → slice_get fields l ≡ Some b
     → IsClearBelow w false a b
-
--- The fields at the two places are among those of which this is known.
-abbrev pub IsKnownBelow : Below → ℕ → ℕ → Type 0
-IsKnownBelow known k l = (known.of_all ≡ true) ⊎ ((has known.places k ≡ true) × (has known.places l ≡ true))
-
--- What is known is true.
-abbrev pub KnowsBelow : World → List Entry → Below → Type 0
-KnowsBelow w fields known =
-    (k l : ℕ) (a b : Entry) → IsKnownBelow known k l → slice_get fields k ≡ Some a → slice_get fields l ≡ Some b → IsClearBelow w false a b
 
 -- Some of the fields after one: all but those below which it merges with the one.
 pub record AreOthers (w : World) (a : Entry) (rest others : List Entry) : Type 0 where

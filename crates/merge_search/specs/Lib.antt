@@ -6,6 +6,9 @@ pub mod Graph
 pub mod World
 pub mod Merging
 pub mod Clear
+pub mod Touched
+pub mod Near
+pub mod Below
 pub mod Quiet
 pub mod Plain
 pub mod Firsts

@@ -1,28 +1,49 @@
 -- Sets whose fields merge, however the sets stand beside each other.
-use Rattle.std.specs.Prelude.{ℕ, List, Bool, Some, Vec, true, ◌≡◌}
+use Rattle.std.specs.Prelude.{ℕ, List, Bool, Some, Vec, true, false, ◌≡◌}
 use Rattle.std.specs.List.{All, Contains}
 use Rattle.std.specs.declared.alloc.Global.{Global}
+use Rattle.bit_matrix.specs.Set.{has}
+use Rattle.bit_matrix.specs.declared.set.BitSet.{BitSet}
 use Rattle.merge_search.specs.declared.node.Entry.{Entry}
-use Rattle.merge_search.specs.Merging.{Stands, Merges}
-use Rattle.merge_search.specs.World.{World, spreads_of, set_of, Same}
+use Rattle.merge_search.specs.Merging.{Stands, Below, Merges}
+use Rattle.merge_search.specs.World.{World, spreads_of, set_of, conflict_of, exclusive_of, Same}
 
 -- A flag at or above another: above `false` stand both.
 abbrev pub IsFrom : Bool → Bool → Type 0
 IsFrom x e = x ≡ true → e ≡ true
 
--- Each two of the fields that have one response name merge, under each flag from x on.
-abbrev pub AllMerge : World → Bool → List Entry → Type 0
-AllMerge w x fields = (e : Bool) (a b : Entry) → IsFrom x e → Contains fields a → Contains fields b → Same a b → Merges w e a b
+-- The two fields merge, those of some response names aside: they may fail, at any depth.
+pub data MergesBut (w : World) (apart : ℕ → Bool) : Bool → Entry → Entry → Type 0 where
+  merges_but : {e : Bool} {a b : Entry} → (apart a.response ≡ false → conflict_of w e a b ≡ false)
+      → ((c d : Entry) → Below w a b c d → MergesBut w apart (exclusive_of w e a b) c d) → MergesBut w apart e a b
+
+-- So do each two of the fields that have one response name, under each flag from x on.
+abbrev pub AllMergeBut : World → (ℕ → Bool) → Bool → List Entry → Type 0
+AllMergeBut w apart x fields = (e : Bool) (a b : Entry) → IsFrom x e → Contains fields a → Contains fields b → Same a b → MergesBut w apart e a b
 
 -- So do each two that stand in some sets, what these spread written out.
+abbrev pub AreQuietBut : World → (ℕ → Bool) → Bool → List ℕ → Type 0
+AreQuietBut w apart x sets =
+    (e : Bool) (s t : ℕ) (a b : Entry) → IsFrom x e → Contains sets s → Contains sets t
+    → Stands w s a → Stands w t b → Same a b → MergesBut w apart e a b
+
+-- So do each two that stand in one list of sets.
+abbrev pub AllQuietBut : World → (ℕ → Bool) → Bool → List (Vec ℕ Global) → Type 0
+AllQuietBut w apart x waiting = All (λ v. AreQuietBut w apart x v.items) waiting
+
+-- Each two of one response name that stand in some sets merge.
 abbrev pub AreQuiet : World → Bool → List ℕ → Type 0
 AreQuiet w x sets =
     (e : Bool) (s t : ℕ) (a b : Entry) → IsFrom x e → Contains sets s → Contains sets t
     → Stands w s a → Stands w t b → Same a b → Merges w e a b
 
--- So do each two that stand in one list of sets.
-abbrev pub AllQuiet : World → Bool → List (Vec ℕ Global) → Type 0
-AllQuiet w x waiting = All (λ v. AreQuiet w x v.items) waiting
+-- Those of the one set are in the other.
+abbrev pub AreKept : BitSet → BitSet → Type 0
+AreKept old new = (n : ℕ) → has old n ≡ true → has new n ≡ true
+
+-- All of the set are among the names.
+abbrev pub Covers : (ℕ → Bool) → BitSet → Type 0
+Covers apart names = (n : ℕ) → has names n ≡ true → apart n ≡ true
 
 -- Among the sets are some, and those of all fragments that they reach.
 pub record AreWrittenOut (w : World) (some sets : List ℕ) : Type 0 where

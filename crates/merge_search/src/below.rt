@@ -1,24 +1,35 @@
 //! Fields of one response name of which it is known, of many at once, that what stands below them merges.
-ghost use Rattle.std.specs.Prelude.{◌≡◌, ◌⊎◌, ◌<◌, ℕ, IfOk, OnOk, Some, length, slice_get, true};
+ghost use Rattle.std.specs.Prelude.{◌≡◌, ◌⊎◌, ◌<◌, ℕ, IfOk, IfSome, OnOk, Some, length, slice_get, true};
+ghost use Rattle.std.specs.Bool.{OnTrue};
 ghost use Rattle.std.specs.List.{All, Contains};
-ghost use Rattle.merge_search.specs.Clear.{IsKnownBelow, KnowsBelow, MergeBelow};
+ghost use Rattle.merge_search.specs.Below.{IsIndexed, IsKnownBelow, KnowsBelow};
+ghost use Rattle.merge_search.specs.Near.{IsApartRow};
+ghost use Rattle.merge_search.specs.Clear.{MergeBelow};
 ghost use Rattle.merge_search.specs.World.{world};
 
-use crate::clear::are_clear_below;
+use crate::clear::{WIDE, are_clear_below};
 use crate::graph::Graph;
 use crate::judge::Judge;
+use crate::near::{Near, near_of, places_near};
 use crate::node::Entry;
 use crate::passing::set_of_numbers;
 use crate::state::Search;
+use crate::touched::{Touched, none_touched, touched_below};
 use bit_matrix::set::BitSet;
 use std::alloc::{AllocError, Global};
 
-/// What is known of what stands below some fields: that each two of them merge there, or each two at these places.
+/// What is known of what stands below some fields: that each two of them merge there, or each two at these places, or
+/// each two below which no name stands in both that is set apart.
 #[derive(Drop)]
 pub struct Below {
     pub of_all: bool,
     pub places: BitSet,
+    pub touched: Touched,
+    pub near: Option<Near>,
 }
+
+// How many fields are looked at to see whether much is left to compare.
+const SAMPLE: usize = 16;
 
 // The fields at some places.
 fn entries_at(alloc: Global, fields: &[Entry], places: &[usize]) -> Result<Vec<Entry>, AllocError>
@@ -90,7 +101,67 @@ fn good_places<J: Judge>(
     Ok(good)
 }
 
-/// What is known of what stands below some fields. It takes less than comparing each two would.
+// All is known, or nothing.
+fn all_or_nothing(alloc: Global, of_all: bool) -> Below
+    ensures all { (k l : ℕ) → IsKnownBelow result k l → of_all ≡ true }
+    ensures indexed { (count : ℕ) → IsIndexed result count }
+{
+    Below {
+        of_all,
+        places: BitSet::new(alloc),
+        touched: none_touched(alloc),
+        near: None,
+    }
+}
+
+// Whether few fields are left to compare, by some of those that are spread evenly.
+fn leaves_few(alloc: Global, fields: &[Entry], below: &Below) -> Result<bool, AllocError>
+    requires { IsIndexed below.now (length fields.now) }
+{
+    let step = fields.len() / SAMPLE + 1;
+    let mut others: usize = 0;
+    let mut k = 0;
+    while k < fields.len() {
+        others = others.saturating_add(others_after(alloc, fields, k, below)?.len());
+        k = k.saturating_add(step);
+    }
+    Ok(others < fields.len())
+}
+
+// What is known where not all merges.
+fn some_known<J: Judge>(
+    graph: &Graph<J>,
+    search: &Search,
+    fields: &[Entry],
+    most: usize,
+) -> Result<Below, AllocError>
+    ensures knows { IfOk result (KnowsBelow (world J.judgement graph.now) fields.now) }
+    ensures indexed { IfOk result (λ below. IsIndexed below (length fields.now)) }
+{
+    let mut half = most / 2;
+    let touched = touched_below(graph, search, false, fields, &mut half)?;
+    let near = near_of(search.alloc, &touched, fields.len())?;
+    let below = Below {
+        of_all: false,
+        places: BitSet::new(search.alloc),
+        touched,
+        near: Some(near),
+    };
+    if leaves_few(search.alloc, fields, &below)? {
+        return Ok(below);
+    }
+    let good = good_places(graph, search, fields, most / 2)?;
+    let places = set_of_numbers(search.alloc, good.as_slice())?;
+    Ok(Below {
+        of_all: false,
+        places,
+        touched: below.touched,
+        near: below.near,
+    })
+}
+
+/// What is known of what stands below some fields, nothing where they are few. It takes less than comparing each two
+/// would.
 ///
 /// # Errors
 ///
@@ -100,26 +171,55 @@ pub(crate) fn known_below<J: Judge>(
     search: &Search,
     fields: &[Entry],
 ) -> Result<Below, AllocError>
-    ensures { IfOk result (KnowsBelow (world J.judgement graph.now) fields.now) }
+    ensures knows { IfOk result (KnowsBelow (world J.judgement graph.now) fields.now) }
+    ensures indexed { IfOk result (λ below. IsIndexed below (length fields.now)) }
 {
+    if fields.len() < WIDE {
+        return Ok(all_or_nothing(search.alloc, false));
+    }
     let mut left = fields.len().saturating_mul(fields.len()) / 4;
     let of_all = are_clear_below(graph, search, false, fields, &mut left)?;
     if of_all {
-        return Ok(Below {
-            of_all,
-            places: BitSet::new(search.alloc),
-        });
+        return Ok(all_or_nothing(search.alloc, true));
     }
-    let good = good_places(graph, search, fields, left)?;
-    let places = set_of_numbers(search.alloc, good.as_slice())?;
-    Ok(Below { of_all, places })
+    some_known(graph, search, fields, left)
 }
 
 // Whether it is known that what stands below the fields at two places merges.
-fn is_known(below: &Below, k: usize, l: usize) -> bool
-    ensures { result ≡ true → IsKnownBelow below.now k l }
+fn is_known(below: &Below, near: &Option<BitSet>, k: usize, l: usize, end: usize) -> bool
+    requires near { IfSome near.now (IsApartRow below.now.touched k end) }
+    requires inside { l < end }
+    ensures { OnTrue result (IsKnownBelow below.now k l) }
 {
-    below.of_all || (below.places.contains(k) && below.places.contains(l))
+    if below.of_all {
+        return true;
+    }
+    if below.places.contains(k) && below.places.contains(l) {
+        return true;
+    }
+    let Some(row) = near else {
+        return false;
+    };
+    if row.contains(l) {
+        return false;
+    }
+    true
+}
+
+// The places that aren't known to be apart from one, if anything is told of it.
+fn row_near(
+    alloc: Global,
+    below: &Below,
+    k: usize,
+    end: usize,
+) -> Result<Option<BitSet>, AllocError>
+    requires { IsIndexed below.now end }
+    ensures { IfOk result (λ o. IfSome o (IsApartRow below.now.touched k end)) }
+{
+    match &below.near {
+        Some(near) => places_near(alloc, &below.touched, near, k, end),
+        None => Ok(None),
+    }
 }
 
 /// The fields after one of some of which it isn't known that what stands below merges.
@@ -133,7 +233,27 @@ pub(crate) fn others_after(
     k: usize,
     below: &Below,
 ) -> Result<Vec<Entry>, AllocError>
-    requires { k < length fields.now }
+    requires inside { k < length fields.now }
+    requires indexed { IsIndexed below.now (length fields.now) }
+    ensures rest { IfOk result (λ v. (l : ℕ) (b : Entry) → k < l → slice_get fields.now l ≡ Some b
+        → Contains v.items b ⊎ IsKnownBelow below.now k l) }
+    ensures only { IfOk result (λ v. All (λ b. (l : ℕ) × (k < l) × (slice_get fields.now l ≡ Some b)) v.items) }
+{
+    let near = row_near(alloc, below, k, fields.len())?;
+    let others = others_by(alloc, fields, k, below, &near)?;
+    Ok(others)
+}
+
+// The same, where the places are given that aren't known to be apart from that one.
+fn others_by(
+    alloc: Global,
+    fields: &[Entry],
+    k: usize,
+    below: &Below,
+    near: &Option<BitSet>,
+) -> Result<Vec<Entry>, AllocError>
+    requires inside { k < length fields.now }
+    requires near { IfSome near.now (IsApartRow below.now.touched k (length fields.now)) }
     ensures rest { IfOk result (λ v. (l : ℕ) (b : Entry) → k < l → slice_get fields.now l ≡ Some b
         → Contains v.items b ⊎ IsKnownBelow below.now k l) }
     ensures only { IfOk result (λ v. All (λ b. (l : ℕ) × (k < l) × (slice_get fields.now l ≡ Some b)) v.items) }
@@ -143,7 +263,7 @@ pub(crate) fn others_after(
         return Ok(others);
     }
     for l in k + 1..fields.len() {
-        if !is_known(below, k, l) {
+        if !is_known(below, near, k, l, fields.len()) {
             others.push(fields[l])?;
         }
     }

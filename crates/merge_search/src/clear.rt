@@ -1,9 +1,9 @@
 //! Fields between which a search finds nothing, known of many at once.
-ghost use Rattle.std.specs.Prelude.{◌≡◌, ℕ, IfOk, None, Some, slice_get, true};
+ghost use Rattle.std.specs.Prelude.{◌≡◌, ◌⊎◌, ℕ, IfOk, None, Some, slice_get, true};
 ghost use Rattle.std.specs.Bool.{OnTrue};
 ghost use Rattle.bit_matrix.specs.Set.{has};
 ghost use Rattle.merge_search.specs.Judgement.{NoneConflict};
-ghost use Rattle.merge_search.specs.Clear.{AreClear, AreClearBelow, AreClearRows};
+ghost use Rattle.merge_search.specs.Clear.{AreClear, AreClearBelow, AreClearRows, AreClearRowsBelow};
 ghost use Rattle.merge_search.specs.World.{world};
 
 use crate::graph::Graph;
@@ -12,6 +12,7 @@ use crate::kinds::{FEW, agree_by_kinds, agreeing_rows};
 use crate::node::Entry;
 use crate::quiet::{are_quiet, sets_below};
 use crate::state::Search;
+use crate::touched::{rows_apart, touched_below};
 use crate::view::{agree_plainly, are_leaves};
 use bit_matrix::set::BitSet;
 use std::alloc::{AllocError, Global};
@@ -108,18 +109,56 @@ pub(crate) fn are_clear<J: Judge>(
     Ok(is_clear)
 }
 
-// The places of those fields, of some that are listed, below which nothing stands.
-fn leaf_rows(alloc: Global, fields: &[Entry], rows: &BitSet) -> Result<BitSet, AllocError>
-    ensures { IfOk result (λ leaves. (k : ℕ) (a : Entry) → slice_get fields.now k ≡ Some a → has leaves k ≡ true
-        → (has rows.now k ≡ true) × (a.below ≡ None)) }
+// The places of fields below which all merges with what stands below some others, by the names that stand there.
+fn rows_below<J: Judge>(
+    graph: &Graph<J>,
+    search: &Search,
+    e: bool,
+    left: &[Entry],
+    right: &[Entry],
+) -> Result<BitSet, AllocError>
+    ensures { IfOk result (AreClearRowsBelow (world J.judgement graph.now) e left.now right.now) }
 {
-    let mut leaves = BitSet::new(alloc);
+    let mut pairs = left.len().saturating_mul(right.len());
+    if pairs < MANY {
+        return Ok(BitSet::new(search.alloc));
+    }
+    let mut fields = Vec::from_slice(search.alloc, left)?;
+    fields.extend_from_slice(right)?;
+    let touched = touched_below(graph, search, e, fields.as_slice(), &mut pairs)?;
+    rows_apart(search.alloc, &touched, left.len(), fields.len())
+}
+
+// The places of those fields, of some that are listed, below which nothing stands, or whose place is listed once more.
+fn rows_of_both(
+    alloc: Global,
+    fields: &[Entry],
+    rows: &BitSet,
+    below: &BitSet,
+) -> Result<BitSet, AllocError>
+    ensures { IfOk result (λ both. (k : ℕ) (a : Entry) → slice_get fields.now k ≡ Some a → has both k ≡ true
+        → (has rows.now k ≡ true) × ((a.below ≡ None) ⊎ (has below.now k ≡ true))) }
+{
+    let mut both = BitSet::new(alloc);
     for k in 0..fields.len() {
-        if rows.contains(k) && fields[k].below.is_none() {
-            leaves.insert(k)?;
+        if is_of_both(fields[k], k, rows, below) {
+            both.insert(k)?;
         }
     }
-    Ok(leaves)
+    Ok(both)
+}
+
+// Whether a place is listed, and nothing stands below its field, or it is listed once more.
+fn is_of_both(field: Entry, k: usize, rows: &BitSet, below: &BitSet) -> bool
+    ensures { result ≡ true → (has rows.now k ≡ true) × ((field.below ≡ None) ⊎ (has below.now k ≡ true)) }
+{
+    if !rows.contains(k) {
+        return false;
+    }
+    if field.below.is_none() {
+        return true;
+    }
+    below.contains(k)
 }
 
 /// The places of fields of which it is known that they merge with each of some others. Of a place that isn't listed
@@ -144,6 +183,7 @@ pub(crate) fn clear_rows<J: Judge>(
     if are_clear_between(graph, search, e, left, right)? {
         return Ok(rows);
     }
-    let leaves = leaf_rows(search.alloc, left, &rows)?;
-    Ok(leaves)
+    let below = rows_below(graph, search, e, left, right)?;
+    let both = rows_of_both(search.alloc, left, &rows, &below)?;
+    Ok(both)
 }

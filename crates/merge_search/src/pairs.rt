@@ -11,7 +11,6 @@ ghost use Rattle.merge_search.specs.Reports.{FindsAll};
 ghost use Rattle.merge_search.specs.Tops.{AllBefore, AtBefore, AtRest};
 
 use crate::below::{known_below, others_after};
-use crate::clear::WIDE;
 use crate::graph::Graph;
 use crate::judge::Judge;
 use crate::kinds::agreeing_rows;
@@ -83,34 +82,6 @@ fn compare_unless<J: Judge>(
     compare_rest(graph, a, rest, search)
 }
 
-// Compares each field with those after it, but for those that fail with none, by their kinds, where what stands below
-// is plain.
-fn compare_few<J: Judge>(
-    graph: &Graph<J>,
-    fields: &[Entry],
-    plain: &BitSet,
-    search: &mut Search,
-) -> Result<(), AllocError>
-    requires { ArePlain (world J.judgement graph.now) plain.now }
-    ensures done { let w = world J.judgement graph.now in
-        OnOk result (Did w (λ M. AllBefore (Done w M false) fields.now) search.old search.new) }
-    ensures real { let w = world J.judgement graph.now in
-        OnOk result (FindsAll w false (AtBefore fields.now) (AtBefore fields.now) search.old search.new) }
-{
-    let clear = agreeing_rows(search.alloc, graph, false, fields, fields)?;
-    for k in 0..fields.len() {
-        compare_unless(
-            graph,
-            fields[k],
-            &fields[k + 1..],
-            clear.contains(k),
-            plain,
-            search,
-        )?;
-    }
-    Ok(())
-}
-
 // Compares a field with some others: with all of them, or if it fails with none, with those alone of which it isn't
 // known that what stands below merges.
 fn compare_others<J: Judge>(
@@ -140,7 +111,7 @@ fn compare_others<J: Judge>(
 }
 
 // Compares each field with those after it, but for those of which it is known, of many at once, that they merge.
-fn compare_many<J: Judge>(
+fn compare_all<J: Judge>(
     graph: &Graph<J>,
     fields: &[Entry],
     plain: &BitSet,
@@ -187,11 +158,11 @@ pub(crate) fn compare_each<J: Judge>(
     ensures real { let w = world J.judgement graph.now in
         OnOk result (FindsAll w false (AtBefore fields.now) (AtBefore fields.now) search.old search.new) }
 {
-    if fields.len() > 1 && are_passed(graph, fields, plain) {
+    if fields.len() < 2 {
         return Ok(());
     }
-    if fields.len() < WIDE {
-        return compare_few(graph, fields, plain, search);
+    if are_passed(graph, fields, plain) {
+        return Ok(());
     }
-    compare_many(graph, fields, plain, search)
+    compare_all(graph, fields, plain, search)
 }

@@ -2,11 +2,13 @@
 //!
 //! The sets are written out as one, and under each response name the sets below its fields in turn. So each field is
 //! looked at once where a search compares it with all others.
-ghost use Rattle.std.specs.Prelude.{◌≡◌, ◌<◌, ◌⊎◌, ℕ, Bool, IfOk, IfSome, OnOk, length};
+ghost use Rattle.std.specs.Prelude.{◌≡◌, ◌<◌, ◌⊎◌, ℕ, Bool, IfOk, IfSome, OnOk, false, length, true};
 ghost use Rattle.std.specs.Bool.{OnTrue};
 ghost use Rattle.std.specs.List.{All, Contains};
 ghost use Rattle.merge_search.specs.Judgement.{NoneConflict};
-ghost use Rattle.merge_search.specs.Quiet.{AllMerge, AllQuiet, AreQuiet, AreWrittenOut, HoldAll, HoldBelow, IsFrom};
+ghost use Rattle.bit_matrix.specs.Set.{has};
+ghost use Rattle.merge_search.specs.Quiet.{AllMergeBut, AllQuietBut, AreKept, AreQuiet, AreQuietBut, AreWrittenOut, Covers};
+ghost use Rattle.merge_search.specs.Quiet.{HoldAll, HoldBelow, IsFrom};
 ghost use Rattle.merge_search.specs.World.{world, own_of, set_of, spreads_of};
 
 use crate::graph::Graph;
@@ -18,6 +20,7 @@ use crate::opening::{no_opening, open_from};
 use crate::repeats::Seeker;
 use crate::state::Search;
 use crate::view::{agree_plainly, own, set, spreads};
+use bit_matrix::set::BitSet;
 use std::alloc::{AllocError, Global};
 
 // The fragments that some sets spread.
@@ -37,8 +40,12 @@ fn spreads_in<J: Judge>(
     Ok(fragments)
 }
 
-// Adds the sets of some fragments.
-fn add_sets<J: Judge>(
+/// Adds the sets of some fragments.
+///
+/// # Errors
+///
+/// Out of memory.
+pub(crate) fn add_sets<J: Judge>(
     graph: &Graph<J>,
     fragments: &[usize],
     sets: &mut Vec<usize>,
@@ -162,18 +169,77 @@ fn agree_from<J: Judge>(
     agree_together(alloc, graph, false, fields)
 }
 
-// Whether some fields of one response name merge if the sets do that wait from now on. `false` says nothing.
+/// Response names that are set apart, and how many more may be.
+#[derive(Drop)]
+pub struct Apart {
+    pub names: BitSet,
+    pub room: usize,
+}
+
+/// No names, where so many may be set apart.
+pub(crate) fn none_apart(alloc: Global, room: usize) -> Apart
+    ensures none { (n : ℕ) → has result.names n ≡ false }
+    ensures room { result.room ≡ room }
+{
+    Apart {
+        names: BitSet::new(alloc),
+        room,
+    }
+}
+
+// Sets a name apart, or says that there is no room.
+fn set_apart(apart: &mut Apart, name: usize) -> Result<bool, AllocError>
+    ensures kept { OnOk result (AreKept apart.old.names apart.new.names) }
+    ensures added { IfOk result (λ b. OnTrue b (has apart.new.names name ≡ true)) }
+    ensures full { OnOk result (apart.old.room ≡ 0 → apart.new ≡ apart.old) }
+{
+    if apart.room == 0 {
+        return Ok(false);
+    }
+    apart.names.insert(name)?;
+    apart.room -= 1;
+    Ok(true)
+}
+
+// Whether no two fields of a response name fail, or else the name is set apart.
+fn agree_or_apart<J: Judge>(
+    alloc: Global,
+    graph: &Graph<J>,
+    x: bool,
+    name: usize,
+    group: &[Entry],
+    apart: &mut Apart,
+) -> Result<bool, AllocError>
+    ensures kept { OnOk result (AreKept apart.old.names apart.new.names) }
+    ensures agree { IfOk result (λ b. OnTrue b (has apart.new.names name ≡ false → (e : Bool) → IsFrom x e
+        → NoneConflict (J.judgement graph.now.judge) e group.now group.now)) }
+    ensures full { OnOk result (apart.old.room ≡ 0 → apart.new ≡ apart.old) }
+{
+    if agree_from(alloc, graph, x, group)? {
+        return Ok(true);
+    }
+    set_apart(apart, name)
+}
+
+// Whether some fields of one response name merge if the sets do that wait from now on, names that are set apart aside.
+// `false` says nothing.
 fn is_quiet_group<J: Judge>(
     alloc: Global,
     graph: &Graph<J>,
     x: bool,
+    name: usize,
     group: &[Entry],
+    apart: &mut Apart,
     waiting: &mut Vec<Vec<usize>>,
 ) -> Result<bool, AllocError>
-    ensures { let w = world J.judgement graph.now in IfOk result (λ b. OnTrue b
-        (AllQuiet w x waiting.new.items → AllQuiet w x waiting.old.items × AllMerge w x group.now)) }
+    requires { All (λ a. a.response ≡ name) group.now }
+    ensures kept { OnOk result (AreKept apart.old.names apart.new.names) }
+    ensures quiet { let w = world J.judgement graph.now in
+        IfOk result (λ b. OnTrue b ((l : ℕ → Bool) → Covers l apart.new.names
+        → AllQuietBut w l x waiting.new.items → AllQuietBut w l x waiting.old.items × AllMergeBut w l x group.now)) }
+    ensures full { OnOk result (apart.old.room ≡ 0 → apart.new ≡ apart.old) }
 {
-    if !agree_from(alloc, graph, x, group)? {
+    if !agree_or_apart(alloc, graph, x, name, group, apart)? {
         return Ok(false);
     }
     let below = sets_below(alloc, group)?;
@@ -187,18 +253,63 @@ fn is_quiet_set<J: Judge>(
     graph: &Graph<J>,
     x: bool,
     set: &SetNode,
+    apart: &mut Apart,
     waiting: &mut Vec<Vec<usize>>,
 ) -> Result<bool, AllocError>
-    ensures { let w = world J.judgement graph.now in IfOk result (λ b. OnTrue b
-        (AllQuiet w x waiting.new.items → AllQuiet w x waiting.old.items × AllMerge w x set.now.own.items)) }
+    ensures kept { OnOk result (AreKept apart.old.names apart.new.names) }
+    ensures quiet { let w = world J.judgement graph.now in
+        IfOk result (λ b. OnTrue b ((l : ℕ → Bool) → Covers l apart.new.names
+        → AllQuietBut w l x waiting.new.items → AllQuietBut w l x waiting.old.items × AllMergeBut w l x set.now.own.items)) }
+    ensures full { OnOk result (apart.old.room ≡ 0 → apart.new ≡ apart.old) }
 {
     for first in first_fields(set) {
-        let group = fields_named(sorted_fields(set), first.response);
-        if !is_quiet_group(alloc, graph, x, group, waiting)? {
+        let name = first.response;
+        let group = fields_named(sorted_fields(set), name);
+        if !is_quiet_group(alloc, graph, x, name, group, apart, waiting)? {
             return Ok(false);
         }
     }
     Ok(true)
+}
+
+/// Whether all that stands in some sets, what they spread written out, is known to merge under each flag from `x` on,
+/// names aside that are set apart. `false` says nothing. It looks at no more fields and sets than are `left`, and takes
+/// off those that it has looked at.
+///
+/// # Errors
+///
+/// Out of memory.
+pub(crate) fn are_quiet_but<J: Judge>(
+    graph: &Graph<J>,
+    search: &Search,
+    x: bool,
+    sets: Vec<usize>,
+    apart: &mut Apart,
+    left: &mut usize,
+) -> Result<bool, AllocError>
+    ensures quiet { IfOk result (λ b. OnTrue b ((l : ℕ → Bool) → Covers l apart.new.names
+        → AreQuietBut (world J.judgement graph.now) l x sets.items)) }
+    ensures full { OnOk result (apart.old.room ≡ 0 → apart.new ≡ apart.old) }
+{
+    let mut waiting = Vec::new(search.alloc);
+    waiting.push(sets)?;
+    let mut rest = *left;
+    while rest > 0 {
+        let Some(next) = waiting.pop() else {
+            *left = rest;
+            return Ok(true);
+        };
+        let Some((set, size)) = united(graph, search, next.as_slice(), rest)? else {
+            break;
+        };
+        rest = (rest - 1).saturating_sub(size);
+        if !is_quiet_set(search.alloc, graph, x, &set, apart, &mut waiting)? {
+            *left = rest;
+            return Ok(false);
+        }
+    }
+    *left = rest;
+    Ok(false)
 }
 
 /// Whether all that stands in some sets, what they spread written out, is known to merge under each flag from `x` on.
@@ -216,23 +327,7 @@ pub(crate) fn are_quiet<J: Judge>(
 ) -> Result<bool, AllocError>
     ensures { IfOk result (λ b. OnTrue b (AreQuiet (world J.judgement graph.now) x sets.items)) }
 {
-    let mut waiting = Vec::new(search.alloc);
-    waiting.push(sets)?;
-    let mut rest = *left;
-    while rest > 0 {
-        let Some(next) = waiting.pop() else {
-            *left = rest;
-            return Ok(true);
-        };
-        let Some((set, size)) = united(graph, search, next.as_slice(), rest)? else {
-            break;
-        };
-        rest = (rest - 1).saturating_sub(size);
-        if !is_quiet_set(search.alloc, graph, x, &set, &mut waiting)? {
-            *left = rest;
-            return Ok(false);
-        }
-    }
-    *left = rest;
-    Ok(false)
+    let mut apart = none_apart(search.alloc, 0);
+    let is_quiet = are_quiet_but(graph, search, x, sets, &mut apart, left)?;
+    Ok(is_quiet)
 }

@@ -12,8 +12,8 @@ ghost use Rattle.fragment_graph.specs.DocumentCycles.{SearchedDocument};
 ghost use Rattle.merge_field_pairs.specs.Entries.{PlainEntry, plain};
 ghost use Rattle.merge_search.specs.declared.node.Entry.{Entry};
 ghost use Rattle.merge_conflicts.specs.Reports.{Reports, postfix, AreReportsOf};
-ghost use Rattle.merge_conflicts.specs.Telling.{plain_conflict};
-ghost use Rattle.merge_conflicts.specs.Texts.{errors_of};
+ghost use Rattle.merge_conflicts.specs.Telling.{IsToldOf};
+ghost use Rattle.merge_conflicts.specs.Texts.{Told, error_of, errors_of};
 ghost use Rattle.rules_merge.specs.OverlappingFieldsCanBeMerged.{ErrorsWithin, IsToldOfSearch, MergeErrors};
 ghost use Rattle.rules_merge.specs.OverlappingFieldsCanBeMerged.{error_value, merge_errors, stop_error};
 
@@ -21,7 +21,8 @@ use fragment_graph::cycles::{DocumentCycles, search_document};
 use language::error::OutOfMemory;
 use language::scalar::ScalarValue;
 use language::tree::Definition;
-use merge_conflicts::conflict::{Conflict, conflicts_found};
+use merge_conflicts::conflict::conflict_of;
+use merge_conflicts::parts::{Part, parts_of};
 use merge_document::search::{FoundConflicts, search_fields};
 use meta::check::CheckedScalar;
 use std::alloc::Global;
@@ -170,13 +171,7 @@ fn report_found<'a, S: CheckedScalar>(
         × (ctx.new ≡ with_errors ctx.old es)) }
     ensures err { OnErr result (KeepsPlace ctx.old ctx.new) }
 {
-    let conflicts = conflicts_found(
-        alloc,
-        ctx.schema,
-        found.fields.as_slice(),
-        found.found.as_slice(),
-    )?;
-    report_all(ctx, conflicts.as_slice())?;
+    report_conflicts(alloc, ctx, found)?;
     if found.is_finished() {
         return Ok(());
     }
@@ -194,26 +189,38 @@ fn report_stop<'a, S: CheckedScalar>(ctx: &mut ValidatorContext<'a, S>) -> Resul
     )
 }
 
-// Reports these conflicts.
-fn report_all<'a, S: CheckedScalar>(
+// Reports the conflicts that were found, each before the message of the next is made.
+fn report_conflicts<'a, S: CheckedScalar>(
+    alloc: Global,
     ctx: &mut ValidatorContext<'a, S>,
-    conflicts: &[Conflict],
+    found: &FoundConflicts<'a, S, S::Check>,
 ) -> Result<(), OutOfMemory>
-    ensures ok { IfOk result (λ _. ctx.new ≡ with_errors ctx.old (map error_value (map plain_conflict conflicts.now))) }
-    ensures err { OnErr result (KeepsPlace ctx.old ctx.new) }
+    ensures ok { (rs : Reports Entry) (ts : Reports (PlainEntry S S.Check)) → found.now.found.items ≡ postfix rs
+        → AreReportsOf (map plain found.now.fields.items) rs ts
+        → OnOk result (ctx.new ≡ with_errors ctx.old (map error_value (errors_of S.eq ctx.old.schema ts))) }
+    ensures place { KeepsPlace ctx.old ctx.new }
 {
-    for conflict in conflicts {
-        report(ctx, conflict)?;
+    let parts = parts_of(alloc, found.found.as_slice())?;
+    for part in &parts {
+        report(alloc, ctx, found, part)?;
     }
     Ok(())
 }
 
+// Reports a conflict, unless no more errors are kept.
 fn report<'a, S: CheckedScalar>(
+    alloc: Global,
     ctx: &mut ValidatorContext<'a, S>,
-    conflict: &Conflict,
+    found: &FoundConflicts<'a, S, S::Check>,
+    part: &Part<'_>,
 ) -> Result<(), OutOfMemory>
-    ensures ok { OnOk result (ctx.new ≡ with_errors ctx.old (error_value (plain_conflict conflict.now) ∷ [])) }
-    ensures err { OnErr result (KeepsPlace ctx.old ctx.new) }
+    ensures ok { (t : Told) → IsToldOf S.eq ctx.old.schema (map plain found.now.fields.items) part.now t
+        → OnOk result (ctx.new ≡ with_errors ctx.old (error_value (error_of t) ∷ [])) }
+    ensures place { KeepsPlace ctx.old ctx.new }
 {
+    if ctx.is_full() {
+        return Ok(());
+    }
+    let conflict = conflict_of(alloc, ctx.schema, found.fields.as_slice(), part)?;
     ctx.report_error(conflict.message.as_str(), conflict.places.as_slice())
 }

@@ -1,28 +1,23 @@
 //! No two operations of a document have the same name (GraphQL, October 2021, section 5.2.1.1).
 
-ghost use Rattle.std.specs.Prelude.{◌≡◌, IfOk, OnErr, OnOk, string_bytes};
-ghost use Rattle.walk.specs.ContextState.{with_errors};
 ghost use Rattle.walk.specs.Rule.{always, exactly};
-ghost use Rattle.walk.specs.Step.{KeepsPlace};
-ghost use Rattle.rules_support.specs.Noting.{noted, noting_step, repeated, HasDistinctNames, NothingNoted};
+ghost use Rattle.rules_support.specs.Noting.{noting_step, repeated, HasDistinctNames, NothingNoted};
 ghost use Rattle.rules_support.specs.NotingLaws.{noting_keeps};
-ghost use Rattle.rules_support.specs.Repeats.{repeat_at};
 ghost use Rattle.rules_support.specs.RepeatsLaws.{repeated_silent};
 ghost use Rattle.rules_support.specs.FirstPlaces.{places_of};
 ghost use Rattle.rules_operations.specs.UniqueOperationNames.{operation_name, repeated_operation_message};
 
 use language::error::OutOfMemory;
-use language::position::SourcePosition;
 use meta::check::CheckedScalar;
 use rules_support::first_places::FirstPlaces;
-use std::alloc::{AllocError, Global};
+use rules_support::repeats::note_name;
+use std::alloc::Global;
 use walk::{Criterion, Event, Fresh, Machine, Rule, SettledRule, ValidatorContext, Visitor};
 
 /// Reports each operation whose name an earlier operation has: at the start of the first operation of the name, and at
 /// its own.
 #[derive(Drop)]
 pub struct UniqueOperationNames<'a> {
-    alloc: Global,
     names: FirstPlaces<'a>,
 }
 
@@ -31,7 +26,6 @@ pub fn factory<'a>(alloc: Global) -> UniqueOperationNames<'a>
     ensures { NothingNoted (λ a. places_of a.names) result }
 {
     UniqueOperationNames {
-        alloc,
         names: FirstPlaces::new(alloc),
     }
 }
@@ -69,37 +63,17 @@ impl<'a, S: CheckedScalar> Visitor<'a, S> for UniqueOperationNames<'a> {
             Event::EnterOperationDefinition(operation) => {
                 if let Some(name) = &operation.item.name {
                     let place = operation.span.start;
-                    report_repeat(self.alloc, ctx, &mut self.names, name.item, place)?;
+                    note_name(
+                        ctx,
+                        &mut self.names,
+                        name.item,
+                        place,
+                        "There can only be one operation named ",
+                    )?;
                 }
             }
             _ => {}
         }
         Ok(())
     }
-}
-
-// Notes a name, and reports it where it was noted before.
-fn report_repeat<'a, 'n, S: CheckedScalar>(
-    alloc: Global,
-    ctx: &mut ValidatorContext<'a, S>,
-    names: &mut FirstPlaces<'n>,
-    name: &'n str,
-    place: SourcePosition,
-) -> Result<(), OutOfMemory>
-    ensures kept { OnOk result (places_of names.new ≡ noted (places_of names.old) (name.now, place)) }
-    ensures ok { OnOk result (ctx.new ≡ with_errors ctx.old
-        (repeat_at repeated_operation_message (places_of names.old name.now) (name.now, place))) }
-    ensures err { OnErr result (KeepsPlace ctx.old ctx.new) }
-{
-    if let Some(first) = names.note(name, place)? {
-        let message = error_message(alloc, name)?;
-        ctx.report_error(message.as_str(), &[first, place])?;
-    }
-    Ok(())
-}
-
-fn error_message(alloc: Global, name: &str) -> Result<String, AllocError>
-    ensures { IfOk result (λ message. string_bytes message ≡ repeated_operation_message name.now) }
-{
-    format!(in alloc; "There can only be one operation named {name}")
 }

@@ -109,3 +109,25 @@ fn report_repeat<'a, 'n, S: CheckedScalar>(
     }
     Ok(())
 }
+
+/// Notes a name, and reports it where it was noted before, by these words and the name: at the place where it was noted
+/// first and at its own.
+///
+/// # Errors
+///
+/// Out of memory. The types at hand stay; which names are noted is not known then.
+pub fn note_name<'a, 'n, S: CheckedScalar>(
+    ctx: &mut ValidatorContext<'a, S>,
+    names: &mut FirstPlaces<'n>,
+    name: &'n str,
+    place: SourcePosition,
+    before: &str,
+) -> Result<(), OutOfMemory>
+    ensures kept { OnOk result (places_of names.new ≡ noted (places_of names.old) (name.now, place)) }
+    ensures ok { OnOk result (ctx.new ≡ with_errors ctx.old
+        (repeat_at (λ n. before.now ++ n) (places_of names.old name.now) (name.now, place))) }
+    ensures err { OnErr result (KeepsPlace ctx.old ctx.new) }
+{
+    let alloc = ctx.allocator();
+    report_repeat(alloc, ctx, names, name, place, before, "")
+}

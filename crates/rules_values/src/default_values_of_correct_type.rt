@@ -1,7 +1,7 @@
 //! The default value of each variable conforms to the variable's type (GraphQL, October 2021, section 5.6.1). As in
 //! juniper, only a variable whose type may be null has one.
 
-ghost use Rattle.std.specs.Prelude.{◌≡◌, IfOk, OnOk, OnErr, string_bytes};
+ghost use Rattle.std.specs.Prelude.{◌≡◌, Some, IfOk, OnOk, OnErr, string_bytes};
 ghost use Rattle.language.specs.Types.{is_never_null, printed, shape};
 ghost use Rattle.language.specs.ValuesPrinted.{printed_value};
 ghost use Rattle.walk.specs.Entering.{everywhere, given, relating_step};
@@ -12,6 +12,7 @@ ghost use Rattle.rules_values.specs.DefaultValuesOfCorrectTypeLaws.{defaults_rig
 ghost use Rattle.rules_values.specs.GivenLaws.{given_silent};
 ghost use Rattle.rules_values.specs.DefaultValuesOfCorrectType.{HasRightDefault, default_of, needless_default_message};
 ghost use Rattle.rules_values.specs.DefaultValuesOfCorrectType.{wrong_default_message, wrong_defaults};
+ghost use Rattle.rules_values.specs.Faults.{reported};
 
 use crate::faults::fault_at;
 use language::error::OutOfMemory;
@@ -93,8 +94,29 @@ fn report<'a, S: CheckedScalar>(
 {
     if is_never_null(t) {
         let message = needless_default_message(alloc, name, t)?;
-        ctx.report_error(message.as_str(), &[value.span.start])?;
-    } else if let Some(fault) = fault_at(alloc, ctx, t.as_borrowed(), &value.item)? {
+        return ctx.report_error(message.as_str(), &[value.span.start]);
+    }
+    report_faulty_default(alloc, ctx, name, t, value)
+}
+
+/// Reports the default value of a variable of this name and type, if it has a fault.
+///
+/// # Errors
+///
+/// Out of memory, also in a check of a scalar or an enum. The types at hand stay.
+pub fn report_faulty_default<'a, S: CheckedScalar>(
+    alloc: Global,
+    ctx: &mut ValidatorContext<'a, S>,
+    name: &str,
+    t: &'a Type,
+    value: &Spanning<InputValue<S>>,
+) -> Result<(), OutOfMemory>
+    ensures ok { OnOk result (Appended
+        (reported S.may_answer (printed_value S.text S.str_of) ctx.old.schema
+        (wrong_default_message name.now (printed (shape t.now))) (Some (shape t.now)) value.now) ctx.old ctx.new) }
+    ensures err { OnErr result (KeepsPlace ctx.old ctx.new) }
+{
+    if let Some(fault) = fault_at(alloc, ctx, t.as_borrowed(), &value.item)? {
         let message = wrong_default_message(alloc, name, t, fault.as_str())?;
         ctx.report_error(message.as_str(), &[value.span.start])?;
     }

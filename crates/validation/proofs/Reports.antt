@@ -1,12 +1,12 @@
 -- What is reported of a document in a context that was made for it.
-use Rattle.std.proofs.Common.{◌≡◌, ◌∙◌, ◌++◌, ℕ, List, [], Bool, false, IsPermutation, length, refl, subst, ap}
+use Rattle.std.proofs.Common.{◌≡◌, ◌∙◌, ◌++◌, ℕ, List, [], Bool, false, IsPermutation, refl, subst, ap}
 use Rattle.std.proofs.lemmas.List.{append-nil}
 use Rattle.std.proofs.lemmas.List.Sorted.{IsPermutation-refl, IsPermutation-trans}
 use Rattle.std.specs.Global.{Global}
 use Rattle.language.specs.declared.tree.Definition.{Definition}
 use Rattle.schema.specs.Catalog.{Catalog}
 use Rattle.walk.specs.ContextState.{ContextState, IsMadeFor, fitting, fresh_context, limited, scope_of, typing, with_errors}
-use Rattle.walk.specs.ErrorValue.{ErrorValue}
+use Rattle.walk.specs.ErrorValue.{ErrorValue, shares}
 use Rattle.walk.specs.Rule.{Appended, AppendsAllowed, Collection, any_value, exactly, nothing, together}
 use Rattle.walk.specs.Step.{KeepsPlace}
 use Rattle.walk.proofs.Kept.{fitting_all, with_more, with_none}
@@ -33,7 +33,7 @@ module _ {S C : Type 0} (rules : Rules S C) (document : List (Definition S)) whe
   told_up_to limit disabled alloc schema old new errors pairs fresh tells sorted =
       let (es, told, appended) = tells (ap (λ w. w.known) fresh) in
       let Of : ContextState S C → Type 0 = λ w. RootReported rules w.limit disabled w.errors (scope_of w.schema document) (typing w) document es pairs in
-      let kept : new.errors ≡ fitting limit 0 es = ap (λ w. w.errors) appended ∙ ap (λ w. w.errors ++ fitting w.limit (length w.errors) es) fresh in
+      let kept : new.errors ≡ fitting limit 0 es = ap (λ w. w.errors) appended ∙ ap (λ w. w.errors ++ fitting w.limit (shares w.errors) es) fresh in
       record {
         report = es;
         reported = record { found = es; reported = subst Of fresh told; ordered = IsPermutation-refl es };
@@ -70,7 +70,7 @@ module _ {S C : Type 0} (E : S → S → Bool) (document : List (Definition S)) 
       → IsPermutation new.errors errors → MergeErrors E schema document end errors
   merging_told alloc schema old new end errors fresh tells sorted =
       let (es, (fs, gs, told, none_else, p), appended) = tells (ap (λ w. w.known) fresh) in
-      let same : new.errors ≡ es = ap (λ w. w.errors) appended ∙ ap (λ w. w.errors ++ fitting w.limit (length w.errors) es) fresh ∙ fitting_all 0 es in
+      let same : new.errors ≡ es = ap (λ w. w.errors) appended ∙ ap (λ w. w.errors ++ fitting w.limit (shares w.errors) es) fresh ∙ fitting_all 0 es in
       merge_permuted E schema document end fs gs errors (subst (λ w. MergeErrors E w.schema document end fs) fresh told) none_else (IsPermutation-trans _ _ _ p (subst (λ zs. IsPermutation zs errors) same sorted))
 
 module _ {S C : Type 0} where

@@ -1,5 +1,5 @@
 -- Two stages as one.
-use Rattle.std.proofs.Common.{◌≡◌, ◌∙◌, ◌↔◌, ◌++◌, ◌<◌, ◌≤◌, ◌*◌, ◌-◌, ℕ, List, [], ◌∷◌, Bool, true, false, ap, map, refl, sym, subst, IsPermutation, inl, inr, zero, suc, length, arith}
+use Rattle.std.proofs.Common.{◌≡◌, ◌∙◌, ◌↔◌, ◌++◌, ◌<◌, ◌≤◌, ◌*◌, ◌-◌, ℕ, List, [], ◌∷◌, Bool, true, false, ap, map, refl, sym, subst, IsPermutation, inl, inr, zero, suc, arith}
 use Rattle.std.proofs.lemmas.Bool.{true≢false}
 use Rattle.std.proofs.lemmas.List.{append-nil, nil_from_length}
 use Rattle.std.proofs.lemmas.List.Sorted.{IsPermutation-sym, IsPermutation-trans, length_permutation}
@@ -17,7 +17,7 @@ use Rattle.merge_document.specs.Conflicts.{IsTidyDocument}
 use Rattle.rules_merge.specs.declared.overlapping_fields_can_be_merged.OverlappingFieldsCanBeMerged.{OverlappingFieldsCanBeMerged}
 use Rattle.rules_merge.specs.OverlappingFieldsCanBeMerged.{ErrorsWithin, MergeErrors, StoppedErrors, error_value, stop_error}
 use Rattle.walk.specs.ContextState.{ContextState, DocumentScope, fitting, has_some, scope_of, typing, with_errors}
-use Rattle.walk.specs.ErrorValue.{ErrorValue}
+use Rattle.walk.specs.ErrorValue.{ErrorValue, shares}
 use Rattle.walk.specs.Rule.{AppendsAllowed}
 use Rattle.walk.proofs.Kept.{empty_has_room, kept_none, with_none}
 use Rattle.rules_first_stage.specs.Stage.{stage_reports}
@@ -75,7 +75,7 @@ module _ {S C : Type 0} (rules : Rules S C) where
   pub after_one : (old new : ContextState S C) (document : List (Definition S)) → AppendsAllowed (stage_reports rules.first_stage) document old new
       → has_some new.errors ≡ true → AppendsReported rules old new document 0
   after_one old new document (es, (allowed, settled), e) some =
-      let none_kept : old.errors ++ es ≡ [] → old.errors ++ fitting old.limit (length old.errors) es ≡ [] = λ nothing.
+      let none_kept : old.errors ++ es ≡ [] → old.errors ++ fitting old.limit (shares old.errors) es ≡ [] = λ nothing.
       let none_before : old.errors ≡ [] = left_none old.errors es nothing in
       let none_now : es ≡ [] = ap (λ zs. zs ++ es) (sym none_before) ∙ nothing in
       sym (ap (λ w. w.errors) (with_none old) ∙ ap (λ zs. (with_errors old zs).errors) (sym none_now)) ∙ none_before
@@ -99,9 +99,9 @@ module _ {S C : Type 0} (rules : Rules S C) where
     pub after_two : IsCleanWhere rules.first_stage.find_nothing → AppendsAllowed (stage_reports rules.first_stage) document old mid → has_some mid.errors ≡ false → (pairs : ℕ) → Two pairs
         → AppendsReported rules old new document pairs
     after_two clean (fs, (allowed, settled), e) quiet pairs (es, end, told, counted, e') =
-        let none_kept : old.errors ++ fitting old.limit (length old.errors) fs ≡ [] = sym (ap (λ w. w.errors) e) ∙ is_none mid.errors quiet in
-        let none_before : old.errors ≡ [] = left_none old.errors (fitting old.limit (length old.errors) fs) none_kept in
-        let none_fits : fitting old.limit (length old.errors) fs ≡ [] = ap (λ zs. zs ++ fitting old.limit (length old.errors) fs) (sym none_before) ∙ none_kept in
+        let none_kept : old.errors ++ fitting old.limit (shares old.errors) fs ≡ [] = sym (ap (λ w. w.errors) e) ∙ is_none mid.errors quiet in
+        let none_before : old.errors ≡ [] = left_none old.errors (fitting old.limit (shares old.errors) fs) none_kept in
+        let none_fits : fitting old.limit (shares old.errors) fs ≡ [] = ap (λ zs. zs ++ fitting old.limit (shares old.errors) fs) (sym none_before) ∙ none_kept in
         let none_now : fs ≡ [] = kept_none old fs (empty_has_room old none_before) none_fits in
         let same : mid ≡ old = e ∙ ap (with_errors old) none_now ∙ sym (with_none old) in
         let found = settled.0 none_now in
@@ -155,7 +155,7 @@ module _ {S C : Type 0} (rules : Rules S C) (old new : ContextState S C) (docume
   pub valid_iff : (pairs : ℕ) → AppendsReported rules old new document pairs → IsCleanWhere rules.first_stage.find_nothing → old.errors ≡ [] → (new.errors ≡ []) ↔ IsValidIn rules old document
   valid_iff pairs (es, reported, e) clean empty =
       let judged = none_iff rules clean old.schema (typing old) document old.errors es pairs empty reported in
-      let kept = fitting old.limit (length old.errors) es in
+      let kept = fitting old.limit (shares old.errors) es in
       let now : new.errors ≡ kept = ap (λ w. w.errors) e ∙ ap (λ zs. zs ++ kept) empty in (
         λ nothing. judged.0 (kept_none old es (empty_has_room old empty) (sym now ∙ nothing)),
         λ v. ap (λ w. w.errors) (e ∙ ap (with_errors old) (judged.1 v) ∙ sym (with_none old)) ∙ empty,

@@ -67,7 +67,8 @@ impl<S, C> RootNodeOf<S, C> {
         }
     }
 
-    /// Has at most so many errors of a document reported, or all for 0.
+    /// Has at most so many errors of a document reported, or all for 0. One with a long message counts as several: one,
+    /// and one more for each 4,096 bytes of its message.
     pub fn with_max_errors(self, max_errors: usize) -> RootNodeOf<S, C>
         ensures { result ≡ record self { max_errors = max_errors } }
     {
@@ -95,7 +96,8 @@ impl<S: CheckedScalar> RootNodeOf<S, S::Check> {
     /// disabled. Returns the errors in ascending order. There are none if and only if the document is valid.
     ///
     /// Each is one of the document's, but for one without a place: that says that the search for fields that conflict
-    /// stopped, since it had found many. Where it is there, or as many errors as `max_errors`, there may be more.
+    /// stopped, since it had found many. Where it is there, or the errors count as many as `max_errors` or more, there may
+    /// be more.
     ///
     /// # Errors
     ///

@@ -1,5 +1,5 @@
 -- What is found of a document in a context that was made for it.
-use Rattle.std.proofs.Common.{◌≡◌, ◌↔◌, ◌++◌, ◌∙◌, ℕ, Bool, false, List, [], IsPermutation, ap, length, subst, sym}
+use Rattle.std.proofs.Common.{◌≡◌, ◌↔◌, ◌++◌, ◌∙◌, ℕ, Bool, false, List, [], IsPermutation, ap, subst, sym}
 use Rattle.std.proofs.lemmas.List.{append-nil}
 use Rattle.std.specs.Global.{Global}
 use Rattle.language.specs.declared.tree.Definition.{Definition}
@@ -9,7 +9,7 @@ use Rattle.events.specs.Typing.{untyped}
 use Rattle.walk.specs.declared.multi_visitor.MultiVisitorCons.{MultiVisitorCons}
 use Rattle.walk.specs.declared.multi_visitor.MultiVisitorNil.{MultiVisitorNil}
 use Rattle.walk.specs.ContextState.{ContextState, IsMadeFor, fitting, fresh_context, has_some, scope_of, typing}
-use Rattle.walk.specs.ErrorValue.{ErrorValue}
+use Rattle.walk.specs.ErrorValue.{ErrorValue, shares}
 use Rattle.walk.proofs.Kept.{fitting_all}
 use Rattle.walk.specs.Pair.{no_step, pair_step}
 use Rattle.walk.specs.PairLaws.{pair_splits}
@@ -26,7 +26,7 @@ module _ {S C : Type 0} (document : List (Definition S)) (alloc : Global) (schem
   by_all new rules pairs tells =
       let (es, told, appended) = tells (ap (λ w. w.known) fresh) in
       let Of : ContextState S C → Type 0 = λ w. Reported rules w.limit w.errors (scope_of w.schema document) (typing w) document es pairs in
-      let same : new.errors ≡ es = ap (λ w. w.errors) appended ∙ ap (λ w. w.errors ++ fitting w.limit (length w.errors) es) fresh ∙ fitting_all 0 es in
+      let same : new.errors ≡ es = ap (λ w. w.errors) appended ∙ ap (λ w. w.errors ++ fitting w.limit (shares w.errors) es) fresh ∙ fitting_all 0 es in
       subst (λ found. Reported rules 0 [] (scope_of schema document) untyped document found pairs) (sym same) (subst Of fresh told)
 
   -- nothing by all rules if and only if it is valid

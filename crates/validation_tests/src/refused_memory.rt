@@ -38,6 +38,9 @@ const FIELDS_THAT_CONFLICT: &str = "{ dog { x: name } dog { x: barks } }";
 const LISTS_THAT_ARE_COMPARED: &str =
     "{ complicatedArgs { x: stringListArgField(stringListArg: [\"a\", \"b\"]) x: stringListArgField(stringListArg: [\"a\", \"c\"]) } }";
 
+const CONFLICT_AMONG_MANY: &str =
+    "{ human { relatives { b: iq } relatives { b: name } relatives { a: iq } relatives { a: iq } relatives { a: iq } relatives { a: iq } relatives { a: iq } relatives { a: iq } relatives { a: iq } relatives { a: iq } relatives { a: iq } relatives { a: iq } relatives { a: iq } relatives { a: iq } relatives { a: iq } relatives { a: iq } relatives { a: iq } relatives { a: iq } relatives { a: iq } relatives { a: iq } relatives { a: iq } relatives { a: iq } relatives { a: iq } relatives { a: iq } relatives { a: iq } relatives { a: iq } relatives { a: iq } relatives { a: iq } relatives { a: iq } relatives { a: iq } relatives { a: iq } relatives { a: iq } relatives { a: iq } relatives { a: iq } } dog { a: name } }";
+
 const VALUES: &str =
     "query ($c: ComplexInput!) { complicatedArgs { complexArgField(complexArg: $c) } }";
 
@@ -179,5 +182,17 @@ fn a_refused_request_among_boxes(rt: HostRuntime) {
         &schema,
         FRAGMENTS_THAT_CONFLICT,
         "Fields \"b\" conflict because subfields \"otherField\" conflict because otherField and unrelatedField are different fields. Use different aliases on the fields to fetch both if this was intentional. At 0:105, 0:171, 0:125, 0:208\n2",
+    );
+}
+
+#[test]
+fn a_refused_request_among_many_fields(rt: HostRuntime) {
+    let schema = schema(&rt, rt.alloc(), "pets");
+    told(
+        &rt,
+        rt.alloc(),
+        &schema,
+        CONFLICT_AMONG_MANY,
+        "Fields \"relatives\" conflict because subfields \"b\" conflict because iq and name are different fields. Use different aliases on the fields to fetch both if this was intentional. At 0:10, 0:22, 0:30, 0:42\n0",
     );
 }

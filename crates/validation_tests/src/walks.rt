@@ -298,6 +298,35 @@ fn sorts_errors(rt: &impl Abort, alloc: Global, schema: &SchemaType<DefaultScala
     );
 }
 
+/// A message of 4,096 bytes.
+fn long_message(alloc: Global) -> Result<String, OutOfMemory> {
+    let mut text = String::new(alloc);
+    for _ in 0..256 {
+        text.push_str("sixteen letters.")?;
+    }
+    Ok(text)
+}
+
+/// Reports a long error and two short ones.
+fn report_three(alloc: Global, ctx: &mut Context<'_>) -> Result<(), OutOfMemory> {
+    let long = long_message(alloc)?;
+    ctx.report_error(long.as_str(), &[early()])?;
+    ctx.report_error("short", &[late()])?;
+    ctx.report_error("further", &[late()])
+}
+
+/// A long message counts as two: a limit of three keeps it and a short one, and no further one.
+fn counts_long_messages(rt: &impl Abort, alloc: Global, schema: &SchemaType<DefaultScalarValue>) {
+    let mut ctx = ValidatorContext::new(alloc, schema, &[]).expect(rt, "memory");
+    ctx.set_limit(3);
+    report_three(alloc, &mut ctx).expect(rt, "memory");
+    assert!(rt; ctx.is_full());
+    let errors = ctx.into_errors().expect(rt, "memory");
+    assert_eq!(rt; errors.len(), 2);
+    assert_eq!(rt; errors[0].message().len(), 4096);
+    assert_eq!(rt; errors[1].message(), "short");
+}
+
 /// A context keeps the types that are pushed.
 fn keeps_types(rt: &impl Abort, alloc: Global, schema: &SchemaType<DefaultScalarValue>) {
     let mut ctx = ValidatorContext::new(alloc, schema, &[]).expect(rt, "memory");
@@ -319,6 +348,7 @@ fn every_kind_of_node_is_told(rt: HostRuntime) {
     keeps_fields(&rt, alloc, &schema);
     keeps_types(&rt, alloc, &schema);
     sorts_errors(&rt, alloc, &schema);
+    counts_long_messages(&rt, alloc, &schema);
 }
 
 /// Whether a fresh context returns all errors and takes types, or refuses each call after the one that was refused.

@@ -59,8 +59,9 @@ pub extern "C" fn vorxindak_open(
     open_closed(alloc, handle, texts, dialect)
 }
 
-/// Validates a document. The handle keeps the report, which has at most `max_errors` errors, or all for 0. The one
-/// known flag is `NO_INTROSPECTION`.
+/// Validates a document. The handle keeps the report, which has at most `max_errors` errors, or all for 0. One
+/// with a long message counts as several: one, and one more for each 4,096 bytes of its message. The one known flag is
+/// `NO_INTROSPECTION`.
 #[unsafe(no_mangle)]
 pub extern "C" fn vorxindak_validate(
     alloc: Global,

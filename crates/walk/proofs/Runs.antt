@@ -3,7 +3,7 @@ use Rattle.std.proofs.Common.{◌≡◌, ◌-◌, List, [], ◌∷◌, ◌++◌,
 use Rattle.std.proofs.lemmas.List.{append-nil}
 use Rattle.walk.specs.declared.multi_visitor.MultiVisitorCons.{MultiVisitorCons}
 use Rattle.walk.specs.Pair.{pair_step}
-use Rattle.walk.specs.ErrorValue.{ErrorValue}
+use Rattle.walk.specs.ErrorValue.{ErrorValue, shares}
 use Rattle.events.specs.Typing.{Typing}
 use Rattle.walk.specs.ContextState.{ContextState, HasTypes, fitting, scope_of_context, with_errors, typing, pushed, popped, or_untyped}
 use Rattle.events.specs.TypedEvent.{TypedEvent}
@@ -53,7 +53,7 @@ pub popped-pushed : {S C : Type 0} (w : ContextState S C) (t : Typing S C) → p
 popped-pushed w t = ap (λ ts. record w { typings = ts }) (take-pushed w.typings t)
 
 pub popped-reported : {S C : Type 0} (w : ContextState S C) (t : Typing S C) (es : List ErrorValue) → popped (with_errors (pushed w t) es) ≡ with_errors w es
-popped-reported w t es = ap (λ ts. record w { typings = ts; errors = w.errors ++ fitting w.limit (length w.errors) es }) (take-pushed w.typings t)
+popped-reported w t es = ap (λ ts. record w { typings = ts; errors = w.errors ++ fitting w.limit (shares w.errors) es }) (take-pushed w.typings t)
 
 pub popped-left : {S C : Type 0} (w left : ContextState S C) (t : Typing S C) → left.typings ≡ (pushed w t).typings → (popped left).typings ≡ w.typings
 popped-left w left t e = ap (λ ts. take (length ts - 1) ts) e ∙ take-pushed w.typings t
@@ -112,3 +112,13 @@ OnErr-from P (Err e) p = p
 pub OnOk-from : {T E : Type 0} (P : Type 0) (r : Result T E) → P → OnOk r P
 OnOk-from P (Ok x) p = p
 OnOk-from P (Err e) p = tt
+
+-- the place is kept twice
+pub KeepsPlace-trans : {S C : Type 0} (w w' w'' : ContextState S C) → KeepsPlace w w' → KeepsPlace w' w'' → KeepsPlace w w''
+KeepsPlace-trans w w' w'' first then = record {
+  allocator = then.allocator ∙ first.allocator;
+  schema = then.schema ∙ first.schema;
+  known = then.known ∙ first.known;
+  typings = then.typings ∙ first.typings;
+  stays = λ failed. then.stays (first.stays failed);
+}

@@ -4,12 +4,12 @@ use Rattle.std.specs.Prelude.{◌≡◌, ◌==◌, ◌||◌, nat_lt, if◌then�
 use Rattle.std.specs.Prelude.{Some, None, Bool, true, false, slice_get, length, take}
 use Rattle.language.specs.declared.tree.Definition.{Definition}
 use Rattle.schema.specs.Catalog.{Catalog}
-use Rattle.walk.specs.ErrorValue.{ErrorValue}
+use Rattle.walk.specs.ErrorValue.{ErrorValue, share, shares}
 use Rattle.walk.specs.Names.{fragment_names}
 use Rattle.events.specs.Typing.{Typing, untyped}
 
 -- what it allocates by, the schema, the names of the document's fragments, the types that were pushed, what was
--- reported, how many errors it keeps (0: all), and whether it has failed
+-- reported, how much it keeps of errors (0: all), and whether it has failed
 pub record ContextState (S C : Type 0) : Type 0 where
   pub allocator : Global
   pub schema : Catalog S C
@@ -24,14 +24,14 @@ pub record DocumentScope (S C : Type 0) : Type 0 where
   pub schema : Catalog S C
   pub known : List (List ℕ)
 
--- whether one more error is kept behind so many, where so many are kept in all (0: all)
+-- whether one more error is kept behind those that take so much, where so much is kept in all (0: all)
 abbrev pub has_place : ℕ → ℕ → Bool
 has_place limit held = (limit == 0) || nat_lt held limit
 
 -- which of these errors are kept then, one after the other
 abbrev pub fitting : ℕ → ℕ → List ErrorValue → List ErrorValue
 fitting limit held [] = []
-fitting limit held (e ∷ es) = if has_place limit held then e ∷ fitting limit (held + 1) es else []
+fitting limit held (e ∷ es) = if has_place limit held then e ∷ fitting limit (held + share e) es else []
 
 module _ {S C : Type 0} where
   abbrev pub or_untyped : Option (Typing S C) → Typing S C
@@ -59,11 +59,11 @@ module _ {S C : Type 0} where
 
   -- one more error is kept
   abbrev pub HasRoom : ContextState S C → Type 0
-  HasRoom w = has_place w.limit (length w.errors) ≡ true
+  HasRoom w = has_place w.limit (shares w.errors) ≡ true
 
   -- the context with more errors, as far as they are kept
   abbrev pub with_errors : ContextState S C → List ErrorValue → ContextState S C
-  with_errors w es = record w { errors = w.errors ++ fitting w.limit (length w.errors) es }
+  with_errors w es = record w { errors = w.errors ++ fitting w.limit (shares w.errors) es }
 
   -- the context with another limit
   abbrev pub limited : ContextState S C → ℕ → ContextState S C

@@ -1,6 +1,6 @@
 -- An error of validation as callers see it.
-use Rattle.std.specs.Prelude.{◌≡◌, ◌↔◌, ℕ, List, [], ◌∷◌, ◌++◌, codes}
-use Rattle.std.specs.List.{flat_map}
+use Rattle.std.specs.Prelude.{◌≡◌, ◌↔◌, ℕ, ◌+◌, ◌/◌, List, [], ◌∷◌, ◌++◌, length, codes}
+use Rattle.std.specs.List.{flat_map, sum_by}
 use Rattle.std.specs.declared.cmp.Ordering.{Ordering}
 use Rattle.std.specs.declared.cmp.Ordering.TheVariants.{Equal}
 use Rattle.std.specs.Ordering.{nat_cmp, on, then_cmp}
@@ -12,6 +12,14 @@ use Rattle.language.specs.Position.{index_of, line_of, column_of, printed_positi
 pub record ErrorValue : Type 0 where
   pub locations : List SourcePosition
   pub message : List ℕ
+
+-- how much of a limit an error takes: one, and one more for each 4096 bytes of its message
+abbrev pub share : ErrorValue → ℕ
+share e = 1 + length e.message / 4096
+
+-- how much errors take together
+abbrev pub shares : List ErrorValue → ℕ
+shares = sum_by share
 
 -- by index, then line, then column
 abbrev pub position_cmp : SourcePosition → SourcePosition → Ordering

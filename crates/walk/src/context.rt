@@ -5,10 +5,10 @@ ghost use Rattle.std.specs.Prelude.{IsPermutation, IsSorted};
 ghost use Rattle.std.specs.Option.{option_copied, option_map};
 ghost use Rattle.language.specs.Types.{borrowed_shape};
 ghost use Rattle.walk.specs.Calls.{CalledAt};
-ghost use Rattle.walk.specs.ContextState.{HasRoom, HasTypes, failing, fitting, fresh_context, has_place, has_some};
+ghost use Rattle.walk.specs.ContextState.{HasRoom, HasTypes, failing, fresh_context, has_place, has_some};
 ghost use Rattle.walk.specs.ContextState.{limited};
 ghost use Rattle.walk.specs.ContextState.{popped, pushed, typing, with_errors};
-ghost use Rattle.walk.specs.ErrorValue.{error_cmp};
+ghost use Rattle.walk.specs.ErrorValue.{error_cmp, shares};
 ghost use Rattle.events.specs.EventValue.{typing_of};
 ghost use Rattle.events.specs.Cursor.{IsNextLeft};
 ghost use Rattle.fragment_graph.specs.Kept.{is_among};
@@ -16,6 +16,7 @@ ghost use Rattle.fragment_graph.specs.Numbers.{NumberedDefinitions};
 ghost use Rattle.events.specs.Typing.{at_type, at_input, at_set};
 
 use crate::RuleError;
+use crate::kept_errors::KeptErrors;
 use events::{Event, EventCursorOf, TypesOf};
 use fragment_graph::kept::KeptNames;
 use fragment_graph::numbers::NumberedNames;
@@ -40,8 +41,7 @@ pub struct ValidatorContextOf<'a, S, C> {
     alloc: Global,
     fragment_names: KeptNames<'a>,
     types: Vec<TypesOf<'a, S, C>>,
-    errors: Vec<RuleError>,
-    limit: usize,
+    kept: KeptErrors,
     failed: bool,
 }
 
@@ -64,8 +64,8 @@ impl<'a, S, C> Model for ValidatorContextOf<'a, S, C> {
       schema = c.schema.now;
       known = kept_by c.fragment_names;
       typings = map typing_of c.types.items;
-      errors = c.errors.items;
-      limit = c.limit;
+      errors = c.kept.errors.items;
+      limit = c.kept.limit;
       failed = c.failed;
     } };
 }
@@ -89,8 +89,7 @@ impl<'a, S, C> ValidatorContextOf<'a, S, C> {
             alloc,
             fragment_names,
             types: Vec::new(alloc),
-            errors: Vec::new(alloc),
-            limit: 0,
+            kept: KeptErrors::new(alloc),
             failed: false,
         })
     }
@@ -129,29 +128,30 @@ impl<'a, S, C> ValidatorContextOf<'a, S, C> {
     pub fn has_errors(&self) -> bool
         ensures { result ≡ has_some self.now.errors }
     {
-        !self.errors.is_empty()
+        !self.kept.errors.is_empty()
     }
 
     /// Keeps no more errors than so many from now on, or all for 0. It drops none that it has.
+    ///
+    /// An error with a long message counts as several: one, and one more for each 4,096 bytes of its message.
     pub fn set_limit(&mut self, limit: usize)
         ensures { self.new ≡ limited self.old limit }
     {
-        self.limit = limit;
+        self.kept.set_limit(limit);
     }
 
-    /// How many errors are kept at most, or 0 for all.
+    /// How many errors are kept at most, or 0 for all. One with a long message counts as several.
     pub fn limit(&self) -> usize
         ensures { result ≡ self.now.limit }
     {
-        self.limit
+        self.kept.limit
     }
 
-    /// Whether no further error is kept.
+    /// Whether no further error is kept: those that are there count as many as the limit, or more.
     pub fn is_full(&self) -> bool
-        ensures { result ≡ not (has_place self.now.limit (length self.now.errors)) }
+        ensures { result ≡ not (has_place self.now.limit (shares self.now.errors)) }
     {
-        let has_place = self.limit == 0 || self.errors.len() < self.limit;
-        !has_place
+        self.kept.is_full()
     }
 
     /// The types at the current node.
@@ -233,7 +233,7 @@ impl<'a, S, C> ValidatorContextOf<'a, S, C> {
         ensures ok { OnOk result (self.new ≡ with_errors self.old (error ∷ [])) }
         ensures err { OnErr result (self.new ≡ failing self.old) }
     {
-        if self.errors.push(error).is_err() {
+        if self.kept.push(error).is_err() {
             self.failed = true;
             return Err(OutOfMemory);
         }
@@ -246,7 +246,7 @@ impl<'a, S, C> ValidatorContextOf<'a, S, C> {
     ///
     /// Out of memory, if there are errors to add, or the context has failed before. Nothing is added, and the context
     /// fails from then on.
-    pub fn append_errors(&mut self, mut errors: Vec<RuleError>) -> Result<(), OutOfMemory>
+    pub fn append_errors(&mut self, errors: Vec<RuleError>) -> Result<(), OutOfMemory>
         ensures ok { OnOk result (self.new ≡ with_errors self.old errors.items) }
         ensures err { OnErr result (self.new ≡ failing self.old) }
         ensures stays { self.old.failed ≡ true → IsErr result }
@@ -255,11 +255,7 @@ impl<'a, S, C> ValidatorContextOf<'a, S, C> {
         if self.failed {
             return Err(OutOfMemory);
         }
-        keep_fitting(self.limit, self.errors.len(), &mut errors);
-        if errors.is_empty() {
-            return Ok(());
-        }
-        if self.errors.append(&mut errors).is_err() {
+        if self.kept.append(errors).is_err() {
             self.failed = true;
             return Err(OutOfMemory);
         }
@@ -277,7 +273,7 @@ impl<'a, S, C> ValidatorContextOf<'a, S, C> {
         ensures stays { self.entry.failed ≡ true → IsErr result }
         ensures succeeds { self.entry.failed ≡ false → self.entry.errors ≡ [] → IsOk result }
     {
-        let mut errors = self.errors;
+        let mut errors = self.kept.errors;
         if self.failed {
             return Err(OutOfMemory);
         }
@@ -425,14 +421,5 @@ impl<'a, S, C> ValidatorContextOf<'a, S, C> {
     {
         let types = self.types().at_input(t);
         self.with_types(types, f)
-    }
-}
-
-// Drops of further errors those that are not kept behind so many.
-fn keep_fitting(limit: usize, held: usize, errors: &mut Vec<RuleError>)
-    ensures { errors.new.items ≡ fitting limit held errors.old.items }
-{
-    if limit > 0 {
-        errors.truncate(limit.saturating_sub(held));
     }
 }

@@ -2,6 +2,7 @@
 #![tactic(auto)]
 
 pub mod context;
+mod kept_errors;
 pub mod laws;
 pub mod multi_visitor;
 pub mod rule;
@@ -11,6 +12,7 @@ pub mod walk;
 
 pub use context::{ValidatorContext, ValidatorContextOf};
 pub use events::Event;
+pub use kept_errors::fill_limit;
 pub use language::error::OutOfMemory;
 pub use multi_visitor::{MultiVisitorCons, MultiVisitorNil};
 pub use rule::{Criterion, Rule, SettledRule};

@@ -1,5 +1,5 @@
 use Rattle.merge_search.specs.World.{world}
-use Rattle.merge_search.proofs.Clearing.{leaves_clear, rows_below}
+use Rattle.merge_search.proofs.Clearing.{both_clear, rows_below}
 use Rattle.merge_search.proofs.clear.clear_rows.Goals as goal
 
 pub returns-then-branch : goal.returns-then-branch
@@ -10,4 +10,4 @@ returns-then-branch g c =
 pub returns : goal.returns
 returns g c =
     let v = world g.J.Judge.judgement c.args.graph.now in
-    leaves_clear v c.args.e c.args.left.now c.args.right.now c.in_ok-rows.rows c.in_ok-leaves.leaves c.in_ok-rows.ensures c.in_ok-leaves.ensures
+    both_clear v c.args.e c.args.left.now c.args.right.now c.in_ok-rows.rows c.in_ok-below.below c.in_ok-both.both c.in_ok-rows.ensures c.in_ok-below.ensures c.in_ok-both.ensures

@@ -1,6 +1,8 @@
-use Rattle.std.proofs.Common.{false}
+use Rattle.std.proofs.Common.{arith, false}
+use Rattle.std.proofs.lemmas.Option.{slice_get_within}
 use Rattle.merge_search.specs.World.{world}
 use Rattle.merge_search.specs.Tops.{AtBefore}
+use Rattle.merge_search.proofs.Adding.{adds_none}
 use Rattle.merge_search.proofs.Clearing.{clear_done, clear_tells}
 use Rattle.merge_search.proofs.Order.{at_of}
 use Rattle.merge_search.proofs.Work.{did_none}
@@ -17,3 +19,12 @@ returns-then-are_passed-clause-real g c =
     let v = world g.J.Judge.judgement c.args.graph.now in
     let xs = c.args.fields.now in
     clear_tells v false xs xs c.if-are_passed.ensures (AtBefore xs) (AtBefore xs) _ (λ r z. (at_of xs z.0 r.left z.3, at_of xs z.1 r.right z.4))
+
+pub returns-then-fields-lt2-clause-real : goal.returns-then-fields-lt2-clause-real
+returns-then-fields-lt2-clause-real g c =
+    let v = world g.J.Judge.judgement c.args.graph.now in
+    let xs = c.args.fields.now in
+    record {
+      adds = adds_none v false (AtBefore xs) _;
+      tells = λ room r z fails. absurd (omega (arith, z.2, slice_get_within xs z.1 r.right z.4, c.if-fields-lt2.true));
+    }

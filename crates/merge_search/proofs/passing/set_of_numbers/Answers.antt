@@ -5,14 +5,8 @@ use Rattle.std.proofs.lemmas.List.{take_all}
 use Rattle.std.proofs.lemmas.List.Elements.{All-more, All-weaker, Contains-get_or}
 use Rattle.bit_matrix.specs.Set.{has}
 use Rattle.bit_matrix.specs.declared.set.BitSet.{BitSet}
+use Rattle.merge_search.proofs.Merged.{stays}
 use Rattle.merge_search.proofs.passing.set_of_numbers.Goals as goal
-
--- a number was added, and those before it stay
-stays : (old new : BitSet) (n : ℕ) → has new n ≡ true → ((m : ℕ) → (m ≡ n → ⊥) → has new m ≡ has old m) → (m : ℕ) → has old m ≡ true → has new m ≡ true
-stays old new n there others m h = elim (cases_eq m n) [
-  | inl is ↦ subst (λ (k : ℕ). has new k ≡ true) (sym is) there
-  | inr other ↦ others m other ∙ h
-]
 
 only : (old new : BitSet) (n : ℕ) (list : List ℕ) → Contains list n → ((m : ℕ) → (m ≡ n → ⊥) → has new m ≡ has old m)
     → ((m : ℕ) → has old m ≡ true → Contains list m) → (m : ℕ) → has new m ≡ true → Contains list m

@@ -1,17 +1,20 @@
-use Rattle.std.proofs.Common.{Bool, subst}
+use Rattle.std.proofs.Common.{Bool, ◌≡◌, false, subst}
 use Rattle.std.specs.Bool.{OnTrue}
+use Rattle.bit_matrix.specs.Set.{has}
 use Rattle.merge_search.specs.Judgement.{NoneConflict}
 use Rattle.merge_search.specs.Quiet.{IsFrom}
 use Rattle.merge_search.specs.World.{world}
-use Rattle.merge_search.proofs.Merged.{group_merged, quiet_pushed}
+use Rattle.merge_search.proofs.Merged.{group_merged, quiet_pushed, uncovered}
 use Rattle.merge_search.proofs.quiet.is_quiet_group.Goals as goal
 
-pub returns : goal.returns
-returns g c = λ all.
+pub returns-clause-quiet : goal.returns-clause-quiet
+returns-clause-quiet g c = λ l covers all.
     let v = world g.J.Judge.judgement c.args.graph.now in
     let x = c.args.x in
     let xs = c.args.group.now in
+    let name = c.args.name in
     let below = c.in_ok-below.below in
-    let none = subst (λ b. OnTrue b ((e : Bool) → IsFrom x e → NoneConflict v.judgement e xs xs)) c.if-not-branch.false c.in_ok-agree_from.ensures in
-    let z = quiet_pushed v x c.args.waiting.now.items c.push.new.self.items below c.in_ok-push.ensures.items all in
-    (z.0, group_merged v x (g.J.Judge.exclusive_stays c.args.graph.now.judge) xs below.items none c.in_ok-below.ensures z.1)
+    let names = c.agree_or_apart.new.apart.names in
+    let none = subst (λ b. OnTrue b (has names name ≡ false → (e : Bool) → IsFrom x e → NoneConflict v.judgement e xs xs)) c.if-not-branch.false c.in_ok-agree_or_apart.ensures.agree in
+    let z = quiet_pushed v l x c.args.waiting.now.items c.push.new.self.items below c.in_ok-push.ensures.items all in
+    (z.0, group_merged v l x (g.J.Judge.exclusive_stays c.args.graph.now.judge) name xs below.items c.requires (λ is. none (uncovered l names name covers is)) c.in_ok-below.ensures z.1)

@@ -1,9 +1,9 @@
-use Rattle.std.proofs.Common.{◌≡◌, take}
+use Rattle.std.proofs.Common.{Bool, ℕ, ◌≡◌, take}
 use Rattle.std.specs.List.{All}
 use Rattle.merge_search.specs.declared.node.Entry.{Entry}
 use Rattle.merge_search.specs.Indexed.{firsts_of}
 use Rattle.merge_search.specs.Names.{named}
-use Rattle.merge_search.specs.Quiet.{AllMerge, AllQuiet}
+use Rattle.merge_search.specs.Quiet.{AllMergeBut, AllQuietBut, AreKept, Covers}
 use Rattle.merge_search.specs.World.{world}
 use Rattle.merge_search.proofs.quiet.is_quiet_set.Given as goal
 
@@ -11,5 +11,7 @@ abbrev pub invariant-loop-first : goal.invariant-loop-first
 invariant-loop-first g l =
     let w = world g.J.Judge.judgement l.graph in
     (l.first-items ≡ firsts_of l.set.own.items l.set.index)
-    × (AllQuiet w l.x l.waiting.items → AllQuiet w l.x l.fn.waiting.items
-    × All (λ (f : Entry). AllMerge w l.x (named f.response l.set.own.items)) (take l.first-index l.first-items))
+    × AreKept l.fn.apart.names l.apart.names
+    × (l.fn.apart.room ≡ 0 → l.apart ≡ l.fn.apart)
+    × ((m : ℕ → Bool) → Covers m l.apart.names → AllQuietBut w m l.x l.waiting.items → AllQuietBut w m l.x l.fn.waiting.items
+    × All (λ (f : Entry). AllMergeBut w m l.x (named f.response l.set.own.items)) (take l.first-index l.first-items))

@@ -1,51 +1,28 @@
-use Rattle.std.proofs.Common.{◌≡◌, [], Some, None, refl, ap, ◌∙◌, subst, option_map, string_bytes}
-use Rattle.language.specs.Types.{borrowed_shape, printed, shape}
+use Rattle.std.proofs.Common.{◌≡◌, OnOk, ap, ◌∙◌, subst}
+use Rattle.std.proofs.lemmas.Result.{on_ok_weaker}
+use Rattle.language.specs.Types.{printed, shape}
 use Rattle.language.specs.ValuesPrinted.{printed_value}
-use Rattle.literals.specs.Judged.{WrittenFault}
-use Rattle.walk.specs.ContextState.{with_errors}
-use Rattle.walk.proofs.Kept.{with_none}
-use Rattle.rules_values.specs.DefaultValuesOfCorrectType.{default_of, needless_default_message, wrong_default_message}
+use Rattle.walk.specs.Rule.{Appended}
+use Rattle.rules_values.specs.DefaultValuesOfCorrectType.{default_of, needless_default_message}
 use Rattle.rules_values.specs.Faults.{error_at}
 use Rattle.rules_values.proofs.default_values_of_correct_type.report.Goals as goal
 
 -- a default value that is never used
-pub returns-in_ok-report_error-clause-ok : goal.returns-in_ok-report_error-clause-ok
-returns-in_ok-report_error-clause-ok g c =
+pub returns-then-is_never_null-clause-ok : goal.returns-then-is_never_null-clause-ok
+returns-then-is_never_null-clause-ok g c =
     let may = g.S.CheckedScalar.may_answer in
     let shown = printed_value g.S.ScalarValue.text g.S.ScalarValue.str_of in
-    let schema = c.args.ctx.now.schema in
     let name = c.args.name.now in
     let t = shape c.args.t.now in
     let value = c.args.value.now in
     let es = error_at value c.as_str.result.now in
     let said : c.as_str.result.now ≡ needless_default_message name (printed t) = c.as_str.ensures.value ∙ c.in_ok-message.ensures in
-    (es, subst (λ b. default_of may shown b schema name t value es) c.if-is_never_null.ensures (ap (error_at value) said), c.in_ok-report_error.ensures.ok)
+    on_ok_weaker c.report_error.result (λ e. (es, subst (λ b. default_of may shown b c.args.ctx.now.schema name t value es) c.if-is_never_null.ensures (ap (error_at value) said), e)) c.report_error.ensures.ok
 
-pub returns-in_ok-report_error-2-clause-ok : goal.returns-in_ok-report_error-2-clause-ok
-returns-in_ok-report_error-2-clause-ok g c =
+-- any other
+pub returns-clause-ok : goal.returns-clause-ok
+returns-clause-ok g c =
     let may = g.S.CheckedScalar.may_answer in
     let shown = printed_value g.S.ScalarValue.text g.S.ScalarValue.str_of in
-    let schema = c.args.ctx.now.schema in
-    let name = c.args.name.now in
-    let t = shape c.args.t.now in
-    let value = c.args.value.now in
-    let m = string_bytes c.in-Some.fault in
-    let es = error_at value c.as_str-in-Some-2.result.now in
-    let told : WrittenFault schema may shown value.item t (Some m) =
-    subst (λ z. WrittenFault schema may shown value.item z (Some m)) c.as_borrowed.ensures
-    (subst (λ o. WrittenFault schema may shown value.item (borrowed_shape c.as_borrowed.result) (option_map string_bytes o)) c.in-Some.is c.in_ok-fault.ensures) in
-    let said : c.as_str-in-Some-2.result.now ≡ wrong_default_message name (printed t) m = c.as_str-in-Some-2.ensures.value ∙ c.in_ok-message-2.ensures ∙ ap (wrong_default_message name (printed t)) c.as_str-in-Some.ensures.value in
-    (es, subst (λ b. default_of may shown b schema name t value es) c.if-is_never_null.ensures (Some m, told, ap (error_at value) said), c.in_ok-report_error-2.ensures.ok)
-
-pub returns-in_default-clause-ok : goal.returns-in_default-clause-ok
-returns-in_default-clause-ok g c =
-    let may = g.S.CheckedScalar.may_answer in
-    let shown = printed_value g.S.ScalarValue.text g.S.ScalarValue.str_of in
-    let schema = c.args.ctx.now.schema in
-    let t = shape c.args.t.now in
-    let value = c.args.value.now in
-    let told : WrittenFault schema may shown value.item t None =
-    subst (λ z. WrittenFault schema may shown value.item z None) c.as_borrowed.ensures
-    (subst (λ o. WrittenFault schema may shown value.item (borrowed_shape c.as_borrowed.result) (option_map string_bytes o)) c.in_default.is c.in_ok-fault.ensures) in
-    let same : c.args.ctx.now ≡ with_errors c.args.ctx.now [] = with_none c.args.ctx.now in
-    ([], subst (λ b. default_of may shown b schema c.args.name.now t value []) c.if-is_never_null.ensures (None, told, refl), same)
+    subst (λ b. OnOk c.report_faulty_default.result (Appended (default_of may shown b c.args.ctx.now.schema c.args.name.now (shape c.args.t.now) c.args.value.now) c.args.ctx.now c.report_faulty_default.new.ctx))
+    c.if-is_never_null.ensures c.report_faulty_default.ensures.ok

@@ -1,0 +1,9 @@
+use Rattle.std.proofs.Common.{inl, inr, subst, sym}
+use Rattle.std.specs.Option.{IfSome}
+use Rattle.merge_search.specs.Near.{IsApartRow}
+use Rattle.merge_search.proofs.below.is_known.Goals as goal
+
+pub returns : goal.returns
+returns c =
+    let row = subst (λ o. IfSome o (IsApartRow c.args.below.now.touched c.args.k c.args.end)) c.in-Some.is c.requires.near in
+    inr (inr (row c.args.l c.requires.inside (sym c.if-contains-3.ensures)))

@@ -1,0 +1,57 @@
+use Rattle.std.proofs.Common.{◌≡◌, ◌⊎◌, ◌++◌, ◌∷◌, [], ◌+◌, ◌<◌, ℕ, Some, inl, inr, get_or, slice_get, ap, arith, sym, subst, ◌∙◌}
+use Rattle.std.specs.Bool.{OnTrue}
+use Rattle.std.specs.List.{All, Contains}
+use Rattle.std.proofs.lemmas.Bool.{cases_eq}
+use Rattle.std.proofs.lemmas.Option.{get_or_from_slice_get, slice_get-get_or, slice_get_within}
+use Rattle.std.proofs.lemmas.List.Elements.{All-nil, All-push, Contains-append_left, Contains-push}
+use Rattle.merge_search.specs.declared.node.Entry.{Entry}
+use Rattle.merge_search.specs.Below.{IsKnownBelow}
+use Rattle.merge_search.proofs.Work.{no_entry}
+use Rattle.merge_search.proofs.below.others_by.Goals as goal
+use Rattle.merge_search.proofs.below.others_by.Goals.{then-not-is_known+in_ok-push, else-not-is_known}
+
+pub loop-l-init : goal.loop-l-init
+loop-l-init c = (
+  λ m b more less p. absurd (omega (arith, more, less)),
+  subst (λ zs. All (λ (y : Entry). (m : ℕ) × (c.args.k < m) × (slice_get c.args.fields.now m ≡ Some y)) zs) (sym c.new-others.ensures.items)
+      (All-nil (λ (y : Entry). (m : ℕ) × (c.args.k < m) × (slice_get c.args.fields.now m ≡ Some y))),
+)
+
+pub loop-l-preserved : goal.loop-l-preserved
+loop-l-preserved c =
+    let fields = c.args.fields.now in
+    let k = c.args.k in
+    let n = c.loop-l.l in
+    let known = c.args.below.now in
+    let old = c.loop-l.others.items in
+    let new = c.if-not-is_known.others.items in
+    let past : (m : ℕ) → m < n + 1 → (m ≡ n → ⊥) → m < n = λ m less apart. omega (arith, less, apart) in
+    elim c.if-not-is_known.branch [
+      | then-not-is_known+in_ok-push w ↦
+          let a = get_or fields n no_entry in
+          let is : new ≡ old ++ a ∷ [] = ap (λ v. v.items) w.others-is ∙ w.in_ok-push.ensures.items in (
+            λ m b more less p. elim (cases_eq m n) [
+              | inl same ↦ inl (subst (λ zs. Contains zs b) (sym is) (subst (λ (x : Entry). Contains (old ++ a ∷ []) x) (ap (λ (i : ℕ). get_or fields i no_entry) (sym same) ∙ get_or_from_slice_get fields m b no_entry p) (Contains-push old a)))
+              | inr apart ↦ elim (c.loop-l.invariant.0 m b more (past m less apart) p) [
+                | inl there ↦ inl (subst (λ zs. Contains zs b) (sym is) (Contains-append_left old (a ∷ []) b there))
+                | inr so ↦ inr so
+              ]
+            ],
+            subst (λ zs. All (λ (y : Entry). (m : ℕ) × (k < m) × (slice_get fields m ≡ Some y)) zs) (sym is)
+                (All-push (λ (y : Entry). (m : ℕ) × (k < m) × (slice_get fields m ≡ Some y)) old a c.loop-l.invariant.1 (n, omega (arith, c.loop-l.auto.l), slice_get-get_or fields n no_entry c.loop-l-test.true)),
+          )
+      | else-not-is_known w ↦
+          let is : new ≡ old = ap (λ v. v.items) w.others-is in (
+            λ m b more less p. elim (cases_eq m n) [
+              | inl same ↦ inr (subst (λ (i : ℕ). IsKnownBelow known k i) (sym same) (subst (λ b. OnTrue b (IsKnownBelow known k n)) w.if-not-is_known.false c.is_known.ensures))
+              | inr apart ↦ subst (λ zs. Contains zs b ⊎ IsKnownBelow known k m) (sym is) (c.loop-l.invariant.0 m b more (past m less apart) p)
+            ],
+            subst (λ zs. All (λ (y : Entry). (m : ℕ) × (k < m) × (slice_get fields m ≡ Some y)) zs) (sym is) c.loop-l.invariant.1,
+          )
+    ]
+
+pub returns : goal.returns
+returns c = record {
+  rest = λ l b more p. c.loop-l.invariant.0 l b more (omega (arith, slice_get_within c.args.fields.now l b p, c.loop-l-test.false)) p;
+  only = c.loop-l.invariant.1;
+}

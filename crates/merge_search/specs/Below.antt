@@ -1,0 +1,25 @@
+-- What is known of what stands below some fields.
+use Rattle.std.specs.Prelude.{ℕ, List, Some, true, false, ◌≡◌, ◌⊎◌, slice_get}
+use Rattle.std.specs.Option.{IfSome}
+use Rattle.bit_matrix.specs.Set.{has}
+use Rattle.merge_search.specs.declared.below.Below.{Below}
+use Rattle.merge_search.specs.declared.node.Entry.{Entry}
+use Rattle.merge_search.specs.Clear.{IsClearBelow}
+use Rattle.merge_search.specs.Near.{IsNear}
+use Rattle.merge_search.specs.Touched.{AreApartAt}
+use Rattle.merge_search.specs.World.{World}
+
+-- That what stands below the fields at two places merges: all does, or both are among those below which it does, or no
+-- name that is set apart stands below both.
+abbrev pub IsKnownBelow : Below → ℕ → ℕ → Type 0
+IsKnownBelow known k l =
+    (known.of_all ≡ true) ⊎ (((has known.places k ≡ true) × (has known.places l ≡ true)) ⊎ AreApartAt known.touched k l)
+
+-- What is known is true.
+abbrev pub KnowsBelow : World → List Entry → Below → Type 0
+KnowsBelow w fields known =
+    (k l : ℕ) (a b : Entry) → IsKnownBelow known k l → slice_get fields k ≡ Some a → slice_get fields l ≡ Some b → IsClearBelow w false a b
+
+-- Each of the first so many places stands in the index, if there is one.
+abbrev pub IsIndexed : Below → ℕ → Type 0
+IsIndexed known count = IfSome known.near (λ near. IsNear known.touched count near.untold near.index.own.items)
