@@ -106,6 +106,11 @@ const TWO: Choices = Choices {
     max_errors: 2,
 };
 
+const FORTY: Choices = Choices {
+    is_closed: false,
+    max_errors: 40,
+};
+
 /// How a report begins of a search that stopped: what has no place comes first.
 const STOPPED: &str = "[
   {
@@ -208,11 +213,11 @@ fn many_reasons(alloc: Global) -> Result<String, AllocError> {
     Ok(text)
 }
 
-/// Of at most two errors 1,002 findings are enough.
+/// Of at most forty errors 1,040 findings are enough. Of at most two 1,002 are, but their error counts as nine or more.
 #[test]
 fn a_search_that_stops_is_told(rt: HostRuntime) {
     let text = many_reasons(rt.alloc()).expect(&rt, "memory");
-    for (choices, is_stopped) in [(TWO, true), (OPEN, false)] {
+    for (choices, is_stopped) in [(FORTY, true), (TWO, false), (OPEN, false)] {
         let found = told(rt.alloc(), text.as_bytes(), choices).expect(&rt, "memory");
         assert_eq!(rt; found.verdict, Verdict::Invalid);
         assert_eq!(rt; found.report.as_str().starts_with(STOPPED), is_stopped);
