@@ -1,10 +1,10 @@
 //! The steps of a search that compare fields.
-ghost use Rattle.std.specs.Prelude.{◌≡◌, OnOk, Bool, reverse};
+ghost use Rattle.std.specs.Prelude.{◌≡◌, OnOk, Bool, false, reverse};
 ghost use Rattle.merge_search.specs.declared.state.Search.{Search};
 ghost use Rattle.std.specs.Bool.{OnTrue};
 ghost use Rattle.merge_search.specs.Clear.{IsClear};
 ghost use Rattle.merge_search.specs.Names.{named};
-ghost use Rattle.merge_search.specs.World.{World, world, own_of};
+ghost use Rattle.merge_search.specs.World.{World, world, own_of, conflict_of};
 ghost use Rattle.merge_search.specs.Tasks.{Turns, Waits, Meets, MeetsFields, MeetsNamed, MeetsNested, MeetsBelow};
 ghost use Rattle.merge_search.specs.Tasks.{AreClearWith, Closes, MeetsRows, MeetsWith};
 ghost use Rattle.merge_search.specs.declared.task.Task.{Task};
@@ -13,32 +13,30 @@ use crate::clear::{are_clear, clear_rows};
 use crate::graph::Graph;
 use crate::judge::Judge;
 use crate::node::Entry;
-use crate::settle::{settle, settle_from};
+use crate::settle::settle_from;
 use crate::state::{Finding, Search, report};
 use crate::task::{Partner, Task, wait};
 use crate::view::{are_exclusive, first_of_names, group, spreads};
 use bit_matrix::set::BitSet;
 use std::alloc::AllocError;
 
-/// Compares two fields of one response name; what stands below them waits.
+/// Lets what stands below two fields wait that don't fail by themselves.
 ///
 /// # Errors
 ///
 /// Out of memory.
-pub(crate) fn begin_fields<J: Judge>(
+pub(crate) fn begin_below<J: Judge>(
     graph: &Graph<J>,
     a: Entry,
     b: Entry,
     e: bool,
     tasks: &mut Vec<Task>,
-    search: &mut Search,
+    search: &Search,
 ) -> Result<(), AllocError>
+    requires { conflict_of (world J.judgement graph.now) e a b ≡ false }
     ensures { let w = world J.judgement graph.now in
-        OnOk result (Turns w (MeetsFields w e a b) tasks.old.items tasks.new.items search.old search.new) }
+        OnOk result (Turns w (MeetsFields w e a b) tasks.old.items tasks.new.items search.now search.now) }
 {
-    if settle(graph, a, b, e, search)? {
-        return Ok(());
-    }
     match (a.below, b.below) {
         (Some(i), Some(j)) => begin_nested(graph, a, b, i, j, e, tasks, search),
         _ => Ok(()),
@@ -105,7 +103,7 @@ pub(crate) fn next_with<J: Judge>(
         return Ok(());
     }
     wait(tasks, Task::With(a, j, e, k + 1), fields.len() - (k + 1))?;
-    begin_fields(graph, a, fields[k], e, tasks, search)
+    begin_below(graph, a, fields[k], e, tasks, search)
 }
 
 // Lets a field wait, unless it is known to merge with the own fields of a set.

@@ -9,7 +9,7 @@ ghost use Rattle.merge_search.specs.Reports.{Finds, FindsAll, AtFields, AtOwn, A
 ghost use Rattle.merge_search.specs.Tasks.{Meets, MeetsAll, Turns};
 ghost use Rattle.merge_search.specs.declared.state.Search.{Search};
 
-use crate::fields::{begin_fields, close, next_own, next_with};
+use crate::fields::{begin_below, close, next_own, next_with};
 use crate::fragments::{begin_fragments, next_opened, next_spread};
 use crate::graph::Graph;
 use crate::judge::Judge;
@@ -41,7 +41,7 @@ pub fn compare_fields<J: Judge>(
         return Ok(());
     }
     let mut tasks = take_tasks(search);
-    begin_fields(graph, a, b, e, &mut tasks, search)?;
+    begin_below(graph, a, b, e, &mut tasks, search)?;
     finish(graph, tasks, search)
 }
 

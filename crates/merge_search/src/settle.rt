@@ -1,10 +1,11 @@
 //! Pairs of fields that are settled at once, so that no task has to wait: most are.
-ghost use Rattle.std.specs.Prelude.{◌≡◌, IfOk, Some, false};
+ghost use Rattle.std.specs.Prelude.{◌≡◌, IfOk, Some, false, slice_get};
 ghost use Rattle.std.specs.Bool.{OnTrue};
 ghost use Rattle.merge_search.specs.Settle.{AgreesWith, AgreeFlatly, IsSpreadless, Settles};
 ghost use Rattle.merge_search.specs.Clear.{IsClearBelow};
 ghost use Rattle.merge_search.specs.Tasks.{Meets};
-ghost use Rattle.merge_search.specs.World.{world, conflict_of, Same};
+ghost use Rattle.merge_search.specs.Names.{named};
+ghost use Rattle.merge_search.specs.World.{world, conflict_of, own_of, Same};
 ghost use Rattle.merge_search.specs.declared.state.Search.{Search};
 ghost use Rattle.merge_search.specs.declared.task.Task.{Task};
 
@@ -133,7 +134,7 @@ pub(crate) fn settle<J: Judge>(
 }
 
 /// Compares a field with the own fields of a set that have its response name, from a place on, as long as they are settled
-/// at once. Returns the place of the first that isn't.
+/// at once. Returns the place of the first that isn't. The two don't fail by themselves.
 ///
 /// # Errors
 ///
@@ -146,8 +147,10 @@ pub(crate) fn settle_from<J: Judge>(
     n: usize,
     search: &mut Search,
 ) -> Result<usize, AllocError>
-    ensures { let w = world J.judgement graph.now in
+    ensures settled { let w = world J.judgement graph.now in
         IfOk result (λ k. (t : Search) → Meets w (Task.With a j e k) search.new t → Meets w (Task.With a j e n) search.old t) }
+    ensures open { let w = world J.judgement graph.now in
+        IfOk result (λ k. (b : Entry) → slice_get (named a.response (own_of w j)) k ≡ Some b → conflict_of w e a b ≡ false) }
 {
     let fields = group(graph, j, a.response);
     let mut k = n;
