@@ -36,7 +36,7 @@ returns g c =
     let u : Search = c.settle.new.search in
     let still = subst (λ is. Settles v e a b is s u) c.if-branch.false c.in_ok-settle.ensures in
     let t : Search = c.take_tasks-tasks.new.search in
-    let whole = λ (d : (mid : Search) × MeetsAll v (reverse c.begin_below.new.tasks.items) c.begin_below.new.search mid × Keeps mid c.finish.new.search).
+    let whole = λ (d : (mid : Search) × MeetsAll v (reverse c.begin_below.new.tasks.items) c.take_tasks-tasks.new.search mid × Keeps mid c.finish.new.search).
     subst (λ z. MeetsFields v e a b z c.finish.new.search) still.0
     (compares_kept v e (λ M. Done v M e a b) (AtFields a b) (AtFields a b) u t (d.0) _ c.take_tasks-tasks.ensures.keeps (all_done v (MeetsFields v e a b) _ _ _ t (d.0) c.take_tasks-tasks.ensures.none c.in_ok-begin_below.ensures d.1) d.2) in
     record {
