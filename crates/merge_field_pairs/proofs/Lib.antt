@@ -8,3 +8,4 @@ pub mod NumberedLaws
 pub mod SameTypes
 pub mod AlikeLaws
 pub mod KinLaws
+pub mod ObjectLaws

@@ -8,3 +8,4 @@ pub mod OwnFields
 pub mod Numbered
 pub mod Alike
 pub mod Kinds
+pub mod Objects

@@ -7,6 +7,7 @@ ghost use Rattle.merge_field_pairs.specs.SimpleArguments.{HasSimpleArguments};
 
 use crate::alike::are_alike;
 use crate::entry::Entry;
+use crate::objects::name_of_object;
 use language::scalar::ScalarValue;
 use meta::kinds::MetaTypeOf;
 
@@ -31,14 +32,5 @@ fn have_one_object<S, C>(left: Option<&MetaTypeOf<S, C>>, right: Option<&MetaTyp
         (Some(l), Some(r)) => l == r,
         (None, None) => true,
         _ => false,
-    }
-}
-
-fn name_of_object<'a, S, C>(parent: Option<&'a MetaTypeOf<S, C>>) -> Option<&'a str>
-    ensures { option_copied result ≡ option_and_then object_name (option_copied parent.entry) }
-{
-    match parent {
-        Some(MetaTypeOf::Object(object)) => Some(object.name.as_str()),
-        _ => None,
     }
 }

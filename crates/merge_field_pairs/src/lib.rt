@@ -9,6 +9,7 @@ pub mod entry;
 mod equal_values;
 pub mod kinds;
 pub mod numbered;
+pub mod objects;
 pub mod own_fields;
 pub mod texts;
 mod type_conflict;

@@ -5,12 +5,14 @@ ghost use Rattle.merge_field_pairs.specs.Alike.{AreAlikeBetween, AreAlikeAt};
 ghost use Rattle.merge_field_pairs.specs.Entries.{plain};
 ghost use Rattle.merge_field_pairs.specs.Kinds.{IsKinBetween, IsKinAt};
 ghost use Rattle.merge_field_pairs.specs.Numbered.{exclusive_between, exclusive_at, direct_between, direct_at};
+ghost use Rattle.merge_field_pairs.specs.Objects.{object_number_at};
 ghost use Rattle.merge_field_pairs.specs.SimpleArguments.{HasSimpleArguments};
 
 use crate::alike::are_alike;
 use crate::direct::{DirectReason, direct_reason};
 use crate::entry::{Entry, are_exclusive};
 use crate::kinds::are_kin;
+use crate::objects::object_number;
 use language::scalar::ScalarValue;
 use schema::model::SchemaTypeOf;
 use std::alloc::AllocError;
@@ -74,6 +76,17 @@ pub fn are_kin_at<S: ScalarValue, C>(fields: &[Entry<'_, S, C>], left: usize, ri
         → IsKinAt S.eq (map plain fields.now) left right → IsTrue result }
 {
     are_kin_if_there(field_at(fields, left), field_at(fields, right))
+}
+
+/// A number for the object type around a field, from 1 on; 0 where there is none, or no such field. No response contains
+/// two fields that have different numbers from 1 on.
+pub fn object_number_at<S, C>(fields: &[Entry<'_, S, C>], number: usize) -> usize
+    ensures { result ≡ object_number_at (map plain fields.now) number }
+{
+    match field_at(fields, number) {
+        Some(field) => object_number(field),
+        None => 0,
+    }
 }
 
 fn field_at<'e, 'a, S, C>(

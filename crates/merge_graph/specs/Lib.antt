@@ -2,6 +2,7 @@ pub mod Judging
 pub mod AlikeLaw
 pub mod ExclusiveLaw
 pub mod KinLaw
+pub mod ObjectLaw
 pub mod Sets
 pub mod TableGraph
 pub mod Definitions

@@ -2,15 +2,19 @@
 ghost use Rattle.std.specs.Prelude.{◌≡◌, map};
 ghost use Rattle.merge_field_pairs.specs.Entries.{plain};
 ghost use Rattle.merge_field_pairs.specs.Numbered.{AreTidy};
+ghost use Rattle.merge_field_pairs.specs.Objects.{object_number_at};
 ghost use Rattle.merge_search.specs.Judgement.{Lawful};
 ghost use Rattle.merge_graph.specs.AlikeLaw.{alike_agree};
 ghost use Rattle.merge_graph.specs.Judging.{judgement_of, alike_of, kin_of};
 ghost use Rattle.merge_graph.specs.ExclusiveLaw.{exclusive_judged};
 ghost use Rattle.merge_graph.specs.KinLaw.{kin_judged_alike};
+ghost use Rattle.merge_graph.specs.ObjectLaw.{objects_judged};
 
 use language::scalar::ScalarValue;
 use merge_field_pairs::entry::Entry;
-use merge_field_pairs::numbered::{are_alike_at, are_exclusive_at, are_kin_at, direct_reason_at};
+use merge_field_pairs::numbered::{
+    are_alike_at, are_exclusive_at, are_kin_at, direct_reason_at, object_number_at,
+};
 use merge_search::judge::Judge;
 use schema::model::SchemaTypeOf;
 use std::alloc::AllocError;
@@ -29,11 +33,15 @@ impl<'a, S: ScalarValue, C> Judge for FieldJudge<'a, S, C> {
 
     ghost are_kin = { kin_of S.eq };
 
+    ghost objects = { λ j. object_number_at (map plain j.fields.items) };
+
     ghost agree = { λ j. alike_agree S.eq j.schema.now (map plain j.fields.items) };
 
     ghost kin_agree = { λ j. kin_judged_alike S.eq j.schema.now (map plain j.fields.items) };
 
     ghost exclusive_stays = { λ j. exclusive_judged S.eq j.schema.now (map plain j.fields.items) };
+
+    ghost objects_apart = { λ j. objects_judged S.eq j.schema.now (map plain j.fields.items) };
 
     fn are_exclusive(&self, exclusive: bool, left: usize, right: usize) -> bool {
         are_exclusive_at(self.fields.as_slice(), exclusive, left, right)
@@ -45,6 +53,10 @@ impl<'a, S: ScalarValue, C> Judge for FieldJudge<'a, S, C> {
 
     fn is_kin(&self, one: usize, other: usize) -> bool {
         are_kin_at(self.fields.as_slice(), one, other)
+    }
+
+    fn object_number(&self, field: usize) -> usize {
+        object_number_at(self.fields.as_slice(), field)
     }
 
     fn are_in_conflict(

@@ -17,6 +17,7 @@ pub mod Logs
 pub mod Opened
 pub mod Passed
 pub mod Touching
+pub mod Uniting
 pub mod Nearness
 pub mod Order
 pub mod Rows

@@ -1,18 +1,19 @@
 -- What is known of sets below fields says it of the sets in which the fields stand.
-use Rattle.std.proofs.Common.{◌≡◌, ℕ, List, [], ◌∷◌, ◌++◌, Bool, true, false, Vec, inl, inr, ◌⊎◌, get_or, ap, refl, sym, subst, ◌∙◌, Some}
+use Rattle.std.proofs.Common.{◌≡◌, ℕ, List, [], ◌∷◌, ◌++◌, Bool, true, false, inl, inr, ◌⊎◌, get_or, ap, refl, sym, subst, ◌∙◌, Some}
 use Rattle.std.specs.List.{All, Contains}
-use Rattle.std.specs.declared.alloc.Global.{Global}
 use Rattle.std.proofs.lemmas.Bool.{cases_eq}
 use Rattle.std.proofs.lemmas.List.Elements.{All-contains, All-push, Contains-append_left, Contains-push, Contains-get_or}
 use Rattle.bit_matrix.specs.Set.{has}
 use Rattle.bit_matrix.specs.declared.set.BitSet.{BitSet}
 use Rattle.merge_search.specs.declared.node.Entry.{Entry}
-use Rattle.merge_search.specs.Judgement.{ExclusiveStays, NoneConflict}
+use Rattle.merge_search.specs.declared.unions.Union.{Union}
+use Rattle.merge_search.specs.Judgement.{NoneConflict}
 use Rattle.merge_search.specs.Merging.{Stands, own, spread, below, Merges, merges}
 use Rattle.merge_search.specs.Names.{named, AreListed}
 use Rattle.merge_search.specs.Opening.{Opens}
-use Rattle.merge_search.specs.Quiet.{AllMergeBut, AllQuietBut, AreQuiet, AreQuietBut, AreWrittenOut, HoldAll, HoldBelow, IsFrom}
+use Rattle.merge_search.specs.Quiet.{AllMergeBut, AllQuiet, AllQuietBut, AreQuiet, AreQuietBut, AreWrittenOut, HoldAll, IsFrom}
 use Rattle.merge_search.specs.Quiet.{Covers, MergesBut, merges_but}
+use Rattle.merge_search.specs.Unions.{AllJoined, UnionsKept}
 use Rattle.merge_search.specs.Clear.{AreClearBelow}
 use Rattle.merge_search.specs.World.{World, own_of, spreads_of, set_of, conflict_of, exclusive_of}
 use Rattle.merge_search.proofs.Laws.{clash, not_true}
@@ -52,34 +53,33 @@ stays old new n there others m h = elim (cases_eq m n) [
 pub uncovered : (apart : ℕ → Bool) (names : BitSet) (n : ℕ) → Covers apart names → apart n ≡ false → has names n ≡ false
 uncovered apart names n covers is = not_true (has names n) (λ h. clash (apart n) (covers n h) is)
 
-module _ (w : World) (x : Bool) where
-  -- where no name is set apart all merges
-  pub none_but : {e : Bool} {a b : Entry} → MergesBut w (λ n. false) e a b → Merges w e a b
+module _ (w : World) where
+  none_but : {e : Bool} {a b : Entry} → MergesBut w (λ n. false) e a b → Merges w e a b
   none_but {a = a} {b = b} (merges_but ok rest) = merges {a = a} {b = b} (ok refl) (λ c d f. none_but (rest c d f))
 
-  pub quiet_whole : (sets : List ℕ) → AreQuietBut w (λ n. false) x sets → AreQuiet w x sets
-  quiet_whole sets quiet e s t a b from i j p q same = none_but (quiet e s t a b from i j p q same)
-
-  pub from_next : ExclusiveStays w.judgement → (e : Bool) (a b : Entry) → IsFrom x e → IsFrom x (exclusive_of w e a b)
-  from_next stays e a b from is = subst (λ (f : Bool). exclusive_of w f a b ≡ true) (sym (from is)) (stays a.field b.field)
-
-  -- what stands below fields, if the sets below them are quiet
-  pub fields_below : ExclusiveStays w.judgement → (fields : List Entry) (sets : List ℕ) → HoldBelow sets fields → AreQuiet w x sets → AreClearBelow w x fields fields
-  fields_below stays fields sets hold quiet a b p q c d f = elim f [
-    | below {s = s} {t = t} sa tb i j is ↦ quiet (exclusive_of w x a b) s t c d (from_next stays x a b (λ h. h))
-        (All-contains (λ (y : Entry). (u : ℕ) → y.below ≡ Some u → Contains sets u) fields a hold p s sa)
-        (All-contains (λ (y : Entry). (u : ℕ) → y.below ≡ Some u → Contains sets u) fields b hold q t tb) i j is
+module _ (w : World) (x : Bool) where
+  -- what stands below fields, if the unions of the sets below them are quiet
+  pub fields_below : (fields : List Entry) (unions : List Union) → AllJoined w x fields unions → AllQuiet w unions → AreClearBelow w x fields fields
+  fields_below fields unions joined quiet a b p q c d f = elim f [
+    | below {s = s} {t = t} sa tb i j is ↦
+        let u = joined x a b (λ h. h) p q in
+        All-contains (λ (z : Union). AreQuiet w z.flag z.sets.items) unions u.union quiet u.there (exclusive_of w x a b) s t c d u.from
+        (u.left s sa) (u.right t tb) i j is
   ]
 
+module _ (w : World) (apart : ℕ → Bool) where
+  pub unions_kept : (vs us : List Union) → UnionsKept vs us → AllQuietBut w apart us → AllQuietBut w apart vs
+  unions_kept vs us kept all = λ k d l.
+      All-contains (λ (u : Union). AreQuietBut w apart u.flag u.sets.items) us (get_or vs k d) all (kept (get_or vs k d) (Contains-get_or vs k d l))
+
+  pub quiet_popped : (vs us : List Union) (v : Union) → us ≡ vs ++ v ∷ [] → AllQuietBut w apart vs → AreQuietBut w apart v.flag v.sets.items → AllQuietBut w apart us
+  quiet_popped vs us v is all one = subst (λ zs. AllQuietBut w apart zs) (sym is) (All-push (λ (z : Union). AreQuietBut w apart z.flag z.sets.items) vs v all one)
+
+-- where no name is set apart all merges
+pub quiet_whole : (w : World) (unions : List Union) → AllQuietBut w (λ n. false) unions → AllQuiet w unions
+quiet_whole w unions quiet = λ k d l e s t a b from i j p q same. none_but w (quiet k d l e s t a b from i j p q same)
+
 module _ (w : World) (apart : ℕ → Bool) (x : Bool) where
-  pub quiet_pushed : (vs us : List (Vec ℕ Global)) (v : Vec ℕ Global) → us ≡ vs ++ v ∷ [] → AllQuietBut w apart x us → AllQuietBut w apart x vs × AreQuietBut w apart x v.items
-  quiet_pushed vs us v is all =
-      let at : (u : Vec ℕ Global) → Contains (vs ++ v ∷ []) u → AreQuietBut w apart x u.items = λ u c. All-contains (λ (z : Vec ℕ Global). AreQuietBut w apart x z.items) us u all (subst (λ zs. Contains zs u) (sym is) c) in
-      (λ k d l. at (get_or vs k d) (Contains-append_left vs (v ∷ []) (get_or vs k d) (Contains-get_or vs k d l)), at v (Contains-push vs v))
-
-  pub quiet_popped : (vs us : List (Vec ℕ Global)) (v : Vec ℕ Global) → us ≡ vs ++ v ∷ [] → AllQuietBut w apart x vs → AreQuietBut w apart x v.items → AllQuietBut w apart x us
-  quiet_popped vs us v is all one = subst (λ zs. AllQuietBut w apart x zs) (sym is) (All-push (λ (z : Vec ℕ Global). AreQuietBut w apart x z.items) vs v all one)
-
   pub sets_merged : (sets : List ℕ) (fields : List Entry) → HoldAll w sets fields → AllMergeBut w apart x fields → AreQuietBut w apart x sets
   sets_merged sets fields hold all e s t a b from i j p q same = all e a b from (hold s a i p) (hold t b j q) same
 
@@ -91,15 +91,16 @@ module _ (w : World) (apart : ℕ → Bool) (x : Bool) where
       (named_in f.response fields a p is) (named_in f.response fields b q (sym same ∙ is)) same
 
   -- the fields of one name, which is set apart or of which no two fail
-  pub group_merged : ExclusiveStays w.judgement → (name : ℕ) (group : List Entry) (sets : List ℕ) → All (λ (a : Entry). a.response ≡ name) group
-      → (apart name ≡ false → (e : Bool) → IsFrom x e → NoneConflict w.judgement e group group) → HoldBelow sets group
-      → AreQuietBut w apart x sets → AllMergeBut w apart x group
-  group_merged stays name group sets named none hold quiet e a b from p q same = merges_but {a = a} {b = b}
+  pub group_merged : (name : ℕ) (group : List Entry) (unions : List Union) → All (λ (a : Entry). a.response ≡ name) group
+      → (apart name ≡ false → (e : Bool) → IsFrom x e → NoneConflict w.judgement e group group) → AllJoined w x group unions
+      → AllQuietBut w apart unions → AllMergeBut w apart x group
+  group_merged name group unions named none joined quiet e a b from p q same = merges_but {a = a} {b = b}
       (λ is.
       let at = none (sym (ap apart (All-contains (λ (y : Entry). y.response ≡ name) group a named p)) ∙ is) e from in
       All-contains (λ (y : Entry). conflict_of w e a y ≡ false) group b (All-contains (λ (z : Entry). All (λ (y : Entry). conflict_of w e z y ≡ false) group) group a at p) q)
       (λ c d f. elim f [
-        | below {s = s} {t = t} sa tb i j is ↦ quiet (exclusive_of w e a b) s t c d (from_next w x stays e a b from)
-            (All-contains (λ (y : Entry). (u : ℕ) → y.below ≡ Some u → Contains sets u) group a hold p s sa)
-            (All-contains (λ (y : Entry). (u : ℕ) → y.below ≡ Some u → Contains sets u) group b hold q t tb) i j is
+        | below {s = s} {t = t} sa tb i j is ↦
+            let u = joined e a b from p q in
+            All-contains (λ (z : Union). AreQuietBut w apart z.flag z.sets.items) unions u.union quiet u.there (exclusive_of w e a b) s t c d u.from
+            (u.left s sa) (u.right t tb) i j is
       ])

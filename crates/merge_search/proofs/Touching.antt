@@ -13,13 +13,13 @@ use Rattle.bit_matrix.specs.Set.{has}
 use Rattle.bit_matrix.specs.declared.set.BitSet.{BitSet}
 use Rattle.merge_search.specs.declared.node.Entry.{Entry}
 use Rattle.merge_search.specs.declared.touched.Touched.{Touched}
-use Rattle.merge_search.specs.Judgement.{ExclusiveStays}
+use Rattle.merge_search.specs.declared.unions.Union.{Union}
+use Rattle.merge_search.specs.Unions.{AllJoined}
 use Rattle.merge_search.specs.Merging.{own, spread, below, Merges, merges}
-use Rattle.merge_search.specs.Quiet.{AreKept, AreQuietBut, HoldBelow, MergesBut, merges_but}
+use Rattle.merge_search.specs.Quiet.{AllQuietBut, AreKept, AreQuietBut, HoldBelow, MergesBut, merges_but}
 use Rattle.merge_search.specs.Touched.{AreApart, AreApartAt, AreListedAt, AreTouched, IsFreeOf, KnowsTouched, ListsBelow, StandsIn, here, told_at, under}
 use Rattle.merge_search.specs.World.{World, own_of, spreads_of, set_of, exclusive_of, Same}
 use Rattle.merge_search.proofs.Laws.{clash, not_true}
-use Rattle.merge_search.proofs.Merged.{from_next}
 use Rattle.merge_search.proofs.Order.{at_of}
 
 module _ (w : World) (names : BitSet) where
@@ -45,16 +45,16 @@ module _ (w : World) (names : BitSet) where
             (λ u cu x m. lefts s sa x (under i cu m)) (λ u du x m. rights t tb x (under j du m))
       ])
 
-  pub apart_below : (e : Bool) (fields : List Entry) (sets : List ℕ) (touched : Touched) → ExclusiveStays w.judgement → HoldBelow sets fields
-      → AreQuietBut w (λ n. has names n) e sets → AreTouched w names fields touched → KnowsTouched w e fields touched
-  apart_below e fields sets touched stays hold quiet are k l a b at p q c d f = elim f [
+  pub apart_below : (e : Bool) (fields : List Entry) (unions : List Union) (touched : Touched) → AllJoined w e fields unions
+      → AllQuietBut w (λ n. has names n) unions → AreTouched w names fields touched → KnowsTouched w e fields touched
+  apart_below e fields unions touched joined quiet are k l a b at p q c d f = elim f [
     | below {s = s} {t = t} sa tb i j is ↦
         let left = are k a at.left p at.told_left in
         let right = are l b at.right q at.told_right in
+        let u = joined e a b (λ h. h) (at_of fields k a p) (at_of fields l b q) in
         merge_apart at.left.items at.right.items at.apart
-        (quiet (exclusive_of w e a b) s t c d (from_next w e stays e a b (λ h. h))
-        (All-contains (λ (y : Entry). (u : ℕ) → y.below ≡ Some u → Contains sets u) fields a hold (at_of fields k a p) s sa)
-        (All-contains (λ (y : Entry). (u : ℕ) → y.below ≡ Some u → Contains sets u) fields b hold (at_of fields l b q) t tb) i j is)
+        (All-contains (λ (z : Union). AreQuietBut w (λ n. has names n) z.flag z.sets.items) unions u.union quiet u.there (exclusive_of w e a b) s t c d u.from
+        (u.left s sa) (u.right t tb) i j is)
         is (left s sa c (here i)) (right t tb d (here j)) (λ u cu x m. left s sa x (under i cu m)) (λ u du x m. right t tb x (under j du m))
   ]
 

@@ -32,3 +32,8 @@ AlikeAgree j alike = (e : Bool) (one a b : ℕ) → alike one a → alike one b 
 -- Fields fail with each other as those do whose kinds they are of.
 abbrev pub KinAgree : Judgement → (ℕ → ℕ → Type 0) → Type 0
 KinAgree j kin = (e : Bool) (one other a b : ℕ) → kin one a → kin other b → j.conflict e a b ≡ j.conflict e one other
+
+-- Two fields in object types of different numbers are exclusive; 0 is no such number.
+abbrev pub ObjectsApart : Judgement → (ℕ → ℕ) → Type 0
+ObjectsApart j object =
+    (a b : ℕ) → (object a ≡ 0 → ⊥) → (object b ≡ 0 → ⊥) → (object a ≡ object b → ⊥) → j.exclusive false a b ≡ true

@@ -10,6 +10,7 @@ pub mod Touched
 pub mod Near
 pub mod Below
 pub mod Quiet
+pub mod Unions
 pub mod Plain
 pub mod Firsts
 pub mod Log

@@ -1,10 +1,10 @@
 -- Sets whose fields merge, however the sets stand beside each other.
-use Rattle.std.specs.Prelude.{ℕ, List, Bool, Some, Vec, true, false, ◌≡◌}
+use Rattle.std.specs.Prelude.{ℕ, List, Bool, Some, true, false, ◌≡◌}
 use Rattle.std.specs.List.{All, Contains}
-use Rattle.std.specs.declared.alloc.Global.{Global}
 use Rattle.bit_matrix.specs.Set.{has}
 use Rattle.bit_matrix.specs.declared.set.BitSet.{BitSet}
 use Rattle.merge_search.specs.declared.node.Entry.{Entry}
+use Rattle.merge_search.specs.declared.unions.Union.{Union}
 use Rattle.merge_search.specs.Merging.{Stands, Below, Merges}
 use Rattle.merge_search.specs.World.{World, spreads_of, set_of, conflict_of, exclusive_of, Same}
 
@@ -27,15 +27,23 @@ AreQuietBut w apart x sets =
     (e : Bool) (s t : ℕ) (a b : Entry) → IsFrom x e → Contains sets s → Contains sets t
     → Stands w s a → Stands w t b → Same a b → MergesBut w apart e a b
 
--- So do each two that stand in one list of sets.
-abbrev pub AllQuietBut : World → (ℕ → Bool) → Bool → List (Vec ℕ Global) → Type 0
-AllQuietBut w apart x waiting = All (λ v. AreQuietBut w apart x v.items) waiting
+-- So do each two that stand in the sets of one union, under each flag from that of the union on.
+abbrev pub AllQuietBut : World → (ℕ → Bool) → List Union → Type 0
+AllQuietBut w apart unions = All (λ u. AreQuietBut w apart u.flag u.sets.items) unions
 
 -- Each two of one response name that stand in some sets merge.
 abbrev pub AreQuiet : World → Bool → List ℕ → Type 0
 AreQuiet w x sets =
     (e : Bool) (s t : ℕ) (a b : Entry) → IsFrom x e → Contains sets s → Contains sets t
     → Stands w s a → Stands w t b → Same a b → Merges w e a b
+
+-- So do each two that stand in the sets of one union.
+abbrev pub AllQuiet : World → List Union → Type 0
+AllQuiet w unions = All (λ u. AreQuiet w u.flag u.sets.items) unions
+
+-- The set below a field is one of some.
+abbrev pub HoldsBelow : List ℕ → Entry → Type 0
+HoldsBelow sets a = (t : ℕ) → a.below ≡ Some t → Contains sets t
 
 -- Those of the one set are in the other.
 abbrev pub AreKept : BitSet → BitSet → Type 0
@@ -56,4 +64,4 @@ HoldAll w sets fields = (s : ℕ) (a : Entry) → Contains sets s → Stands w s
 
 -- The set below each of the fields is among the sets.
 abbrev pub HoldBelow : List ℕ → List Entry → Type 0
-HoldBelow sets fields = All (λ a. (t : ℕ) → a.below ≡ Some t → Contains sets t) fields
+HoldBelow sets fields = All (HoldsBelow sets) fields

@@ -10,9 +10,10 @@ use crate::graph::Graph;
 use crate::judge::Judge;
 use crate::kinds::{FEW, agree_by_kinds, agreeing_rows};
 use crate::node::Entry;
-use crate::quiet::{are_quiet, sets_below};
+use crate::quiet::are_quiet;
 use crate::state::Search;
 use crate::touched::{rows_apart, touched_below};
+use crate::unions::unions_below;
 use crate::view::{agree_plainly, are_leaves};
 use bit_matrix::set::BitSet;
 use std::alloc::{AllocError, Global};
@@ -41,8 +42,9 @@ pub(crate) fn are_clear_below<J: Judge>(
     if are_leaves(fields) {
         return Ok(true);
     }
-    let sets = sets_below(search.alloc, fields)?;
-    let is_quiet = are_quiet(graph, search, e, sets, left)?;
+    let mut unions = Vec::new(search.alloc);
+    unions_below(search.alloc, graph, e, fields, &mut unions)?;
+    let is_quiet = are_quiet(graph, search, unions, left)?;
     Ok(is_quiet)
 }
 

@@ -1,7 +1,7 @@
 //! The judgement of one pair of fields, which comes from outside.
 ghost use Rattle.std.specs.Prelude.{◌≡◌, IfOk, ℕ};
 ghost use Rattle.std.specs.Bool.{OnTrue};
-ghost use Rattle.merge_search.specs.Judgement.{AlikeAgree, ExclusiveStays, Judgement, KinAgree};
+ghost use Rattle.merge_search.specs.Judgement.{AlikeAgree, ExclusiveStays, Judgement, KinAgree, ObjectsApart};
 
 use std::alloc::AllocError;
 
@@ -14,11 +14,16 @@ pub trait Judge {
     // one field, and another of its kind
     ghost are_kin: { Self → ℕ → ℕ → Type 0 };
 
+    // the number of the object type around a field
+    ghost objects: { Self → ℕ → ℕ };
+
     ghost agree: { (j : Self) → AlikeAgree (judgement j) (are_alike j) };
 
     ghost kin_agree: { (j : Self) → KinAgree (judgement j) (are_kin j) };
 
     ghost exclusive_stays: { (j : Self) → ExclusiveStays (judgement j) };
+
+    ghost objects_apart: { (j : Self) → ObjectsApart (judgement j) (objects j) };
 
     /// Whether no object is asked for both; `exclusive` says that this holds already for the fields around them.
     fn are_exclusive(&self, exclusive: bool, left: usize, right: usize) -> bool
@@ -35,6 +40,11 @@ pub trait Judge {
     /// nothing.
     fn is_kin(&self, one: usize, other: usize) -> bool
         ensures { OnTrue result (are_kin self.now one other) };
+
+    /// A number for the object type around a field, or 0 where it isn't known. No object is asked for two fields that
+    /// have different numbers from 1 on.
+    fn object_number(&self, field: usize) -> usize
+        ensures { result ≡ objects self.now field };
 
     /// Whether the two conflict by themselves: by their names, arguments or types.
     ///

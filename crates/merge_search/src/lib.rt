@@ -26,4 +26,5 @@ pub mod state;
 pub mod task;
 pub mod top;
 mod touched;
+mod unions;
 pub mod view;

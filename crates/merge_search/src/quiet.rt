@@ -7,8 +7,8 @@ ghost use Rattle.std.specs.Bool.{OnTrue};
 ghost use Rattle.std.specs.List.{All, Contains};
 ghost use Rattle.merge_search.specs.Judgement.{NoneConflict};
 ghost use Rattle.bit_matrix.specs.Set.{has};
-ghost use Rattle.merge_search.specs.Quiet.{AllMergeBut, AllQuietBut, AreKept, AreQuiet, AreQuietBut, AreWrittenOut, Covers};
-ghost use Rattle.merge_search.specs.Quiet.{HoldAll, HoldBelow, IsFrom};
+ghost use Rattle.merge_search.specs.Quiet.{AllMergeBut, AllQuiet, AllQuietBut, AreKept, AreWrittenOut, Covers};
+ghost use Rattle.merge_search.specs.Quiet.{HoldAll, IsFrom};
 ghost use Rattle.merge_search.specs.World.{world, own_of, set_of, spreads_of};
 
 use crate::graph::Graph;
@@ -19,6 +19,7 @@ use crate::node::{Entry, SetNode};
 use crate::opening::{no_opening, open_from};
 use crate::repeats::Seeker;
 use crate::state::Search;
+use crate::unions::{Union, unions_below};
 use crate::view::{agree_plainly, own, set, spreads};
 use bit_matrix::set::BitSet;
 use std::alloc::{AllocError, Global};
@@ -132,23 +133,6 @@ fn united<J: Judge>(
     Ok(Some((set, size)))
 }
 
-/// The sets below some fields.
-///
-/// # Errors
-///
-/// Out of memory.
-pub(crate) fn sets_below(alloc: Global, fields: &[Entry]) -> Result<Vec<usize>, AllocError>
-    ensures { IfOk result (λ v. HoldBelow v.items fields.now) }
-{
-    let mut sets = Vec::new(alloc);
-    for field in fields {
-        if let Some(s) = field.below {
-            sets.push(s)?;
-        }
-    }
-    Ok(sets)
-}
-
 // Whether no two of some fields fail with each other, under each flag from `x` on. `false` says nothing.
 fn agree_from<J: Judge>(
     alloc: Global,
@@ -230,20 +214,19 @@ fn is_quiet_group<J: Judge>(
     name: usize,
     group: &[Entry],
     apart: &mut Apart,
-    waiting: &mut Vec<Vec<usize>>,
+    waiting: &mut Vec<Union>,
 ) -> Result<bool, AllocError>
     requires { All (λ a. a.response ≡ name) group.now }
     ensures kept { OnOk result (AreKept apart.old.names apart.new.names) }
     ensures quiet { let w = world J.judgement graph.now in
         IfOk result (λ b. OnTrue b ((l : ℕ → Bool) → Covers l apart.new.names
-        → AllQuietBut w l x waiting.new.items → AllQuietBut w l x waiting.old.items × AllMergeBut w l x group.now)) }
+        → AllQuietBut w l waiting.new.items → AllQuietBut w l waiting.old.items × AllMergeBut w l x group.now)) }
     ensures full { OnOk result (apart.old.room ≡ 0 → apart.new ≡ apart.old) }
 {
     if !agree_or_apart(alloc, graph, x, name, group, apart)? {
         return Ok(false);
     }
-    let below = sets_below(alloc, group)?;
-    waiting.push(below)?;
+    unions_below(alloc, graph, x, group, waiting)?;
     Ok(true)
 }
 
@@ -254,12 +237,12 @@ fn is_quiet_set<J: Judge>(
     x: bool,
     set: &SetNode,
     apart: &mut Apart,
-    waiting: &mut Vec<Vec<usize>>,
+    waiting: &mut Vec<Union>,
 ) -> Result<bool, AllocError>
     ensures kept { OnOk result (AreKept apart.old.names apart.new.names) }
     ensures quiet { let w = world J.judgement graph.now in
         IfOk result (λ b. OnTrue b ((l : ℕ → Bool) → Covers l apart.new.names
-        → AllQuietBut w l x waiting.new.items → AllQuietBut w l x waiting.old.items × AllMergeBut w l x set.now.own.items)) }
+        → AllQuietBut w l waiting.new.items → AllQuietBut w l waiting.old.items × AllMergeBut w l x set.now.own.items)) }
     ensures full { OnOk result (apart.old.room ≡ 0 → apart.new ≡ apart.old) }
 {
     for first in first_fields(set) {
@@ -272,9 +255,9 @@ fn is_quiet_set<J: Judge>(
     Ok(true)
 }
 
-/// Whether all that stands in some sets, what they spread written out, is known to merge under each flag from `x` on,
-/// names aside that are set apart. `false` says nothing. It looks at no more fields and sets than are `left`, and takes
-/// off those that it has looked at.
+/// Whether all that stands in the sets of each union, what they spread written out, is known to merge, names aside that
+/// are set apart. `false` says nothing. It looks at no more fields and sets than are `left`, and takes off those that it
+/// has looked at.
 ///
 /// # Errors
 ///
@@ -282,28 +265,26 @@ fn is_quiet_set<J: Judge>(
 pub(crate) fn are_quiet_but<J: Judge>(
     graph: &Graph<J>,
     search: &Search,
-    x: bool,
-    sets: Vec<usize>,
+    unions: Vec<Union>,
     apart: &mut Apart,
     left: &mut usize,
 ) -> Result<bool, AllocError>
     ensures quiet { IfOk result (λ b. OnTrue b ((l : ℕ → Bool) → Covers l apart.new.names
-        → AreQuietBut (world J.judgement graph.now) l x sets.items)) }
+        → AllQuietBut (world J.judgement graph.now) l unions.items)) }
     ensures full { OnOk result (apart.old.room ≡ 0 → apart.new ≡ apart.old) }
 {
-    let mut waiting = Vec::new(search.alloc);
-    waiting.push(sets)?;
+    let mut waiting = unions;
     let mut rest = *left;
     while rest > 0 {
         let Some(next) = waiting.pop() else {
             *left = rest;
             return Ok(true);
         };
-        let Some((set, size)) = united(graph, search, next.as_slice(), rest)? else {
+        let Some((set, size)) = united(graph, search, next.sets.as_slice(), rest)? else {
             break;
         };
         rest = (rest - 1).saturating_sub(size);
-        if !is_quiet_set(search.alloc, graph, x, &set, apart, &mut waiting)? {
+        if !is_quiet_set(search.alloc, graph, next.flag, &set, apart, &mut waiting)? {
             *left = rest;
             return Ok(false);
         }
@@ -312,8 +293,8 @@ pub(crate) fn are_quiet_but<J: Judge>(
     Ok(false)
 }
 
-/// Whether all that stands in some sets, what they spread written out, is known to merge under each flag from `x` on.
-/// `false` says nothing. It looks at no more fields and sets than are `left`, and takes off those that it has looked at.
+/// Whether all that stands in the sets of each union, what they spread written out, is known to merge. `false` says
+/// nothing. It looks at no more fields and sets than are `left`, and takes off those that it has looked at.
 ///
 /// # Errors
 ///
@@ -321,13 +302,12 @@ pub(crate) fn are_quiet_but<J: Judge>(
 pub(crate) fn are_quiet<J: Judge>(
     graph: &Graph<J>,
     search: &Search,
-    x: bool,
-    sets: Vec<usize>,
+    unions: Vec<Union>,
     left: &mut usize,
 ) -> Result<bool, AllocError>
-    ensures { IfOk result (λ b. OnTrue b (AreQuiet (world J.judgement graph.now) x sets.items)) }
+    ensures { IfOk result (λ b. OnTrue b (AllQuiet (world J.judgement graph.now) unions.items)) }
 {
     let mut apart = none_apart(search.alloc, 0);
-    let is_quiet = are_quiet_but(graph, search, x, sets, &mut apart, left)?;
+    let is_quiet = are_quiet_but(graph, search, unions, &mut apart, left)?;
     Ok(is_quiet)
 }

@@ -23,6 +23,7 @@ use crate::quiet::are_quiet;
 use crate::repeats::Seeker;
 use crate::search::{compare_fragments, compare_own};
 use crate::state::{Search, no_search, put_opening};
+use crate::unions::Union;
 use crate::view::{firsts, group, is_full, order, own, set, spreads};
 use bit_matrix::set::BitSet;
 use std::alloc::{AllocError, Global};
@@ -263,7 +264,9 @@ fn is_merged<J: Judge>(graph: &Graph<J>, s: usize, search: &Search) -> Result<bo
     }
     let mut sets = Vec::new(search.alloc);
     sets.push(s)?;
-    let is_quiet = are_quiet(graph, search, false, sets, &mut pairs)?;
+    let mut unions = Vec::new(search.alloc);
+    unions.push(Union { sets, flag: false })?;
+    let is_quiet = are_quiet(graph, search, unions, &mut pairs)?;
     Ok(is_quiet)
 }
 

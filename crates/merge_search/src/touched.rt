@@ -13,8 +13,9 @@ ghost use Rattle.merge_search.specs.World.{world};
 use crate::graph::Graph;
 use crate::judge::Judge;
 use crate::node::Entry;
-use crate::quiet::{add_sets, are_quiet_but, none_apart, sets_below};
+use crate::quiet::{add_sets, are_quiet_but, none_apart};
 use crate::state::Search;
+use crate::unions::{sets_below, unions_below};
 use crate::view::{own, spreads};
 use bit_matrix::set::BitSet;
 use std::alloc::{AllocError, Global};
@@ -158,8 +159,9 @@ pub(crate) fn touched_below<J: Judge>(
     ensures { IfOk result (KnowsTouched (world J.judgement graph.now) e fields.now) }
 {
     let mut apart = none_apart(search.alloc, fields.len());
-    let sets = sets_below(search.alloc, fields)?;
-    let is_known = are_quiet_but(graph, search, e, sets, &mut apart, left)?;
+    let mut unions = Vec::new(search.alloc);
+    unions_below(search.alloc, graph, e, fields, &mut unions)?;
+    let is_known = are_quiet_but(graph, search, unions, &mut apart, left)?;
     if !is_known {
         return Ok(none_touched(search.alloc));
     }

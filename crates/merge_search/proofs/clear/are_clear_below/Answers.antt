@@ -11,5 +11,5 @@ pub returns : goal.returns
 returns g c =
     let v = world g.J.Judge.judgement c.args.graph.now in
     on_true_weaker c.in_ok-is_quiet.is_quiet
-    (λ quiet. fields_below v c.args.e (g.J.Judge.exclusive_stays c.args.graph.now.judge) c.args.fields.now c.in_ok-sets.sets.items c.in_ok-sets.ensures quiet)
+    (λ quiet. fields_below v c.args.e c.args.fields.now c.unions_below.new.unions.items c.in_ok-unions_below.ensures.joined quiet)
     c.in_ok-is_quiet.ensures

@@ -13,4 +13,4 @@ returns g c =
     let names = c.are_quiet_but.new.apart.names in
     let same = told.full c.none_apart-apart.ensures.room in
     let covers : Covers (λ n. false) names = λ n is. absurd (clash (has names n) is (ap (λ (a : Apart). has a.names n) same ∙ c.none_apart-apart.ensures.none n)) in
-    on_true_weaker c.in_ok-is_quiet.is_quiet (λ but. quiet_whole (world g.J.Judge.judgement c.args.graph.now) c.args.x c.args.sets.items (but (λ n. false) covers)) told.quiet
+    on_true_weaker c.in_ok-is_quiet.is_quiet (λ but. quiet_whole (world g.J.Judge.judgement c.args.graph.now) c.args.unions.items (but (λ n. false) covers)) told.quiet

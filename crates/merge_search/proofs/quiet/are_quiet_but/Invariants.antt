@@ -1,5 +1,5 @@
 use Rattle.std.proofs.Common.{Bool, ℕ, ◌≡◌}
-use Rattle.merge_search.specs.Quiet.{AllQuietBut, AreQuietBut, Covers}
+use Rattle.merge_search.specs.Quiet.{AllQuietBut, Covers}
 use Rattle.merge_search.specs.World.{world}
 use Rattle.merge_search.proofs.quiet.are_quiet_but.Given as goal
 
@@ -7,7 +7,7 @@ abbrev pub invariant-loop-rest : goal.invariant-loop-rest
 invariant-loop-rest g l =
     let w = world g.J.Judge.judgement l.graph in
     (l.fn.apart.room ≡ 0 → l.apart ≡ l.fn.apart)
-    × ((m : ℕ → Bool) → Covers m l.apart.names → AllQuietBut w m l.x l.waiting.items → AreQuietBut w m l.x l.fn.sets.items)
+    × ((m : ℕ → Bool) → Covers m l.apart.names → AllQuietBut w m l.waiting.items → AllQuietBut w m l.fn.unions.items)
 
 abbrev pub decreases-loop-rest : goal.decreases-loop-rest
 decreases-loop-rest g l = l.rest

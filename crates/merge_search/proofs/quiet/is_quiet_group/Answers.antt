@@ -4,7 +4,7 @@ use Rattle.bit_matrix.specs.Set.{has}
 use Rattle.merge_search.specs.Judgement.{NoneConflict}
 use Rattle.merge_search.specs.Quiet.{IsFrom}
 use Rattle.merge_search.specs.World.{world}
-use Rattle.merge_search.proofs.Merged.{group_merged, quiet_pushed, uncovered}
+use Rattle.merge_search.proofs.Merged.{group_merged, uncovered, unions_kept}
 use Rattle.merge_search.proofs.quiet.is_quiet_group.Goals as goal
 
 pub returns-clause-quiet : goal.returns-clause-quiet
@@ -13,8 +13,8 @@ returns-clause-quiet g c = λ l covers all.
     let x = c.args.x in
     let xs = c.args.group.now in
     let name = c.args.name in
-    let below = c.in_ok-below.below in
     let names = c.agree_or_apart.new.apart.names in
     let none = subst (λ b. OnTrue b (has names name ≡ false → (e : Bool) → IsFrom x e → NoneConflict v.judgement e xs xs)) c.if-not-branch.false c.in_ok-agree_or_apart.ensures.agree in
-    let z = quiet_pushed v l x c.args.waiting.now.items c.push.new.self.items below c.in_ok-push.ensures.items all in
-    (z.0, group_merged v l x (g.J.Judge.exclusive_stays c.args.graph.now.judge) name xs below.items c.requires (λ is. none (uncovered l names name covers is)) c.in_ok-below.ensures z.1)
+    let told = c.in_ok-unions_below.ensures in
+    let new = c.unions_below.new.unions.items in
+    (unions_kept v l c.args.waiting.now.items new told.kept all, group_merged v l x name xs new c.requires (λ is. none (uncovered l names name covers is)) told.joined all)

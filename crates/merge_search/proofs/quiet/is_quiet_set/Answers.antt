@@ -36,7 +36,7 @@ loop-first-preserved g c =
     let group = c.fields_named-group.result.now in
     let is = c.fields_named-group.ensures ∙ c.sorted_fields.ensures.grouped f.response in
     let told = c.in_ok-is_quiet_group.ensures in
-    let step = subst (λ b. OnTrue b ((m : ℕ → Bool) → Covers m c.is_quiet_group.new.apart.names → AllQuietBut v m x c.is_quiet_group.new.waiting.items → AllQuietBut v m x c.loop-first.waiting.items × AllMergeBut v m x group)) c.if-not-branch.false told.quiet in (
+    let step = subst (λ b. OnTrue b ((m : ℕ → Bool) → Covers m c.is_quiet_group.new.apart.names → AllQuietBut v m c.is_quiet_group.new.waiting.items → AllQuietBut v m c.loop-first.waiting.items × AllMergeBut v m x group)) c.if-not-branch.false told.quiet in (
       c.loop-first.invariant.0,
       λ n h. told.kept n (c.loop-first.invariant.1 n h),
       λ none.

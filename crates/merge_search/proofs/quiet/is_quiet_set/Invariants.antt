@@ -13,5 +13,5 @@ invariant-loop-first g l =
     (l.first-items ≡ firsts_of l.set.own.items l.set.index)
     × AreKept l.fn.apart.names l.apart.names
     × (l.fn.apart.room ≡ 0 → l.apart ≡ l.fn.apart)
-    × ((m : ℕ → Bool) → Covers m l.apart.names → AllQuietBut w m l.x l.waiting.items → AllQuietBut w m l.x l.fn.waiting.items
+    × ((m : ℕ → Bool) → Covers m l.apart.names → AllQuietBut w m l.waiting.items → AllQuietBut w m l.fn.waiting.items
     × All (λ (f : Entry). AllMergeBut w m l.x (named f.response l.set.own.items)) (take l.first-index l.first-items))

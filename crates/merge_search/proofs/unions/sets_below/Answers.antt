@@ -6,8 +6,8 @@ use Rattle.merge_search.specs.declared.node.Entry.{Entry}
 use Rattle.merge_search.specs.Quiet.{HoldBelow}
 use Rattle.merge_search.proofs.Laws.{same_some, clash_some}
 use Rattle.merge_search.proofs.Work.{no_entry}
-use Rattle.merge_search.proofs.quiet.sets_below.Goals as goal
-use Rattle.merge_search.proofs.quiet.sets_below.Goals.{in-Some+in_ok-push, in_default}
+use Rattle.merge_search.proofs.unions.sets_below.Goals as goal
+use Rattle.merge_search.proofs.unions.sets_below.Goals.{in-Some+in_ok-push, in_default}
 
 pub loop-field-preserved : goal.loop-field-preserved
 loop-field-preserved c =

@@ -1,0 +1,18 @@
+use Rattle.std.proofs.Common.{subst, ◌∙◌, sym}
+use Rattle.merge_search.specs.Names.{named}
+use Rattle.merge_search.specs.Quiet.{HoldBelow}
+use Rattle.merge_search.specs.Unions.{HaveUnions}
+use Rattle.merge_search.specs.World.{world}
+use Rattle.merge_search.proofs.Uniting.{flat_joined}
+use Rattle.merge_search.proofs.unions.add_by_objects.Goals as goal
+
+pub returns-clause-joined : goal.returns-clause-joined
+returns-clause-joined g c =
+    let v = world g.J.Judge.judgement c.args.graph.now in
+    let judge = c.args.graph.now.judge in
+    let own = c.in_ok-set.set.own.items in
+    let common = c.in_ok-common.common.items in
+    let is = c.fields_named-group.ensures ∙ c.sorted_fields.ensures.grouped 0 in
+    flat_joined v (g.J.Judge.objects judge) (g.J.Judge.objects_apart judge) c.args.fields.now own common c.add_unions.new.unions.items
+    c.in_ok-set.ensures (subst (λ zs. HoldBelow common zs) is c.in_ok-common.ensures)
+    (subst (λ zs. HaveUnions c.add_unions.new.unions.items own zs) c.as_slice.ensures.value c.in_ok-add_unions.ensures.added)
