@@ -1,5 +1,5 @@
 -- Unions in which the sets below each two of some fields are.
-use Rattle.std.proofs.Common.{◌≡◌, ℕ, List, [], Bool, true, false, inl, inr, ◌⊎◌, refl, sym, ◌∙◌}
+use Rattle.std.proofs.Common.{◌≡◌, ℕ, List, [], Bool, true, false, inl, inr, ◌⊎◌, refl, subst, sym, ◌∙◌}
 use Rattle.std.specs.Bool.{OnTrue}
 use Rattle.std.specs.List.{All, Contains}
 use Rattle.std.proofs.lemmas.Bool.{cases_eq}
@@ -23,6 +23,20 @@ union_kept old new flag fields more kept u = record {
   below = u.below;
   besides = u.besides;
 }
+
+-- the union of the fields in an object type, or of the sets below those in none
+pub union_in : (unions : List Union) (own group : List Entry) (common : List ℕ) (object : ℕ) → HoldBelow common (named 0 own)
+    → (((object ≡ 0) × (group ≡ [])) ⊎ (group ≡ named object own)) → HasUnion unions false group common → HasUnion unions false (named object own) common
+union_in unions own group common object hold is u = elim is [
+  | inl none ↦ record {
+    union = u.union;
+    there = u.there;
+    flagged = u.flagged;
+    below = subst (λ (n : ℕ). HoldBelow u.union.sets.items (named n own)) (sym none.0) (λ k d l t p. u.besides t (hold k d l t p));
+    besides = u.besides;
+  }
+  | inr of ↦ subst (λ zs. HasUnion unions false zs common) of u
+]
 
 joined_kept : (old new : List Union) (e : Bool) (a b : Entry) → UnionsKept old new → AreJoined old e a b → AreJoined new e a b
 joined_kept old new e a b kept u = record {
@@ -104,11 +118,9 @@ module _ (w : World) where
   all_joined stays x true fields old new kept flat u e a b from p q = joined_case stays fields old new kept flat u e a b p q (exclusive_of w e a b) refl
   all_joined stays x false fields old new kept flat u e a b from p q = joined_in new false fields [] u (exclusive_of w e a b) a b (unflagged false _ refl) p q
 
-  -- under the flag all are
-  pub joined_flagged : ExclusiveStays w.judgement → (x : Bool) (fields : List Entry) (new : List Union) → x ≡ true → HasUnion new true fields []
-      → AllJoined w x fields new
-  joined_flagged stays x fields new is u e a b from p q =
-      joined_in new true fields [] u (exclusive_of w e a b) a b (λ h. below e a b (from is)) p q
+  -- one union of the flag from which the fields stand
+  pub joined_whole : ExclusiveStays w.judgement → (x : Bool) (fields : List Entry) (new : List Union) → HasUnion new x fields [] → AllJoined w x fields new
+  joined_whole stays x fields new u e a b from p q = joined_in new x fields [] u (exclusive_of w e a b) a b (λ is. below e a b (from is)) p q
     where
       below : (e : Bool) (a b : Entry) → e ≡ true → exclusive_of w e a b ≡ true
       below true a b is = stays a.field b.field

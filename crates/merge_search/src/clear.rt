@@ -24,6 +24,23 @@ pub(crate) const WIDE: usize = 32;
 /// So many pairs these fields have.
 pub(crate) const MANY: usize = WIDE * WIDE;
 
+// Whether what stands below each two of some fields is known to merge, the fields told apart by object types or not.
+fn are_quiet_below<J: Judge>(
+    graph: &Graph<J>,
+    search: &Search,
+    e: bool,
+    by_objects: bool,
+    fields: &[Entry],
+    left: &mut usize,
+) -> Result<bool, AllocError>
+    ensures { IfOk result (λ b. OnTrue b (AreClearBelow (world J.judgement graph.now) e fields.now fields.now)) }
+{
+    let mut unions = Vec::new(search.alloc);
+    unions_below(search.alloc, graph, e, by_objects, fields, &mut unions)?;
+    let is_quiet = are_quiet(graph, search, unions, by_objects, left)?;
+    Ok(is_quiet)
+}
+
 /// Whether what stands below each two of some fields is known to merge. `false` says nothing. It takes what it has looked
 /// at there off what is `left`.
 ///
@@ -42,9 +59,10 @@ pub(crate) fn are_clear_below<J: Judge>(
     if are_leaves(fields) {
         return Ok(true);
     }
-    let mut unions = Vec::new(search.alloc);
-    unions_below(search.alloc, graph, e, fields, &mut unions)?;
-    let is_quiet = are_quiet(graph, search, unions, left)?;
+    if are_quiet_below(graph, search, e, false, fields, left)? {
+        return Ok(true);
+    }
+    let is_quiet = are_quiet_below(graph, search, e, true, fields, left)?;
     Ok(is_quiet)
 }
 

@@ -211,6 +211,7 @@ fn is_quiet_group<J: Judge>(
     alloc: Global,
     graph: &Graph<J>,
     x: bool,
+    by_objects: bool,
     name: usize,
     group: &[Entry],
     apart: &mut Apart,
@@ -226,7 +227,7 @@ fn is_quiet_group<J: Judge>(
     if !agree_or_apart(alloc, graph, x, name, group, apart)? {
         return Ok(false);
     }
-    unions_below(alloc, graph, x, group, waiting)?;
+    unions_below(alloc, graph, x, by_objects, group, waiting)?;
     Ok(true)
 }
 
@@ -235,6 +236,7 @@ fn is_quiet_set<J: Judge>(
     alloc: Global,
     graph: &Graph<J>,
     x: bool,
+    by_objects: bool,
     set: &SetNode,
     apart: &mut Apart,
     waiting: &mut Vec<Union>,
@@ -248,7 +250,7 @@ fn is_quiet_set<J: Judge>(
     for first in first_fields(set) {
         let name = first.response;
         let group = fields_named(sorted_fields(set), name);
-        if !is_quiet_group(alloc, graph, x, name, group, apart, waiting)? {
+        if !is_quiet_group(alloc, graph, x, by_objects, name, group, apart, waiting)? {
             return Ok(false);
         }
     }
@@ -257,7 +259,8 @@ fn is_quiet_set<J: Judge>(
 
 /// Whether all that stands in the sets of each union, what they spread written out, is known to merge, names aside that
 /// are set apart. `false` says nothing. It looks at no more fields and sets than are `left`, and takes off those that it
-/// has looked at.
+/// has looked at. Fields may be told apart by their object types: then more is known, and some sets are looked at for
+/// each type.
 ///
 /// # Errors
 ///
@@ -266,6 +269,7 @@ pub(crate) fn are_quiet_but<J: Judge>(
     graph: &Graph<J>,
     search: &Search,
     unions: Vec<Union>,
+    by_objects: bool,
     apart: &mut Apart,
     left: &mut usize,
 ) -> Result<bool, AllocError>
@@ -284,7 +288,15 @@ pub(crate) fn are_quiet_but<J: Judge>(
             break;
         };
         rest = (rest - 1).saturating_sub(size);
-        if !is_quiet_set(search.alloc, graph, next.flag, &set, apart, &mut waiting)? {
+        if !is_quiet_set(
+            search.alloc,
+            graph,
+            next.flag,
+            by_objects,
+            &set,
+            apart,
+            &mut waiting,
+        )? {
             *left = rest;
             return Ok(false);
         }
@@ -303,11 +315,12 @@ pub(crate) fn are_quiet<J: Judge>(
     graph: &Graph<J>,
     search: &Search,
     unions: Vec<Union>,
+    by_objects: bool,
     left: &mut usize,
 ) -> Result<bool, AllocError>
     ensures { IfOk result (λ b. OnTrue b (AllQuiet (world J.judgement graph.now) unions.items)) }
 {
     let mut apart = none_apart(search.alloc, 0);
-    let is_quiet = are_quiet_but(graph, search, unions, &mut apart, left)?;
+    let is_quiet = are_quiet_but(graph, search, unions, by_objects, &mut apart, left)?;
     Ok(is_quiet)
 }

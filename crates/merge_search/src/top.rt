@@ -266,7 +266,7 @@ fn is_merged<J: Judge>(graph: &Graph<J>, s: usize, search: &Search) -> Result<bo
     sets.push(s)?;
     let mut unions = Vec::new(search.alloc);
     unions.push(Union { sets, flag: false })?;
-    let is_quiet = are_quiet(graph, search, unions, &mut pairs)?;
+    let is_quiet = are_quiet(graph, search, unions, false, &mut pairs)?;
     Ok(is_quiet)
 }
 

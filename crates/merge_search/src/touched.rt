@@ -160,8 +160,8 @@ pub(crate) fn touched_below<J: Judge>(
 {
     let mut apart = none_apart(search.alloc, fields.len());
     let mut unions = Vec::new(search.alloc);
-    unions_below(search.alloc, graph, e, fields, &mut unions)?;
-    let is_known = are_quiet_but(graph, search, unions, &mut apart, left)?;
+    unions_below(search.alloc, graph, e, true, fields, &mut unions)?;
+    let is_known = are_quiet_but(graph, search, unions, true, &mut apart, left)?;
     if !is_known {
         return Ok(none_touched(search.alloc));
     }

@@ -3,9 +3,10 @@
 //! No object is asked for two fields in different object types, so less is asked of what stands below them: it is compared
 //! under the flag that says so. The sets below the fields of each object type have a union without the flag, where those
 //! of fields in no object type stand, too. All of them have one with it.
-ghost use Rattle.std.specs.Prelude.{IfOk, OnOk, false};
+ghost use Rattle.std.specs.Prelude.{◌≡◌, ◌⊎◌, [], IfOk, OnOk, false};
 ghost use Rattle.std.specs.Bool.{OnTrue};
 ghost use Rattle.std.specs.List.{All, Contains};
+ghost use Rattle.merge_search.specs.Names.{named};
 ghost use Rattle.merge_search.specs.Quiet.{HoldBelow};
 ghost use Rattle.merge_search.specs.Unions.{AllJoined, AllJoinedFlat, HasUnion, HaveUnions, UnionsKept, under_object};
 ghost use Rattle.merge_search.specs.World.{world};
@@ -79,18 +80,29 @@ fn by_objects<J: Judge>(
     make_set(alloc, entries, Vec::new(alloc))
 }
 
-// Adds a union for each object type.
+// The fields in an object type; of those in none, whose number is 0, no field.
+fn fields_in(set: &SetNode, object: usize) -> &[Entry]
+    ensures { (object ≡ 0 × result.now ≡ []) ⊎ (result.now ≡ named object set.now.own.items) }
+{
+    if object == 0 {
+        return &[];
+    }
+    fields_named(sorted_fields(set), object)
+}
+
+// Adds a union for each object type, and one of the sets that stand in each of them.
 fn add_unions(
     alloc: Global,
     set: &SetNode,
     common: &[usize],
     unions: &mut Vec<Union>,
 ) -> Result<(), AllocError>
+    requires { HoldBelow common.now (named 0 set.now.own.items) }
     ensures kept { OnOk result (UnionsKept unions.old.items unions.new.items) }
     ensures added { OnOk result (HaveUnions unions.new.items set.now.own.items common.now) }
 {
     for first in first_fields(set) {
-        let group = fields_named(sorted_fields(set), first.response);
+        let group = fields_in(set, first.response);
         add_union(alloc, false, group, common, unions)?;
     }
     Ok(())
@@ -123,7 +135,8 @@ fn add_by_objects<J: Judge>(
 }
 
 /// Adds unions of the sets below some fields, so that those below each two are in one of them, of the flag under which
-/// these are compared. The fields stand where the flag is `x`, or above.
+/// these are compared. The fields stand where the flag is `x`, or above. There is one union, or without the flag, where
+/// the fields are told apart by their object types, one for each of these and one more.
 ///
 /// # Errors
 ///
@@ -132,14 +145,15 @@ pub(crate) fn unions_below<J: Judge>(
     alloc: Global,
     graph: &Graph<J>,
     x: bool,
+    by_objects: bool,
     fields: &[Entry],
     unions: &mut Vec<Union>,
 ) -> Result<(), AllocError>
     ensures kept { OnOk result (UnionsKept unions.old.items unions.new.items) }
     ensures joined { OnOk result (AllJoined (world J.judgement graph.now) x fields.now unions.new.items) }
 {
-    if x {
-        add_union(alloc, true, fields, &[], unions)?;
+    if x || !by_objects {
+        add_union(alloc, x, fields, &[], unions)?;
         return Ok(());
     }
     let flag = add_by_objects(alloc, graph, fields, unions)?;

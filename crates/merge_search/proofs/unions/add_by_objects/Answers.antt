@@ -6,6 +6,12 @@ use Rattle.merge_search.specs.World.{world}
 use Rattle.merge_search.proofs.Uniting.{flat_joined}
 use Rattle.merge_search.proofs.unions.add_by_objects.Goals as goal
 
+pub add_unions-requires : goal.add_unions-requires
+add_unions-requires g c =
+    let own = c.in_ok-set.set.own.items in
+    let is = c.fields_named-group.ensures ∙ c.sorted_fields.ensures.grouped 0 in
+    subst (λ zs. HoldBelow zs (named 0 own)) (sym c.as_slice.ensures.value) (subst (λ zs. HoldBelow c.in_ok-common.common.items zs) is c.in_ok-common.ensures)
+
 pub returns-clause-joined : goal.returns-clause-joined
 returns-clause-joined g c =
     let v = world g.J.Judge.judgement c.args.graph.now in

@@ -1,4 +1,4 @@
-use Rattle.std.proofs.Common.{◌≡◌, ◌<◌, ℕ, List, false, take, get_or, refl, sym, subst, ◌∙◌, length, arith}
+use Rattle.std.proofs.Common.{◌<◌, ℕ, List, false, take, get_or, sym, subst, length, arith}
 use Rattle.std.specs.List.{All}
 use Rattle.std.proofs.lemmas.List.{take_all, length-take}
 use Rattle.std.proofs.lemmas.List.Elements.{All-contains, All-more, All-weaker}
@@ -7,7 +7,7 @@ use Rattle.merge_search.specs.Indexed.{firsts_of}
 use Rattle.merge_search.specs.Names.{named}
 use Rattle.merge_search.specs.Unions.{HasUnion}
 use Rattle.merge_search.proofs.Rows.{listed_in}
-use Rattle.merge_search.proofs.Uniting.{union_kept}
+use Rattle.merge_search.proofs.Uniting.{union_in, union_kept}
 use Rattle.merge_search.proofs.Work.{no_entry}
 use Rattle.merge_search.proofs.unions.add_unions.Goals as goal
 
@@ -27,13 +27,13 @@ loop-first-preserved c =
     let old = c.loop-first.unions.items in
     let new = c.add_union.new.unions.items in
     let told = c.in_ok-add_union.ensures in
-    let is = c.fields_named-group.ensures ∙ c.sorted_fields.ensures.grouped f.response in (
+    let is = c.fields_in-group.ensures in (
       c.loop-first.invariant.0,
       λ u h. told.kept u (c.loop-first.invariant.1 u h),
       All-more (λ (y : Entry). HasUnion new false (named y.response own) common) firsts n no_entry c.loop-first-test.true
           (All-weaker (λ (y : Entry). HasUnion old false (named y.response own) common) (λ (y : Entry). HasUnion new false (named y.response own) common)
           (λ y u. union_kept old new false (named y.response own) common told.kept u) (take n firsts) c.loop-first.invariant.2)
-          (subst (λ zs. HasUnion new false zs common) is told.added),
+          (union_in new own (c.fields_in-group.result.now) common f.response c.requires is told.added),
     )
 
 pub returns-clause-kept : goal.returns-clause-kept

@@ -1,10 +1,10 @@
 use Rattle.merge_search.specs.World.{world}
-use Rattle.merge_search.proofs.Uniting.{all_joined, joined_flagged}
+use Rattle.merge_search.proofs.Uniting.{all_joined, joined_whole}
 use Rattle.merge_search.proofs.unions.unions_below.Goals as goal
 
 pub returns-then-x-clause-joined : goal.returns-then-x-clause-joined
 returns-then-x-clause-joined g c =
-    joined_flagged (world g.J.Judge.judgement c.args.graph.now) (g.J.Judge.exclusive_stays c.args.graph.now.judge) c.args.x c.args.fields.now c.add_union.new.unions.items c.if-x.true c.in_ok-add_union.ensures.added
+    joined_whole (world g.J.Judge.judgement c.args.graph.now) (g.J.Judge.exclusive_stays c.args.graph.now.judge) c.args.x c.args.fields.now c.add_union.new.unions.items c.in_ok-add_union.ensures.added
 
 pub returns-clause-joined : goal.returns-clause-joined
 returns-clause-joined g c =
