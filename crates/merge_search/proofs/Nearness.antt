@@ -1,5 +1,5 @@
 -- Places by the names that are listed there.
-use Rattle.std.proofs.Common.{◌≡◌, ◌<◌, ◌+◌, ◌⊎◌, ◌∙◌, ℕ, List, Some, Vec, true, false, ap, arith, inl, inr, subst, sym}
+use Rattle.std.proofs.Common.{◌≡◌, ◌<◌, ◌+◌, ◌∙◌, ℕ, List, Some, Vec, true, ap, arith, inl, inr, subst, sym}
 use Rattle.std.specs.List.{All, Contains}
 use Rattle.std.specs.declared.alloc.Global.{Global}
 use Rattle.std.proofs.lemmas.Bool.{cases_eq}
@@ -9,7 +9,7 @@ use Rattle.bit_matrix.specs.declared.set.BitSet.{BitSet}
 use Rattle.merge_search.specs.declared.node.Entry.{Entry}
 use Rattle.merge_search.specs.declared.touched.Touched.{Touched}
 use Rattle.merge_search.specs.Near.{IsApartRow, IsNear, listed_at}
-use Rattle.merge_search.specs.Touched.{AreApartAt, told_at}
+use Rattle.merge_search.specs.Touched.{told_at}
 use Rattle.merge_search.proofs.Laws.{clash}
 
 module _ (touched : Touched) (l : ℕ) (untold : BitSet) (old : List Entry) (before : IsNear touched l untold old) where

@@ -1,14 +1,21 @@
 -- What one of each kind says of all.
-use Rattle.std.proofs.Common.{◌≡◌, ◌<◌, ◌+◌, ℕ, List, Some, Bool, true, false, inl, inr, length, drop, get_or, slice_get, ap, refl, sym, subst, ◌∙◌}
+use Rattle.std.proofs.Common.{◌≡◌, ◌<◌, ◌≤◌, ◌+◌, ◌++◌, ◌∷◌, [], ℕ, List, Option, None, Some, Bool, true, false, inl, inr, length, length-append, drop, get_or, slice_get, ap, arith, refl, sym, subst, ◌∙◌}
+use Rattle.std.specs.Option.{IfSome}
+use Rattle.std.proofs.Math.ListN.{get_or-append}
+use Rattle.std.proofs.Math.Seq.{get_or-append_seam}
+use Rattle.std.proofs.lemmas.List.{get_or_past}
 use Rattle.std.specs.Bool.{OnTrue}
 use Rattle.std.specs.List.{All}
 use Rattle.std.proofs.lemmas.List.Elements.{All-contains, All-weaker, All-drop}
 use Rattle.merge_search.specs.declared.node.Entry.{Entry}
-use Rattle.std.proofs.lemmas.Bool.{cases_eq}
+use Rattle.std.proofs.lemmas.Bool.{cases_eq, cases_lt}
 use Rattle.std.proofs.lemmas.Option.{get_or_from_slice_get, slice_get-get_or}
 use Rattle.bit_matrix.specs.Set.{has}
 use Rattle.bit_matrix.specs.declared.set.BitSet.{BitSet}
 use Rattle.merge_search.specs.Judgement.{Judgement, KinAgree, NoneConflict}
+use Rattle.merge_search.specs.Failing.{AgreeAt, AgreeKinds, AreNumbered, IsKindAt}
+use Rattle.merge_search.proofs.Laws.{same_some}
+use Rattle.merge_search.proofs.Order.{at_of}
 use Rattle.merge_search.proofs.Work.{no_entry}
 use Rattle.merge_search.specs.Kinds.{AreAgreeingRows, IsOfKind, IsClearKind, NeverFailsWith}
 
@@ -41,3 +48,43 @@ pub rows_all : (j : Judgement) (e : Bool) (xs ys : List Entry) (rows : BitSet) �
     → (b : Bool) → (b ≡ true → (k : ℕ) → k < length xs → has rows k ≡ true) → OnTrue b (NoneConflict j e xs ys)
 rows_all j e xs ys rows agree true all = λ k d l. agree k (get_or xs k d) (slice_get-get_or xs k d l) (all refl k l)
 rows_all j e xs ys rows agree false all = tt
+
+-- a field whose place is listed fails with no other
+pub rows_agree : (j : Judgement) (xs : List Entry) (numbers : List (Option ℕ)) (rows : BitSet) (k : ℕ) → AreAgreeingRows j false xs xs rows
+    → (b : Bool) → b ≡ has rows k → OnTrue b (AgreeAt j xs numbers k None)
+rows_agree j xs numbers rows k clear true is = λ l a b p q agree.
+    All-contains (λ (y : Entry). j.conflict false a.field y.field ≡ false) xs b (clear k a p (sym is)) (at_of xs l b q)
+rows_agree j xs numbers rows k clear false is = tt
+
+-- a field fails with no field of a kind that its own doesn't fail with
+pub kinds_agree : (j : Judgement) (kin : ℕ → ℕ → Type 0) → KinAgree j kin → (fields : List Entry) (numbers : List (Option ℕ)) (kinds : List ℕ) (k i one : ℕ) (set : BitSet)
+    → AreNumbered kin kinds fields numbers → get_or numbers k None ≡ Some i → slice_get kinds i ≡ Some one → AgreeKinds j one kinds set
+    → AgreeAt j fields numbers k (Some set)
+kinds_agree j kin law fields numbers kinds k i one set are told at agree l a b p q there =
+    let left = are k i a p told in
+    let right = are l there.0 b q there.1 in
+    law false left.0 right.0 a.field b.field left.2 right.2
+    ∙ subst (λ (n : ℕ). j.conflict false n right.0 ≡ false) (same_some one left.0 (slice_get kinds i) at left.1) (agree there.0 right.0 there.2 right.1)
+
+-- the numbers of one more field
+pub one_numbered : (kin : ℕ → ℕ → Type 0) (kinds : List ℕ) (fields : List Entry) (old new : List (Option ℕ)) (one : Option ℕ) (k : ℕ) → new ≡ old ++ one ∷ []
+    → length old ≡ k → IfSome one (IsKindAt kin kinds (get_or fields k no_entry).field) → AreNumbered kin kinds fields old → AreNumbered kin kinds fields new
+one_numbered kin kinds fields old new one k is long told before m i a p q = elim (cases_lt m k) [
+  | inl less ↦ before m i a p (sym (ap (λ zs. get_or zs m None) is ∙ get_or-append old (one ∷ []) None m (omega (arith, less, long))) ∙ q)
+  | inr more ↦ elim (cases_eq m k) [
+    | inl same ↦
+        let here : get_or new m None ≡ one = ap (λ zs. get_or zs m None) is ∙ ap (λ n. get_or (old ++ one ∷ []) n None) (same ∙ sym long) ∙ get_or-append_seam old one [] None in
+        let field : get_or fields k no_entry ≡ a = ap (λ (n : ℕ). get_or fields n no_entry) (sym same) ∙ get_or_from_slice_get fields m a no_entry p in
+        subst (λ (y : Entry). IsKindAt kin kinds y.field i) field (of_some one told (sym here ∙ q))
+    | inr apart ↦ absurd (none_told (sym (ap (λ zs. get_or zs m None) is ∙ get_or_past (old ++ one ∷ []) m None (past more apart)) ∙ q))
+  ]
+]
+  where
+    none_told : None ≡ Some i → ⊥
+    none_told h = cc
+
+    of_some : (o : Option ℕ) → IfSome o (IsKindAt kin kinds (get_or fields k no_entry).field) → o ≡ Some i → IsKindAt kin kinds (get_or fields k no_entry).field i
+    of_some o h h2 = subst (λ z. IfSome z (IsKindAt kin kinds (get_or fields k no_entry).field)) h2 h
+
+    past : k ≤ m → (m ≡ k → ⊥) → length (old ++ one ∷ []) ≤ m
+    past more apart = omega (arith, more, apart, long, length-append old (one ∷ []))

@@ -1,10 +1,12 @@
 -- What is known of what stands below some fields.
-use Rattle.std.specs.Prelude.{ℕ, List, Some, true, false, ◌≡◌, ◌⊎◌, slice_get}
+use Rattle.std.specs.Prelude.{ℕ, List, Option, Some, true, false, ◌≡◌, ◌⊎◌, slice_get}
 use Rattle.std.specs.Option.{IfSome}
 use Rattle.bit_matrix.specs.Set.{has}
+use Rattle.bit_matrix.specs.declared.set.BitSet.{BitSet}
 use Rattle.merge_search.specs.declared.below.Below.{Below}
 use Rattle.merge_search.specs.declared.node.Entry.{Entry}
 use Rattle.merge_search.specs.Clear.{IsClearBelow}
+use Rattle.merge_search.specs.Failing.{AgreesBy}
 use Rattle.merge_search.specs.Near.{IsNear}
 use Rattle.merge_search.specs.Touched.{AreApartAt}
 use Rattle.merge_search.specs.World.{World}
@@ -14,6 +16,11 @@ use Rattle.merge_search.specs.World.{World}
 abbrev pub IsKnownBelow : Below → ℕ → ℕ → Type 0
 IsKnownBelow known k l =
     (known.of_all ≡ true) ⊎ (((has known.places k ≡ true) × (has known.places l ≡ true)) ⊎ AreApartAt known.touched k l)
+
+-- That the fields at two places merge: what stands below them does, and the kind of the second is one of those with which
+-- the first doesn't fail.
+abbrev pub IsPassedAt : Below → List (Option ℕ) → Option BitSet → ℕ → ℕ → Type 0
+IsPassedAt known numbers agreeing k l = IsKnownBelow known k l × AgreesBy numbers agreeing l
 
 -- What is known is true.
 abbrev pub KnowsBelow : World → List Entry → Below → Type 0

@@ -42,7 +42,7 @@ MergeBelow w fields places =
     (k l : ℕ) (a b : Entry) → Contains places k → Contains places l → slice_get fields k ≡ Some a → slice_get fields l ≡ Some b
     → IsClearBelow w false a b
 
--- Some of the fields after one: all but those below which it merges with the one.
+-- Some of the fields after one: all but those that merge with it.
 pub record AreOthers (w : World) (a : Entry) (rest others : List Entry) : Type 0 where
-  pub all : All (λ b. Contains others b ⊎ IsClearBelow w false a b) rest
+  pub all : All (λ b. Contains others b ⊎ Merges w false a b) rest
   pub only : All (λ b. Contains rest b) others

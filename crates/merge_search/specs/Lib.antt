@@ -1,6 +1,7 @@
 pub mod Judgement
 pub mod Names
 pub mod Kinds
+pub mod Failing
 pub mod Indexed
 pub mod Graph
 pub mod World

@@ -1,13 +1,16 @@
 //! Fields of one response name of which it is known, of many at once, that what stands below them merges.
-ghost use Rattle.std.specs.Prelude.{◌≡◌, ◌⊎◌, ◌<◌, ℕ, IfOk, IfSome, OnOk, Some, length, slice_get, true};
+ghost use Rattle.std.specs.Prelude.{◌≡◌, ◌⊎◌, ◌<◌, ℕ, IfOk, IfSome, None, OnOk, Some, false, length, slice_get, true};
 ghost use Rattle.std.specs.Bool.{OnTrue};
 ghost use Rattle.std.specs.List.{All, Contains};
-ghost use Rattle.merge_search.specs.Below.{IsIndexed, IsKnownBelow, KnowsBelow};
+ghost use Rattle.merge_search.specs.Below.{IsIndexed, IsKnownBelow, IsPassedAt, KnowsBelow};
 ghost use Rattle.merge_search.specs.Near.{IsApartRow};
 ghost use Rattle.merge_search.specs.Clear.{MergeBelow};
+ghost use Rattle.merge_search.specs.Failing.{AgreeAt, AreNumbered};
+ghost use Rattle.merge_search.specs.Merging.{Merges};
 ghost use Rattle.merge_search.specs.World.{world};
 
 use crate::clear::{WIDE, are_clear_below};
+use crate::failing::{Numbered, agreeing_at, agrees_by};
 use crate::graph::Graph;
 use crate::judge::Judge;
 use crate::near::{Near, near_of, places_near};
@@ -122,7 +125,7 @@ fn leaves_few(alloc: Global, fields: &[Entry], below: &Below) -> Result<bool, Al
     let mut others: usize = 0;
     let mut k = 0;
     while k < fields.len() {
-        others = others.saturating_add(others_after(alloc, fields, k, below)?.len());
+        others = others.saturating_add(others_near(alloc, fields, k, below, &[], &None)?.len());
         k = k.saturating_add(step);
     }
     Ok(others < fields.len())
@@ -222,50 +225,100 @@ fn row_near(
     }
 }
 
-/// The fields after one of some of which it isn't known that what stands below merges.
-///
-/// # Errors
-///
-/// Out of memory.
-pub(crate) fn others_after(
-    alloc: Global,
-    fields: &[Entry],
-    k: usize,
+// Whether the fields at two places are known to merge, as what stands below them and their kinds tell.
+fn is_passed(
     below: &Below,
-) -> Result<Vec<Entry>, AllocError>
-    requires inside { k < length fields.now }
-    requires indexed { IsIndexed below.now (length fields.now) }
-    ensures rest { IfOk result (λ v. (l : ℕ) (b : Entry) → k < l → slice_get fields.now l ≡ Some b
-        → Contains v.items b ⊎ IsKnownBelow below.now k l) }
-    ensures only { IfOk result (λ v. All (λ b. (l : ℕ) × (k < l) × (slice_get fields.now l ≡ Some b)) v.items) }
+    near: &Option<BitSet>,
+    numbers: &[Option<usize>],
+    agreeing: &Option<BitSet>,
+    k: usize,
+    l: usize,
+    end: usize,
+) -> bool
+    requires near { IfSome near.now (IsApartRow below.now.touched k end) }
+    requires inside { l < end }
+    ensures { OnTrue result (IsPassedAt below.now numbers.now agreeing.now k l) }
 {
-    let near = row_near(alloc, below, k, fields.len())?;
-    let others = others_by(alloc, fields, k, below, &near)?;
-    Ok(others)
+    if !agrees_by(numbers, agreeing, l) {
+        return false;
+    }
+    is_known(below, near, k, l, end)
 }
 
-// The same, where the places are given that aren't known to be apart from that one.
+// The fields after one of some that aren't known to merge with it. Given are the places that aren't known to be apart from
+// it, and the kinds with which it doesn't fail.
 fn others_by(
     alloc: Global,
     fields: &[Entry],
     k: usize,
     below: &Below,
     near: &Option<BitSet>,
+    numbers: &[Option<usize>],
+    agreeing: &Option<BitSet>,
 ) -> Result<Vec<Entry>, AllocError>
     requires inside { k < length fields.now }
     requires near { IfSome near.now (IsApartRow below.now.touched k (length fields.now)) }
     ensures rest { IfOk result (λ v. (l : ℕ) (b : Entry) → k < l → slice_get fields.now l ≡ Some b
-        → Contains v.items b ⊎ IsKnownBelow below.now k l) }
+        → Contains v.items b ⊎ IsPassedAt below.now numbers.now agreeing.now k l) }
     ensures only { IfOk result (λ v. All (λ b. (l : ℕ) × (k < l) × (slice_get fields.now l ≡ Some b)) v.items) }
 {
     let mut others = Vec::new(alloc);
-    if below.of_all {
+    if below.of_all && agreeing.is_none() {
         return Ok(others);
     }
     for l in k + 1..fields.len() {
-        if !is_known(below, near, k, l, fields.len()) {
+        if !is_passed(below, near, numbers, agreeing, k, l, fields.len()) {
             others.push(fields[l])?;
         }
     }
+    Ok(others)
+}
+
+// The fields after one of some that aren't known to merge with it. Given are the kinds with which it doesn't fail.
+fn others_near(
+    alloc: Global,
+    fields: &[Entry],
+    k: usize,
+    below: &Below,
+    numbers: &[Option<usize>],
+    agreeing: &Option<BitSet>,
+) -> Result<Vec<Entry>, AllocError>
+    requires inside { k < length fields.now }
+    requires indexed { IsIndexed below.now (length fields.now) }
+    ensures rest { IfOk result (λ v. (l : ℕ) (b : Entry) → k < l → slice_get fields.now l ≡ Some b
+        → Contains v.items b ⊎ IsPassedAt below.now numbers.now agreeing.now k l) }
+    ensures only { IfOk result (λ v. All (λ b. (l : ℕ) × (k < l) × (slice_get fields.now l ≡ Some b)) v.items) }
+{
+    let near = row_near(alloc, below, k, fields.len())?;
+    let others = others_by(alloc, fields, k, below, &near, numbers, agreeing)?;
+    Ok(others)
+}
+
+/// The fields after one of some that aren't known to merge with it.
+///
+/// # Errors
+///
+/// Out of memory.
+pub(crate) fn others_after<J: Judge>(
+    alloc: Global,
+    graph: &Graph<J>,
+    fields: &[Entry],
+    k: usize,
+    is_clear: bool,
+    below: &Below,
+    numbered: &Numbered,
+) -> Result<Vec<Entry>, AllocError>
+    requires inside { k < length fields.now }
+    requires clear { OnTrue is_clear (AgreeAt (J.judgement graph.now.judge) fields.now numbered.now.numbers.items k None) }
+    requires below { KnowsBelow (world J.judgement graph.now) fields.now below.now }
+    requires indexed { IsIndexed below.now (length fields.now) }
+    requires numbered { AreNumbered (J.are_kin graph.now.judge) numbered.now.kinds.items fields.now numbered.now.numbers.items }
+    ensures rest { IfOk result (λ v. (l : ℕ) (a b : Entry) → k < l → slice_get fields.now k ≡ Some a
+        → slice_get fields.now l ≡ Some b → Contains v.items b ⊎ Merges (world J.judgement graph.now) false a b) }
+    ensures only { IfOk result (λ v. All (λ b. (l : ℕ) × (k < l) × (slice_get fields.now l ≡ Some b)) v.items) }
+{
+    let agreeing = agreeing_at(alloc, graph, fields, numbered, k, is_clear)?;
+    let numbers = numbered.numbers.as_slice();
+    let others = others_near(alloc, fields, k, below, numbers, &agreeing)?;
     Ok(others)
 }

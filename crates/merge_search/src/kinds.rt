@@ -17,7 +17,7 @@ use std::alloc::{AllocError, Global};
 pub(crate) const FEW: usize = 8;
 
 // No more kinds are told apart.
-const MOST: usize = 1024;
+pub(crate) const MOST: usize = 1024;
 
 // Nor more than these, where the fields may be few.
 const SOME: usize = 128;
@@ -63,7 +63,7 @@ fn add_kind<J: Judge>(
 }
 
 // A field of each kind among some, or none where there are more kinds than `most`.
-fn kinds_of<J: Judge>(
+pub(crate) fn kinds_of<J: Judge>(
     alloc: Global,
     graph: &Graph<J>,
     fields: &[Entry],
@@ -200,7 +200,7 @@ pub(crate) fn agreeing_rows<J: Judge>(
 }
 
 // Whether all numbers below one are in a set.
-fn are_all_in(rows: &BitSet, count: usize) -> bool
+pub(crate) fn are_all_in(rows: &BitSet, count: usize) -> bool
     ensures { result ≡ true → (k : ℕ) → k < count → has rows.now k ≡ true }
 {
     for k in 0..count {

@@ -3,6 +3,7 @@
 
 mod below;
 mod clear;
+mod failing;
 mod fields;
 mod fragments;
 pub mod graph;

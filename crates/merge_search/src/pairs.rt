@@ -11,6 +11,7 @@ ghost use Rattle.merge_search.specs.Reports.{FindsAll};
 ghost use Rattle.merge_search.specs.Tops.{AllBefore, AtBefore, AtRest};
 
 use crate::below::{known_below, others_after};
+use crate::failing::numbered_kinds;
 use crate::graph::Graph;
 use crate::judge::Judge;
 use crate::kinds::agreeing_rows;
@@ -82,8 +83,7 @@ fn compare_unless<J: Judge>(
     compare_rest(graph, a, rest, search)
 }
 
-// Compares a field with some others: with all of them, or if it fails with none, with those alone of which it isn't
-// known that what stands below merges.
+// Compares a field with some others: with those alone of which it isn't known that they merge with it.
 fn compare_others<J: Judge>(
     graph: &Graph<J>,
     a: Entry,
@@ -101,10 +101,7 @@ fn compare_others<J: Judge>(
     ensures real { let w = world J.judgement graph.now in
         OnOk result (FindsAll w false (AtRest a rest.now) (AtRest a rest.now) search.old search.new) }
 {
-    if !is_clear {
-        return compare_rest(graph, a, rest, search);
-    }
-    if is_plain_below(graph, a, plain) {
+    if is_plain_below(graph, a, plain) && is_clear {
         return compare_unless(graph, a, rest, is_clear, plain, search);
     }
     compare_rest(graph, a, others, search)
@@ -125,14 +122,16 @@ fn compare_all<J: Judge>(
 {
     let clear = agreeing_rows(search.alloc, graph, false, fields, fields)?;
     let below = known_below(graph, search, fields)?;
+    let kinds = numbered_kinds(search.alloc, graph, fields, &clear)?;
     for k in 0..fields.len() {
-        let others = others_after(search.alloc, fields, k, &below)?;
+        let is_clear = clear.contains(k);
+        let others = others_after(search.alloc, graph, fields, k, is_clear, &below, &kinds)?;
         compare_others(
             graph,
             fields[k],
             &fields[k + 1..],
             others.as_slice(),
-            clear.contains(k),
+            is_clear,
             plain,
             search,
         )?;

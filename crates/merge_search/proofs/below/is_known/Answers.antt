@@ -1,4 +1,4 @@
-use Rattle.std.proofs.Common.{inl, inr, subst, sym}
+use Rattle.std.proofs.Common.{inr, subst, sym}
 use Rattle.std.specs.Option.{IfSome}
 use Rattle.merge_search.specs.Near.{IsApartRow}
 use Rattle.merge_search.proofs.below.is_known.Goals as goal

@@ -5,10 +5,10 @@ use Rattle.std.proofs.lemmas.Bool.{cases_eq}
 use Rattle.std.proofs.lemmas.Option.{get_or_from_slice_get, slice_get-get_or, slice_get_within}
 use Rattle.std.proofs.lemmas.List.Elements.{All-nil, All-push, Contains-append_left, Contains-push}
 use Rattle.merge_search.specs.declared.node.Entry.{Entry}
-use Rattle.merge_search.specs.Below.{IsKnownBelow}
+use Rattle.merge_search.specs.Below.{IsPassedAt}
 use Rattle.merge_search.proofs.Work.{no_entry}
 use Rattle.merge_search.proofs.below.others_by.Goals as goal
-use Rattle.merge_search.proofs.below.others_by.Goals.{then-not-is_known+in_ok-push, else-not-is_known}
+use Rattle.merge_search.proofs.below.others_by.Goals.{then-not-is_passed+in_ok-push, else-not-is_passed}
 
 pub loop-l-init : goal.loop-l-init
 loop-l-init c = (
@@ -22,12 +22,12 @@ loop-l-preserved c =
     let fields = c.args.fields.now in
     let k = c.args.k in
     let n = c.loop-l.l in
-    let known = c.args.below.now in
+    let passed = IsPassedAt c.args.below.now c.args.numbers.now c.args.agreeing.now k in
     let old = c.loop-l.others.items in
-    let new = c.if-not-is_known.others.items in
+    let new = c.if-not-is_passed.others.items in
     let past : (m : ℕ) → m < n + 1 → (m ≡ n → ⊥) → m < n = λ m less apart. omega (arith, less, apart) in
-    elim c.if-not-is_known.branch [
-      | then-not-is_known+in_ok-push w ↦
+    elim c.if-not-is_passed.branch [
+      | then-not-is_passed+in_ok-push w ↦
           let a = get_or fields n no_entry in
           let is : new ≡ old ++ a ∷ [] = ap (λ v. v.items) w.others-is ∙ w.in_ok-push.ensures.items in (
             λ m b more less p. elim (cases_eq m n) [
@@ -40,11 +40,11 @@ loop-l-preserved c =
             subst (λ zs. All (λ (y : Entry). (m : ℕ) × (k < m) × (slice_get fields m ≡ Some y)) zs) (sym is)
                 (All-push (λ (y : Entry). (m : ℕ) × (k < m) × (slice_get fields m ≡ Some y)) old a c.loop-l.invariant.1 (n, omega (arith, c.loop-l.auto.l), slice_get-get_or fields n no_entry c.loop-l-test.true)),
           )
-      | else-not-is_known w ↦
+      | else-not-is_passed w ↦
           let is : new ≡ old = ap (λ v. v.items) w.others-is in (
             λ m b more less p. elim (cases_eq m n) [
-              | inl same ↦ inr (subst (λ (i : ℕ). IsKnownBelow known k i) (sym same) (subst (λ b. OnTrue b (IsKnownBelow known k n)) w.if-not-is_known.false c.is_known.ensures))
-              | inr apart ↦ subst (λ zs. Contains zs b ⊎ IsKnownBelow known k m) (sym is) (c.loop-l.invariant.0 m b more (past m less apart) p)
+              | inl same ↦ inr (subst (λ (i : ℕ). passed i) (sym same) (subst (λ b. OnTrue b (passed n)) w.if-not-is_passed.false c.is_passed.ensures))
+              | inr apart ↦ subst (λ zs. Contains zs b ⊎ passed m) (sym is) (c.loop-l.invariant.0 m b more (past m less apart) p)
             ],
             subst (λ zs. All (λ (y : Entry). (m : ℕ) × (k < m) × (slice_get fields m ≡ Some y)) zs) (sym is) c.loop-l.invariant.1,
           )

@@ -1,4 +1,4 @@
-use Rattle.std.proofs.Common.{◌≡◌, ◌<◌, true, arith, get_or, length, subst, take}
+use Rattle.std.proofs.Common.{◌≡◌, true, arith, get_or, subst, take}
 use Rattle.std.specs.List.{All}
 use Rattle.std.proofs.lemmas.List.{length-take, take_all}
 use Rattle.std.proofs.lemmas.List.Elements.{All-more, All-weaker}

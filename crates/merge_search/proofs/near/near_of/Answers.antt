@@ -1,4 +1,4 @@
-use Rattle.std.proofs.Common.{◌≡◌, ◌<◌, ◌+◌, ℕ, ap, arith, subst, sym}
+use Rattle.std.proofs.Common.{◌+◌, ℕ, ap, arith, subst, sym}
 use Rattle.std.specs.List.{All, Contains}
 use Rattle.merge_search.specs.Near.{IsNear, listed_at}
 use Rattle.merge_search.proofs.Merged.{stays}

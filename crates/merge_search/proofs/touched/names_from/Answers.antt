@@ -1,7 +1,5 @@
-use Rattle.std.proofs.Common.{◌≡◌, ◌+◌, ◌<◌, ◌≤◌, ℕ, true, arith, inl, inr, subst, sym}
+use Rattle.std.proofs.Common.{◌≡◌, ℕ, true, arith, subst}
 use Rattle.std.specs.List.{All}
-use Rattle.std.proofs.lemmas.Bool.{cases_eq}
-use Rattle.std.proofs.lemmas.List.Elements.{All-weaker}
 use Rattle.bit_matrix.specs.Set.{has}
 use Rattle.merge_search.proofs.Touching.{one_listed}
 use Rattle.merge_search.proofs.touched.names_from.Goals as goal

@@ -1,4 +1,4 @@
-use Rattle.std.proofs.Common.{◌≡◌, ◌∙◌, ℕ, true, inl, inr, ap, subst, sym}
+use Rattle.std.proofs.Common.{◌∙◌, ℕ, inl, inr, ap, subst, sym}
 use Rattle.std.proofs.lemmas.Bool.{cases_eq}
 use Rattle.bit_matrix.specs.Set.{has}
 use Rattle.bit_matrix.specs.declared.set.BitSet.{BitSet}
