@@ -41,6 +41,10 @@ const LISTS_THAT_ARE_COMPARED: &str =
 const CONFLICT_AMONG_MANY: &str =
     "{ human { relatives { b: iq } relatives { b: name } relatives { a: iq } relatives { a: iq } relatives { a: iq } relatives { a: iq } relatives { a: iq } relatives { a: iq } relatives { a: iq } relatives { a: iq } relatives { a: iq } relatives { a: iq } relatives { a: iq } relatives { a: iq } relatives { a: iq } relatives { a: iq } relatives { a: iq } relatives { a: iq } relatives { a: iq } relatives { a: iq } relatives { a: iq } relatives { a: iq } relatives { a: iq } relatives { a: iq } relatives { a: iq } relatives { a: iq } relatives { a: iq } relatives { a: iq } relatives { a: iq } relatives { a: iq } relatives { a: iq } relatives { a: iq } relatives { a: iq } relatives { a: iq } } dog { a: name } }";
 
+// Of the 34 fields the first and the last fail. Below the first and those between names differ, which object types allow.
+const CONFLICT_OF_TWO_KINDS: &str =
+    "{ someBox { ... on IntBox { d: deepBox { x: deepBox { s: scalar } } } ... on StringBox { d: intBox { x: intBox { s: scalar } } d: intBox { x: intBox { s: scalar } } d: intBox { x: intBox { s: scalar } } d: intBox { x: intBox { s: scalar } } d: intBox { x: intBox { s: scalar } } d: intBox { x: intBox { s: scalar } } d: intBox { x: intBox { s: scalar } } d: intBox { x: intBox { s: scalar } } d: intBox { x: intBox { s: scalar } } d: intBox { x: intBox { s: scalar } } d: intBox { x: intBox { s: scalar } } d: intBox { x: intBox { s: scalar } } d: intBox { x: intBox { s: scalar } } d: intBox { x: intBox { s: scalar } } d: intBox { x: intBox { s: scalar } } d: intBox { x: intBox { s: scalar } } d: intBox { x: intBox { s: scalar } } d: intBox { x: intBox { s: scalar } } d: intBox { x: intBox { s: scalar } } d: intBox { x: intBox { s: scalar } } d: intBox { x: intBox { s: scalar } } d: intBox { x: intBox { s: scalar } } d: intBox { x: intBox { s: scalar } } d: intBox { x: intBox { s: scalar } } d: intBox { x: intBox { s: scalar } } d: intBox { x: intBox { s: scalar } } d: intBox { x: intBox { s: scalar } } d: intBox { x: intBox { s: scalar } } d: intBox { x: intBox { s: scalar } } d: intBox { x: intBox { s: scalar } } d: intBox { x: intBox { s: scalar } } d: intBox { x: intBox { s: scalar } } } ... on IntBox { d: intBox { y: scalar } } } }";
+
 const VALUES: &str =
     "query ($c: ComplexInput!) { complicatedArgs { complexArgField(complexArg: $c) } }";
 
@@ -182,6 +186,18 @@ fn a_refused_request_among_boxes(rt: HostRuntime) {
         &schema,
         FRAGMENTS_THAT_CONFLICT,
         "Fields \"b\" conflict because subfields \"otherField\" conflict because otherField and unrelatedField are different fields. Use different aliases on the fields to fetch both if this was intentional. At 0:105, 0:171, 0:125, 0:208\n2",
+    );
+}
+
+#[test]
+fn a_refused_request_among_two_kinds(rt: HostRuntime) {
+    let schema = schema(&rt, rt.alloc(), "boxes");
+    told(
+        &rt,
+        rt.alloc(),
+        &schema,
+        CONFLICT_OF_TWO_KINDS,
+        "Fields \"d\" conflict because deepBox and intBox are different fields. Use different aliases on the fields to fetch both if this was intentional. At 0:28, 0:1323\n0",
     );
 }
 
