@@ -58,6 +58,12 @@ def kinds_and_a_conflict(count):
     return nested(0, "a: iq " * count + "... on Being { ... on Dog { " + "a: barkVolume " * count + "} } a: relatives { iq } ")
 
 
+def kinds_of_two_sets(count):
+    """The same with the one kind in a set, and the others in another."""
+    others = "... on Being { ... on Dog { " + "a: barkVolume " * count + "} } a: relatives { iq } "
+    return "{ human { " + "a: iq " * count + "} human { " + others + "} }"
+
+
 def two_fragments(count):
     """Two fragments with fields of one name, of which each has one that conflicts with one of the other."""
 
@@ -173,6 +179,7 @@ WORST = [
     ("a long type at each use", long_type, 200, False),
     ("failing fields", failing(0), 40, False),
     ("two kinds and a conflict", kinds_and_a_conflict, 40, False),
+    ("two kinds in two sets", kinds_of_two_sets, 40, False),
     ("a conflict of two fragments", two_fragments, 40, False),
     ("below one name and a conflict", below_and_a_conflict, 40, False),
     ("a conflict below two fragments", two_fragments_below(CONFLICT_BELOW), 40, False),
