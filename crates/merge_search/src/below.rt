@@ -36,7 +36,8 @@ const SAMPLE: usize = 16;
 
 // The fields at some places.
 fn entries_at(alloc: Global, fields: &[Entry], places: &[usize]) -> Result<Vec<Entry>, AllocError>
-    ensures { IfOk result (λ v. All (λ k. (a : Entry) → slice_get fields.now k ≡ Some a → Contains v.items a) places.now) }
+    ensures { IfOk result (λ v.
+        All (λ k. (a : Entry) → slice_get fields.now k ≡ Some a → Contains v.items a) places.now) }
 {
     let mut entries = Vec::new(alloc);
     for place in places {
@@ -245,8 +246,8 @@ fn is_passed(
     is_known(below, near, k, l, end)
 }
 
-// The fields after one of some that aren't known to merge with it. Given are the places that aren't known to be apart from
-// it, and the kinds with which it doesn't fail.
+// The fields after one of some that aren't known to merge with it. Given are the places that aren't known to be apart
+// from it, and the kinds with which it doesn't fail.
 fn others_by(
     alloc: Global,
     fields: &[Entry],
@@ -309,10 +310,12 @@ pub(crate) fn others_after<J: Judge>(
     numbered: &Numbered,
 ) -> Result<Vec<Entry>, AllocError>
     requires inside { k < length fields.now }
-    requires clear { OnTrue is_clear (AgreeAt (J.judgement graph.now.judge) fields.now numbered.now.numbers.items k None) }
+    requires clear { OnTrue is_clear
+        (AgreeAt (J.judgement graph.now.judge) fields.now numbered.now.numbers.items k None) }
     requires below { KnowsBelow (world J.judgement graph.now) fields.now below.now }
     requires indexed { IsIndexed below.now (length fields.now) }
-    requires numbered { AreNumbered (J.are_kin graph.now.judge) numbered.now.kinds.items fields.now numbered.now.numbers.items }
+    requires numbered { let n = numbered.now in
+        AreNumbered (J.are_kin graph.now.judge) n.kinds.items fields.now n.numbers.items }
     ensures rest { IfOk result (λ v. (l : ℕ) (a b : Entry) → k < l → slice_get fields.now k ≡ Some a
         → slice_get fields.now l ≡ Some b → Contains v.items b ⊎ Merges (world J.judgement graph.now) false a b) }
     ensures only { IfOk result (λ v. All (λ b. (l : ℕ) × (k < l) × (slice_get fields.now l ≡ Some b)) v.items) }

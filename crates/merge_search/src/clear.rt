@@ -41,8 +41,8 @@ fn are_quiet_below<J: Judge>(
     Ok(is_quiet)
 }
 
-/// Whether what stands below each two of some fields is known to merge. `false` says nothing. It takes what it has looked
-/// at there off what is `left`.
+/// Whether what stands below each two of some fields is known to merge. `false` says nothing. It takes what it has
+/// looked at there off what is `left`.
 ///
 /// # Errors
 ///

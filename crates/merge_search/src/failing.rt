@@ -120,7 +120,8 @@ fn agreeing_with<J: Judge>(
     k: usize,
 ) -> Result<BitSet, AllocError>
     requires { AreNumbered (J.are_kin graph.now.judge) numbered.now.kinds.items fields.now numbered.now.numbers.items }
-    ensures { IfOk result (λ set. AgreeAt (J.judgement graph.now.judge) fields.now numbered.now.numbers.items k (Some set)) }
+    ensures { IfOk result (λ set.
+        AgreeAt (J.judgement graph.now.judge) fields.now numbered.now.numbers.items k (Some set)) }
 {
     let Some(i) = number_at(numbered.numbers.as_slice(), k) else {
         return Ok(BitSet::new(alloc));
@@ -145,8 +146,10 @@ pub(crate) fn agreeing_at<J: Judge>(
     k: usize,
     is_clear: bool,
 ) -> Result<Option<BitSet>, AllocError>
-    requires numbered { AreNumbered (J.are_kin graph.now.judge) numbered.now.kinds.items fields.now numbered.now.numbers.items }
-    requires clear { OnTrue is_clear (AgreeAt (J.judgement graph.now.judge) fields.now numbered.now.numbers.items k None) }
+    requires numbered { let n = numbered.now in
+        AreNumbered (J.are_kin graph.now.judge) n.kinds.items fields.now n.numbers.items }
+    requires clear { OnTrue is_clear
+        (AgreeAt (J.judgement graph.now.judge) fields.now numbered.now.numbers.items k None) }
     ensures { IfOk result (AgreeAt (J.judgement graph.now.judge) fields.now numbered.now.numbers.items k) }
 {
     if is_clear {

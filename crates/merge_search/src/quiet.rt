@@ -108,8 +108,8 @@ fn own_fields<J: Judge>(
     Ok(fields)
 }
 
-// All that stands in some sets, what they spread written out, as one set, and how much was looked at. None where that is
-// more than `most`.
+// All that stands in some sets, what they spread written out, as one set, and how much was looked at. None where that
+// is more than `most`.
 fn united<J: Judge>(
     graph: &Graph<J>,
     search: &Search,
@@ -244,7 +244,8 @@ fn is_quiet_set<J: Judge>(
     ensures kept { OnOk result (AreKept apart.old.names apart.new.names) }
     ensures quiet { let w = world J.judgement graph.now in
         IfOk result (λ b. OnTrue b ((l : ℕ → Bool) → Covers l apart.new.names
-        → AllQuietBut w l waiting.new.items → AllQuietBut w l waiting.old.items × AllMergeBut w l x set.now.own.items)) }
+        → AllQuietBut w l waiting.new.items
+        → AllQuietBut w l waiting.old.items × AllMergeBut w l x set.now.own.items)) }
     ensures full { OnOk result (apart.old.room ≡ 0 → apart.new ≡ apart.old) }
 {
     for first in first_fields(set) {
@@ -258,9 +259,9 @@ fn is_quiet_set<J: Judge>(
 }
 
 /// Whether all that stands in the sets of each union, what they spread written out, is known to merge, names aside that
-/// are set apart. `false` says nothing. It looks at no more fields and sets than are `left`, and takes off those that it
-/// has looked at. Fields may be told apart by their object types: then more is known, and some sets are looked at for
-/// each type.
+/// are set apart. `false` says nothing. It looks at no more fields and sets than are `left`, and takes off those that
+/// it has looked at. Fields may be told apart by their object types: then more is known, and some sets are looked at
+/// for each type.
 ///
 /// # Errors
 ///

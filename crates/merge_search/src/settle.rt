@@ -133,8 +133,8 @@ pub(crate) fn settle<J: Judge>(
     }
 }
 
-/// Compares a field with the own fields of a set that have its response name, from a place on, as long as they are settled
-/// at once. Returns the place of the first that isn't. The two don't fail by themselves.
+/// Compares a field with the own fields of a set that have its response name, from a place on, as long as they are
+/// settled at once. Returns the place of the first that isn't. The two don't fail by themselves.
 ///
 /// # Errors
 ///
@@ -148,9 +148,11 @@ pub(crate) fn settle_from<J: Judge>(
     search: &mut Search,
 ) -> Result<usize, AllocError>
     ensures settled { let w = world J.judgement graph.now in
-        IfOk result (λ k. (t : Search) → Meets w (Task.With a j e k) search.new t → Meets w (Task.With a j e n) search.old t) }
+        IfOk result (λ k. (t : Search) → Meets w (Task.With a j e k) search.new t
+        → Meets w (Task.With a j e n) search.old t) }
     ensures open { let w = world J.judgement graph.now in
-        IfOk result (λ k. (b : Entry) → slice_get (named a.response (own_of w j)) k ≡ Some b → conflict_of w e a b ≡ false) }
+        IfOk result (λ k. (b : Entry) → slice_get (named a.response (own_of w j)) k ≡ Some b
+        → conflict_of w e a b ≡ false) }
 {
     let fields = group(graph, j, a.response);
     let mut k = n;

@@ -9,7 +9,8 @@ ghost use Rattle.merge_search.specs.Reports.{Finds, FindsAll, AtFragments, AtPla
 ghost use Rattle.merge_search.specs.Plain.{ArePlain};
 ghost use Rattle.merge_search.specs.Quiet.{AreQuiet};
 ghost use Rattle.merge_search.specs.Tops.{AddsUnmarked, AllBefore, AreAllBut, AtListed, AtSpread, AtSpreads, AtTop};
-ghost use Rattle.merge_search.specs.Tops.{AtTwo, AtWithin, MarkedDone, OwnWithin, OwnWritten, SpreadDone, Together, Top};
+ghost use Rattle.merge_search.specs.Tops.{AtTwo, AtWithin, MarkedDone, OwnWithin, OwnWritten, SpreadDone, Together};
+ghost use Rattle.merge_search.specs.Tops.{Top};
 
 use crate::clear::MANY;
 use crate::graph::Graph;

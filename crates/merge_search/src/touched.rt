@@ -7,7 +7,8 @@ ghost use Rattle.std.specs.Bool.{OnTrue};
 ghost use Rattle.std.specs.List.{All, Contains};
 ghost use Rattle.bit_matrix.specs.Set.{has};
 ghost use Rattle.merge_search.specs.Quiet.{AreKept};
-ghost use Rattle.merge_search.specs.Touched.{AreApartAt, AreListedAt, AreTouched, IsFreeOf, KnowsTouched, ListsAll, ListsBelow, told_at};
+ghost use Rattle.merge_search.specs.Touched.{AreApartAt, AreListedAt, AreTouched, IsFreeOf, KnowsTouched, ListsAll};
+ghost use Rattle.merge_search.specs.Touched.{ListsBelow, told_at};
 ghost use Rattle.merge_search.specs.World.{world};
 
 use crate::graph::Graph;
@@ -32,7 +33,8 @@ pub struct Touched {
 // Adds those response names of some fields that are among others.
 fn add_names(fields: &[Entry], names: &BitSet, found: &mut Vec<usize>) -> Result<(), AllocError>
     ensures kept { OnOk result ((n : ℕ) → Contains found.old.items n → Contains found.new.items n) }
-    ensures added { OnOk result (All (λ c. has names.now c.response ≡ true → Contains found.new.items c.response) fields.now) }
+    ensures added { OnOk result
+        (All (λ c. has names.now c.response ≡ true → Contains found.new.items c.response) fields.now) }
 {
     for field in fields {
         add_name(names, field.response, found)?;

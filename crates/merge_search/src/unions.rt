@@ -1,8 +1,8 @@
 //! Unions of the sets below fields that are compared with each other.
 //!
-//! No object is asked for two fields in different object types, so less is asked of what stands below them: it is compared
-//! under the flag that says so. The sets below the fields of each object type have a union without the flag, where those
-//! of fields in no object type stand, too. All of them have one with it.
+//! No object is asked for two fields in different object types, so less is asked of what stands below them: it is
+//! compared under the flag that says so. The sets below the fields of each object type have a union without the flag,
+//! where those of fields in no object type stand, too. All of them have one with it.
 ghost use Rattle.std.specs.Prelude.{◌≡◌, ◌⊎◌, [], IfOk, OnOk, false};
 ghost use Rattle.std.specs.Bool.{OnTrue};
 ghost use Rattle.std.specs.List.{All, Contains};
@@ -67,7 +67,8 @@ fn by_objects<J: Judge>(
     graph: &Graph<J>,
     fields: &[Entry],
 ) -> Result<SetNode, AllocError>
-    ensures { IfOk result (λ set. All (λ a. Contains set.own.items (under_object (J.objects graph.now.judge) a)) fields.now) }
+    ensures { IfOk result (λ set.
+        All (λ a. Contains set.own.items (under_object (J.objects graph.now.judge) a)) fields.now) }
 {
     let mut entries = Vec::new(alloc);
     for field in fields {
@@ -122,7 +123,8 @@ fn add_by_objects<J: Judge>(
     unions: &mut Vec<Union>,
 ) -> Result<bool, AllocError>
     ensures kept { OnOk result (UnionsKept unions.old.items unions.new.items) }
-    ensures joined { IfOk result (λ b. OnTrue b (AllJoinedFlat (world J.judgement graph.now) fields.now unions.new.items)) }
+    ensures joined { IfOk result (λ b. OnTrue b
+        (AllJoinedFlat (world J.judgement graph.now) fields.now unions.new.items)) }
 {
     let set = by_objects(alloc, graph, fields)?;
     let group = fields_named(sorted_fields(&set), 0);
