@@ -101,25 +101,25 @@ rest_clear w e a others s clear = record {
 }
 
 -- a field and some others, of which those were compared of which it wasn't known that they merge with it
-module _ (w : World) (a : Entry) (rest others : List Entry) (are : AreOthers w a rest others) where
-  pub others_done : (M : Search) → All (λ b. Done w M false a b) others → All (λ b. Done w M false a b) rest
+module _ (w : World) (e : Bool) (a : Entry) (rest others : List Entry) (are : AreOthers w e a rest others) where
+  pub others_done : (M : Search) → All (λ b. Done w M e a b) others → All (λ b. Done w M e a b) rest
   others_done M all k d l = elim (are.all k d l) [
-    | inl there ↦ All-contains (λ b. Done w M false a b) others (get_or rest k d) all there
+    | inl there ↦ All-contains (λ b. Done w M e a b) others (get_or rest k d) all there
     | inr ok ↦ done.merged ok
   ]
 
-  pub others_told : {xs ys : List Finding} → AddsAll w false (AtRest a others) (AtRest a others) xs ys → AddsAll w false (AtRest a rest) (AtRest a rest) xs ys
+  pub others_told : {xs ys : List Finding} → AddsAll w e (AtRest a others) (AtRest a others) xs ys → AddsAll w e (AtRest a rest) (AtRest a rest) xs ys
   others_told found =
-      let wide = all_map w false (AtRest a others) (AtRest a rest) (AtRest a others) (λ r z. (z.0, All-contains (λ b. Contains rest b) others r.right are.only z.1)) found in
+      let wide = all_map w e (AtRest a others) (AtRest a rest) (AtRest a others) (λ r z. (z.0, All-contains (λ b. Contains rest b) others r.right are.only z.1)) found in
       record {
         adds = wide.adds;
-        tells = λ room r at fails. elim (All-contains (λ b. Contains others b ⊎ Merges w false a b) rest r.right are.all at.1) [
+        tells = λ room r at fails. elim (All-contains (λ b. Contains others b ⊎ Merges w e a b) rest r.right are.all at.1) [
           | inl there ↦ wide.tells room r (at.0, there) fails
-          | inr ok ↦ absurd (clash (conflict_of w false r.left r.right) fails (subst (λ (x : Entry). conflict_of w false x r.right ≡ false) (sym at.0) (passes ok)))
+          | inr ok ↦ absurd (clash (conflict_of w e r.left r.right) fails (subst (λ (x : Entry). conflict_of w e x r.right ≡ false) (sym at.0) (passes ok)))
         ];
       }
     where
-      passes : {b : Entry} → Merges w false a b → conflict_of w false a b ≡ false
+      passes : {b : Entry} → Merges w e a b → conflict_of w e a b ≡ false
       passes (merges ok more) = ok
 
 -- the fields of one name of two sets

@@ -13,7 +13,7 @@ use Rattle.std.proofs.lemmas.Option.{get_or_from_slice_get, slice_get-get_or}
 use Rattle.bit_matrix.specs.Set.{has}
 use Rattle.bit_matrix.specs.declared.set.BitSet.{BitSet}
 use Rattle.merge_search.specs.Judgement.{Judgement, KinAgree, NoneConflict}
-use Rattle.merge_search.specs.Failing.{AgreeAt, AgreeKinds, AreNumbered, IsKindAt}
+use Rattle.merge_search.specs.Failing.{AgreeAt, AgreeKinds, AreNumbered, IsKindAt, StandFor}
 use Rattle.merge_search.proofs.Laws.{same_some}
 use Rattle.merge_search.proofs.Order.{at_of}
 use Rattle.merge_search.proofs.Work.{no_entry}
@@ -50,21 +50,42 @@ rows_all j e xs ys rows agree true all = λ k d l. agree k (get_or xs k d) (slic
 rows_all j e xs ys rows agree false all = tt
 
 -- a field whose place is listed fails with no other
-pub rows_agree : (j : Judgement) (xs : List Entry) (numbers : List (Option ℕ)) (rows : BitSet) (k : ℕ) → AreAgreeingRows j false xs xs rows
-    → (b : Bool) → b ≡ has rows k → OnTrue b (AgreeAt j xs numbers k None)
-rows_agree j xs numbers rows k clear true is = λ l a b p q agree.
-    All-contains (λ (y : Entry). j.conflict false a.field y.field ≡ false) xs b (clear k a p (sym is)) (at_of xs l b q)
-rows_agree j xs numbers rows k clear false is = tt
+pub rows_agree : (j : Judgement) (e : Bool) (xs : List Entry) (numbers : List (Option ℕ)) (rows : BitSet) (k : ℕ) → AreAgreeingRows j e xs xs rows
+    → (b : Bool) → b ≡ has rows k → OnTrue b (AgreeAt j e xs numbers k None)
+rows_agree j e xs numbers rows k clear true is = λ l a b p q agree.
+    All-contains (λ (y : Entry). j.conflict e a.field y.field ≡ false) xs b (clear k a p (sym is)) (at_of xs l b q)
+rows_agree j e xs numbers rows k clear false is = tt
+
+-- numbered fields fail with each other as their kinds do
+pub kinds_stand : (j : Judgement) (kin : ℕ → ℕ → Type 0) → KinAgree j kin → (kinds : List ℕ) (fields : List Entry) (numbers : List (Option ℕ))
+    → AreNumbered kin kinds fields numbers → StandFor j kinds fields numbers
+kinds_stand j kin law kinds fields numbers are = record {
+  there = λ k i a p told. let z = are k i a p told in (z.0, z.1);
+  judged = λ e k l one other a b p q left right.
+      let x = are k left.0 a p left.1 in
+      let y = are l right.0 b q right.1 in
+      law e one other a.field b.field
+      (subst (λ (n : ℕ). kin n a.field) (same_some x.0 one (slice_get kinds left.0) x.1 left.2) x.2)
+      (subst (λ (n : ℕ). kin n b.field) (same_some y.0 other (slice_get kinds right.0) y.1 right.2) y.2);
+}
+
+-- of no field is a number told
+pub none_stand : (j : Judgement) (kinds : List ℕ) (fields : List Entry) (numbers : List (Option ℕ)) → numbers ≡ [] → StandFor j kinds fields numbers
+none_stand j kinds fields numbers none = record {
+  there = λ k i a p told. absurd (untold i (sym (ap (λ zs. get_or zs k None) none ∙ get_or_past [] k None (omega arith)) ∙ told));
+  judged = λ e k l one other a b p q left right. absurd (untold left.0 (sym (ap (λ zs. get_or zs k None) none ∙ get_or_past [] k None (omega arith)) ∙ left.1));
+}
+  where
+    untold : (i : ℕ) → None ≡ Some i → ⊥
+    untold i h = cc
 
 -- a field fails with no field of a kind that its own doesn't fail with
-pub kinds_agree : (j : Judgement) (kin : ℕ → ℕ → Type 0) → KinAgree j kin → (fields : List Entry) (numbers : List (Option ℕ)) (kinds : List ℕ) (k i one : ℕ) (set : BitSet)
-    → AreNumbered kin kinds fields numbers → get_or numbers k None ≡ Some i → slice_get kinds i ≡ Some one → AgreeKinds j one kinds set
-    → AgreeAt j fields numbers k (Some set)
-kinds_agree j kin law fields numbers kinds k i one set are told at agree l a b p q there =
-    let left = are k i a p told in
-    let right = are l there.0 b q there.1 in
-    law false left.0 right.0 a.field b.field left.2 right.2
-    ∙ subst (λ (n : ℕ). j.conflict false n right.0 ≡ false) (same_some one left.0 (slice_get kinds i) at left.1) (agree there.0 right.0 there.2 right.1)
+pub kinds_agree : (j : Judgement) (e : Bool) (fields : List Entry) (numbers : List (Option ℕ)) (kinds : List ℕ) (k i one : ℕ) (set : BitSet)
+    → StandFor j kinds fields numbers → get_or numbers k None ≡ Some i → slice_get kinds i ≡ Some one → AgreeKinds j e one kinds set
+    → AgreeAt j e fields numbers k (Some set)
+kinds_agree j e fields numbers kinds k i one set stand told at agree l a b p q there =
+    let right = stand.there l there.0 b q there.1 in
+    stand.judged e k l one right.0 a b p q (i, told, at) (there.0, there.1, right.1) ∙ agree there.0 right.0 there.2 right.1
 
 -- the numbers of one more field
 pub one_numbered : (kin : ℕ → ℕ → Type 0) (kinds : List ℕ) (fields : List Entry) (old new : List (Option ℕ)) (one : Option ℕ) (k : ℕ) → new ≡ old ++ one ∷ []

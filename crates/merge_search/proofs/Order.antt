@@ -1,6 +1,8 @@
 -- Two of a list, the first before the second, and what a filter keeps of them.
-use Rattle.std.proofs.Common.{◌≡◌, ◌==◌, ℕ, zero, suc, ◌+◌, ◌-◌, ◌<◌, ◌≤◌, List, [], ◌∷◌, length, take, drop, get_or, sym, subst, ap, ◌∙◌, arith, Bool, true, false, cond, Some, inl, inr, ◌⊎◌, slice_get, length-drop}
+use Rattle.std.proofs.Common.{◌≡◌, ◌==◌, ◌++◌, ℕ, zero, suc, ◌+◌, ◌-◌, ◌<◌, ◌≤◌, List, [], ◌∷◌, length, take, drop, get_or, sym, subst, ap, ◌∙◌, arith, Bool, true, false, cond, Some, inl, inr, ◌⊎◌, slice_get, length-append, length-drop}
 use Rattle.std.specs.List.{All, Contains, filter}
+use Rattle.std.proofs.Math.ListN.{get_or-append}
+use Rattle.merge_search.specs.TwoSets.{BeginWith}
 use Rattle.std.proofs.lemmas.List.{take_all, get_or-drop, get_or_default}
 use Rattle.std.proofs.lemmas.List.Elements.{All-contains, All-filter, All-contains_itself}
 use Rattle.std.proofs.lemmas.Option.{get_or_from_slice_get, slice_get_within, slice_get-get_or}
@@ -97,10 +99,27 @@ tell_within w s firsts listed r h =
 pub rest_is : {X : Type 0} (xs : List X) (n : ℕ) → take (length xs - n) (drop n xs) ≡ drop n xs
 rest_is xs n = take_all (length xs - n) (drop n xs) (omega (arith, length-drop n xs))
 
+-- what stands after the first so many
+pub drop_places : {X : Type 0} (xs : List X) (n : ℕ) (x : X) → Contains (drop n xs) x → (l : ℕ) × (n ≤ l) × (slice_get xs l ≡ Some x)
+drop_places xs n x c =
+    let far : n + c.0 < length xs = omega (arith, length-drop n xs, c.1) in
+    (n + c.0, omega arith, slice_get-get_or xs (n + c.0) x far ∙ ap (λ y. Some y) (sym (get_or-drop n xs c.0 x) ∙ c.2))
+
+pub in_drop : {X : Type 0} (xs : List X) (n l : ℕ) (x : X) → n ≤ l → slice_get xs l ≡ Some x → Contains (drop n xs) x
+in_drop xs n l x le p =
+    let inside : l < length xs = slice_get_within xs l x p in
+    let moved : n + (l - n) ≡ l = omega (arith, le) in
+    (l - n, omega (arith, length-drop n xs, inside, le), get_or-drop n xs (l - n) x ∙ (ap (λ (i : ℕ). get_or xs i x) moved ∙ get_or_from_slice_get xs l x x p))
+
+-- a list begins with its first part
+pub begin_with : (xs ys zs : List Entry) → zs ≡ xs ++ ys → BeginWith zs xs
+begin_with xs ys zs is k a p =
+    let inside : k < length xs = slice_get_within xs k a p in
+    subst (λ us. slice_get us k ≡ Some a) (sym is)
+    (slice_get-get_or (xs ++ ys) k a (omega (arith, inside, length-append xs ys)) ∙ ap (λ y. Some y) (get_or-append xs ys a k inside ∙ get_or_from_slice_get xs k a a p))
+
 pub rest_places : {X : Type 0} (xs : List X) (k : ℕ) (x : X) → Contains (drop (k + 1) xs) x → (l : ℕ) × (k < l) × (slice_get xs l ≡ Some x)
-rest_places xs k x c =
-    let far : (k + 1) + c.0 < length xs = omega (arith, length-drop (k + 1) xs, c.1) in
-    ((k + 1) + c.0, omega arith, slice_get-get_or xs ((k + 1) + c.0) x far ∙ ap (λ y. Some y) (sym (get_or-drop (k + 1) xs c.0 x) ∙ c.2))
+rest_places xs k x c = let z = drop_places xs (k + 1) x c in (z.0, omega (arith, z.1), z.2)
 
 pub row_rest : (xs : List Entry) (k : ℕ) → k < length xs → (r : Root) → AtRest (get_or xs k no_entry) (drop (k + 1) xs) r → AtBefore xs r
 row_rest xs k lt r h =
@@ -108,10 +127,7 @@ row_rest xs k lt r h =
     (k, z.0, z.1, slice_get-get_or xs k no_entry lt ∙ ap (λ y. Some y) (sym h.0), z.2)
 
 pub in_rest : {X : Type 0} (xs : List X) (k l : ℕ) (x : X) → k < l → slice_get xs l ≡ Some x → Contains (drop (k + 1) xs) x
-in_rest xs k l x lt p =
-    let inside : l < length xs = slice_get_within xs l x p in
-    let moved : (k + 1) + (l - (k + 1)) ≡ l = omega (arith, lt) in
-    (l - (k + 1), omega (arith, length-drop (k + 1) xs, inside, lt), get_or-drop (k + 1) xs (l - (k + 1)) x ∙ (ap (λ (i : ℕ). get_or xs i x) moved ∙ get_or_from_slice_get xs l x x p))
+in_rest xs k l x lt p = in_drop xs (k + 1) l x (omega (arith, lt)) p
 
 pub tell_rest : (xs : List Entry) (k : ℕ) → length xs ≤ k → (r : Root) → AtBefore xs r → (m : ℕ) × (m < k) × AtRest (get_or xs m no_entry) (drop (m + 1) xs) r
 tell_rest xs k le r h = (h.0, omega (arith, slice_get_within xs h.1 r.right h.4, h.2, le), (sym (get_or_from_slice_get xs h.0 r.left no_entry h.3), in_rest xs h.0 h.1 r.right h.2 h.4))

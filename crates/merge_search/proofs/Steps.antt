@@ -16,17 +16,20 @@ use Rattle.merge_search.specs.Opening.{Opens}
 use Rattle.merge_search.specs.State.{Keeps, NotesPair, NotesSearch, CountsList}
 use Rattle.merge_search.specs.Work as done
 use Rattle.merge_search.specs.Merging.{Merges}
-use Rattle.merge_search.specs.Clear.{IsClear}
+use Rattle.merge_search.specs.Clear.{AreOthers, IsClear}
+use Rattle.merge_search.specs.Inner.{AtLists}
+use Rattle.merge_search.specs.Tops.{AtRest}
 use Rattle.merge_search.specs.Work.{pair_in, Did, Owes, Done, Searched, Pair, OwnPairs, AllClosed}
 use Rattle.merge_search.specs.Reports.{Root, Adds, AddsAll, AtFields, AtWith, AtNamed, AtOwn, AtSearch, AtFirst}
 use Rattle.merge_search.specs.declared.task.Partner.TheVariants as partner
 use Rattle.merge_search.specs.declared.task.Task.{Task}
-use Rattle.merge_search.specs.declared.task.Task.TheVariants.{With, Own, Close, Opened, Mark, Spreads}
-use Rattle.merge_search.specs.Tasks.{Meets, firsts_at, AtPartners, Compares, Searches, SearchesOwing, ComparesEach, MeetsNested, MeetsBelow, MeetsNamed, MeetsRows, MeetsOne, MeetsSearch, MeetsFragments, WithDone, NameDone, SpreadsSearched, Closes}
-use Rattle.merge_search.proofs.Work.{did_none, did_full, owes_full, did_then, did_map, did_list, did_opened, did_fragments, did_report, did_kept, owes_search, grows_then}
+use Rattle.merge_search.specs.declared.task.Task.TheVariants.{With, Listed, Rows, Own, Close, Opened, Mark, Spreads}
+use Rattle.merge_search.specs.Tasks.{Meets, firsts_at, AtPartners, Compares, Searches, SearchesOwing, ComparesEach, MeetsNested, MeetsBelow, MeetsBoth, MeetsFields, MeetsList, MeetsNamed, MeetsRows, MeetsOne, MeetsSearch, MeetsFragments, RowDone, WithDone, NameDone, SpreadsSearched, Closes}
+use Rattle.merge_search.proofs.Work.{no_entry, did_none, did_full, owes_full, did_then, did_map, did_list, did_opened, did_fragments, did_report, did_kept, owes_search, grows_then}
 use Rattle.merge_search.proofs.Laws.{clash}
 use Rattle.merge_search.proofs.Adding.{all_full, merges_none, adds_none, adds_map, adds_then, adds_from, adds_node, adds_same, all_both, all_map, all_told}
-use Rattle.merge_search.proofs.Rows.{named_in, named_is, row_named, tell_with, tell_named, tell_own, own_pairs, row_first, row_second, row_fragments, row_nested, row_below_own, row_below_forth, row_below_back, row_below_spreads}
+use Rattle.merge_search.proofs.Clearing.{others_done, others_told}
+use Rattle.merge_search.proofs.Rows.{named_in, named_is, named_own, row_named, row_with, tell_with, tell_named, tell_own, own_pairs, row_first, row_second, row_fragments, row_nested, row_below_own, row_below_forth, row_below_back, row_below_spreads}
 
 pub drop_next : {X : Type 0} (ys xs : List X) (k : ℕ) (d : X) → ys ≡ xs → k < length ys → drop k xs ≡ get_or ys k d ∷ drop (k + 1) xs
 drop_next ys xs k d h l = subst (λ zs. drop k zs ≡ get_or ys k d ∷ drop (k + 1) zs) h (drop_more ys k d l)
@@ -82,9 +85,13 @@ module _ (w : World) (e : Bool) where
   }
 
   -- all that a field is compared with, and all of a response name
-  pub with_whole : (a : Entry) (j : ℕ) (s t : Search) → ComparesEach w e (λ b M. Done w M e a b) (AtWith w a j) (λ b. AtFields a b) (named a.response (own_of w j)) s t
+  pub with_whole : (a : Entry) (j : ℕ) (s t : Search) → MeetsList w e a (named a.response (own_of w j)) 0 s t
       → Compares w e (WithDone w e j a) (AtWith w a j) (AtWith w a j) s t
-  with_whole a j s t d = record { done = d.done; real = all_told w e _ _ _ (tell_with w a j) d.real }
+  with_whole a j s t d = record {
+    done = d.done;
+    real = all_told w e _ _ _ (tell_with w a j)
+        (all_map w e (AtRest a (named a.response (own_of w j))) (AtWith w a j) _ (λ r h. row_with w a r.right j r h.1 (h.0, refl)) d.real);
+  }
 
   pub named_whole : (i j n : ℕ) (s t : Search) → ComparesEach w e (WithDone w e j) (AtNamed w i j n) (λ a. AtWith w a j) (named n (own_of w i)) s t → MeetsNamed w e i j n s t
   named_whole i j n s t d = record { done = d.done; real = all_told w e _ _ _ (tell_named w i j n) d.real }
@@ -264,8 +271,71 @@ module _ (w : World) (e : Bool) where
   pub owing_full : (O D : Search → Type 0) (P : Root → Type 0) (s : Search) → (HasRoom w s.found.items → ⊥) → SearchesOwing w e O D P s s
   owing_full O D P s full = record { done = owes_full w O D s full; real = adds_none w e P s.found.items }
 
+-- a field and one of a list
+pub listed_row : (a : Entry) (list : List Entry) (b : Entry) (r : Root) → Contains list b → AtFields a b r → AtRest a list r
+listed_row a list b r there at = (at.0, subst (λ (x : Entry). Contains list x) (sym at.1) there)
+
+module _ (w : World) (e : Bool) where
+  -- no field of a list is left
+  pub list_end : (a : Entry) (list : List Entry) (k : ℕ) (s : Search) → length list ≤ k → MeetsList w e a list k s s
+  list_end a list k s past = each_none w e (λ b M. Done w M e a b) (AtRest a list) (λ b. AtFields a b) (drop k list) s (drop_end list list k refl past)
+
+  -- the next field of a list, and then the rest
+  pub list_next : (a : Entry) (list : List Entry) (k : ℕ) (s t u : Search) → k < length list → MeetsFields w e a (get_or list k no_entry) s t
+      → MeetsList w e a list (k + 1) t u → MeetsList w e a list k s u
+  list_next a list k s t u less one more =
+      let b = get_or list k no_entry in
+      each_next w e (λ b M. Done w M e a b) (AtRest a list) (AtFields a b) (λ b. AtFields a b) b (drop (k + 1) list) (drop k list) s t u
+      (drop_next list list k no_entry refl less) (λ r z. listed_row a list b r (Contains-get_or list k no_entry less) z) one more
+
+  -- all that a field is compared with, where the others are known to merge with it
+  pub others_whole : (a : Entry) (rest others : List Entry) (s t : Search) → AreOthers w e a rest others → MeetsList w e a others 0 s t
+      → Compares w e (RowDone w e rest a) (AtRest a rest) (AtRest a rest) s t
+  others_whole a rest others s t are d = record {
+    done = did_map w _ _ (λ M z. others_done w e a rest others are M z) d.done;
+    real = others_told w e a rest others are (all_told w e _ _ _ (λ r h. (r.right, h.1, (h.0, refl))) d.real);
+  }
+
+  -- no row is left
+  pub both_end : (left right : List Entry) (k : ℕ) (s : Search) → length left ≤ k → MeetsBoth w e left right k s s
+  both_end left right k s past = each_none w e (RowDone w e right) (AtLists left right) (λ a. AtRest a right) (drop k left) s (drop_end left left k refl past)
+
+  -- the next row, and then the rest
+  pub both_next : (left right : List Entry) (k : ℕ) (s t u : Search) → k < length left
+      → (let a = get_or left k no_entry in Compares w e (RowDone w e right a) (AtRest a right) (AtRest a right) s t)
+      → MeetsBoth w e left right (k + 1) t u → MeetsBoth w e left right k s u
+  both_next left right k s t u less one more =
+      let a = get_or left k no_entry in
+      each_next w e (RowDone w e right) (AtLists left right) (AtRest a right) (λ a. AtRest a right) a (drop (k + 1) left) (drop k left) s t u
+      (drop_next left left k no_entry refl less)
+      (λ r h. (subst (λ (x : Entry). Contains left x) (sym h.0) (Contains-get_or left k no_entry less), h.1)) one more
+
+  -- the fields of one response name of two sets, as two lists
+  named_both : (i j n : ℕ) (s t : Search) → MeetsBoth w e (named n (own_of w i)) (named n (own_of w j)) 0 s t → MeetsNamed w e i j n s t
+  named_both i j n s t d =
+      let left = named n (own_of w i) in
+      let right = named n (own_of w j) in
+      record {
+        done = did_map w _ _ (λ M z k f l. let a = get_or left k f in
+            subst (λ (m : ℕ). All (λ b. Done w M e a b) (named m (own_of w j))) (sym (named_is n (own_of w i) a (Contains-get_or left k f l))) (z k f l)) d.done;
+        real = all_told w e _ _ _ (λ r h. (r.left, named_in n (own_of w i) r.left h.0 h.1, (refl, named_in n (own_of w j) r.right h.2 (sym h.3 ∙ h.1))))
+            (all_map w e (AtLists left right) (AtNamed w i j n) _ (λ r h. (
+              named_own n (own_of w i) r.left h.0,
+              named_is n (own_of w i) r.left h.0,
+              named_own n (own_of w j) r.right h.1,
+              named_is n (own_of w i) r.left h.0 ∙ sym (named_is n (own_of w j) r.right h.1),
+            )) d.real);
+      }
+
+  pub both_named : (i j n : ℕ) (left right : List Entry) (s t : Search) → left ≡ named n (own_of w i) → right ≡ named n (own_of w j)
+      → MeetsBoth w e left right 0 s t → MeetsNamed w e i j n s t
+  both_named i j n left right s t is other d =
+      named_both i j n s t (subst (λ ys. MeetsBoth w e (named n (own_of w i)) ys 0 s t) other (subst (λ xs. MeetsBoth w e xs right 0 s t) is d))
+
 pub skipped : (w : World) (t : Task) (s : Search) → (HasRoom w s.found.items → ⊥) → ((a b : Entry) (n : ℕ) → t ≡ Close a b n → ⊥) → ((i n : ℕ) → t ≡ Mark i n → ⊥) → Meets w t s s
 skipped w (With a j e n) s full close mark = compares_full w e _ _ _ s full
+skipped w (Listed a list e n) s full close mark = compares_full w e _ _ _ s full
+skipped w (Rows rows e k) s full close mark = λ knows. compares_full w e _ _ _ s full
 skipped w (Own i j e k) s full close mark = compares_full w e _ _ _ s full
 skipped w (Close a b n) s full close mark = absurd (close a b n refl)
 skipped w (Opened i g e opening k) s full close mark = λ reached. owing_full w e _ _ _ s full

@@ -1,12 +1,13 @@
 -- What is known of what stands below some fields.
-use Rattle.std.specs.Prelude.{ℕ, List, Option, Some, true, false, ◌≡◌, ◌⊎◌, slice_get}
+use Rattle.std.specs.Prelude.{ℕ, List, Bool, Option, Some, length, true, ◌≡◌, ◌⊎◌, slice_get}
 use Rattle.std.specs.Option.{IfSome}
 use Rattle.bit_matrix.specs.Set.{has}
 use Rattle.bit_matrix.specs.declared.set.BitSet.{BitSet}
 use Rattle.merge_search.specs.declared.below.Below.{Below}
 use Rattle.merge_search.specs.declared.node.Entry.{Entry}
 use Rattle.merge_search.specs.Clear.{IsClearBelow}
-use Rattle.merge_search.specs.Failing.{AgreesBy}
+use Rattle.merge_search.specs.declared.failing.Numbered.{Numbered}
+use Rattle.merge_search.specs.Failing.{AgreesBy, StandFor}
 use Rattle.merge_search.specs.Near.{IsNear}
 use Rattle.merge_search.specs.Touched.{AreApartAt}
 use Rattle.merge_search.specs.World.{World}
@@ -23,10 +24,16 @@ abbrev pub IsPassedAt : Below → List (Option ℕ) → Option BitSet → ℕ �
 IsPassedAt known numbers agreeing k l = IsKnownBelow known k l × AgreesBy numbers agreeing l
 
 -- What is known is true.
-abbrev pub KnowsBelow : World → List Entry → Below → Type 0
-KnowsBelow w fields known =
-    (k l : ℕ) (a b : Entry) → IsKnownBelow known k l → slice_get fields k ≡ Some a → slice_get fields l ≡ Some b → IsClearBelow w false a b
+abbrev pub KnowsBelow : World → Bool → List Entry → Below → Type 0
+KnowsBelow w e fields known =
+    (k l : ℕ) (a b : Entry) → IsKnownBelow known k l → slice_get fields k ≡ Some a → slice_get fields l ≡ Some b → IsClearBelow w e a b
 
 -- Each of the first so many places stands in the index, if there is one.
 abbrev pub IsIndexed : Below → ℕ → Type 0
 IsIndexed known count = IfSome known.near (λ near. IsNear known.touched count near.untold near.index.own.items)
+
+-- What is known of each two of the fields is true: of what stands below them, and of their kinds.
+pub record KnowsPairs (w : World) (e : Bool) (fields : List Entry) (known : Below) (numbered : Numbered) : Type 0 where
+  pub below : KnowsBelow w e fields known
+  pub indexed : IsIndexed known (length fields)
+  pub kinds : StandFor w.judgement numbered.kinds.items fields numbered.numbers.items

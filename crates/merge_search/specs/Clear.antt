@@ -1,5 +1,5 @@
 -- Fields between which there is nothing to find.
-use Rattle.std.specs.Prelude.{ℕ, List, Bool, Some, None, true, false, ◌≡◌, ◌⊎◌, slice_get}
+use Rattle.std.specs.Prelude.{ℕ, List, Bool, Some, None, true, ◌≡◌, ◌⊎◌, slice_get}
 use Rattle.std.specs.List.{All, Contains}
 use Rattle.bit_matrix.specs.Set.{has}
 use Rattle.bit_matrix.specs.declared.set.BitSet.{BitSet}
@@ -37,12 +37,12 @@ abbrev pub AreClearRowsBelow : World → Bool → List Entry → List Entry → 
 AreClearRowsBelow w e left right rows = (k : ℕ) (a : Entry) → slice_get left k ≡ Some a → has rows k ≡ true → All (λ b. IsClearBelow w e a b) right
 
 -- What stands below each two of the fields at some places merges.
-abbrev pub MergeBelow : World → List Entry → List ℕ → Type 0
-MergeBelow w fields places =
+abbrev pub MergeBelow : World → Bool → List Entry → List ℕ → Type 0
+MergeBelow w e fields places =
     (k l : ℕ) (a b : Entry) → Contains places k → Contains places l → slice_get fields k ≡ Some a → slice_get fields l ≡ Some b
-    → IsClearBelow w false a b
+    → IsClearBelow w e a b
 
--- Some of the fields after one: all but those that merge with it.
-pub record AreOthers (w : World) (a : Entry) (rest others : List Entry) : Type 0 where
-  pub all : All (λ b. Contains others b ⊎ Merges w false a b) rest
+-- Some of the fields that one is compared with: all but those that merge with it.
+pub record AreOthers (w : World) (e : Bool) (a : Entry) (rest others : List Entry) : Type 0 where
+  pub all : All (λ b. Contains others b ⊎ Merges w e a b) rest
   pub only : All (λ b. Contains rest b) others

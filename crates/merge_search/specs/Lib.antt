@@ -10,6 +10,7 @@ pub mod Clear
 pub mod Touched
 pub mod Near
 pub mod Below
+pub mod TwoSets
 pub mod Quiet
 pub mod Unions
 pub mod Plain

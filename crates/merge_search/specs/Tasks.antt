@@ -10,7 +10,7 @@ use Rattle.merge_search.specs.declared.node.SetNode.{SetNode}
 use Rattle.merge_search.specs.declared.state.Search.{Search}
 use Rattle.merge_search.specs.declared.state.Finding.TheVariants.{Nested}
 use Rattle.merge_search.specs.declared.task.Task.{Task}
-use Rattle.merge_search.specs.declared.task.Task.TheVariants.{With, Own, Close, Opened, Mark, Spreads}
+use Rattle.merge_search.specs.declared.task.Task.TheVariants.{With, Listed, Rows, Own, Close, Opened, Mark, Spreads}
 use Rattle.merge_search.specs.declared.task.Partner.{Partner}
 use Rattle.merge_search.specs.declared.task.Partner.TheVariants as partner
 use Rattle.merge_search.specs.Clear.{IsClear}
@@ -22,6 +22,9 @@ use Rattle.merge_search.specs.State.{Keeps, Reports}
 use Rattle.merge_search.specs.Work.{Did, Owes, Done, Searched, Pair, SetsDone}
 use Rattle.merge_search.specs.Reports.{Root, Finds, FindsAll, AtFields, AtWith, AtNamed, AtOwn, AtSearch, AtFragments}
 use Rattle.merge_search.specs.Reports.{AtFirst, AtBelow}
+use Rattle.merge_search.specs.Inner.{AtLists}
+use Rattle.merge_search.specs.TwoSets.{KnowsRows, rights_of}
+use Rattle.merge_search.specs.Tops.{AtRest}
 
 -- The first own field of each response name of a set.
 abbrev pub firsts_at : List SetNode → ℕ → List Entry
@@ -79,6 +82,17 @@ AtRows w j fields r = (a : Entry) × Contains fields a × AtWith w a j r
 abbrev pub MeetsRows : World → Bool → ℕ → List Entry → Search → Search → Type 0
 MeetsRows w e j fields = ComparesEach w e (WithDone w e j) (AtRows w j fields) (λ a. AtWith w a j) fields
 
+-- A field and those of a list, from a place on.
+abbrev pub MeetsList : World → Bool → Entry → List Entry → ℕ → Search → Search → Type 0
+MeetsList w e a others n = ComparesEach w e (λ b M. Done w M e a b) (AtRest a others) (λ b. AtFields a b) (drop n others)
+
+-- The fields of a list, from a place on, and those of another.
+abbrev pub RowDone : World → Bool → List Entry → Entry → Search → Type 0
+RowDone w e right a M = All (λ b. Done w M e a b) right
+
+abbrev pub MeetsBoth : World → Bool → List Entry → List Entry → ℕ → Search → Search → Type 0
+MeetsBoth w e left right k = ComparesEach w e (RowDone w e right) (AtLists left right) (λ a. AtRest a right) (drop k left)
+
 -- Each field whose place is listed merges with those of the set.
 abbrev pub AreClearWith : World → Bool → ℕ → List Entry → BitSet → Type 0
 AreClearWith w e j fields rows =
@@ -132,9 +146,9 @@ Closes a b start old new =
 
 -- What a task makes of the state.
 abbrev pub Meets : World → Task → Search → Search → Type 0
-Meets w (With a j e n) old new =
-    ComparesEach w e (λ b M. Done w M e a b) (AtWith w a j) (λ b. AtFields a b)
-    (drop n (named a.response (own_of w j))) old new
+Meets w (With a j e n) old new = MeetsList w e a (named a.response (own_of w j)) n old new
+Meets w (Listed a list e n) old new = MeetsList w e a list.items n old new
+Meets w (Rows rows e k) old new = KnowsRows w e rows → MeetsBoth w e rows.left.items (rights_of rows) k old new
 Meets w (Own i j e k) old new =
     ComparesEach w e (NameDone w e i j) (AtOwn w i j) (λ f. AtNamed w i j f.response)
     (drop k (firsts_at w.sets i)) old new

@@ -1,11 +1,12 @@
 //! Fields of one response name of which it is known, of many at once, that what stands below them merges.
-ghost use Rattle.std.specs.Prelude.{◌≡◌, ◌⊎◌, ◌<◌, ℕ, IfOk, IfSome, None, OnOk, Some, false, length, slice_get, true};
+ghost use Rattle.std.specs.Prelude.{◌≡◌, ◌⊎◌, ◌<◌, ◌≤◌, ℕ, IfOk, IfSome, None, OnOk, Some};
+ghost use Rattle.std.specs.Prelude.{false, length, slice_get, true};
 ghost use Rattle.std.specs.Bool.{OnTrue};
 ghost use Rattle.std.specs.List.{All, Contains};
-ghost use Rattle.merge_search.specs.Below.{IsIndexed, IsKnownBelow, IsPassedAt, KnowsBelow};
+ghost use Rattle.merge_search.specs.Below.{IsIndexed, IsKnownBelow, IsPassedAt, KnowsBelow, KnowsPairs};
 ghost use Rattle.merge_search.specs.Near.{IsApartRow};
 ghost use Rattle.merge_search.specs.Clear.{MergeBelow};
-ghost use Rattle.merge_search.specs.Failing.{AgreeAt, AreNumbered};
+ghost use Rattle.merge_search.specs.Failing.{AgreeAt};
 ghost use Rattle.merge_search.specs.Merging.{Merges};
 ghost use Rattle.merge_search.specs.World.{world};
 
@@ -52,6 +53,7 @@ fn entries_at(alloc: Global, fields: &[Entry], places: &[usize]) -> Result<Vec<E
 fn add_places<J: Judge>(
     graph: &Graph<J>,
     search: &Search,
+    e: bool,
     fields: &[Entry],
     from: usize,
     to: usize,
@@ -59,14 +61,14 @@ fn add_places<J: Judge>(
     good: &mut Vec<usize>,
 ) -> Result<bool, AllocError>
     ensures { let w = world J.judgement graph.now in
-        OnOk result (MergeBelow w fields.now good.old.items → MergeBelow w fields.now good.new.items) }
+        OnOk result (MergeBelow w e fields.now good.old.items → MergeBelow w e fields.now good.new.items) }
 {
     let mut more = Vec::from_slice(search.alloc, good.as_slice())?;
     for k in from..to {
         more.push(k)?;
     }
     let entries = entries_at(search.alloc, fields, more.as_slice())?;
-    let is_clear = are_clear_below(graph, search, false, entries.as_slice(), left)?;
+    let is_clear = are_clear_below(graph, search, e, entries.as_slice(), left)?;
     if !is_clear {
         return Ok(false);
     }
@@ -79,10 +81,11 @@ fn add_places<J: Judge>(
 fn good_places<J: Judge>(
     graph: &Graph<J>,
     search: &Search,
+    e: bool,
     fields: &[Entry],
     most: usize,
 ) -> Result<Vec<usize>, AllocError>
-    ensures { IfOk result (λ v. MergeBelow (world J.judgement graph.now) fields.now v.items) }
+    ensures { IfOk result (λ v. MergeBelow (world J.judgement graph.now) e fields.now v.items) }
 {
     let mut good = Vec::new(search.alloc);
     let mut left = most;
@@ -91,7 +94,7 @@ fn good_places<J: Judge>(
     while left > 0 && next < fields.len() {
         let end = fields.len().min(next.saturating_add(size));
         let mut rest = left.saturating_sub(good.len()).saturating_sub(size);
-        let is_good = add_places(graph, search, fields, next, end, &mut rest, &mut good)?;
+        let is_good = add_places(graph, search, e, fields, next, end, &mut rest, &mut good)?;
         left = rest.min(left - 1);
         if is_good {
             next = end;
@@ -119,14 +122,20 @@ fn all_or_nothing(alloc: Global, of_all: bool) -> Below
 }
 
 // Whether few fields are left to compare, by some of those that are spread evenly.
-fn leaves_few(alloc: Global, fields: &[Entry], below: &Below) -> Result<bool, AllocError>
-    requires { IsIndexed below.now (length fields.now) }
-{
+fn leaves_few(alloc: Global, fields: &[Entry], below: &Below) -> Result<bool, AllocError> {
     let step = fields.len() / SAMPLE + 1;
     let mut others: usize = 0;
     let mut k = 0;
     while k < fields.len() {
-        others = others.saturating_add(others_near(alloc, fields, k, below, &[], &None)?.len());
+        others = others.saturating_add(others_near(
+            alloc,
+            fields,
+            k,
+            k + 1,
+            below,
+            &[],
+            &None,
+        )?.len());
         k = k.saturating_add(step);
     }
     Ok(others < fields.len())
@@ -136,14 +145,15 @@ fn leaves_few(alloc: Global, fields: &[Entry], below: &Below) -> Result<bool, Al
 fn some_known<J: Judge>(
     graph: &Graph<J>,
     search: &Search,
+    e: bool,
     fields: &[Entry],
     most: usize,
 ) -> Result<Below, AllocError>
-    ensures knows { IfOk result (KnowsBelow (world J.judgement graph.now) fields.now) }
+    ensures knows { IfOk result (KnowsBelow (world J.judgement graph.now) e fields.now) }
     ensures indexed { IfOk result (λ below. IsIndexed below (length fields.now)) }
 {
     let mut half = most / 2;
-    let touched = touched_below(graph, search, false, fields, &mut half)?;
+    let touched = touched_below(graph, search, e, fields, &mut half)?;
     let near = near_of(search.alloc, &touched, fields.len())?;
     let below = Below {
         of_all: false,
@@ -154,7 +164,7 @@ fn some_known<J: Judge>(
     if leaves_few(search.alloc, fields, &below)? {
         return Ok(below);
     }
-    let good = good_places(graph, search, fields, most / 2)?;
+    let good = good_places(graph, search, e, fields, most / 2)?;
     let places = set_of_numbers(search.alloc, good.as_slice())?;
     Ok(Below {
         of_all: false,
@@ -164,8 +174,8 @@ fn some_known<J: Judge>(
     })
 }
 
-/// What is known of what stands below some fields, nothing where they are few. It takes less than comparing each two
-/// would.
+/// What is known of what stands below some fields, nothing where they are few. It looks at no more fields and sets than
+/// `most`.
 ///
 /// # Errors
 ///
@@ -173,27 +183,28 @@ fn some_known<J: Judge>(
 pub(crate) fn known_below<J: Judge>(
     graph: &Graph<J>,
     search: &Search,
+    e: bool,
     fields: &[Entry],
+    most: usize,
 ) -> Result<Below, AllocError>
-    ensures knows { IfOk result (KnowsBelow (world J.judgement graph.now) fields.now) }
+    ensures knows { IfOk result (KnowsBelow (world J.judgement graph.now) e fields.now) }
     ensures indexed { IfOk result (λ below. IsIndexed below (length fields.now)) }
 {
     if fields.len() < WIDE {
         return Ok(all_or_nothing(search.alloc, false));
     }
-    let mut left = fields.len().saturating_mul(fields.len()) / 4;
-    let of_all = are_clear_below(graph, search, false, fields, &mut left)?;
+    let mut left = most;
+    let of_all = are_clear_below(graph, search, e, fields, &mut left)?;
     if of_all {
         return Ok(all_or_nothing(search.alloc, true));
     }
-    some_known(graph, search, fields, left)
+    some_known(graph, search, e, fields, left)
 }
 
 // Whether it is known that what stands below the fields at two places merges.
 fn is_known(below: &Below, near: &Option<BitSet>, k: usize, l: usize, end: usize) -> bool
-    requires near { IfSome near.now (IsApartRow below.now.touched k end) }
-    requires inside { l < end }
-    ensures { OnTrue result (IsKnownBelow below.now k l) }
+    requires { l < end }
+    ensures { OnTrue result (IfSome near.now (IsApartRow below.now.touched k end) → IsKnownBelow below.now k l) }
 {
     if below.of_all {
         return true;
@@ -217,8 +228,7 @@ fn row_near(
     k: usize,
     end: usize,
 ) -> Result<Option<BitSet>, AllocError>
-    requires { IsIndexed below.now end }
-    ensures { IfOk result (λ o. IfSome o (IsApartRow below.now.touched k end)) }
+    ensures { IfOk result (λ o. IsIndexed below.now end → IfSome o (IsApartRow below.now.touched k end)) }
 {
     match &below.near {
         Some(near) => places_near(alloc, &below.touched, near, k, end),
@@ -236,9 +246,9 @@ fn is_passed(
     l: usize,
     end: usize,
 ) -> bool
-    requires near { IfSome near.now (IsApartRow below.now.touched k end) }
-    requires inside { l < end }
-    ensures { OnTrue result (IsPassedAt below.now numbers.now agreeing.now k l) }
+    requires { l < end }
+    ensures { OnTrue result (IfSome near.now (IsApartRow below.now.touched k end)
+        → IsPassedAt below.now numbers.now agreeing.now k l) }
 {
     if !agrees_by(numbers, agreeing, l) {
         return false;
@@ -246,28 +256,28 @@ fn is_passed(
     is_known(below, near, k, l, end)
 }
 
-// The fields after one of some that aren't known to merge with it. Given are the places that aren't known to be apart
+// The fields from a place on that aren't known to merge with one. Given are the places that aren't known to be apart
 // from it, and the kinds with which it doesn't fail.
 fn others_by(
     alloc: Global,
     fields: &[Entry],
     k: usize,
+    from: usize,
     below: &Below,
     near: &Option<BitSet>,
     numbers: &[Option<usize>],
     agreeing: &Option<BitSet>,
 ) -> Result<Vec<Entry>, AllocError>
-    requires inside { k < length fields.now }
-    requires near { IfSome near.now (IsApartRow below.now.touched k (length fields.now)) }
-    ensures rest { IfOk result (λ v. (l : ℕ) (b : Entry) → k < l → slice_get fields.now l ≡ Some b
+    ensures rest { IfOk result (λ v. IfSome near.now (IsApartRow below.now.touched k (length fields.now))
+        → (l : ℕ) (b : Entry) → from ≤ l → slice_get fields.now l ≡ Some b
         → Contains v.items b ⊎ IsPassedAt below.now numbers.now agreeing.now k l) }
-    ensures only { IfOk result (λ v. All (λ b. (l : ℕ) × (k < l) × (slice_get fields.now l ≡ Some b)) v.items) }
+    ensures only { IfOk result (λ v. All (λ b. (l : ℕ) × (from ≤ l) × (slice_get fields.now l ≡ Some b)) v.items) }
 {
     let mut others = Vec::new(alloc);
     if below.of_all && agreeing.is_none() {
         return Ok(others);
     }
-    for l in k + 1..fields.len() {
+    for l in from..fields.len() {
         if !is_passed(below, near, numbers, agreeing, k, l, fields.len()) {
             others.push(fields[l])?;
         }
@@ -275,53 +285,51 @@ fn others_by(
     Ok(others)
 }
 
-// The fields after one of some that aren't known to merge with it. Given are the kinds with which it doesn't fail.
+// The fields from a place on that aren't known to merge with one. Given are the kinds with which it doesn't fail.
 fn others_near(
     alloc: Global,
     fields: &[Entry],
     k: usize,
+    from: usize,
     below: &Below,
     numbers: &[Option<usize>],
     agreeing: &Option<BitSet>,
 ) -> Result<Vec<Entry>, AllocError>
-    requires inside { k < length fields.now }
-    requires indexed { IsIndexed below.now (length fields.now) }
-    ensures rest { IfOk result (λ v. (l : ℕ) (b : Entry) → k < l → slice_get fields.now l ≡ Some b
+    ensures rest { IfOk result (λ v. IsIndexed below.now (length fields.now)
+        → (l : ℕ) (b : Entry) → from ≤ l → slice_get fields.now l ≡ Some b
         → Contains v.items b ⊎ IsPassedAt below.now numbers.now agreeing.now k l) }
-    ensures only { IfOk result (λ v. All (λ b. (l : ℕ) × (k < l) × (slice_get fields.now l ≡ Some b)) v.items) }
+    ensures only { IfOk result (λ v. All (λ b. (l : ℕ) × (from ≤ l) × (slice_get fields.now l ≡ Some b)) v.items) }
 {
     let near = row_near(alloc, below, k, fields.len())?;
-    let others = others_by(alloc, fields, k, below, &near, numbers, agreeing)?;
+    let others = others_by(alloc, fields, k, from, below, &near, numbers, agreeing)?;
     Ok(others)
 }
 
-/// The fields after one of some that aren't known to merge with it.
+/// The fields from a place on that aren't known to merge with the one at another place.
 ///
 /// # Errors
 ///
 /// Out of memory.
-pub(crate) fn others_after<J: Judge>(
+pub(crate) fn others_from<J: Judge>(
     alloc: Global,
     graph: &Graph<J>,
+    e: bool,
     fields: &[Entry],
     k: usize,
+    from: usize,
     is_clear: bool,
     below: &Below,
     numbered: &Numbered,
 ) -> Result<Vec<Entry>, AllocError>
-    requires inside { k < length fields.now }
-    requires clear { OnTrue is_clear
-        (AgreeAt (J.judgement graph.now.judge) fields.now numbered.now.numbers.items k None) }
-    requires below { KnowsBelow (world J.judgement graph.now) fields.now below.now }
-    requires indexed { IsIndexed below.now (length fields.now) }
-    requires numbered { let n = numbered.now in
-        AreNumbered (J.are_kin graph.now.judge) n.kinds.items fields.now n.numbers.items }
-    ensures rest { IfOk result (λ v. (l : ℕ) (a b : Entry) → k < l → slice_get fields.now k ≡ Some a
-        → slice_get fields.now l ≡ Some b → Contains v.items b ⊎ Merges (world J.judgement graph.now) false a b) }
-    ensures only { IfOk result (λ v. All (λ b. (l : ℕ) × (k < l) × (slice_get fields.now l ≡ Some b)) v.items) }
+    requires { OnTrue is_clear
+        (AgreeAt (J.judgement graph.now.judge) e fields.now numbered.now.numbers.items k None) }
+    ensures rest { let w = world J.judgement graph.now in IfOk result (λ v.
+        KnowsPairs w e fields.now below.now numbered.now → (l : ℕ) (a b : Entry) → from ≤ l
+        → slice_get fields.now k ≡ Some a → slice_get fields.now l ≡ Some b → Contains v.items b ⊎ Merges w e a b) }
+    ensures only { IfOk result (λ v. All (λ b. (l : ℕ) × (from ≤ l) × (slice_get fields.now l ≡ Some b)) v.items) }
 {
-    let agreeing = agreeing_at(alloc, graph, fields, numbered, k, is_clear)?;
+    let agreeing = agreeing_at(alloc, graph, e, fields, numbered, k, is_clear)?;
     let numbers = numbered.numbers.as_slice();
-    let others = others_near(alloc, fields, k, below, numbers, &agreeing)?;
+    let others = others_near(alloc, fields, k, from, below, numbers, &agreeing)?;
     Ok(others)
 }

@@ -2,6 +2,7 @@
 ghost use Rattle.std.specs.Prelude.{◌≡◌, IfOk, IfSome, None, Some, get_or};
 ghost use Rattle.std.specs.Bool.{OnTrue};
 ghost use Rattle.merge_search.specs.Failing.{AgreeAt, AgreeKinds, AgreesBy, AreNumbered, IsKindAt, IsNumberIn};
+ghost use Rattle.merge_search.specs.Failing.{StandFor};
 
 use crate::graph::Graph;
 use crate::judge::Judge;
@@ -57,7 +58,7 @@ pub(crate) fn numbered_kinds<J: Judge>(
     fields: &[Entry],
     listed: &BitSet,
 ) -> Result<Numbered, AllocError>
-    ensures { IfOk result (λ n. AreNumbered (J.are_kin graph.now.judge) n.kinds.items fields.now n.numbers.items) }
+    ensures { IfOk result (λ n. StandFor (J.judgement graph.now.judge) n.kinds.items fields.now n.numbers.items) }
 {
     let none = Numbered {
         kinds: Vec::new(alloc),
@@ -77,14 +78,15 @@ pub(crate) fn numbered_kinds<J: Judge>(
 fn agreeing_kinds<J: Judge>(
     alloc: Global,
     graph: &Graph<J>,
+    e: bool,
     one: usize,
     kinds: &[usize],
 ) -> Result<BitSet, AllocError>
-    ensures { IfOk result (λ set. AgreeKinds (J.judgement graph.now.judge) one kinds.now set) }
+    ensures { IfOk result (λ set. AgreeKinds (J.judgement graph.now.judge) e one kinds.now set) }
 {
     let mut set = BitSet::new(alloc);
     for i in 0..kinds.len() {
-        if !graph.judge.are_in_conflict(false, one, kinds[i])? {
+        if !graph.judge.are_in_conflict(e, one, kinds[i])? {
             set.insert(i)?;
         }
     }
@@ -115,13 +117,14 @@ fn is_number_in(numbers: &[Option<usize>], set: &BitSet, l: usize) -> bool
 fn agreeing_with<J: Judge>(
     alloc: Global,
     graph: &Graph<J>,
+    e: bool,
     fields: &[Entry],
     numbered: &Numbered,
     k: usize,
 ) -> Result<BitSet, AllocError>
-    requires { AreNumbered (J.are_kin graph.now.judge) numbered.now.kinds.items fields.now numbered.now.numbers.items }
-    ensures { IfOk result (λ set.
-        AgreeAt (J.judgement graph.now.judge) fields.now numbered.now.numbers.items k (Some set)) }
+    ensures { let j = J.judgement graph.now.judge in let n = numbered.now in
+        IfOk result (λ set. StandFor j n.kinds.items fields.now n.numbers.items
+        → AgreeAt j e fields.now n.numbers.items k (Some set)) }
 {
     let Some(i) = number_at(numbered.numbers.as_slice(), k) else {
         return Ok(BitSet::new(alloc));
@@ -129,7 +132,7 @@ fn agreeing_with<J: Judge>(
     let Some(one) = numbered.kinds.get(i) else {
         return Ok(BitSet::new(alloc));
     };
-    let set = agreeing_kinds(alloc, graph, *one, numbered.kinds.as_slice())?;
+    let set = agreeing_kinds(alloc, graph, e, *one, numbered.kinds.as_slice())?;
     Ok(set)
 }
 
@@ -141,21 +144,22 @@ fn agreeing_with<J: Judge>(
 pub(crate) fn agreeing_at<J: Judge>(
     alloc: Global,
     graph: &Graph<J>,
+    e: bool,
     fields: &[Entry],
     numbered: &Numbered,
     k: usize,
     is_clear: bool,
 ) -> Result<Option<BitSet>, AllocError>
-    requires numbered { let n = numbered.now in
-        AreNumbered (J.are_kin graph.now.judge) n.kinds.items fields.now n.numbers.items }
-    requires clear { OnTrue is_clear
-        (AgreeAt (J.judgement graph.now.judge) fields.now numbered.now.numbers.items k None) }
-    ensures { IfOk result (AgreeAt (J.judgement graph.now.judge) fields.now numbered.now.numbers.items k) }
+    requires { OnTrue is_clear
+        (AgreeAt (J.judgement graph.now.judge) e fields.now numbered.now.numbers.items k None) }
+    ensures { let j = J.judgement graph.now.judge in let n = numbered.now in
+        IfOk result (λ agreeing. StandFor j n.kinds.items fields.now n.numbers.items
+        → AgreeAt j e fields.now n.numbers.items k agreeing) }
 {
     if is_clear {
         return Ok(None);
     }
-    let set = agreeing_with(alloc, graph, fields, numbered, k)?;
+    let set = agreeing_with(alloc, graph, e, fields, numbered, k)?;
     Ok(Some(set))
 }
 

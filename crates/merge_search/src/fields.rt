@@ -2,20 +2,21 @@
 ghost use Rattle.std.specs.Prelude.{◌≡◌, OnOk, Bool, false, reverse};
 ghost use Rattle.merge_search.specs.declared.state.Search.{Search};
 ghost use Rattle.std.specs.Bool.{OnTrue};
-ghost use Rattle.merge_search.specs.Clear.{IsClear};
+ghost use Rattle.merge_search.specs.Clear.{AreClearRows, IsClear};
 ghost use Rattle.merge_search.specs.Names.{named};
 ghost use Rattle.merge_search.specs.World.{World, world, own_of, conflict_of};
 ghost use Rattle.merge_search.specs.Tasks.{Turns, Waits, Meets, MeetsFields, MeetsNamed, MeetsNested, MeetsBelow};
-ghost use Rattle.merge_search.specs.Tasks.{AreClearWith, Closes, MeetsRows, MeetsWith};
+ghost use Rattle.merge_search.specs.Tasks.{AreClearWith, Closes, MeetsBoth, MeetsRows, MeetsWith};
 ghost use Rattle.merge_search.specs.declared.task.Task.{Task};
 
-use crate::clear::{are_clear, clear_rows};
+use crate::clear::{MANY, are_clear, clear_rows};
 use crate::graph::Graph;
 use crate::judge::Judge;
 use crate::node::Entry;
 use crate::settle::settle_from;
 use crate::state::{Finding, Search, report};
 use crate::task::{Partner, Task, wait};
+use crate::two_sets::{Rows, others_of, rows_of};
 use crate::view::{are_exclusive, first_of_names, group, spreads};
 use bit_matrix::set::BitSet;
 use std::alloc::AllocError;
@@ -97,13 +98,67 @@ pub(crate) fn next_with<J: Judge>(
     ensures { let w = world J.judgement graph.now in
         OnOk result (Turns w (Meets w (Task.With a j e n)) tasks.old.items tasks.new.items search.old search.new) }
 {
-    let k = settle_from(graph, a, j, e, n, search)?;
     let fields = group(graph, j, a.response);
+    let k = settle_from(graph, a, fields, e, n, search)?;
     if k >= fields.len() {
         return Ok(());
     }
     wait(tasks, Task::With(a, j, e, k + 1), fields.len() - (k + 1))?;
     begin_below(graph, a, fields[k], e, tasks, search)
+}
+
+/// Compares a field with the next of a list.
+///
+/// # Errors
+///
+/// Out of memory.
+pub(crate) fn next_listed<J: Judge>(
+    graph: &Graph<J>,
+    a: Entry,
+    list: Vec<Entry>,
+    e: bool,
+    n: usize,
+    tasks: &mut Vec<Task>,
+    search: &mut Search,
+) -> Result<(), AllocError>
+    ensures { let w = world J.judgement graph.now in
+        OnOk result (Turns w (Meets w (Task.Listed a list e n)) tasks.old.items tasks.new.items search.old search.new) }
+{
+    let fields = list.as_slice();
+    let k = settle_from(graph, a, fields, e, n, search)?;
+    if k >= fields.len() {
+        return Ok(());
+    }
+    let b = fields[k];
+    let left = fields.len() - (k + 1);
+    wait(tasks, Task::Listed(a, list, e, k + 1), left)?;
+    begin_below(graph, a, b, e, tasks, search)
+}
+
+/// Compares the next of some rows.
+///
+/// # Errors
+///
+/// Out of memory.
+pub(crate) fn next_row<J: Judge>(
+    graph: &Graph<J>,
+    rows: Rows,
+    e: bool,
+    k: usize,
+    tasks: &mut Vec<Task>,
+    search: &mut Search,
+) -> Result<(), AllocError>
+    ensures { let w = world J.judgement graph.now in
+        OnOk result (Turns w (Meets w (Task.Rows rows e k)) tasks.old.items tasks.new.items search.old search.new) }
+{
+    let left = rows.left.as_slice();
+    if k >= left.len() {
+        return Ok(());
+    }
+    let a = left[k];
+    let others = others_of(search.alloc, graph, &rows, e, k)?;
+    tasks.push(Task::Rows(rows, e, k + 1))?;
+    next_listed(graph, a, others, e, 0, tasks, search)
 }
 
 // Lets a field wait, unless it is known to merge with the own fields of a set.
@@ -143,8 +198,27 @@ fn wait_rows(
     Ok(())
 }
 
+// Lets the fields of two lists wait as rows. Those listed are known to merge with all of the other list.
+fn wait_wide<J: Judge>(
+    graph: &Graph<J>,
+    left: &[Entry],
+    right: &[Entry],
+    clear: BitSet,
+    e: bool,
+    tasks: &mut Vec<Task>,
+    search: &Search,
+) -> Result<(), AllocError>
+    requires { AreClearRows (world J.judgement graph.now) e left.now right.now clear }
+    ensures { let w = world J.judgement graph.now in OnOk result
+        (Waits w (reverse tasks.new.items) (MeetsBoth w e left.now right.now 0) (reverse tasks.old.items)) }
+{
+    let rows = rows_of(graph, search, e, left, right, clear)?;
+    tasks.push(Task::Rows(rows, e, 0))?;
+    Ok(())
+}
+
 /// Compares the own fields of one response name with those of another set. Those that are known to merge with all of
-/// them are passed.
+/// them are passed, and where there are many, so is each two that are known to merge.
 fn next_named<J: Judge>(
     graph: &Graph<J>,
     i: usize,
@@ -166,7 +240,10 @@ fn next_named<J: Judge>(
         return Ok(());
     }
     let clear = clear_rows(graph, search, e, fields, others)?;
-    wait_rows(fields, &clear, j, e, tasks)
+    if fields.len().saturating_mul(others.len()) < MANY {
+        return wait_rows(fields, &clear, j, e, tasks);
+    }
+    wait_wide(graph, fields, others, clear, e, tasks, search)
 }
 
 /// The next place from that one on whose response name the other set has too.

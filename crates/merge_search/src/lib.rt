@@ -27,5 +27,6 @@ pub mod state;
 pub mod task;
 pub mod top;
 mod touched;
+mod two_sets;
 mod unions;
 pub mod view;

@@ -80,8 +80,8 @@ pub(crate) fn places_near(
     k: usize,
     count: usize,
 ) -> Result<Option<BitSet>, AllocError>
-    requires { IsNear touched.now count near.now.untold near.now.index.own.items }
-    ensures { IfOk result (λ o. IfSome o (IsApartRow touched.now k count)) }
+    ensures { let n = near.now in IfOk result (λ o. IsNear touched.now count n.untold n.index.own.items
+        → IfSome o (IsApartRow touched.now k count)) }
 {
     let Some(list) = names_at(touched, k) else {
         return Ok(None);

@@ -10,7 +10,7 @@ ghost use Rattle.merge_search.specs.Work.{Did, Done};
 ghost use Rattle.merge_search.specs.Reports.{FindsAll};
 ghost use Rattle.merge_search.specs.Tops.{AllBefore, AtBefore, AtRest};
 
-use crate::below::{known_below, others_after};
+use crate::below::{known_below, others_from};
 use crate::failing::numbered_kinds;
 use crate::graph::Graph;
 use crate::judge::Judge;
@@ -94,7 +94,7 @@ fn compare_others<J: Judge>(
     search: &mut Search,
 ) -> Result<(), AllocError>
     requires clear { OnTrue is_clear (NeverFailsWith (J.judgement graph.now.judge) false a rest.now) }
-    requires others { AreOthers (world J.judgement graph.now) a rest.now others.now }
+    requires others { AreOthers (world J.judgement graph.now) false a rest.now others.now }
     requires plain { ArePlain (world J.judgement graph.now) plain.now }
     ensures done { let w = world J.judgement graph.now in
         OnOk result (Did w (λ M. All (λ b. Done w M false a b) rest.now) search.old search.new) }
@@ -121,11 +121,22 @@ fn compare_all<J: Judge>(
         OnOk result (FindsAll w false (AtBefore fields.now) (AtBefore fields.now) search.old search.new) }
 {
     let clear = agreeing_rows(search.alloc, graph, false, fields, fields)?;
-    let below = known_below(graph, search, fields)?;
+    let most = fields.len().saturating_mul(fields.len()) / 4;
+    let below = known_below(graph, search, false, fields, most)?;
     let kinds = numbered_kinds(search.alloc, graph, fields, &clear)?;
     for k in 0..fields.len() {
         let is_clear = clear.contains(k);
-        let others = others_after(search.alloc, graph, fields, k, is_clear, &below, &kinds)?;
+        let others = others_from(
+            search.alloc,
+            graph,
+            false,
+            fields,
+            k,
+            k + 1,
+            is_clear,
+            &below,
+            &kinds,
+        )?;
         compare_others(
             graph,
             fields[k],

@@ -9,7 +9,7 @@ ghost use Rattle.merge_search.specs.Reports.{Finds, FindsAll, AtFields, AtOwn, A
 ghost use Rattle.merge_search.specs.Tasks.{Meets, MeetsAll, Turns};
 ghost use Rattle.merge_search.specs.declared.state.Search.{Search};
 
-use crate::fields::{begin_below, close, next_own, next_with};
+use crate::fields::{begin_below, close, next_listed, next_own, next_row, next_with};
 use crate::fragments::{begin_fragments, next_opened, next_spread};
 use crate::graph::Graph;
 use crate::judge::Judge;
@@ -153,6 +153,8 @@ fn step<J: Judge>(
     }
     match task {
         Task::With(a, j, e, n) => next_with(graph, a, j, e, n, tasks, search),
+        Task::Listed(a, list, e, n) => next_listed(graph, a, list, e, n, tasks, search),
+        Task::Rows(rows, e, k) => next_row(graph, rows, e, k, tasks, search),
         Task::Own(i, j, e, k) => next_own(graph, i, j, e, k, tasks, search),
         Task::Close(a, b, start) => close(a, b, start, search),
         Task::Opened(i, g, e, opening, k) => {

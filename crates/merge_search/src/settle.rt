@@ -3,17 +3,15 @@ ghost use Rattle.std.specs.Prelude.{◌≡◌, IfOk, Some, false, slice_get};
 ghost use Rattle.std.specs.Bool.{OnTrue};
 ghost use Rattle.merge_search.specs.Settle.{AgreesWith, AgreeFlatly, IsSpreadless, Settles};
 ghost use Rattle.merge_search.specs.Clear.{IsClearBelow};
-ghost use Rattle.merge_search.specs.Tasks.{Meets};
-ghost use Rattle.merge_search.specs.Names.{named};
-ghost use Rattle.merge_search.specs.World.{world, conflict_of, own_of, Same};
+ghost use Rattle.merge_search.specs.Tasks.{MeetsList};
+ghost use Rattle.merge_search.specs.World.{world, conflict_of, Same};
 ghost use Rattle.merge_search.specs.declared.state.Search.{Search};
-ghost use Rattle.merge_search.specs.declared.task.Task.{Task};
 
 use crate::graph::Graph;
 use crate::judge::Judge;
 use crate::node::Entry;
 use crate::state::{Finding, Search, report};
-use crate::view::{are_exclusive, are_in_conflict, are_leaves, group, is_full, own, spreads};
+use crate::view::{are_exclusive, are_in_conflict, are_leaves, is_full, own, spreads};
 use std::alloc::AllocError;
 
 // Of more fields each two are not looked at.
@@ -133,8 +131,8 @@ pub(crate) fn settle<J: Judge>(
     }
 }
 
-/// Compares a field with the own fields of a set that have its response name, from a place on, as long as they are
-/// settled at once. Returns the place of the first that isn't. The two don't fail by themselves.
+/// Compares a field with others of its response name, from a place on, as long as they are settled at once. Returns the
+/// place of the first that isn't. The two don't fail by themselves.
 ///
 /// # Errors
 ///
@@ -142,19 +140,17 @@ pub(crate) fn settle<J: Judge>(
 pub(crate) fn settle_from<J: Judge>(
     graph: &Graph<J>,
     a: Entry,
-    j: usize,
+    fields: &[Entry],
     e: bool,
     n: usize,
     search: &mut Search,
 ) -> Result<usize, AllocError>
     ensures settled { let w = world J.judgement graph.now in
-        IfOk result (λ k. (t : Search) → Meets w (Task.With a j e k) search.new t
-        → Meets w (Task.With a j e n) search.old t) }
+        IfOk result (λ k. (t : Search) → MeetsList w e a fields.now k search.new t
+        → MeetsList w e a fields.now n search.old t) }
     ensures open { let w = world J.judgement graph.now in
-        IfOk result (λ k. (b : Entry) → slice_get (named a.response (own_of w j)) k ≡ Some b
-        → conflict_of w e a b ≡ false) }
+        IfOk result (λ k. (b : Entry) → slice_get fields.now k ≡ Some b → conflict_of w e a b ≡ false) }
 {
-    let fields = group(graph, j, a.response);
     let mut k = n;
     while k < fields.len() {
         if !settle(graph, a, fields[k], e, search)? {

@@ -8,6 +8,7 @@ ghost use Rattle.merge_search.specs.declared.state.Search.{Search};
 use crate::node::Entry;
 use crate::opening::Opening;
 use crate::state::Search;
+use crate::two_sets::Rows;
 use std::alloc::AllocError;
 use std::mem;
 
@@ -29,6 +30,10 @@ pub enum Partner {
 pub enum Task {
     /// A field with the own fields of a set that have its response name, from that place on.
     With(Entry, usize, bool, usize),
+    /// A field with those of a list, from that place on.
+    Listed(Entry, Vec<Entry>, bool, usize),
+    /// The rows of two sets, from that one on.
+    Rows(Rows, bool, usize),
     /// The own fields of a set, from that response name on, with those of another set.
     Own(usize, usize, bool, usize),
     /// The end of two fields: what was found since then stands below them.

@@ -45,6 +45,10 @@ const CONFLICT_AMONG_MANY: &str =
 const CONFLICT_OF_TWO_KINDS: &str =
     "{ someBox { ... on IntBox { d: deepBox { x: deepBox { s: scalar } } } ... on StringBox { d: intBox { x: intBox { s: scalar } } d: intBox { x: intBox { s: scalar } } d: intBox { x: intBox { s: scalar } } d: intBox { x: intBox { s: scalar } } d: intBox { x: intBox { s: scalar } } d: intBox { x: intBox { s: scalar } } d: intBox { x: intBox { s: scalar } } d: intBox { x: intBox { s: scalar } } d: intBox { x: intBox { s: scalar } } d: intBox { x: intBox { s: scalar } } d: intBox { x: intBox { s: scalar } } d: intBox { x: intBox { s: scalar } } d: intBox { x: intBox { s: scalar } } d: intBox { x: intBox { s: scalar } } d: intBox { x: intBox { s: scalar } } d: intBox { x: intBox { s: scalar } } d: intBox { x: intBox { s: scalar } } d: intBox { x: intBox { s: scalar } } d: intBox { x: intBox { s: scalar } } d: intBox { x: intBox { s: scalar } } d: intBox { x: intBox { s: scalar } } d: intBox { x: intBox { s: scalar } } d: intBox { x: intBox { s: scalar } } d: intBox { x: intBox { s: scalar } } d: intBox { x: intBox { s: scalar } } d: intBox { x: intBox { s: scalar } } d: intBox { x: intBox { s: scalar } } d: intBox { x: intBox { s: scalar } } d: intBox { x: intBox { s: scalar } } d: intBox { x: intBox { s: scalar } } d: intBox { x: intBox { s: scalar } } d: intBox { x: intBox { s: scalar } } } ... on IntBox { d: intBox { y: scalar } } } }";
 
+// Two sets of 32 fields: the first of the one fails with the last of the other. All others stand in other object types.
+const CONFLICT_OF_TWO_SETS: &str =
+    "{ someBox { ... on StringBox { d: intBox { x: deepBox { s: scalar } } } ... on IntBox { d: intBox { x: intBox { s: scalar } } d: intBox { x: intBox { s: scalar } } d: intBox { x: intBox { s: scalar } } d: intBox { x: intBox { s: scalar } } d: intBox { x: intBox { s: scalar } } d: intBox { x: intBox { s: scalar } } d: intBox { x: intBox { s: scalar } } d: intBox { x: intBox { s: scalar } } d: intBox { x: intBox { s: scalar } } d: intBox { x: intBox { s: scalar } } d: intBox { x: intBox { s: scalar } } d: intBox { x: intBox { s: scalar } } d: intBox { x: intBox { s: scalar } } d: intBox { x: intBox { s: scalar } } d: intBox { x: intBox { s: scalar } } d: intBox { x: intBox { s: scalar } } d: intBox { x: intBox { s: scalar } } d: intBox { x: intBox { s: scalar } } d: intBox { x: intBox { s: scalar } } d: intBox { x: intBox { s: scalar } } d: intBox { x: intBox { s: scalar } } d: intBox { x: intBox { s: scalar } } d: intBox { x: intBox { s: scalar } } d: intBox { x: intBox { s: scalar } } d: intBox { x: intBox { s: scalar } } d: intBox { x: intBox { s: scalar } } d: intBox { x: intBox { s: scalar } } d: intBox { x: intBox { s: scalar } } d: intBox { x: intBox { s: scalar } } d: intBox { x: intBox { s: scalar } } d: intBox { x: intBox { s: scalar } } } } someBox { ... on IntBox { d: intBox { x: intBox { s: scalar } } d: intBox { x: intBox { s: scalar } } d: intBox { x: intBox { s: scalar } } d: intBox { x: intBox { s: scalar } } d: intBox { x: intBox { s: scalar } } d: intBox { x: intBox { s: scalar } } d: intBox { x: intBox { s: scalar } } d: intBox { x: intBox { s: scalar } } d: intBox { x: intBox { s: scalar } } d: intBox { x: intBox { s: scalar } } d: intBox { x: intBox { s: scalar } } d: intBox { x: intBox { s: scalar } } d: intBox { x: intBox { s: scalar } } d: intBox { x: intBox { s: scalar } } d: intBox { x: intBox { s: scalar } } d: intBox { x: intBox { s: scalar } } d: intBox { x: intBox { s: scalar } } d: intBox { x: intBox { s: scalar } } d: intBox { x: intBox { s: scalar } } d: intBox { x: intBox { s: scalar } } d: intBox { x: intBox { s: scalar } } d: intBox { x: intBox { s: scalar } } d: intBox { x: intBox { s: scalar } } d: intBox { x: intBox { s: scalar } } d: intBox { x: intBox { s: scalar } } d: intBox { x: intBox { s: scalar } } d: intBox { x: intBox { s: scalar } } d: intBox { x: intBox { s: scalar } } d: intBox { x: intBox { s: scalar } } d: intBox { x: intBox { s: scalar } } d: intBox { x: intBox { s: scalar } } } ... on StringBox { d: deepBox { x: intBox { s: scalar } } } } }";
+
 const VALUES: &str =
     "query ($c: ComplexInput!) { complicatedArgs { complexArgField(complexArg: $c) } }";
 
@@ -198,6 +202,18 @@ fn a_refused_request_among_two_kinds(rt: HostRuntime) {
         &schema,
         CONFLICT_OF_TWO_KINDS,
         "Fields \"d\" conflict because deepBox and intBox are different fields. Use different aliases on the fields to fetch both if this was intentional. At 0:28, 0:1323\n0",
+    );
+}
+
+#[test]
+fn a_refused_request_among_the_fields_of_two_sets(rt: HostRuntime) {
+    let schema = schema(&rt, rt.alloc(), "boxes");
+    told(
+        &rt,
+        rt.alloc(),
+        &schema,
+        CONFLICT_OF_TWO_SETS,
+        "Fields \"someBox\" conflict because subfields \"d\" conflict because intBox and deepBox are different fields. Use different aliases on the fields to fetch both if this was intentional. At 0:2, 0:31, 0:1270, 0:2495\n0",
     );
 }
 

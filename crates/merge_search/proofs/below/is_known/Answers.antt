@@ -4,6 +4,6 @@ use Rattle.merge_search.specs.Near.{IsApartRow}
 use Rattle.merge_search.proofs.below.is_known.Goals as goal
 
 pub returns : goal.returns
-returns c =
-    let row = subst (λ o. IfSome o (IsApartRow c.args.below.now.touched c.args.k c.args.end)) c.in-Some.is c.requires.near in
-    inr (inr (row c.args.l c.requires.inside (sym c.if-contains-3.ensures)))
+returns c near =
+    let row = subst (λ o. IfSome o (IsApartRow c.args.below.now.touched c.args.k c.args.end)) c.in-Some.is near in
+    inr (inr (row c.args.l c.requires (sym c.if-contains-3.ensures)))

@@ -1,10 +1,12 @@
-use Rattle.std.proofs.Common.{◌≡◌, ◌⊎◌, ◌<◌, ℕ, Some, slice_get}
+use Rattle.std.proofs.Common.{◌≡◌, ◌⊎◌, ◌<◌, ◌≤◌, ℕ, Some, length, slice_get}
 use Rattle.std.specs.List.{All, Contains}
+use Rattle.std.specs.Option.{IfSome}
 use Rattle.merge_search.specs.declared.node.Entry.{Entry}
 use Rattle.merge_search.specs.Below.{IsPassedAt}
+use Rattle.merge_search.specs.Near.{IsApartRow}
 use Rattle.merge_search.proofs.below.others_by.Given as goal
 
 abbrev pub invariant-loop-l : goal.invariant-loop-l
 invariant-loop-l l =
-    ((m : ℕ) (b : Entry) → l.k < m → m < l.l → slice_get l.fields m ≡ Some b → Contains l.others.items b ⊎ IsPassedAt l.below l.numbers l.agreeing l.k m)
-    × All (λ b. (m : ℕ) × (l.k < m) × (slice_get l.fields m ≡ Some b)) l.others.items
+    (IfSome l.near (IsApartRow l.below.touched l.k (length l.fields)) → (m : ℕ) (b : Entry) → l.from ≤ m → m < l.l → slice_get l.fields m ≡ Some b → Contains l.others.items b ⊎ IsPassedAt l.below l.numbers l.agreeing l.k m)
+    × All (λ b. (m : ℕ) × (l.from ≤ m) × (slice_get l.fields m ≡ Some b)) l.others.items

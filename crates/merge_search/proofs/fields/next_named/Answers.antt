@@ -8,13 +8,13 @@ use Rattle.merge_search.specs.Names.{named}
 use Rattle.merge_search.specs.World.{world, own_of}
 use Rattle.merge_search.specs.Clear.{AreClear, IsClear}
 use Rattle.merge_search.specs.Reports.{AtWith}
-use Rattle.merge_search.specs.Tasks.{AreClearWith, AtRows, Meets, MeetsNamed, MeetsRows, WithDone}
+use Rattle.merge_search.specs.Tasks.{AreClearWith, AtRows, Meets, MeetsBoth, MeetsNamed, MeetsRows, WithDone}
 use Rattle.merge_search.proofs.Work.{no_entry, did_none}
 use Rattle.merge_search.proofs.Clearing.{named_done, named_tells}
 use Rattle.merge_search.proofs.Leading.{leads_done, leads_turn}
 use Rattle.merge_search.proofs.Order.{at_of}
 use Rattle.merge_search.proofs.Rows.{named_is, in_list}
-use Rattle.merge_search.proofs.Steps.{drop_end, drop_next, each_none, each_next, with_whole, rows_named}
+use Rattle.merge_search.proofs.Steps.{both_named, drop_end, drop_next, each_none, each_next, with_whole, rows_named}
 use Rattle.merge_search.proofs.fields.next_named.Goals as goal
 
 pub returns-then-fields-eq1 : goal.returns-then-fields-eq1
@@ -53,8 +53,8 @@ returns-then-branch g c =
       real = named_tells v e i j n lefts rights c.group-fields.ensures c.group-others.ensures clear s.found.items;
     })
 
-pub returns : goal.returns
-returns g c =
+pub returns-then-saturating_mul-lt-MANY : goal.returns-then-saturating_mul-lt-MANY
+returns-then-saturating_mul-lt-MANY g c =
     let v = world g.J.Judge.judgement c.args.graph.now in
     let e = c.args.e in
     let i = c.args.i in
@@ -69,3 +69,17 @@ returns g c =
     on_ok_weaker c.wait_rows.result
     (λ waits. leads_turn v (MeetsRows v e j lefts) (MeetsNamed v e i j n) _ _ s s s (λ t d. rows_named v e i j n lefts s t c.group-fields.ensures d) (waits v clear s))
     c.wait_rows.ensures
+
+pub returns : goal.returns
+returns g c =
+    let v = world g.J.Judge.judgement c.args.graph.now in
+    let e = c.args.e in
+    let i = c.args.i in
+    let j = c.args.j in
+    let n = c.args.name in
+    let s = c.args.search.now in
+    let lefts = c.group-fields.result.now in
+    let rights = c.group-others.result.now in
+    on_ok_weaker c.wait_wide.result
+    (λ waits. leads_turn v (MeetsBoth v e lefts rights 0) (MeetsNamed v e i j n) _ _ s s s (λ t d. both_named v e i j n lefts rights s t c.group-fields.ensures c.group-others.ensures d) (waits s))
+    c.wait_wide.ensures

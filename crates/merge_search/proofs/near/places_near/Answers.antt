@@ -41,9 +41,9 @@ loop-name-preserved c =
     )
 
 pub returns : goal.returns
-returns c =
+returns c near =
     let own = c.args.near.now.index.own.items in
     let at = c.in-Some.ensures in
     let whole = subst (λ zs. All (λ (n : ℕ). (m : ℕ) → Contains own (listed_at n m) → has c.loop-name.rows m ≡ true) zs) (take_all c.loop-name.name-index c.in-Some.list.now c.loop-name-test.false) c.loop-name.invariant.1 in
-    row_apart c.args.touched.now c.args.k c.args.count c.args.near.now.untold c.loop-name.rows own at.0 at.1 c.requires c.loop-name.invariant.0
+    row_apart c.args.touched.now c.args.k c.args.count c.args.near.now.untold c.loop-name.rows own at.0 at.1 near c.loop-name.invariant.0
     (subst (λ zs. All (λ (n : ℕ). (m : ℕ) → Contains own (listed_at n m) → has c.loop-name.rows m ≡ true) zs) at.2 whole)

@@ -1,16 +1,17 @@
-use Rattle.std.proofs.Common.{◌≡◌, ◌+◌, ◌<◌, ℕ, Some, drop, get_or, slice_get, sym, subst, arith, false}
+use Rattle.std.proofs.Common.{◌≡◌, ◌+◌, ◌≤◌, ℕ, Some, drop, get_or, slice_get, sym, subst, arith, false}
 use Rattle.std.specs.Bool.{OnTrue}
 use Rattle.std.specs.List.{All, Contains}
 use Rattle.std.proofs.lemmas.List.Elements.{All-weaker, Contains-get_or}
 use Rattle.std.proofs.lemmas.Option.{slice_get-get_or}
 use Rattle.merge_search.specs.declared.node.Entry.{Entry}
+use Rattle.merge_search.specs.Below.{KnowsPairs}
 use Rattle.merge_search.specs.Clear.{AreOthers}
 use Rattle.merge_search.specs.World.{world}
 use Rattle.merge_search.specs.Work.{Done}
 use Rattle.merge_search.specs.Kinds.{NeverFailsWith}
 use Rattle.merge_search.specs.Tops.{AtRest}
 use Rattle.merge_search.proofs.Adding.{all_begin, all_next, all_told, all_change}
-use Rattle.merge_search.proofs.Order.{in_rest, rest_is, rest_places, row_rest, tell_rest, rest_all}
+use Rattle.merge_search.proofs.Order.{drop_places, in_drop, rest_is, row_rest, tell_rest, rest_all}
 use Rattle.merge_search.proofs.OneOfKind.{rows_after, rows_agree}
 use Rattle.merge_search.proofs.Work.{no_entry, did_none, did_map, did_next}
 use Rattle.merge_search.proofs.pairs.compare_all.Goals as goal
@@ -23,10 +24,10 @@ compare_others-requires-clause-clear g c =
     subst (λ ys. OnTrue c.contains-is_clear.result (NeverFailsWith j false (get_or xs k no_entry) ys)) (sym (rest_is xs (k + 1)))
     (rows_after j false xs c.in_ok-clear.clear k c.loop-k-test.true c.in_ok-clear.ensures c.contains-is_clear.result c.contains-is_clear.ensures)
 
-pub others_after-requires-clause-clear : goal.others_after-requires-clause-clear
-others_after-requires-clause-clear g c =
+pub others_from-requires : goal.others_from-requires
+others_from-requires g c =
     let j = g.J.Judge.judgement c.args.graph.now.judge in
-    rows_agree j c.args.fields.now c.in_ok-kinds.kinds.numbers.items c.in_ok-clear.clear c.loop-k.k c.in_ok-clear.ensures c.contains-is_clear.result c.contains-is_clear.ensures
+    rows_agree j false c.args.fields.now c.in_ok-kinds.kinds.numbers.items c.in_ok-clear.clear c.loop-k.k c.in_ok-clear.ensures c.contains-is_clear.result c.contains-is_clear.ensures
 
 pub loop-k-init : goal.loop-k-init
 loop-k-init g c =
@@ -58,10 +59,11 @@ compare_others-requires-clause-others g c =
     let a = get_or xs k no_entry in
     let ys = drop (k + 1) xs in
     let others = c.in_ok-others.others.items in
-    subst (λ zs. AreOthers v a zs c.as_slice.result.now) (sym (rest_is xs (k + 1)))
-    (subst (λ zs. AreOthers v a ys zs) (sym c.as_slice.ensures.value) (record {
+    let knows : KnowsPairs v false xs c.in_ok-below.below c.in_ok-kinds.kinds = record { below = c.in_ok-below.ensures.knows; indexed = c.in_ok-below.ensures.indexed; kinds = c.in_ok-kinds.ensures } in
+    subst (λ zs. AreOthers v false a zs c.as_slice.result.now) (sym (rest_is xs (k + 1)))
+    (subst (λ zs. AreOthers v false a ys zs) (sym c.as_slice.ensures.value) (record {
       all = λ m d h.
-          let z = rest_places xs k (get_or ys m d) (Contains-get_or ys m d h) in
-          c.in_ok-others.ensures.rest z.0 a (get_or ys m d) z.1 (slice_get-get_or xs k no_entry c.loop-k-test.true) z.2;
-      only = All-weaker (λ (b : Entry). (l : ℕ) × (k < l) × (slice_get xs l ≡ Some b)) (λ (b : Entry). Contains ys b) (λ b z. in_rest xs k z.0 b z.1 z.2) others c.in_ok-others.ensures.only;
+          let z = drop_places xs (k + 1) (get_or ys m d) (Contains-get_or ys m d h) in
+          c.in_ok-others.ensures.rest knows z.0 a (get_or ys m d) z.1 (slice_get-get_or xs k no_entry c.loop-k-test.true) z.2;
+      only = All-weaker (λ (b : Entry). (l : ℕ) × (k + 1 ≤ l) × (slice_get xs l ≡ Some b)) (λ (b : Entry). Contains ys b) (λ b z. in_drop xs (k + 1) z.0 b z.1 z.2) others c.in_ok-others.ensures.only;
     }))

@@ -1,3 +1,4 @@
+use Rattle.std.proofs.Common.{false}
 use Rattle.std.proofs.lemmas.Result.{on_ok_weaker}
 use Rattle.merge_search.specs.World.{world}
 use Rattle.merge_search.proofs.Clearing.{others_done, others_told}
@@ -8,10 +9,10 @@ pub returns-clause-done : goal.returns-clause-done
 returns-clause-done g c =
     let v = world g.J.Judge.judgement c.args.graph.now in
     let a = c.args.a in
-    on_ok_weaker c.compare_rest.result (λ d. did_map v _ _ (λ M z. others_done v a c.args.rest.now c.args.others.now c.requires.others M z) d) c.compare_rest.ensures.done
+    on_ok_weaker c.compare_rest.result (λ d. did_map v _ _ (λ M z. others_done v false a c.args.rest.now c.args.others.now c.requires.others M z) d) c.compare_rest.ensures.done
 
 pub returns-clause-real : goal.returns-clause-real
 returns-clause-real g c =
     let v = world g.J.Judge.judgement c.args.graph.now in
     let a = c.args.a in
-    on_ok_weaker c.compare_rest.result (λ d. others_told v a c.args.rest.now c.args.others.now c.requires.others d) c.compare_rest.ensures.real
+    on_ok_weaker c.compare_rest.result (λ d. others_told v false a c.args.rest.now c.args.others.now c.requires.others d) c.compare_rest.ensures.real

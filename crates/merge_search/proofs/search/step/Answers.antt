@@ -30,3 +30,9 @@ returns-in-Mark g c =
 
 pub returns-then-is_skipped : goal.returns-then-is_skipped
 returns-then-is_skipped g c = let v = world g.J.Judge.judgement c.args.graph.now in leads_done v (Meets v c.args.task) _ c.if-is_skipped.ensures
+
+pub returns-in-Listed : goal.returns-in-Listed
+returns-in-Listed g c = let v = world g.J.Judge.judgement c.args.graph.now in on_ok_weaker c.next_listed.result (λ go. leads_is v (Meets v) c.args.task _ _ _ _ _ c.in-Listed.is go) c.next_listed.ensures
+
+pub returns-in-Rows : goal.returns-in-Rows
+returns-in-Rows g c = let v = world g.J.Judge.judgement c.args.graph.now in on_ok_weaker c.next_row.result (λ go. leads_is v (Meets v) c.args.task _ _ _ _ _ c.in-Rows.is go) c.next_row.ensures

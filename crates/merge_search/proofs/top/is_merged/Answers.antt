@@ -1,7 +1,7 @@
 use Rattle.std.proofs.Common.{◌++◌, ◌∷◌, [], ap, subst, sym, ◌∙◌, false}
 use Rattle.std.proofs.lemmas.List.Elements.{All-contains, Contains-push}
 use Rattle.std.specs.List.{Contains}
-use Rattle.merge_search.specs.Quiet.{AllQuiet, AreQuiet}
+use Rattle.merge_search.specs.Quiet.{AreQuiet}
 use Rattle.merge_search.specs.World.{world}
 use Rattle.merge_search.specs.declared.unions.Union.{Union}
 use Rattle.merge_search.proofs.Laws.{on_true_weaker}

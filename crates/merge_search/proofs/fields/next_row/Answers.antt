@@ -1,0 +1,43 @@
+use Rattle.std.proofs.Common.{◌≡◌, ◌+◌, ◌<◌, length, get_or, rules, slice_get, Some, subst, sym}
+use Rattle.merge_search.proofs.Work.{no_entry}
+use Rattle.std.proofs.lemmas.Option.{slice_get-get_or}
+use Rattle.std.proofs.lemmas.Result.{on_ok_weaker}
+use Rattle.merge_search.specs.declared.task.Task.TheVariants.{Listed, Rows}
+use Rattle.merge_search.specs.declared.node.Entry.{Entry}
+use Rattle.merge_search.specs.TwoSets.{rights_of}
+use Rattle.merge_search.specs.World.{world}
+use Rattle.merge_search.specs.Tasks.{Meets, MeetsBoth}
+use Rattle.merge_search.proofs.Leading.{leads_done, leads_next, waits_pushed}
+use Rattle.merge_search.proofs.Steps.{both_end, both_next, others_whole}
+use Rattle.merge_search.proofs.fields.next_row.Goals as goal
+
+pub returns-then-k-left : goal.returns-then-k-left
+returns-then-k-left g c =
+    let v = world g.J.Judge.judgement c.args.graph.now in
+    let rows = c.args.rows in
+    let left = c.as_slice-left.result.now in
+    leads_done v (Meets v (Rows rows c.args.e c.args.k)) _ (λ knows.
+    subst (λ xs. MeetsBoth v c.args.e xs (rights_of rows) c.args.k c.args.search.now c.args.search.now) c.as_slice-left.ensures.value
+    (both_end v c.args.e left (rights_of rows) c.args.k c.args.search.now (search rules)))
+
+pub returns : goal.returns
+returns g c =
+    let v = world g.J.Judge.judgement c.args.graph.now in
+    let e = c.args.e in
+    let k = c.args.k in
+    let rows = c.args.rows in
+    let rights = rights_of rows in
+    let left = c.as_slice-left.result.now in
+    let is = c.as_slice-left.ensures.value in
+    let less : k < length left = search rules in
+    let a : Entry = get_or left k no_entry in
+    let s = c.args.search.now in
+    on_ok_weaker c.next_listed.result
+    (λ go. leads_next v (Meets v (Listed a c.in_ok-others.others e 0)) (Meets v (Rows rows e (k + 1))) (Meets v (Rows rows e k)) _ _ _ _ s
+    (λ t u one more knows.
+    let at : slice_get rows.left.items k ≡ Some a = subst (λ xs. slice_get xs k ≡ Some a) is (slice_get-get_or left k no_entry less) in
+    let row = others_whole v e a rights c.in_ok-others.others.items s t (c.in_ok-others.ensures a knows at) one in
+    subst (λ xs. MeetsBoth v e xs rights k s u) is
+    (both_next v e left rights k s t u less row (subst (λ xs. MeetsBoth v e xs rights (k + 1) t u) (sym is) (more knows))))
+    (waits_pushed v (Rows rows e (k + 1)) _ _ c.in_ok-push.ensures.items) go)
+    c.next_listed.ensures

@@ -1,0 +1,30 @@
+use Rattle.std.proofs.Common.{◌≡◌, ◌≤◌, ℕ, Some, get_or, length, rules, slice_get, subst, sym}
+use Rattle.std.specs.List.{Contains}
+use Rattle.std.proofs.lemmas.List.Elements.{All-weaker, Contains-get_or}
+use Rattle.merge_search.specs.declared.node.Entry.{Entry}
+use Rattle.merge_search.specs.Below.{KnowsPairs}
+use Rattle.merge_search.specs.TwoSets.{rights_of}
+use Rattle.merge_search.specs.World.{world}
+use Rattle.merge_search.proofs.Order.{in_drop, drop_places}
+use Rattle.merge_search.proofs.two_sets.others_of.Goals as goal
+
+pub returns : goal.returns
+returns g c a knows at =
+    let v = world g.J.Judge.judgement c.args.graph.now in
+    let e = c.args.e in
+    let rows = c.args.rows.now in
+    let fields = rows.fields.items in
+    let n = length rows.left.items in
+    let others = c.in_ok-others.others.items in
+    let is = c.as_slice.ensures.value in
+    let same : c.len.result ≡ n = search rules in
+    let pairs = subst (λ xs. KnowsPairs v e xs rows.below rows.numbered) (sym is) knows.pairs in
+    record {
+      all = λ m d h.
+          let b = get_or (rights_of rows) m d in
+          let z = drop_places fields n b (Contains-get_or (rights_of rows) m d h) in
+          c.in_ok-others.ensures.rest pairs z.0 a b (subst (λ (i : ℕ). i ≤ z.0) (sym same) z.1)
+          (subst (λ xs. slice_get xs c.args.k ≡ Some a) (sym is) (knows.first c.args.k a at)) (subst (λ xs. slice_get xs z.0 ≡ Some b) (sym is) z.2);
+      only = All-weaker (λ (b : Entry). (l : ℕ) × (c.len.result ≤ l) × (slice_get c.as_slice.result.now l ≡ Some b)) (λ (b : Entry). Contains (rights_of rows) b)
+          (λ b z. in_drop fields n z.0 b (subst (λ (i : ℕ). i ≤ z.0) same z.1) (subst (λ xs. slice_get xs z.0 ≡ Some b) is z.2)) others c.in_ok-others.ensures.only;
+    }
