@@ -25,6 +25,12 @@ pub mod Spreads
 pub mod Unmarked
 pub mod Settling
 pub mod Steps
+pub mod Weights
+pub mod Spent
+pub mod OwnNames
+pub mod Costs
+pub mod Worth
+pub mod Searching
 pub mod Tallying
 pub mod TallyingBelow
 pub mod Work

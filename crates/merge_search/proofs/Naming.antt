@@ -1,20 +1,19 @@
 -- How fields are found by their response names.
-use Rattle.std.proofs.Common.{◌≡◌, ◌==◌, ℕ, ◌+◌, ◌-◌, ◌<◌, ◌≤◌, List, [], ◌∷◌, ◌++◌, length, take, drop, get_or, refl, sym, subst, ap, ◌∙◌, arith, Bool, true, false, cond, not, ◌&&◌, ltb, leb, ltb-true, ltb-false, leb-true, leb-false, None, Some, append-nil}
+use Rattle.std.proofs.Common.{◌≡◌, ◌==◌, ℕ, zero, suc, ◌+◌, ◌-◌, ◌<◌, List, [], ◌∷◌, ◌++◌, length, take, drop, get_or, refl, sym, subst, ap, ◌∙◌, arith, Bool, true, false, cond, not, ◌&&◌, ltb, leb, ltb-true, ltb-false, leb-true, leb-false, None, append-nil}
 use Rattle.std.specs.Bool.{OnTrue}
-use Rattle.std.specs.List.{All, Contains, IsAllAdjacentAnswer, filter, list_any, slice_get}
+use Rattle.std.specs.List.{All, IsAllAdjacentAnswer, filter, list_any}
 use Rattle.std.specs.List.Sorted.{IsStableByKey, ties, IsPartitionPoint}
-use Rattle.std.specs.Option.{option_map_or}
 use Rattle.std.specs.Ordering.{is_lt, nat_cmp}
 use Rattle.std.proofs.lemmas.Bool.Decides.{nat_tests}
 use Rattle.std.proofs.lemmas.Bool.{or_left, or_right}
-use Rattle.std.proofs.lemmas.Option.{slice_get-get_or}
-use Rattle.std.proofs.lemmas.List.{take_all, take_rest, length-take, length-drop, get_or-take, get_or-drop, take-append-drop}
+use Rattle.std.proofs.lemmas.Option.{get_or_from_slice_get, slice_get_within}
+use Rattle.std.proofs.lemmas.List.{take_rest, length-take, length-drop, get_or-take, get_or-drop, take-append-drop}
 use Rattle.std.proofs.lemmas.List.Folds.{list_any-append, list_any_at}
 use Rattle.std.proofs.lemmas.List.Sorted.{IsNonDecreasingBy-from_all_adjacent}
-use Rattle.std.proofs.lemmas.List.Elements.{filter_agree, filter-append, All-head, All-tail, All-more, All-weaker, All-contains, Contains-get_or}
+use Rattle.std.proofs.lemmas.List.Elements.{filter_agree, filter-append, All-head, All-tail, All-more, All-weaker}
 use Rattle.merge_search.specs.declared.node.Entry.{Entry}
-use Rattle.merge_search.specs.Names.{named, AreListed, AreSorted, HaveSameGroups, is_first}
-use Rattle.merge_search.proofs.Rows.{named_own, named_is, named_in}
+use Rattle.merge_search.specs.Names.{named, AreListed, AreSorted, HaveOwnNames, HaveSameGroups}
+use Rattle.merge_search.proofs.Order.{Places, named_places, places_named}
 use Rattle.merge_search.proofs.Work.{no_entry}
 
 tied_is : (m n : ℕ) → (not (is_lt (nat_cmp m n)) && not (is_lt (nat_cmp n m))) ≡ (n == m)
@@ -94,44 +93,30 @@ module _ (n i j : ℕ) (xs : List Entry) (start : IsPartitionPoint (λ (a : Entr
       ap (take j) (take_rest xs i)
       ∙ sym (run_in (subst (λ (l : List Entry). IsPartitionPoint (λ (a : Entry). leb a.response n ≡ true) (λ a. leb a.response n ≡ false) l j) (take_rest xs i) end))
 
--- each field that is the first of its name has one of its name listed
-abbrev pub AreFirstListed : List Entry → List Entry → List Entry → Type 0
-AreFirstListed by_name firsts own = All (λ a. is_first by_name a ≡ true → list_any (λ f. a.response == f.response) firsts ≡ true) own
-
 eq_self : (m : ℕ) → (m == m) ≡ true
 eq_self m = grind arith
 
-module _ (by_name : List Entry) where
-  first_is : (b : Entry) (n : ℕ) → b.response ≡ n → slice_get (named n by_name) 0 ≡ Some b → is_first by_name b ≡ true
-  first_is b n same h =
-      ap (λ o. option_map_or (λ (a : Entry). a.field == b.field) o false) (subst (λ m. slice_get (named m by_name) 0 ≡ Some b) (sym same) h) ∙ eq_self b.field
+-- each field has one of its name listed
+abbrev pub Lists : List Entry → ℕ → Type 0
+Lists firsts n = list_any (λ f. n == f.response) firsts ≡ true
 
-  module _ (own : List Entry) (k : ℕ) (inside : k < length own) (firsts : List Entry) (had : AreFirstListed by_name firsts (take k own)) where
-    pub first_passed : is_first by_name (get_or own k no_entry) ≡ false → AreFirstListed by_name firsts (take (k + 1) own)
-    first_passed other =
-        All-more (λ a. is_first by_name a ≡ true → list_any (λ f. a.response == f.response) firsts ≡ true) own k no_entry inside had (λ yes. cc)
+pub still_lists : (firsts : List Entry) (x : Entry) (n : ℕ) → Lists firsts n → Lists (firsts ++ x ∷ []) n
+still_lists firsts x n h = list_any-append (λ f. n == f.response) firsts (x ∷ []) ∙ or_left (list_any (λ f. n == f.response) firsts) (list_any (λ f. n == f.response) (x ∷ [])) h
 
-    pub first_listed : AreFirstListed by_name (firsts ++ get_or own k no_entry ∷ []) (take (k + 1) own)
-    first_listed =
-        let x : Entry = get_or own k no_entry in
-        All-more (λ a. is_first by_name a ≡ true → list_any (λ f. a.response == f.response) (firsts ++ x ∷ []) ≡ true) own k no_entry inside
-        (All-weaker (λ a. is_first by_name a ≡ true → list_any (λ f. a.response == f.response) firsts ≡ true) (λ a. is_first by_name a ≡ true → list_any (λ f. a.response == f.response) (firsts ++ x ∷ []) ≡ true)
-        (λ a h yes. list_any-append (λ f. a.response == f.response) firsts (x ∷ []) ∙ or_left (list_any (λ f. a.response == f.response) firsts) (list_any (λ f. a.response == f.response) (x ∷ [])) (h yes)) (take k own) had)
-        (λ yes. list_any-append (λ f. x.response == f.response) firsts (x ∷ []) ∙ or_right (list_any (λ f. x.response == f.response) firsts) (list_any (λ f. x.response == f.response) (x ∷ [])) (or_left (x.response == x.response) false (eq_self x.response)))
+pub new_lists : (firsts : List Entry) (x : Entry) → Lists (firsts ++ x ∷ []) x.response
+new_lists firsts x = list_any-append (λ f. x.response == f.response) firsts (x ∷ []) ∙ or_right (list_any (λ f. x.response == f.response) firsts) (list_any (λ f. x.response == f.response) (x ∷ [])) (or_left (x.response == x.response) false (eq_self x.response))
 
-  pub all_listed : (own : List Entry) (k : ℕ) (firsts : List Entry) → length own ≤ k → HaveSameGroups by_name own → AreFirstListed by_name firsts (take k own) → AreListed firsts own
-  all_listed own k firsts all grouped had i d l =
-      let a : Entry = get_or own i d in
-      let m : ℕ = a.response in
-      let group : List Entry = named m by_name in
-      let there : Contains group a = subst (λ xs. Contains xs a) (sym (grouped m)) (named_in m own a (Contains-get_or own i d l) refl) in
-      let some : 0 < length group = omega (arith, there.1) in
-      let b : Entry = get_or group 0 a in
-      let of_own : Contains (named m own) b = subst (λ xs. Contains xs b) (grouped m) (Contains-get_or group 0 a some) in
-      let same : b.response ≡ m = named_is m own b of_own in
-      subst (λ (r : ℕ). list_any (λ f. r == f.response) firsts ≡ true) same
-      (All-contains (λ x. is_first by_name x ≡ true → list_any (λ f. x.response == f.response) firsts ≡ true) own b (subst (AreFirstListed by_name firsts) (take_all k own all) had)
-      (named_own m own b of_own) (first_is b m same (slice_get-get_or group 0 a some)))
+module _ (own : List Entry) (k : ℕ) (inside : k < length own) (firsts : List Entry) (had : AreListed firsts (take k own)) where
+  -- the next was listed before, or it is now
+  pub next_passed : Lists firsts (get_or own k no_entry).response → AreListed firsts (take (k + 1) own)
+  next_passed there = All-more (λ a. Lists firsts a.response) own k no_entry inside had there
+
+  pub next_listed : AreListed (firsts ++ get_or own k no_entry ∷ []) (take (k + 1) own)
+  next_listed =
+      let x : Entry = get_or own k no_entry in
+      All-more (λ a. Lists (firsts ++ x ∷ []) a.response) own k no_entry inside
+      (All-weaker (λ a. Lists firsts a.response) (λ a. Lists (firsts ++ x ∷ []) a.response) (λ a h. still_lists firsts x a.response h) (take k own) had)
+      (new_lists firsts x)
 
 -- where the response names rise the own fields serve
 pub rising_sorted : (xs : List Entry) (r : Bool) → IsAllAdjacentAnswer (λ (x : Entry) y b. b ≡ ltb x.response y.response) xs r → OnTrue r (AreSorted xs)
@@ -140,3 +125,36 @@ rising_sorted xs false h = tt
 
 pub listed_itself : (own : List Entry) → AreListed own own
 listed_itself own k d l = list_any_at (λ f. (get_or own k d).response == f.response) own k d l (eq_self (get_or own k d).response)
+
+abbrev Rise : List Entry → Type 0
+Rise xs = (k : ℕ) (d : Entry) → k + 1 < length xs → (get_or xs k d).response < (get_or xs (k + 1) d).response
+
+climb : (xs : List Entry) → Rise xs → (k : ℕ) (d : Entry) (n : ℕ) → k + suc n < length xs → (get_or xs k d).response < (get_or xs (k + suc n) d).response
+climb xs rise k d zero l =
+    let next : k + suc zero ≡ k + 1 = omega arith in
+    subst (λ (m : ℕ). (get_or xs k d).response < (get_or xs m d).response) (sym next) (rise k d (omega (arith, l)))
+climb xs rise k d (suc n) l =
+    let next : k + suc (suc n) ≡ (k + suc n) + 1 = omega arith in
+    subst (λ (m : ℕ). (get_or xs k d).response < (get_or xs m d).response) (sym next)
+    (omega (arith, climb xs rise k d n (omega (arith, l)), rise (k + suc n) d (omega (arith, l))))
+
+own_rise : (xs : List Entry) → Rise xs → HaveOwnNames xs
+own_rise xs rise k l a b lt p q same =
+    let there : k + suc (l - (k + 1)) ≡ l = omega (arith, lt) in
+    let up = climb xs rise k a (l - (k + 1)) (omega (arith, lt, slice_get_within xs l b q)) in
+    let left : get_or xs k a ≡ a = get_or_from_slice_get xs k a a p in
+    let right : get_or xs (k + suc (l - (k + 1))) a ≡ b = ap (λ (i : ℕ). get_or xs i a) there ∙ get_or_from_slice_get xs l b a q in
+    omega (arith, up, ap (λ (x : Entry). x.response) left, ap (λ (x : Entry). x.response) right, same)
+
+-- where they rise no name stands twice
+pub rising_own : (xs : List Entry) (r : Bool) → IsAllAdjacentAnswer (λ (x : Entry) y b. b ≡ ltb x.response y.response) xs r → OnTrue r (HaveOwnNames xs)
+rising_own xs true h = own_rise xs (λ k d l. ltb-true (get_or xs k d).response (get_or xs (k + 1) d).response (sym (h k d l)))
+rising_own xs false h = tt
+
+-- nor in another order
+pub own_grouped : (xs ys : List Entry) → HaveSameGroups ys xs → HaveOwnNames ys → HaveOwnNames xs
+own_grouped xs ys grouped once k l a b lt p q same =
+    let n = a.response in
+    let there : Places (named n ys) a b = subst (λ zs. Places zs a b) (sym (grouped n)) (named_places n xs a b (k, l, lt, p, q) refl (sym same)) in
+    let z = places_named n ys a b there in
+    once z.0 z.1 a b z.2 z.3 z.4 same

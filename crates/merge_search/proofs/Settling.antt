@@ -1,5 +1,5 @@
 -- Pairs that are settled at once.
-use Rattle.std.proofs.Common.{◌≡◌, ℕ, Bool, true, false, Some, None, inl, refl, subst, length, ap, arith}
+use Rattle.std.proofs.Common.{◌≡◌, ◌⊎◌, ◌++◌, ◌∷◌, [], ℕ, Bool, true, false, Some, None, inl, subst, sym, length, ap, arith, ◌∙◌}
 use Rattle.std.specs.Bool.{OnTrue}
 use Rattle.std.specs.List.{Contains}
 use Rattle.std.proofs.lemmas.List.Elements.{All-contains}
@@ -7,13 +7,17 @@ use Rattle.merge_search.specs.declared.node.Entry.{Entry}
 use Rattle.merge_search.specs.declared.state.Search.{Search}
 use Rattle.merge_search.specs.Clear.{AreLeaves, IsClearBelow}
 use Rattle.merge_search.specs.Merging.{Stands, own, spread, below, merges}
+use Rattle.merge_search.specs.Reports.{AddsAll, AtFields}
+use Rattle.merge_search.specs.State.{Keeps, Reports}
+use Rattle.merge_search.specs.Tasks.{MeetsFields}
+use Rattle.merge_search.specs.declared.state.Finding.TheVariants.{Direct}
 use Rattle.merge_search.specs.Settle.{AgreesWith, AgreeFlatly, IsSpreadless, Settles}
 use Rattle.merge_search.specs.Work as done
 use Rattle.merge_search.specs.World.{World, own_of, conflict_of, exclusive_of, Same}
-use Rattle.merge_search.proofs.Adding.{adds_none, all_quiet}
+use Rattle.merge_search.proofs.Adding.{adds_none, all_leaf, all_quiet}
 use Rattle.merge_search.proofs.Clearing.{leaf_below}
 use Rattle.merge_search.proofs.Laws.{same_some}
-use Rattle.merge_search.proofs.Work.{did_none}
+use Rattle.merge_search.proofs.Work.{did_kept, did_map, did_none, did_report}
 
 module _ (w : World) where
   -- what stands in a set that spreads nothing is an own field
@@ -31,9 +35,34 @@ module _ (w : World) where
       (leaf_below w (exclusive_of w e a b) c d (inl (All-contains (λ (x : Entry). x.below ≡ None) (own_of w i) c leaves p')))
 
   -- two fields that don't fail are done if it is known that what stands below merges
-  pub settles : (e : Bool) (a b : Entry) (s : Search) → conflict_of w e a b ≡ false → (is : Bool) → OnTrue is (IsClearBelow w e a b) → Settles w e a b is s s
-  settles e a b s passes true clear = record {
-    done = did_none w _ s (λ M grown. done.merged (merges {a = a} {b = b} passes clear));
-    real = all_quiet w e a b passes (adds_none w e _ _);
+  pub settles : (e : Bool) (a b : Entry) (s t : Search) → Keeps s t → conflict_of w e a b ≡ false → (is : Bool) → OnTrue is (IsClearBelow w e a b) → Settles w e a b is s t
+  settles e a b s t keeps passes true clear = record {
+    done = did_kept w _ keeps (did_none w _ s (λ M grown. done.merged (merges {a = a} {b = b} passes clear)));
+    real = subst (λ zs. AddsAll w e (AtFields a b) (AtFields a b) s.found.items zs) (sym keeps.found) (all_quiet w e a b passes (adds_none w e _ _));
   }
-  settles e a b s passes false clear = (refl, passes)
+  settles e a b s t keeps passes false clear = (keeps, passes)
+
+  -- two fields of which one has nothing below
+  pub leaf_settled : (e : Bool) (a b : Entry) (s t : Search) → Keeps s t → conflict_of w e a b ≡ false → (a.below ≡ None) ⊎ (b.below ≡ None) → MeetsFields w e a b s t
+  leaf_settled e a b s t keeps passes leaf = record {
+    done = did_kept w _ keeps (did_none w _ s (λ M grown. done.shallow passes leaf));
+    real = subst (λ zs. AddsAll w e (AtFields a b) (AtFields a b) s.found.items zs) (sym keeps.found) (all_quiet w e a b passes (adds_none w e _ _));
+  }
+
+  -- two fields that fail are reported
+  pub failing_settled : (e : Bool) (a b : Entry) (s t u : Search) → Keeps s t → conflict_of w e a b ≡ true → Reports (Direct a b e) t u → MeetsFields w e a b s u
+  failing_settled e a b s t u keeps fails told = record {
+    done = did_map w _ _ (λ M z. done.stood fails z.1) (did_report w (λ M. Unit {0}) (Direct a b e) told (did_kept w _ keeps (did_none w (λ M. Unit {0}) s (λ M z. tt))));
+    real = all_leaf w e a b _ _ fails (told.found ∙ ap (λ xs. xs ++ Direct a b e ∷ []) keeps.found);
+  }
+
+-- what was kept twice is kept
+pub kept_twice : {s t u : Search} → Keeps s t → Keeps t u → Keeps s u
+kept_twice a b = record {
+  pairs = b.pairs ∙ a.pairs;
+  searched = b.searched ∙ a.searched;
+  found = b.found ∙ a.found;
+  compared = b.compared ∙ a.compared;
+  opened = b.opened ∙ a.opened;
+  lists = b.lists ∙ a.lists;
+}

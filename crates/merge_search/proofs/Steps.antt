@@ -271,6 +271,9 @@ module _ (w : World) (e : Bool) where
   pub owing_full : (O D : Search → Type 0) (P : Root → Type 0) (s : Search) → (HasRoom w s.found.items → ⊥) → SearchesOwing w e O D P s s
   owing_full O D P s full = record { done = owes_full w O D s full; real = adds_none w e P s.found.items }
 
+keeps_self : (s : Search) → Keeps s s
+keeps_self s = record { pairs = refl; searched = refl; found = refl; compared = refl; opened = refl; lists = refl }
+
 -- a field and one of a list
 pub listed_row : (a : Entry) (list : List Entry) (b : Entry) (r : Root) → Contains list b → AtFields a b r → AtRest a list r
 listed_row a list b r there at = (at.0, subst (λ (x : Entry). Contains list x) (sym at.1) there)
@@ -287,6 +290,10 @@ module _ (w : World) (e : Bool) where
       let b = get_or list k no_entry in
       each_next w e (λ b M. Done w M e a b) (AtRest a list) (AtFields a b) (λ b. AtFields a b) b (drop (k + 1) list) (drop k list) s t u
       (drop_next list list k no_entry refl less) (λ r z. listed_row a list b r (Contains-get_or list k no_entry less) z) one more
+
+  -- nothing that is spoken of changed before
+  pub list_kept : (a : Entry) (list : List Entry) (k : ℕ) (s t u : Search) → Keeps s t → MeetsList w e a list k t u → MeetsList w e a list k s u
+  list_kept a list k s t u keeps d = compares_kept w e _ _ _ s t u u keeps d (keeps_self u)
 
   -- all that a field is compared with, where the others are known to merge with it
   pub others_whole : (a : Entry) (rest others : List Entry) (s t : Search) → AreOthers w e a rest others → MeetsList w e a others 0 s t

@@ -1,5 +1,5 @@
 -- Fields between which there is nothing to find.
-use Rattle.std.specs.Prelude.{ℕ, List, Bool, Some, None, true, ◌≡◌, ◌⊎◌, slice_get}
+use Rattle.std.specs.Prelude.{ℕ, List, Bool, Some, None, true, ◌≡◌, ◌⊎◌, slice_get, sum_by, ◌≤◌}
 use Rattle.std.specs.List.{All, Contains}
 use Rattle.bit_matrix.specs.Set.{has}
 use Rattle.bit_matrix.specs.declared.set.BitSet.{BitSet}
@@ -41,6 +41,10 @@ abbrev pub MergeBelow : World → Bool → List Entry → List ℕ → Type 0
 MergeBelow w e fields places =
     (k l : ℕ) (a b : Entry) → Contains places k → Contains places l → slice_get fields k ≡ Some a → slice_get fields l ≡ Some b
     → IsClearBelow w e a b
+
+-- Some fields are no more than others, however they count.
+abbrev pub IsSumWithin : List Entry → List Entry → Type 0
+IsSumWithin some all = (f : Entry → ℕ) → sum_by f some ≤ sum_by f all
 
 -- Some of the fields that one is compared with: all but those that merge with it.
 pub record AreOthers (w : World) (e : Bool) (a : Entry) (rest others : List Entry) : Type 0 where

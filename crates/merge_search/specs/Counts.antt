@@ -22,6 +22,10 @@ pub record Distinct (log : List Compared) : Type 0 where
 abbrev pub greatest : ℕ
 greatest = 2 ^ 128 - 1
 
+-- The most searches below fields that are repeated.
+abbrev pub most_repeats : ℕ
+most_repeats = 100
+
 -- The counts of a search among n fragments: each pair that is recorded was counted once.
 pub record Tally (asked : Bool → ℕ → ℕ → Bool) (n : ℕ) (s : Search) : Type 0 where
   pub log : List Compared

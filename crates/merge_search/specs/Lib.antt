@@ -25,4 +25,6 @@ pub mod Tasks
 pub mod Settle
 pub mod Sound
 pub mod Tops
+pub mod Weight
+pub mod Spending
 pub mod Inner

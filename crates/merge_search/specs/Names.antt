@@ -1,8 +1,7 @@
 -- The own fields of a set by their response names.
-use Rattle.std.specs.Prelude.{ℕ, ◌≡◌, ◌==◌, Bool, List, true, false, slice_get}
+use Rattle.std.specs.Prelude.{ℕ, ◌≡◌, ◌==◌, ◌<◌, List, Some, true, slice_get}
 use Rattle.std.specs.List.{All, filter, list_any}
 use Rattle.std.specs.List.Sorted.{IsNonDecreasingBy}
-use Rattle.std.specs.Option.{option_map_or}
 use Rattle.merge_search.specs.declared.node.Entry.{Entry}
 
 -- The fields of one response name, in order.
@@ -21,6 +20,6 @@ AreSorted by_name = IsNonDecreasingBy (λ a. a.response) by_name
 abbrev pub HaveSameGroups : List Entry → List Entry → Type 0
 HaveSameGroups by_name own = (n : ℕ) → named n by_name ≡ named n own
 
--- The field is the first of its name.
-abbrev pub is_first : List Entry → Entry → Bool
-is_first by_name a = option_map_or (λ b. b.field == a.field) (slice_get (named a.response by_name) 0) false
+-- No two have one response name.
+abbrev pub HaveOwnNames : List Entry → Type 0
+HaveOwnNames fields = (k l : ℕ) (a b : Entry) → k < l → slice_get fields k ≡ Some a → slice_get fields l ≡ Some b → a.response ≡ b.response → ⊥

@@ -3,6 +3,7 @@ use Rattle.std.specs.Prelude.{ℕ, List, [], Bool, true, false, ◌≡◌}
 use Rattle.std.specs.List.{All}
 use Rattle.merge_search.specs.declared.node.Entry.{Entry}
 use Rattle.merge_search.specs.declared.state.Search.{Search}
+use Rattle.merge_search.specs.State.{Keeps}
 use Rattle.merge_search.specs.Tasks.{MeetsFields}
 use Rattle.merge_search.specs.World.{World, spreads_of, conflict_of, Same}
 
@@ -18,7 +19,7 @@ AgreesWith w e c others = All (λ d. Same c d → conflict_of w e c d ≡ false)
 abbrev pub AgreeFlatly : World → Bool → List Entry → List Entry → Type 0
 AgreeFlatly w e left right = All (λ c. AgreesWith w e c right) left
 
--- The two fields were compared; or nothing was done, and the two don't fail by themselves.
+-- The two fields were compared; or nothing else was done, and the two don't fail by themselves.
 abbrev pub Settles : World → Bool → Entry → Entry → Bool → Search → Search → Type 0
 Settles w e a b true old new = MeetsFields w e a b old new
-Settles w e a b false old new = (new ≡ old) × (conflict_of w e a b ≡ false)
+Settles w e a b false old new = Keeps old new × (conflict_of w e a b ≡ false)

@@ -3,8 +3,8 @@ use Rattle.std.specs.Prelude.{ℕ, ◌+◌, ◌<◌, min, max, [], ◌∷◌, �
 use Rattle.bit_matrix.specs.Count.{count_below}
 use Rattle.merge_search.specs.declared.state.Search.{Search}
 use Rattle.merge_search.specs.declared.state.Finding.{Finding}
-use Rattle.merge_search.specs.Log.{Notes, NotesBoth}
-use Rattle.merge_search.specs.Counts.{greatest}
+use Rattle.merge_search.specs.Log.{covers_of, Notes, NotesBoth}
+use Rattle.merge_search.specs.Counts.{greatest, most_repeats}
 use Rattle.merge_search.specs.Work.{pair_in, search_in}
 
 pub record Begins (s : Search) : Type 0 where
@@ -13,6 +13,8 @@ pub record Begins (s : Search) : Type 0 where
   pub found : s.found.items ≡ []
   pub compared : s.compared ≡ 0
   pub opened : s.opened ≡ 0
+  pub judged : s.judged ≡ 0
+  pub repeated : s.repeated ≡ 0
 
 pub record NotesPair (f g : ℕ) (e : Bool) (old new : Search) : Type 0 where
   pub notes : NotesBoth e f g (pair_in old) (pair_in new)
@@ -21,6 +23,8 @@ pub record NotesPair (f g : ℕ) (e : Bool) (old new : Search) : Type 0 where
   pub found : new.found.items ≡ old.found.items
   pub opened : new.opened ≡ old.opened
   pub lists : new.lists ≡ old.lists
+  pub judged : new.judged ≡ old.judged
+  pub repeated : new.repeated ≡ old.repeated
 
 -- A fragment is noted with each of some that have smaller numbers, and how many of these pairs are new is counted.
 pub record NotesBelow (f : ℕ) (among : ℕ → Bool) (old new : Search) : Type 0 where
@@ -33,6 +37,8 @@ pub record NotesBelow (f : ℕ) (among : ℕ → Bool) (old new : Search) : Type
   pub found : new.found.items ≡ old.found.items
   pub opened : new.opened ≡ old.opened
   pub lists : new.lists ≡ old.lists
+  pub judged : new.judged ≡ old.judged
+  pub repeated : new.repeated ≡ old.repeated
 
 pub record NotesSearch (i g : ℕ) (e : Bool) (old new : Search) : Type 0 where
   pub notes : Notes e i g (search_in old) (search_in new)
@@ -41,6 +47,9 @@ pub record NotesSearch (i g : ℕ) (e : Bool) (old new : Search) : Type 0 where
   pub compared : new.compared ≡ old.compared
   pub opened : new.opened ≡ old.opened
   pub lists : new.lists ≡ old.lists
+  pub judged : new.judged ≡ old.judged
+  pub repeats : covers_of (search_in old) e i g ≡ true → old.repeated < most_repeats → new.repeated ≡ old.repeated + 1
+  pub first : covers_of (search_in old) e i g ≡ false → new.repeated ≡ old.repeated
 
 pub record Reports (y : Finding) (old new : Search) : Type 0 where
   pub found : new.found.items ≡ old.found.items ++ y ∷ []
@@ -49,6 +58,8 @@ pub record Reports (y : Finding) (old new : Search) : Type 0 where
   pub compared : new.compared ≡ old.compared
   pub opened : new.opened ≡ old.opened
   pub lists : new.lists ≡ old.lists
+  pub judged : new.judged ≡ old.judged
+  pub repeated : new.repeated ≡ old.repeated
 
 pub record CountsList (n : ℕ) (old new : Search) : Type 0 where
   pub lists : new.lists ≡ min (old.lists + 1) greatest
@@ -57,8 +68,11 @@ pub record CountsList (n : ℕ) (old new : Search) : Type 0 where
   pub searched : new.searched ≡ old.searched
   pub found : new.found.items ≡ old.found.items
   pub compared : new.compared ≡ old.compared
+  pub judged : new.judged ≡ old.judged
+  pub repeated : new.repeated ≡ old.repeated
 
--- Nothing changed but which searches may be made once more, and which room is used again.
+-- Nothing changed but which searches may be made once more, how many fields were compared, and which room is used
+-- again.
 pub record Keeps (old new : Search) : Type 0 where
   pub pairs : new.pairs ≡ old.pairs
   pub searched : new.searched ≡ old.searched
@@ -66,3 +80,14 @@ pub record Keeps (old new : Search) : Type 0 where
   pub compared : new.compared ≡ old.compared
   pub opened : new.opened ≡ old.opened
   pub lists : new.lists ≡ old.lists
+
+-- How many fields were compared, and which searches may be repeated, stayed as it was.
+pub record CountsStay (old new : Search) : Type 0 where
+  pub judged : new.judged ≡ old.judged
+  pub repeated : new.repeated ≡ old.repeated
+
+-- So many fields were compared.
+pub record CountsFields (n : ℕ) (old new : Search) : Type 0 where
+  pub judged : new.judged ≡ min (old.judged + n) greatest
+  pub repeated : new.repeated ≡ old.repeated
+  pub keeps : Keeps old new

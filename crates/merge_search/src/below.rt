@@ -1,11 +1,11 @@
 //! Fields of one response name of which it is known, of many at once, that what stands below them merges.
 ghost use Rattle.std.specs.Prelude.{◌≡◌, ◌⊎◌, ◌<◌, ◌≤◌, ℕ, IfOk, IfSome, None, OnOk, Some};
-ghost use Rattle.std.specs.Prelude.{false, length, slice_get, true};
+ghost use Rattle.std.specs.Prelude.{drop, false, length, slice_get, true};
 ghost use Rattle.std.specs.Bool.{OnTrue};
 ghost use Rattle.std.specs.List.{All, Contains};
 ghost use Rattle.merge_search.specs.Below.{IsIndexed, IsKnownBelow, IsPassedAt, KnowsBelow, KnowsPairs};
 ghost use Rattle.merge_search.specs.Near.{IsApartRow};
-ghost use Rattle.merge_search.specs.Clear.{MergeBelow};
+ghost use Rattle.merge_search.specs.Clear.{IsSumWithin, MergeBelow};
 ghost use Rattle.merge_search.specs.Failing.{AgreeAt};
 ghost use Rattle.merge_search.specs.Merging.{Merges};
 ghost use Rattle.merge_search.specs.World.{world};
@@ -272,6 +272,7 @@ fn others_by(
         → (l : ℕ) (b : Entry) → from ≤ l → slice_get fields.now l ≡ Some b
         → Contains v.items b ⊎ IsPassedAt below.now numbers.now agreeing.now k l) }
     ensures only { IfOk result (λ v. All (λ b. (l : ℕ) × (from ≤ l) × (slice_get fields.now l ≡ Some b)) v.items) }
+    ensures once { IfOk result (λ v. IsSumWithin v.items (drop from fields.now)) }
 {
     let mut others = Vec::new(alloc);
     if below.of_all && agreeing.is_none() {
@@ -299,6 +300,7 @@ fn others_near(
         → (l : ℕ) (b : Entry) → from ≤ l → slice_get fields.now l ≡ Some b
         → Contains v.items b ⊎ IsPassedAt below.now numbers.now agreeing.now k l) }
     ensures only { IfOk result (λ v. All (λ b. (l : ℕ) × (from ≤ l) × (slice_get fields.now l ≡ Some b)) v.items) }
+    ensures once { IfOk result (λ v. IsSumWithin v.items (drop from fields.now)) }
 {
     let near = row_near(alloc, below, k, fields.len())?;
     let others = others_by(alloc, fields, k, from, below, &near, numbers, agreeing)?;
@@ -327,6 +329,7 @@ pub(crate) fn others_from<J: Judge>(
         KnowsPairs w e fields.now below.now numbered.now → (l : ℕ) (a b : Entry) → from ≤ l
         → slice_get fields.now k ≡ Some a → slice_get fields.now l ≡ Some b → Contains v.items b ⊎ Merges w e a b) }
     ensures only { IfOk result (λ v. All (λ b. (l : ℕ) × (from ≤ l) × (slice_get fields.now l ≡ Some b)) v.items) }
+    ensures once { IfOk result (λ v. IsSumWithin v.items (drop from fields.now)) }
 {
     let agreeing = agreeing_at(alloc, graph, e, fields, numbered, k, is_clear)?;
     let numbers = numbered.numbers.as_slice();

@@ -1,5 +1,5 @@
 //! The steps of a search that compare fields.
-ghost use Rattle.std.specs.Prelude.{◌≡◌, OnOk, Bool, false, reverse};
+ghost use Rattle.std.specs.Prelude.{◌≡◌, ◌*◌, ◌≤◌, OnOk, Bool, false, reverse, sum_by};
 ghost use Rattle.merge_search.specs.declared.state.Search.{Search};
 ghost use Rattle.std.specs.Bool.{OnTrue};
 ghost use Rattle.merge_search.specs.Clear.{AreClearRows, IsClear};
@@ -7,6 +7,8 @@ ghost use Rattle.merge_search.specs.Names.{named};
 ghost use Rattle.merge_search.specs.World.{World, world, own_of, conflict_of};
 ghost use Rattle.merge_search.specs.Tasks.{Turns, Waits, Meets, MeetsFields, MeetsNamed, MeetsNested, MeetsBelow};
 ghost use Rattle.merge_search.specs.Tasks.{AreClearWith, Closes, MeetsBoth, MeetsRows, MeetsWith};
+ghost use Rattle.merge_search.specs.Spending.{Compares, CostsMore, Pays, name_cost, row_cost, task_cost};
+ghost use Rattle.merge_search.specs.Weight.{below_weight, fields_weight, weight};
 ghost use Rattle.merge_search.specs.declared.task.Task.{Task};
 
 use crate::clear::{MANY, are_clear, clear_rows};
@@ -35,8 +37,10 @@ pub(crate) fn begin_below<J: Judge>(
     search: &Search,
 ) -> Result<(), AllocError>
     requires { conflict_of (world J.judgement graph.now) e a b ≡ false }
-    ensures { let w = world J.judgement graph.now in
+    ensures turns { let w = world J.judgement graph.now in
         OnOk result (Turns w (MeetsFields w e a b) tasks.old.items tasks.new.items search.now search.now) }
+    ensures costs { let w = world J.judgement graph.now in
+        OnOk result (CostsMore w (below_weight w a * below_weight w b) tasks.old.items tasks.new.items) }
 {
     match (a.below, b.below) {
         (Some(i), Some(j)) => begin_nested(graph, a, b, i, j, e, tasks, search),
@@ -55,11 +59,14 @@ fn begin_nested<J: Judge>(
     tasks: &mut Vec<Task>,
     search: &Search,
 ) -> Result<(), AllocError>
-    ensures { let w = world J.judgement graph.now in
+    ensures turns { let w = world J.judgement graph.now in
         OnOk result (Turns w (MeetsNested w e a b i j) tasks.old.items tasks.new.items search.now search.now) }
+    ensures costs { let w = world J.judgement graph.now in
+        OnOk result (CostsMore w (weight w i * weight w j) tasks.old.items tasks.new.items) }
 {
     tasks.push(Task::Close(a, b, search.found.len()))?;
-    wait_below(graph, i, j, are_exclusive(graph, e, a, b), tasks)
+    wait_below(graph, i, j, are_exclusive(graph, e, a, b), tasks)?;
+    Ok(())
 }
 
 /// Lets two sets wait, with what they spread written out.
@@ -70,15 +77,19 @@ fn wait_below<J: Judge>(
     e: bool,
     tasks: &mut Vec<Task>,
 ) -> Result<(), AllocError>
-    ensures { let w = world J.judgement graph.now in
+    ensures waits { let w = world J.judgement graph.now in
         OnOk result (Waits w (reverse tasks.new.items) (MeetsBelow w e i j) (reverse tasks.old.items)) }
+    ensures costs { let w = world J.judgement graph.now in
+        OnOk result (CostsMore w (weight w i * weight w j) tasks.old.items tasks.new.items) }
 {
     let left = spreads(graph, i).len();
     let right = spreads(graph, j).len();
     wait(tasks, Task::Spreads(i, Partner::Each(j), e, 0), left)?;
     wait(tasks, Task::Spreads(i, Partner::Own(j), e, 0), left)?;
     wait(tasks, Task::Spreads(j, Partner::Own(i), e, 0), right)?;
-    wait(tasks, Task::Own(i, j, e, 0), first_of_names(graph, i).len())
+    let firsts = first_of_names(graph, i);
+    wait(tasks, Task::Own(i, j, e, 0), firsts.len())?;
+    Ok(())
 }
 
 /// Compares a field with the next of the own fields of a set that have its response name.
@@ -95,8 +106,10 @@ pub(crate) fn next_with<J: Judge>(
     tasks: &mut Vec<Task>,
     search: &mut Search,
 ) -> Result<(), AllocError>
-    ensures { let w = world J.judgement graph.now in
+    ensures turns { let w = world J.judgement graph.now in
         OnOk result (Turns w (Meets w (Task.With a j e n)) tasks.old.items tasks.new.items search.old search.new) }
+    ensures pays { let w = world J.judgement graph.now in let cost = task_cost w (Task.With a j e n) in
+        OnOk result (Pays w cost tasks.old.items tasks.new.items search.old search.new) }
 {
     let fields = group(graph, j, a.response);
     let k = settle_from(graph, a, fields, e, n, search)?;
@@ -104,7 +117,8 @@ pub(crate) fn next_with<J: Judge>(
         return Ok(());
     }
     wait(tasks, Task::With(a, j, e, k + 1), fields.len() - (k + 1))?;
-    begin_below(graph, a, fields[k], e, tasks, search)
+    begin_below(graph, a, fields[k], e, tasks, search)?;
+    Ok(())
 }
 
 /// Compares a field with the next of a list.
@@ -121,8 +135,10 @@ pub(crate) fn next_listed<J: Judge>(
     tasks: &mut Vec<Task>,
     search: &mut Search,
 ) -> Result<(), AllocError>
-    ensures { let w = world J.judgement graph.now in
+    ensures turns { let w = world J.judgement graph.now in
         OnOk result (Turns w (Meets w (Task.Listed a list e n)) tasks.old.items tasks.new.items search.old search.new) }
+    ensures pays { let w = world J.judgement graph.now in let cost = task_cost w (Task.Listed a list e n) in
+        OnOk result (Pays w cost tasks.old.items tasks.new.items search.old search.new) }
 {
     let fields = list.as_slice();
     let k = settle_from(graph, a, fields, e, n, search)?;
@@ -132,7 +148,8 @@ pub(crate) fn next_listed<J: Judge>(
     let b = fields[k];
     let left = fields.len() - (k + 1);
     wait(tasks, Task::Listed(a, list, e, k + 1), left)?;
-    begin_below(graph, a, b, e, tasks, search)
+    begin_below(graph, a, b, e, tasks, search)?;
+    Ok(())
 }
 
 /// Compares the next of some rows.
@@ -148,8 +165,10 @@ pub(crate) fn next_row<J: Judge>(
     tasks: &mut Vec<Task>,
     search: &mut Search,
 ) -> Result<(), AllocError>
-    ensures { let w = world J.judgement graph.now in
+    ensures turns { let w = world J.judgement graph.now in
         OnOk result (Turns w (Meets w (Task.Rows rows e k)) tasks.old.items tasks.new.items search.old search.new) }
+    ensures pays { let w = world J.judgement graph.now in let cost = task_cost w (Task.Rows rows e k) in
+        OnOk result (Pays w cost tasks.old.items tasks.new.items search.old search.new) }
 {
     let left = rows.left.as_slice();
     if k >= left.len() {
@@ -158,7 +177,8 @@ pub(crate) fn next_row<J: Judge>(
     let a = left[k];
     let others = others_of(search.alloc, graph, &rows, e, k)?;
     tasks.push(Task::Rows(rows, e, k + 1))?;
-    next_listed(graph, a, others, e, 0, tasks, search)
+    next_listed(graph, a, others, e, 0, tasks, search)?;
+    Ok(())
 }
 
 // Lets a field wait, unless it is known to merge with the own fields of a set.
@@ -169,8 +189,9 @@ fn wait_with(
     e: bool,
     tasks: &mut Vec<Task>,
 ) -> Result<(), AllocError>
-    ensures { OnOk result ((w : World) → OnTrue is_clear (IsClear w e a (named a.response (own_of w j)))
+    ensures waits { OnOk result ((w : World) → OnTrue is_clear (IsClear w e a (named a.response (own_of w j)))
         → Waits w (reverse tasks.new.items) (MeetsWith w e a j) (reverse tasks.old.items)) }
+    ensures costs { OnOk result ((w : World) → CostsMore w (row_cost w j a) tasks.old.items tasks.new.items) }
 {
     if is_clear {
         return Ok(());
@@ -187,8 +208,10 @@ fn wait_rows(
     e: bool,
     tasks: &mut Vec<Task>,
 ) -> Result<(), AllocError>
-    ensures { OnOk result ((w : World) → AreClearWith w e j fields.now clear.now
+    ensures waits { OnOk result ((w : World) → AreClearWith w e j fields.now clear.now
         → Waits w (reverse tasks.new.items) (MeetsRows w e j fields.now) (reverse tasks.old.items)) }
+    ensures costs { OnOk result ((w : World)
+        → CostsMore w (sum_by (row_cost w j) fields.now) tasks.old.items tasks.new.items) }
 {
     let mut k = fields.len();
     while k > 0 {
@@ -209,8 +232,10 @@ fn wait_wide<J: Judge>(
     search: &Search,
 ) -> Result<(), AllocError>
     requires { AreClearRows (world J.judgement graph.now) e left.now right.now clear }
-    ensures { let w = world J.judgement graph.now in OnOk result
+    ensures waits { let w = world J.judgement graph.now in OnOk result
         (Waits w (reverse tasks.new.items) (MeetsBoth w e left.now right.now 0) (reverse tasks.old.items)) }
+    ensures costs { let w = world J.judgement graph.now in OnOk result
+        (CostsMore w (fields_weight w left.now * fields_weight w right.now) tasks.old.items tasks.new.items) }
 {
     let rows = rows_of(graph, search, e, left, right, clear)?;
     tasks.push(Task::Rows(rows, e, 0))?;
@@ -228,12 +253,15 @@ fn next_named<J: Judge>(
     tasks: &mut Vec<Task>,
     search: &mut Search,
 ) -> Result<(), AllocError>
-    ensures { let w = world J.judgement graph.now in
+    ensures turns { let w = world J.judgement graph.now in
         OnOk result (Turns w (MeetsNamed w e i j name) tasks.old.items tasks.new.items search.old search.new) }
+    ensures pays { let w = world J.judgement graph.now in let cost = name_cost w i j name in
+        OnOk result (Pays w cost tasks.old.items tasks.new.items search.old search.new) }
 {
     let fields = group(graph, i, name);
     if fields.len() == 1 {
-        return next_with(graph, fields[0], j, e, 0, tasks, search);
+        next_with(graph, fields[0], j, e, 0, tasks, search)?;
+        return Ok(());
     }
     let others = group(graph, j, name);
     if are_clear(graph, search, e, fields, others)? {
@@ -241,15 +269,19 @@ fn next_named<J: Judge>(
     }
     let clear = clear_rows(graph, search, e, fields, others)?;
     if fields.len().saturating_mul(others.len()) < MANY {
-        return wait_rows(fields, &clear, j, e, tasks);
+        wait_rows(fields, &clear, j, e, tasks)?;
+        return Ok(());
     }
-    wait_wide(graph, fields, others, clear, e, tasks, search)
+    wait_wide(graph, fields, others, clear, e, tasks, search)?;
+    Ok(())
 }
 
 /// The next place from that one on whose response name the other set has too.
 fn next_shared<J: Judge>(graph: &Graph<J>, i: usize, j: usize, k: usize) -> usize
-    ensures { let w = world J.judgement graph.now in
+    ensures meets { let w = world J.judgement graph.now in
         (e : Bool) (s t : Search) → Meets w (Task.Own i j e result) s t → Meets w (Task.Own i j e k) s t }
+    ensures costs { let w = world J.judgement graph.now in
+        (e : Bool) → task_cost w (Task.Own i j e result) ≤ task_cost w (Task.Own i j e k) }
 {
     let firsts = first_of_names(graph, i);
     let mut next = k;
@@ -276,8 +308,10 @@ pub(crate) fn next_own<J: Judge>(
     tasks: &mut Vec<Task>,
     search: &mut Search,
 ) -> Result<(), AllocError>
-    ensures { let w = world J.judgement graph.now in
+    ensures turns { let w = world J.judgement graph.now in
         OnOk result (Turns w (Meets w (Task.Own i j e k)) tasks.old.items tasks.new.items search.old search.new) }
+    ensures pays { let w = world J.judgement graph.now in let cost = task_cost w (Task.Own i j e k) in
+        OnOk result (Pays w cost tasks.old.items tasks.new.items search.old search.new) }
 {
     let firsts = first_of_names(graph, i);
     let next = next_shared(graph, i, j, k);
@@ -289,7 +323,8 @@ pub(crate) fn next_own<J: Judge>(
         Task::Own(i, j, e, next + 1),
         firsts.len() - (next + 1),
     )?;
-    next_named(graph, i, j, firsts[next].response, e, tasks, search)
+    next_named(graph, i, j, firsts[next].response, e, tasks, search)?;
+    Ok(())
 }
 
 /// Reports two fields, if something was found below them.
@@ -298,7 +333,8 @@ pub(crate) fn next_own<J: Judge>(
 ///
 /// Out of memory.
 pub(crate) fn close(a: Entry, b: Entry, start: usize, search: &mut Search) -> Result<(), AllocError>
-    ensures { OnOk result (Closes a b start search.old search.new) }
+    ensures closes { OnOk result (Closes a b start search.old search.new) }
+    ensures counts { OnOk result (Compares 0 search.old search.new) }
 {
     let end = search.found.len();
     if end > start {

@@ -1,7 +1,9 @@
 //! The steps of a search that compare fragments.
-ghost use Rattle.std.specs.Prelude.{◌≡◌, ◌<◌, OnOk, length};
+ghost use Rattle.std.specs.Prelude.{◌≡◌, ◌*◌, ◌<◌, OnOk, length};
 ghost use Rattle.merge_search.specs.World.{world};
 ghost use Rattle.merge_search.specs.Tasks.{Meets, MeetsFragments, MeetsOne, MeetsPartner, MeetsSearch, Turns};
+ghost use Rattle.merge_search.specs.Spending.{Pays, stray_weight, task_cost};
+ghost use Rattle.merge_search.specs.Weight.{weight};
 ghost use Rattle.merge_search.specs.declared.task.Task.{Task};
 
 use crate::fields::next_own;
@@ -24,15 +26,18 @@ fn begin_one<J: Judge>(
     tasks: &mut Vec<Task>,
     search: &mut Search,
 ) -> Result<(), AllocError>
-    ensures { let w = world J.judgement graph.now in
+    ensures turns { let w = world J.judgement graph.now in
         OnOk result (Turns w (MeetsOne w e i g) tasks.old.items tasks.new.items search.old search.new) }
+    ensures pays { let w = world J.judgement graph.now in let cost = weight w i * stray_weight w g in
+        OnOk result (Pays w cost tasks.old.items tasks.new.items search.old search.new) }
 {
     if is_settled(graph, search, i, g, e) {
         return Ok(());
     }
     note_search(search, i, g, e)?;
     tasks.push(Task::Mark(i, search.found.len()))?;
-    next_own(graph, i, set(graph, g), e, 0, tasks, search)
+    next_own(graph, i, set(graph, g), e, 0, tasks, search)?;
+    Ok(())
 }
 
 /// Compares the own fields of `i` with those of the next fragment that a search from `g` opens.
@@ -50,16 +55,19 @@ pub(crate) fn next_opened<J: Judge>(
     tasks: &mut Vec<Task>,
     search: &mut Search,
 ) -> Result<(), AllocError>
-    ensures { let w = world J.judgement graph.now in
+    ensures turns { let w = world J.judgement graph.now in
         OnOk result
         (Turns w (Meets w (Task.Opened i g e opening k)) tasks.old.items tasks.new.items search.old search.new) }
+    ensures pays { let w = world J.judgement graph.now in let cost = task_cost w (Task.Opened i g e opening k) in
+        OnOk result (Pays w cost tasks.old.items tasks.new.items search.old search.new) }
 {
     if k >= opening.order.len() {
         return put_opening(search, opening);
     }
     let h = opening.order[k];
     tasks.push(Task::Opened(i, g, e, opening, k + 1))?;
-    begin_one(graph, i, h, e, tasks, search)
+    begin_one(graph, i, h, e, tasks, search)?;
+    Ok(())
 }
 
 /// Compares the own fields of `i` with the fragment `g` written out.
@@ -72,14 +80,17 @@ fn begin_search<J: Judge>(
     search: &mut Search,
 ) -> Result<(), AllocError>
     requires { g < length graph.now.fragments.items }
-    ensures { let w = world J.judgement graph.now in
+    ensures turns { let w = world J.judgement graph.now in
         OnOk result (Turns w (MeetsSearch w e i g) tasks.old.items tasks.new.items search.old search.new) }
+    ensures pays { let w = world J.judgement graph.now in
+        OnOk result (Pays w 0 tasks.old.items tasks.new.items search.old search.new) }
 {
     if is_settled(graph, search, i, g, e) {
         return Ok(());
     }
     let opening = opened(graph, slice::from_ref(&g), Seeker::Below(i, e), search)?;
-    next_opened(graph, i, g, e, opening, 0, tasks, search)
+    next_opened(graph, i, g, e, opening, 0, tasks, search)?;
+    Ok(())
 }
 
 /// Compares two fragments, both written out.
@@ -95,10 +106,16 @@ pub(crate) fn begin_fragments<J: Judge>(
     tasks: &mut Vec<Task>,
     search: &mut Search,
 ) -> Result<(), AllocError>
-    ensures { let w = world J.judgement graph.now in
+    ensures turns { let w = world J.judgement graph.now in
         OnOk result (Turns w (MeetsFragments w e f g) tasks.old.items tasks.new.items search.old search.new) }
+    ensures pays { let w = world J.judgement graph.now in
+        OnOk result (Pays w 0 tasks.old.items tasks.new.items search.old search.new) }
 {
     if f == g {
+        return Ok(());
+    }
+    let last = f.max(g);
+    if last >= graph.fragments.len() {
         return Ok(());
     }
     if is_compared(search, f, g, e) {
@@ -113,7 +130,8 @@ pub(crate) fn begin_fragments<J: Judge>(
     wait(tasks, seconds, on_left)?;
     let firsts = Task::Spreads(right, Partner::First(f), e, 0);
     wait(tasks, firsts, on_right)?;
-    next_own(graph, left, right, e, 0, tasks, search)
+    next_own(graph, left, right, e, 0, tasks, search)?;
+    Ok(())
 }
 
 /// Compares a fragment with its partner.
@@ -126,8 +144,10 @@ fn begin_spread<J: Judge>(
     search: &mut Search,
 ) -> Result<(), AllocError>
     requires { f < length graph.now.fragments.items }
-    ensures { let w = world J.judgement graph.now in
+    ensures turns { let w = world J.judgement graph.now in
         OnOk result (Turns w (MeetsPartner w e f partner) tasks.old.items tasks.new.items search.old search.new) }
+    ensures pays { let w = world J.judgement graph.now in
+        OnOk result (Pays w 0 tasks.old.items tasks.new.items search.old search.new) }
 {
     match partner {
         Partner::Own(i) => begin_search(graph, i, f, e, tasks, search),
@@ -154,9 +174,11 @@ pub(crate) fn next_spread<J: Judge>(
     tasks: &mut Vec<Task>,
     search: &mut Search,
 ) -> Result<(), AllocError>
-    ensures { let w = world J.judgement graph.now in
+    ensures turns { let w = world J.judgement graph.now in
         OnOk result
         (Turns w (Meets w (Task.Spreads s partner e k)) tasks.old.items tasks.new.items search.old search.new) }
+    ensures pays { let w = world J.judgement graph.now in
+        OnOk result (Pays w 0 tasks.old.items tasks.new.items search.old search.new) }
 {
     let list = spreads(graph, s);
     if k >= list.len() {
@@ -164,5 +186,6 @@ pub(crate) fn next_spread<J: Judge>(
     }
     let rest = Task::Spreads(s, partner, e, k + 1);
     wait(tasks, rest, list.len() - (k + 1))?;
-    begin_spread(graph, list[k], partner, e, tasks, search)
+    begin_spread(graph, list[k], partner, e, tasks, search)?;
+    Ok(())
 }

@@ -6,6 +6,7 @@ ghost use Rattle.merge_search.specs.Names as Spec;
 ghost use Rattle.merge_search.specs.Indexed.{firsts_of};
 
 use crate::node::{Entry, NameIndex, SetNode};
+use bit_matrix::set::BitSet;
 use std::alloc::{AllocError, Global};
 
 /// The fields of a response name, among fields sorted by it.
@@ -29,26 +30,15 @@ fn sort_fields(alloc: Global, own: &[Entry]) -> Result<Vec<Entry>, AllocError>
     Ok(by_name)
 }
 
-// Whether a field is the first of its name.
-fn is_first(by_name: &[Entry], field: Entry) -> bool
-    requires { Spec.AreSorted by_name.now }
-    ensures { result ≡ Spec.is_first by_name.now field }
-{
-    match fields_named(by_name, field.response).first() {
-        Some(first) => first.field == field.field,
-        None => false,
-    }
-}
-
 // The first field of each response name, in the order in which they stand.
-fn list_firsts(alloc: Global, own: &[Entry], by_name: &[Entry]) -> Result<Vec<Entry>, AllocError>
-    requires sorted { Spec.AreSorted by_name.now }
-    requires grouped { Spec.HaveSameGroups by_name.now own.now }
-    ensures { IfOk result (λ v. Spec.AreListed v.items own.now) }
+fn list_firsts(alloc: Global, own: &[Entry]) -> Result<Vec<Entry>, AllocError>
+    ensures listed { IfOk result (λ v. Spec.AreListed v.items own.now) }
+    ensures once { IfOk result (λ v. Spec.HaveOwnNames v.items) }
 {
+    let mut seen = BitSet::new(alloc);
     let mut firsts = Vec::with_capacity(alloc, own.len())?;
     for field in own {
-        if is_first(by_name, *field) {
+        if seen.insert(field.response)? {
             firsts.push(*field)?;
         }
     }
@@ -57,7 +47,8 @@ fn list_firsts(alloc: Global, own: &[Entry], by_name: &[Entry]) -> Result<Vec<En
 
 // Whether each response name has one field, and their numbers rise.
 fn are_ascending(own: &[Entry]) -> bool
-    ensures { OnTrue result (Spec.AreSorted own.now) }
+    ensures sorted { OnTrue result (Spec.AreSorted own.now) }
+    ensures once { OnTrue result (Spec.HaveOwnNames own.now) }
 {
     own.is_sorted_by(|a, b| a.response < b.response)
 }
@@ -68,14 +59,14 @@ fn repeated_firsts(
     own: &[Entry],
     by_name: &[Entry],
 ) -> Result<Option<Vec<Entry>>, AllocError>
-    requires sorted { Spec.AreSorted by_name.now }
-    requires grouped { Spec.HaveSameGroups by_name.now own.now }
-    ensures { IfOk result (λ firsts. Spec.AreListed (option_map_or (λ v. v.items) firsts own.now) own.now) }
+    requires { Spec.HaveSameGroups by_name.now own.now }
+    ensures listed { IfOk result (λ firsts. Spec.AreListed (option_map_or (λ v. v.items) firsts own.now) own.now) }
+    ensures once { IfOk result (λ firsts. Spec.HaveOwnNames (option_map_or (λ v. v.items) firsts own.now)) }
 {
     if are_ascending(by_name) {
         return Ok(None);
     }
-    Ok(Some(list_firsts(alloc, own, by_name)?))
+    Ok(Some(list_firsts(alloc, own)?))
 }
 
 /// Makes a set of these own fields, which spreads these fragments.

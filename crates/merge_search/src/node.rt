@@ -1,5 +1,5 @@
 //! Sets of fields.
-ghost use Rattle.merge_search.specs.Names.{AreListed, AreSorted, HaveSameGroups};
+ghost use Rattle.merge_search.specs.Names.{AreListed, AreSorted, HaveOwnNames, HaveSameGroups};
 ghost use Rattle.merge_search.specs.Indexed.{firsts_of, sorted_of};
 
 /// A field of a set: the numbers of its response name, of itself, and of the set below it.
@@ -43,6 +43,7 @@ pub struct SetNode {
     /// None where the numbers of the response names rise from each own field to the next: then the own fields serve.
     pub index: Option<NameIndex>,
     ghost listed: { AreListed (firsts_of own.items index) own.items },
+    ghost once: { HaveOwnNames (firsts_of own.items index) },
     ghost sorted: { AreSorted (sorted_of own.items index) },
     ghost grouped: { HaveSameGroups (sorted_of own.items index) own.items },
 }

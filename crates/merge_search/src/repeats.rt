@@ -3,10 +3,14 @@
 //! A search that found nothing finds nothing again. One that found a conflict is repeated for the next pair of fields
 //! above it, so that the conflict is reported for each pair. Two bounds keep documents with many conflicts from
 //! taking long.
-ghost use Rattle.std.specs.Prelude.{◌≡◌, ◌≤◌, true};
+ghost use Rattle.std.specs.Prelude.{◌≡◌, ◌+◌, ◌<◌, ◌≤◌, false, true};
 ghost use Rattle.merge_search.specs.Log.{covers_of};
 ghost use Rattle.merge_search.specs.Opening.{WasSearched};
+ghost use Rattle.merge_search.specs.Counts.{most_repeats};
+ghost use Rattle.merge_search.specs.Spending.{MayAsk};
+ghost use Rattle.merge_search.specs.Weight.{field_weight, weight};
 ghost use Rattle.merge_search.specs.Work.{search_in};
+ghost use Rattle.merge_search.specs.World.{world};
 
 use crate::graph::Graph;
 use crate::judge::Judge;
@@ -22,7 +26,8 @@ pub const FEW: usize = 50;
 
 /// Whether a search below a field can be left out: it was made, under the flag or without one, and is not repeated.
 pub fn is_settled<J: Judge>(graph: &Graph<J>, search: &Search, i: usize, g: usize, e: bool) -> bool
-    ensures { result ≡ true → covers_of (search_in search.now) e i g ≡ true }
+    ensures yes { result ≡ true → covers_of (search_in search.now) e i g ≡ true }
+    ensures no { result ≡ false → MayAsk (world J.judgement graph.now) search.now e i g }
 {
     is_searched(search, i, g, e) && !may_repeat(graph, search, i, set(graph, g))
 }
@@ -53,22 +58,30 @@ fn is_closed(search: &Search, i: usize, g: usize, e: bool) -> bool
 }
 
 // Whether searches of a set are repeated, where the fields are few.
-fn are_repeated(search: &Search, i: usize) -> bool {
-    search.repeats > 0 && search.conflicting.contains(i)
+fn are_repeated(search: &Search, i: usize) -> bool
+    ensures { result ≡ true → search.now.repeated < most_repeats }
+{
+    search.repeated < REPEATS && search.conflicting.contains(i)
 }
 
-fn may_repeat<J: Judge>(graph: &Graph<J>, search: &Search, i: usize, j: usize) -> bool {
+fn may_repeat<J: Judge>(graph: &Graph<J>, search: &Search, i: usize, j: usize) -> bool
+    ensures { let w = world J.judgement graph.now in
+        result ≡ true → (search.now.repeated < most_repeats) × (weight w i + weight w j < 50) }
+{
     are_repeated(search, i) && are_few(graph, i, j)
 }
 
-fn are_few<J: Judge>(graph: &Graph<J>, i: usize, j: usize) -> bool {
+fn are_few<J: Judge>(graph: &Graph<J>, i: usize, j: usize) -> bool
+    ensures { let w = world J.judgement graph.now in result ≡ true → weight w i + weight w j < 50 }
+{
     less_fields(graph, j, less_fields(graph, i, FEW)) > 0
 }
 
 // The number, less one for each field of a set and of the sets below them, down to 0.
 #[cycle(fields)]
 fn less_fields<J: Judge>(graph: &Graph<J>, s: usize, number: usize) -> usize
-    ensures { result ≤ number }
+    ensures few { result ≤ number }
+    ensures less { 0 < result → result + weight (world J.judgement graph.now) s ≡ number }
 {
     let mut left = number;
     for field in own(graph, s) {
@@ -82,7 +95,8 @@ fn less_fields<J: Judge>(graph: &Graph<J>, s: usize, number: usize) -> usize
 
 #[cycle(fields)]
 fn less_field<J: Judge>(graph: &Graph<J>, field: Entry, number: usize) -> usize
-    ensures { result ≤ number }
+    ensures few { result ≤ number }
+    ensures less { 0 < result → result + field_weight (world J.judgement graph.now) field ≡ number }
 {
     if number == 0 {
         return 0;

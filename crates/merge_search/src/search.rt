@@ -1,11 +1,13 @@
 //! Comparing fields, sets and fragments. What is left to do stands on a list in memory, so no depth is too deep. Where
 //! enough was found, it is passed over.
-ghost use Rattle.std.specs.Prelude.{◌≡◌, ◌∷◌, ◌<◌, OnOk, length, reverse};
+ghost use Rattle.std.specs.Prelude.{◌≡◌, ◌∷◌, ◌*◌, ◌<◌, OnOk, length, reverse};
 ghost use Rattle.std.specs.Bool.{OnTrue};
 ghost use Rattle.merge_search.specs.World.{world};
 ghost use Rattle.merge_search.specs.State.{Keeps};
 ghost use Rattle.merge_search.specs.Work.{Did, Done, Pair, OwnPairs};
 ghost use Rattle.merge_search.specs.Reports.{Finds, FindsAll, AtFields, AtOwn, AtFragments};
+ghost use Rattle.merge_search.specs.Spending.{Pays, Spends, task_cost, tasks_cost};
+ghost use Rattle.merge_search.specs.Weight.{field_weight, weight};
 ghost use Rattle.merge_search.specs.Tasks.{Meets, MeetsAll, Turns};
 ghost use Rattle.merge_search.specs.declared.state.Search.{Search};
 
@@ -36,13 +38,16 @@ pub fn compare_fields<J: Judge>(
         OnOk result (Did w (λ M. Done w M e a b) search.old search.new) }
     ensures real { let w = world J.judgement graph.now in
         OnOk result (FindsAll w e (AtFields a b) (AtFields a b) search.old search.new) }
+    ensures spends { let w = world J.judgement graph.now in
+        OnOk result (Spends w (field_weight w a * field_weight w b) search.old search.new) }
 {
     if settle(graph, a, b, e, search)? {
         return Ok(());
     }
     let mut tasks = take_tasks(search);
     begin_below(graph, a, b, e, &mut tasks, search)?;
-    finish(graph, tasks, search)
+    finish(graph, tasks, search)?;
+    Ok(())
 }
 
 /// Compares the own fields of two sets.
@@ -61,13 +66,16 @@ pub fn compare_own<J: Judge>(
         OnOk result (Did w (λ M. OwnPairs w M e i j) search.old search.new) }
     ensures real { let w = world J.judgement graph.now in
         OnOk result (FindsAll w e (AtOwn w i j) (AtOwn w i j) search.old search.new) }
+    ensures spends { let w = world J.judgement graph.now in
+        OnOk result (Spends w (weight w i * weight w j) search.old search.new) }
 {
     if is_full(graph, search) {
         return Ok(());
     }
     let mut tasks = take_tasks(search);
     next_own(graph, i, j, e, 0, &mut tasks, search)?;
-    finish(graph, tasks, search)
+    finish(graph, tasks, search)?;
+    Ok(())
 }
 
 /// Compares two fragments, both written out.
@@ -87,13 +95,15 @@ pub fn compare_fragments<J: Judge>(
     ensures done { OnOk result (Did (world J.judgement graph.now) (λ M. Pair M e f g) search.old search.new) }
     ensures real { let w = world J.judgement graph.now in
         OnOk result (Finds w e (AtFragments w f g) search.old search.new) }
+    ensures spends { OnOk result (Spends (world J.judgement graph.now) 0 search.old search.new) }
 {
     if is_full(graph, search) {
         return Ok(());
     }
     let mut tasks = take_tasks(search);
     begin_fragments(graph, f, g, e, &mut tasks, search)?;
-    finish(graph, tasks, search)
+    finish(graph, tasks, search)?;
+    Ok(())
 }
 
 /// Does all tasks, the last one first, and keeps their room.
@@ -102,8 +112,10 @@ fn finish<J: Judge>(
     mut tasks: Vec<Task>,
     search: &mut Search,
 ) -> Result<(), AllocError>
-    ensures { let w = world J.judgement graph.now in
+    ensures meets { let w = world J.judgement graph.now in
         OnOk result ((mid : Search) × MeetsAll w (reverse tasks.items) search.old mid × Keeps mid search.new) }
+    ensures spends { let w = world J.judgement graph.now in
+        OnOk result (Spends w (tasks_cost w tasks.items) search.old search.new) }
 {
     do_all(graph, &mut tasks, search)?;
     put_tasks(search, tasks);
@@ -116,8 +128,10 @@ fn do_all<J: Judge>(
     tasks: &mut Vec<Task>,
     search: &mut Search,
 ) -> Result<(), AllocError>
-    ensures { let w = world J.judgement graph.now in
+    ensures meets { let w = world J.judgement graph.now in
         OnOk result (MeetsAll w (reverse tasks.old.items) search.old search.new) }
+    ensures spends { let w = world J.judgement graph.now in
+        OnOk result (Spends w (tasks_cost w tasks.old.items) search.old search.new) }
 {
     for _ in 0..u64::MAX {
         let Some(task) = tasks.pop() else {
@@ -145,8 +159,10 @@ fn step<J: Judge>(
     tasks: &mut Vec<Task>,
     search: &mut Search,
 ) -> Result<(), AllocError>
-    ensures { let w = world J.judgement graph.now in
+    ensures turns { let w = world J.judgement graph.now in
         OnOk result (Turns w (Meets w task) tasks.old.items tasks.new.items search.old search.new) }
+    ensures pays { let w = world J.judgement graph.now in
+        OnOk result (Pays w (task_cost w task) tasks.old.items tasks.new.items search.old search.new) }
 {
     if is_skipped(graph, &task, search) {
         return Ok(());

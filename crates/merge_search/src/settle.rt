@@ -1,16 +1,18 @@
 //! Pairs of fields that are settled at once, so that no task has to wait: most are.
-ghost use Rattle.std.specs.Prelude.{◌≡◌, IfOk, Some, false, slice_get};
+ghost use Rattle.std.specs.Prelude.{◌≡◌, ◌≤◌, IfOk, OnOk, Some, false, length, slice_get};
 ghost use Rattle.std.specs.Bool.{OnTrue};
 ghost use Rattle.merge_search.specs.Settle.{AgreesWith, AgreeFlatly, IsSpreadless, Settles};
 ghost use Rattle.merge_search.specs.Clear.{IsClearBelow};
 ghost use Rattle.merge_search.specs.Tasks.{MeetsList};
-ghost use Rattle.merge_search.specs.World.{world, conflict_of, Same};
+ghost use Rattle.merge_search.specs.Spending.{Compares, ComparesUpto, LooksFlatly, open_cost, settle_cost};
+ghost use Rattle.merge_search.specs.State.{Keeps};
+ghost use Rattle.merge_search.specs.World.{world, conflict_of, own_of, Same};
 ghost use Rattle.merge_search.specs.declared.state.Search.{Search};
 
 use crate::graph::Graph;
 use crate::judge::Judge;
 use crate::node::Entry;
-use crate::state::{Finding, Search, report};
+use crate::state::{Finding, Search, count_fields, report};
 use crate::view::{are_exclusive, are_in_conflict, are_leaves, is_full, own, spreads};
 use std::alloc::AllocError;
 
@@ -19,7 +21,8 @@ const FEW: usize = 4;
 
 // Whether a set has few fields, and spreads nothing.
 fn is_small<J: Judge>(graph: &Graph<J>, s: usize) -> bool
-    ensures { OnTrue result (IsSpreadless (world J.judgement graph.now) s) }
+    ensures alone { OnTrue result (IsSpreadless (world J.judgement graph.now) s) }
+    ensures few { OnTrue result (length (own_of (world J.judgement graph.now) s) ≤ 4) }
 {
     if !spreads(graph, s).is_empty() {
         return false;
@@ -79,10 +82,14 @@ fn is_clear_below<J: Judge>(
     b: Entry,
     i: usize,
     j: usize,
+    search: &mut Search,
 ) -> Result<bool, AllocError>
     requires left { a.below ≡ Some i }
     requires right { b.below ≡ Some j }
-    ensures { IfOk result (λ is. OnTrue is (IsClearBelow (world J.judgement graph.now) e a b)) }
+    ensures clear { IfOk result (λ is. OnTrue is (IsClearBelow (world J.judgement graph.now) e a b)) }
+    ensures keeps { OnOk result (Keeps search.old search.new) }
+    ensures counts { let w = world J.judgement graph.now in
+        OnOk result (LooksFlatly (length (own_of w i)) (length (own_of w j)) search.old search.new) }
 {
     if !is_small(graph, i) {
         return Ok(false);
@@ -93,8 +100,10 @@ fn is_clear_below<J: Judge>(
     if !are_leaves(own(graph, i)) {
         return Ok(false);
     }
-    let below = are_exclusive(graph, e, a, b);
-    let agree = agree_flatly(graph, below, own(graph, i), own(graph, j))?;
+    let left = own(graph, i);
+    let right = own(graph, j);
+    count_fields(search, left.len().saturating_mul(right.len()));
+    let agree = agree_flatly(graph, are_exclusive(graph, e, a, b), left, right)?;
     Ok(agree)
 }
 
@@ -111,12 +120,15 @@ pub(crate) fn settle<J: Judge>(
     e: bool,
     search: &mut Search,
 ) -> Result<bool, AllocError>
-    ensures { let w = world J.judgement graph.now in
+    ensures settled { let w = world J.judgement graph.now in
         IfOk result (λ is. Settles w e a b is search.old search.new) }
+    ensures counts { let w = world J.judgement graph.now in
+        IfOk result (λ is. Compares (settle_cost w a b is) search.old search.new) }
 {
     if is_full(graph, search) {
         return Ok(true);
     }
+    count_fields(search, 1);
     let in_conflict = are_in_conflict(graph, e, a, b)?;
     if in_conflict {
         report(search, Finding::Direct(a, b, e))?;
@@ -124,7 +136,7 @@ pub(crate) fn settle<J: Judge>(
     }
     match (a.below, b.below) {
         (Some(i), Some(j)) => {
-            let is_clear = is_clear_below(graph, e, a, b, i, j)?;
+            let is_clear = is_clear_below(graph, e, a, b, i, j, search)?;
             Ok(is_clear)
         }
         _ => Ok(true),
@@ -150,6 +162,8 @@ pub(crate) fn settle_from<J: Judge>(
         → MeetsList w e a fields.now n search.old t) }
     ensures open { let w = world J.judgement graph.now in
         IfOk result (λ k. (b : Entry) → slice_get fields.now k ≡ Some b → conflict_of w e a b ≡ false) }
+    ensures counts { let w = world J.judgement graph.now in
+        IfOk result (λ k. ComparesUpto w a fields.now n k (open_cost w fields.now k) search.old search.new) }
 {
     let mut k = n;
     while k < fields.len() {

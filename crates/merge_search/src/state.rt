@@ -4,11 +4,11 @@ ghost use Rattle.bit_matrix.specs.Set.{has};
 ghost use Rattle.merge_search.specs.Log.{covers_of};
 ghost use Rattle.merge_search.specs.Work.{pair_in, search_in};
 ghost use Rattle.merge_search.specs.State.{Begins, NotesBelow, NotesPair, NotesSearch, Reports, CountsList, Keeps};
+ghost use Rattle.merge_search.specs.State.{CountsFields, CountsStay};
 
 use crate::log::{Log, is_in, no_questions, note};
 use crate::node::Entry;
 use crate::opening::{Opening, no_opening};
-use crate::repeats::REPEATS;
 use crate::task::Task;
 use bit_matrix::set::BitSet;
 use std::alloc::{AllocError, Global};
@@ -32,8 +32,8 @@ pub struct Search {
     pub searched: Log,
     /// The sets whose own fields conflict with a fragment's, below a field.
     pub conflicting: BitSet,
-    /// How many searches below a field may still be made once more.
-    pub repeats: usize,
+    /// How many searches below a field were made once more.
+    pub repeated: usize,
     pub found: Vec<Finding>,
     /// How many pairs of fragments were compared.
     pub compared: u128,
@@ -41,6 +41,8 @@ pub struct Search {
     pub opened: u128,
     /// How many searches there were.
     pub lists: u128,
+    /// How many pairs of fields were compared one by one.
+    pub judged: u128,
     /// Openings of searches that ended, whose room is used again.
     pub openings: Vec<Opening>,
     /// No task, but the room of those that were done, which is used again.
@@ -56,11 +58,12 @@ pub fn no_search(alloc: Global) -> Search
         pairs: no_questions(alloc),
         searched: no_questions(alloc),
         conflicting: BitSet::new(alloc),
-        repeats: REPEATS,
+        repeated: 0,
         found: Vec::new(alloc),
         compared: 0,
         opened: 0,
         lists: 0,
+        judged: 0,
         openings: Vec::new(alloc),
         tasks: Vec::new(alloc),
     }
@@ -68,7 +71,8 @@ pub fn no_search(alloc: Global) -> Search
 
 /// An opening to write over: that of a search that ended, if there is one.
 pub fn take_opening(search: &mut Search) -> Opening
-    ensures { Keeps search.old search.new }
+    ensures keeps { Keeps search.old search.new }
+    ensures counts { CountsStay search.old search.new }
 {
     match search.openings.pop() {
         Some(opening) => opening,
@@ -82,7 +86,8 @@ pub fn take_opening(search: &mut Search) -> Opening
 ///
 /// Out of memory.
 pub fn put_opening(search: &mut Search, opening: Opening) -> Result<(), AllocError>
-    ensures { OnOk result (Keeps search.old search.new) }
+    ensures keeps { OnOk result (Keeps search.old search.new) }
+    ensures counts { OnOk result (CountsStay search.old search.new) }
 {
     search.openings.push(opening)?;
     Ok(())
@@ -139,7 +144,7 @@ pub fn note_search(search: &mut Search, i: usize, g: usize, e: bool) -> Result<(
     ensures { OnOk result (NotesSearch i g e search.old search.new) }
 {
     if is_searched(search, i, g, e) {
-        search.repeats = search.repeats.saturating_sub(1);
+        search.repeated = search.repeated.saturating_add(1);
     }
     note(&mut search.searched, e, i, g)
 }
@@ -150,7 +155,8 @@ pub fn note_search(search: &mut Search, i: usize, g: usize, e: bool) -> Result<(
 ///
 /// Out of memory.
 pub fn note_conflicts(search: &mut Search, i: usize, start: usize) -> Result<(), AllocError>
-    ensures { OnOk result (Keeps search.old search.new) }
+    ensures keeps { OnOk result (Keeps search.old search.new) }
+    ensures counts { OnOk result (CountsStay search.old search.new) }
 {
     if search.found.len() > start {
         search.conflicting.insert(i)?;
@@ -168,6 +174,13 @@ pub fn report(search: &mut Search, finding: Finding) -> Result<(), AllocError>
 {
     search.found.push(finding)?;
     Ok(())
+}
+
+/// Counts pairs of fields that are compared.
+pub fn count_fields(search: &mut Search, pairs: usize)
+    ensures { CountsFields pairs search.old search.new }
+{
+    search.judged = search.judged.saturating_add(pairs as u128);
 }
 
 /// Counts a search that opens some fragments.

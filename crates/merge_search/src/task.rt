@@ -1,7 +1,8 @@
 //! What a search still has to do.
 ghost use Rattle.std.specs.Prelude.{◌≡◌, [], OnOk, reverse};
 ghost use Rattle.merge_search.specs.World.{World};
-ghost use Rattle.merge_search.specs.State.{Keeps};
+ghost use Rattle.merge_search.specs.Spending.{CostsMore, task_cost};
+ghost use Rattle.merge_search.specs.State.{CountsStay, Keeps};
 ghost use Rattle.merge_search.specs.Tasks.{Meets, Waits};
 ghost use Rattle.merge_search.specs.declared.state.Search.{Search};
 
@@ -52,9 +53,10 @@ pub enum Task {
 ///
 /// Out of memory.
 pub(crate) fn wait(tasks: &mut Vec<Task>, task: Task, left: usize) -> Result<(), AllocError>
-    ensures { OnOk result
+    ensures waits { OnOk result
         ((w : World) → (left ≡ 0 → (s : Search) → Meets w task s s)
         → Waits w (reverse tasks.new.items) (Meets w task) (reverse tasks.old.items)) }
+    ensures costs { OnOk result ((w : World) → CostsMore w (task_cost w task) tasks.old.items tasks.new.items) }
 {
     if left == 0 {
         return Ok(());
@@ -67,6 +69,7 @@ pub(crate) fn wait(tasks: &mut Vec<Task>, task: Task, left: usize) -> Result<(),
 pub(crate) fn take_tasks(search: &mut Search) -> Vec<Task>
     ensures none { result.items ≡ [] }
     ensures keeps { Keeps search.old search.new }
+    ensures counts { CountsStay search.old search.new }
 {
     let mut tasks = mem::replace(&mut search.tasks, Vec::new(search.alloc));
     tasks.clear();
@@ -75,7 +78,8 @@ pub(crate) fn take_tasks(search: &mut Search) -> Vec<Task>
 
 /// Keeps the room of a list of tasks, for the next.
 pub(crate) fn put_tasks(search: &mut Search, tasks: Vec<Task>)
-    ensures { Keeps search.old search.new }
+    ensures keeps { Keeps search.old search.new }
+    ensures counts { CountsStay search.old search.new }
 {
     search.tasks = tasks;
 }

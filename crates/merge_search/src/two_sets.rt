@@ -1,7 +1,7 @@
 //! The fields of one response name of two sets: each of the one is compared with those of the other that it isn't known
 //! to merge with.
 ghost use Rattle.std.specs.Prelude.{◌≡◌, IfOk, Some, slice_get};
-ghost use Rattle.merge_search.specs.Clear.{AreClearRows, AreOthers};
+ghost use Rattle.merge_search.specs.Clear.{AreClearRows, AreOthers, IsSumWithin};
 ghost use Rattle.merge_search.specs.TwoSets.{KnowsRows, rights_of};
 ghost use Rattle.merge_search.specs.World.{world};
 ghost use Rattle.merge_search.specs.declared.node.Entry.{Entry};
@@ -74,8 +74,9 @@ pub(crate) fn others_of<J: Judge>(
     e: bool,
     k: usize,
 ) -> Result<Vec<Entry>, AllocError>
-    ensures { let w = world J.judgement graph.now in IfOk result (λ v. (a : Entry) → KnowsRows w e rows.now
+    ensures others { let w = world J.judgement graph.now in IfOk result (λ v. (a : Entry) → KnowsRows w e rows.now
         → slice_get rows.now.left.items k ≡ Some a → AreOthers w e a (rights_of rows.now) v.items) }
+    ensures once { IfOk result (λ v. IsSumWithin v.items (rights_of rows.now)) }
 {
     if rows.clear.contains(k) {
         return Ok(Vec::new(alloc));

@@ -1,6 +1,6 @@
 //! What a search reads of a graph.
 ghost use Rattle.std.specs.Prelude.{◌≡◌, Bool, IfOk};
-ghost use Rattle.merge_search.specs.Names.{named, AreListed};
+ghost use Rattle.merge_search.specs.Names.{named, AreListed, HaveOwnNames};
 ghost use Rattle.std.specs.Bool.{OnTrue};
 ghost use Rattle.std.specs.List.{All};
 ghost use Rattle.merge_search.specs.Tasks.{firsts_at};
@@ -27,7 +27,8 @@ pub fn firsts<J: Judge>(graph: &Graph<J>, s: usize) -> &[Entry]
 
 /// The same list, of which more is known.
 pub(crate) fn first_of_names<J: Judge>(graph: &Graph<J>, s: usize) -> &[Entry]
-    ensures { result.now ≡ firsts_at graph.now.sets.items s }
+    ensures is { result.now ≡ firsts_at graph.now.sets.items s }
+    ensures once { HaveOwnNames result.now }
 {
     match graph.sets.get(s) {
         Some(node) => first_fields(node),

@@ -1,5 +1,7 @@
 use Rattle.std.proofs.Common.{◌≡◌, ◌⊎◌, ◌++◌, ◌∷◌, [], ◌+◌, ◌<◌, ◌≤◌, ℕ, Some, inl, inr, get_or, length, slice_get, ap, arith, sym, subst, ◌∙◌}
+use Rattle.std.specs.Prelude.{drop, sum_by}
 use Rattle.std.specs.Bool.{OnTrue}
+use Rattle.std.proofs.lemmas.List.Sums.{sum_by-drop_more, sum_by_push}
 use Rattle.std.specs.Option.{IfSome}
 use Rattle.std.specs.List.{All, Contains}
 use Rattle.std.proofs.lemmas.Bool.{cases_eq}
@@ -17,6 +19,7 @@ loop-l-init c = (
   λ near m b more less p. absurd (omega (arith, more, less)),
   subst (λ zs. All (λ (y : Entry). (m : ℕ) × (c.args.from ≤ m) × (slice_get c.args.fields.now m ≡ Some y)) zs) (sym c.new-others.ensures.items)
       (All-nil (λ (y : Entry). (m : ℕ) × (c.args.from ≤ m) × (slice_get c.args.fields.now m ≡ Some y))),
+  λ f. subst (λ zs. sum_by f zs + sum_by f (drop c.args.from c.args.fields.now) ≤ sum_by f (drop c.args.from c.args.fields.now)) (sym c.new-others.ensures.items) (omega arith),
 )
 
 pub loop-l-preserved : goal.loop-l-preserved
@@ -42,6 +45,8 @@ loop-l-preserved c =
             ],
             subst (λ zs. All (λ (y : Entry). (m : ℕ) × (c.args.from ≤ m) × (slice_get fields m ≡ Some y)) zs) (sym is)
                 (All-push (λ (y : Entry). (m : ℕ) × (c.args.from ≤ m) × (slice_get fields m ≡ Some y)) old a c.loop-l.invariant.1 (n, omega (arith, c.loop-l.auto.l), slice_get-get_or fields n no_entry c.loop-l-test.true)),
+            λ f. subst (λ zs. sum_by f zs + sum_by f (drop (n + 1) fields) ≤ sum_by f (drop c.args.from fields)) (sym is)
+                (omega (arith, sum_by_push f old a, sum_by-drop_more f fields n no_entry c.loop-l-test.true, c.loop-l.invariant.2 f)),
           )
       | else-not-is_passed w ↦
           let is : new ≡ old = ap (λ v. v.items) w.others-is in (
@@ -50,6 +55,8 @@ loop-l-preserved c =
               | inr apart ↦ subst (λ zs. Contains zs b ⊎ passed m) (sym is) (c.loop-l.invariant.0 near m b more (past m less apart) p)
             ],
             subst (λ zs. All (λ (y : Entry). (m : ℕ) × (c.args.from ≤ m) × (slice_get fields m ≡ Some y)) zs) (sym is) c.loop-l.invariant.1,
+            λ f. subst (λ zs. sum_by f zs + sum_by f (drop (n + 1) fields) ≤ sum_by f (drop c.args.from fields)) (sym is)
+                (omega (arith, sum_by-drop_more f fields n no_entry c.loop-l-test.true, c.loop-l.invariant.2 f)),
           )
     ]
 
@@ -57,4 +64,5 @@ pub returns : goal.returns
 returns c = record {
   rest = λ near l b more p. c.loop-l.invariant.0 near l b more (omega (arith, slice_get_within c.args.fields.now l b p, c.loop-l-test.false)) p;
   only = c.loop-l.invariant.1;
+  once = λ f. omega (arith, c.loop-l.invariant.2 f);
 }

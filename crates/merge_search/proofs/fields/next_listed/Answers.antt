@@ -1,7 +1,6 @@
-use Rattle.std.proofs.Common.{◌+◌, ◌<◌, length, arith, get_or, rules, subst, sym}
+use Rattle.std.proofs.Common.{◌+◌, ◌*◌, ◌<◌, ◌≤◌, drop, length, arith, get_or, rules, subst, sym}
 use Rattle.merge_search.proofs.Work.{no_entry}
 use Rattle.std.proofs.lemmas.Option.{slice_get-get_or}
-use Rattle.std.proofs.lemmas.Result.{on_ok_weaker}
 use Rattle.merge_search.specs.declared.task.Task.TheVariants.{Listed}
 use Rattle.merge_search.specs.declared.node.Entry.{Entry}
 use Rattle.merge_search.specs.declared.state.Search.{Search}
@@ -9,10 +8,13 @@ use Rattle.merge_search.specs.World.{world}
 use Rattle.merge_search.specs.Tasks.{Meets, MeetsFields, MeetsList}
 use Rattle.merge_search.proofs.Leading.{leads_done, leads_next, leads_turn}
 use Rattle.merge_search.proofs.Steps.{list_end, list_next}
+use Rattle.merge_search.specs.Spending.{CostsMore, Pays}
+use Rattle.merge_search.specs.Weight.{field_weight, fields_weight}
+use Rattle.merge_search.proofs.Costs.{list_open, list_settled}
 use Rattle.merge_search.proofs.fields.next_listed.Goals as goal
 
-pub returns-then-k-fields : goal.returns-then-k-fields
-returns-then-k-fields g c =
+pub returns-then-k-fields-clause-turns : goal.returns-then-k-fields-clause-turns
+returns-then-k-fields-clause-turns g c =
     let v = world g.J.Judge.judgement c.args.graph.now in
     let e = c.args.e in
     let a = c.args.a in
@@ -29,8 +31,8 @@ begin_below-requires g c =
     let less : k < length fields = search rules in
     c.in_ok-k.ensures.open (get_or fields k no_entry) (slice_get-get_or fields k no_entry less)
 
-pub returns : goal.returns
-returns g c =
+pub returns-clause-turns : goal.returns-clause-turns
+returns-clause-turns g c =
     let v = world g.J.Judge.judgement c.args.graph.now in
     let e = c.args.e in
     let a = c.args.a in
@@ -41,9 +43,26 @@ returns g c =
     let less : k < length fields = search rules in
     let s : Search = c.args.search.now in
     let u : Search = c.settle_from.new.search in
-    on_ok_weaker c.begin_below.result
-    (λ go. leads_turn v (MeetsList v e a fields k) (Meets v (Listed a c.args.list e c.args.n)) _ _ u s _ (λ t d. subst (λ xs. MeetsList v e a xs c.args.n s t) is (c.in_ok-k.ensures.settled t d))
+    leads_turn v (MeetsList v e a fields k) (Meets v (Listed a c.args.list e c.args.n)) _ _ u s _ (λ t d. subst (λ xs. MeetsList v e a xs c.args.n s t) is (c.in_ok-k.ensures.settled t d))
     (leads_next v (MeetsFields v e a b) (Meets v (Listed a c.args.list e (k + 1))) (MeetsList v e a fields k) _ _ _ _ u
     (λ t x one more. list_next v e a fields k u t x less one (subst (λ xs. MeetsList v e a xs (k + 1) t x) (sym is) more))
-    (c.in_ok-wait.ensures v (λ none s. subst (λ xs. MeetsList v e a xs (k + 1) s s) is (list_end v e a fields (k + 1) s (omega (arith, none))))) go))
-    c.begin_below.ensures
+    (c.in_ok-wait.ensures.waits v (λ none s. subst (λ xs. MeetsList v e a xs (k + 1) s s) is (list_end v e a fields (k + 1) s (omega (arith, none))))) c.in_ok-begin_below.ensures.turns)
+
+pub returns-then-k-fields-clause-pays : goal.returns-then-k-fields-clause-pays
+returns-then-k-fields-clause-pays g c =
+    let v = world g.J.Judge.judgement c.args.graph.now in
+    let a = c.args.a in
+    let past : length c.as_slice-fields.result.now ≤ c.in_ok-k.k = search rules in
+    subst (λ xs. Pays v (field_weight v a * fields_weight v (drop c.args.n xs)) c.args.tasks.now.items c.args.tasks.now.items c.args.search.now c.settle_from.new.search) c.as_slice-fields.ensures.value
+    (list_settled v a c.as_slice-fields.result.now c.args.n c.in_ok-k.k _ _ c.in_ok-k.ensures.counts past _)
+
+pub returns-clause-pays : goal.returns-clause-pays
+returns-clause-pays g c =
+    let v = world g.J.Judge.judgement c.args.graph.now in
+    let a = c.args.a in
+    let k = c.in_ok-k.k in
+    let fields = c.as_slice-fields.result.now in
+    let less : k < length fields = search rules in
+    subst (λ xs. Pays v (field_weight v a * fields_weight v (drop c.args.n xs)) c.args.tasks.now.items c.begin_below.new.tasks.items c.args.search.now c.settle_from.new.search) c.as_slice-fields.ensures.value
+    (list_open v a fields c.args.n k _ _ c.in_ok-k.ensures.counts less _ _ _
+    (subst (λ xs. CostsMore v (field_weight v a * fields_weight v (drop (k + 1) xs)) c.args.tasks.now.items c.wait.new.tasks.items) (sym c.as_slice-fields.ensures.value) (c.in_ok-wait.ensures.costs v)) c.in_ok-begin_below.ensures.costs)

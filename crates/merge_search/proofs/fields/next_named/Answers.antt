@@ -1,7 +1,6 @@
-use Rattle.std.proofs.Common.{◌≡◌, ℕ, length, arith, drop, get_or, ap, refl, rules, subst, sym, ◌∙◌}
+use Rattle.std.proofs.Common.{◌≡◌, ◌*◌, ℕ, length, arith, drop, get_or, ap, refl, rules, subst, sym, ◌∙◌}
 use Rattle.std.specs.List.{Contains}
 use Rattle.std.specs.Bool.{OnTrue}
-use Rattle.std.proofs.lemmas.Result.{on_ok_weaker}
 use Rattle.merge_search.specs.declared.task.Task.TheVariants.{With}
 use Rattle.merge_search.specs.declared.node.Entry.{Entry}
 use Rattle.merge_search.specs.Names.{named}
@@ -11,14 +10,18 @@ use Rattle.merge_search.specs.Reports.{AtWith}
 use Rattle.merge_search.specs.Tasks.{AreClearWith, AtRows, Meets, MeetsBoth, MeetsNamed, MeetsRows, WithDone}
 use Rattle.merge_search.proofs.Work.{no_entry, did_none}
 use Rattle.merge_search.proofs.Clearing.{named_done, named_tells}
+use Rattle.std.specs.Prelude.{sum_by}
+use Rattle.merge_search.specs.Spending.{CostsMore, name_cost, row_cost}
+use Rattle.merge_search.specs.Weight.{fields_weight}
+use Rattle.merge_search.proofs.Costs.{all_rows, one_row, pays_more, pays_waits}
 use Rattle.merge_search.proofs.Leading.{leads_done, leads_turn}
 use Rattle.merge_search.proofs.Order.{at_of}
 use Rattle.merge_search.proofs.Rows.{named_is, in_list}
 use Rattle.merge_search.proofs.Steps.{both_named, drop_end, drop_next, each_none, each_next, with_whole, rows_named}
 use Rattle.merge_search.proofs.fields.next_named.Goals as goal
 
-pub returns-then-fields-eq1 : goal.returns-then-fields-eq1
-returns-then-fields-eq1 g c =
+pub returns-then-fields-eq1-clause-turns : goal.returns-then-fields-eq1-clause-turns
+returns-then-fields-eq1-clause-turns g c =
     let v = world g.J.Judge.judgement c.args.graph.now in
     let e = c.args.e in
     let i = c.args.i in
@@ -27,18 +30,25 @@ returns-then-fields-eq1 g c =
     let fields = c.group-fields.result.now in
     let one : length fields ≡ 1 = search rules in
     let a : Entry = get_or fields 0 no_entry in
-    on_ok_weaker c.next_with.result
-    (λ go. leads_turn v (Meets v (With a j e 0)) (MeetsNamed v e i j n) _ _ _ _ _
+    leads_turn v (Meets v (With a j e 0)) (MeetsNamed v e i j n) _ _ _ _ _
     (λ t d. rows_named v e i j n fields _ t c.group-fields.ensures
     (each_next v e (WithDone v e j) (AtRows v j fields) (AtWith v a j) (λ a. AtWith v a j) a (drop 1 fields) fields _ t t
     (drop_next fields fields 0 no_entry refl (omega (arith, one)))
     (λ r z. (a, in_list fields fields 0 no_entry refl (omega (arith, one)), z)) (with_whole v e a j _ t d)
     (each_none v e (WithDone v e j) (AtRows v j fields) (λ a. AtWith v a j) (drop 1 fields) t (drop_end fields fields 1 refl (omega (arith, one))))))
-    go)
-    c.next_with.ensures
+    c.in_ok-next_with.ensures.turns
 
-pub returns-then-branch : goal.returns-then-branch
-returns-then-branch g c =
+pub returns-then-fields-eq1-clause-pays : goal.returns-then-fields-eq1-clause-pays
+returns-then-fields-eq1-clause-pays g c =
+    let v = world g.J.Judge.judgement c.args.graph.now in
+    let fields = c.group-fields.result.now in
+    let one : length fields ≡ 1 = search rules in
+    let a : Entry = get_or fields 0 no_entry in
+    pays_more v (row_cost v c.args.j a) (name_cost v c.args.i c.args.j c.args.name) _ _ _ _
+    (one_row v c.args.i c.args.j c.args.name fields c.group-fields.ensures (omega (arith, one))) c.in_ok-next_with.ensures.pays
+
+pub returns-then-branch-clause-turns : goal.returns-then-branch-clause-turns
+returns-then-branch-clause-turns g c =
     let v = world g.J.Judge.judgement c.args.graph.now in
     let e = c.args.e in
     let i = c.args.i in
@@ -53,8 +63,8 @@ returns-then-branch g c =
       real = named_tells v e i j n lefts rights c.group-fields.ensures c.group-others.ensures clear s.found.items;
     })
 
-pub returns-then-saturating_mul-lt-MANY : goal.returns-then-saturating_mul-lt-MANY
-returns-then-saturating_mul-lt-MANY g c =
+pub returns-then-saturating_mul-lt-MANY-clause-turns : goal.returns-then-saturating_mul-lt-MANY-clause-turns
+returns-then-saturating_mul-lt-MANY-clause-turns g c =
     let v = world g.J.Judge.judgement c.args.graph.now in
     let e = c.args.e in
     let i = c.args.i in
@@ -66,12 +76,17 @@ returns-then-saturating_mul-lt-MANY g c =
     subst (λ xs. IsClear v e a xs)
     (c.group-others.ensures ∙ sym (ap (λ (m : ℕ). named m (own_of v j)) (named_is n (own_of v i) a (subst (λ xs. Contains xs a) c.group-fields.ensures (at_of lefts k a p)))))
     (c.in_ok-clear.ensures k a p h) in
-    on_ok_weaker c.wait_rows.result
-    (λ waits. leads_turn v (MeetsRows v e j lefts) (MeetsNamed v e i j n) _ _ s s s (λ t d. rows_named v e i j n lefts s t c.group-fields.ensures d) (waits v clear s))
-    c.wait_rows.ensures
+    leads_turn v (MeetsRows v e j lefts) (MeetsNamed v e i j n) _ _ s s s (λ t d. rows_named v e i j n lefts s t c.group-fields.ensures d) (c.in_ok-wait_rows.ensures.waits v clear s)
 
-pub returns : goal.returns
-returns g c =
+pub returns-then-saturating_mul-lt-MANY-clause-pays : goal.returns-then-saturating_mul-lt-MANY-clause-pays
+returns-then-saturating_mul-lt-MANY-clause-pays g c =
+    let v = world g.J.Judge.judgement c.args.graph.now in
+    let fields = c.group-fields.result.now in
+    pays_more v (sum_by (row_cost v c.args.j) fields) (name_cost v c.args.i c.args.j c.args.name) _ _ _ _
+    (all_rows v c.args.i c.args.j c.args.name fields c.group-fields.ensures) (pays_waits v (sum_by (row_cost v c.args.j) fields) _ _ _ (c.in_ok-wait_rows.ensures.costs v))
+
+pub returns-clause-turns : goal.returns-clause-turns
+returns-clause-turns g c =
     let v = world g.J.Judge.judgement c.args.graph.now in
     let e = c.args.e in
     let i = c.args.i in
@@ -80,6 +95,14 @@ returns g c =
     let s = c.args.search.now in
     let lefts = c.group-fields.result.now in
     let rights = c.group-others.result.now in
-    on_ok_weaker c.wait_wide.result
-    (λ waits. leads_turn v (MeetsBoth v e lefts rights 0) (MeetsNamed v e i j n) _ _ s s s (λ t d. both_named v e i j n lefts rights s t c.group-fields.ensures c.group-others.ensures d) (waits s))
-    c.wait_wide.ensures
+    leads_turn v (MeetsBoth v e lefts rights 0) (MeetsNamed v e i j n) _ _ s s s (λ t d. both_named v e i j n lefts rights s t c.group-fields.ensures c.group-others.ensures d) (c.in_ok-wait_wide.ensures.waits s)
+
+pub returns-clause-pays : goal.returns-clause-pays
+returns-clause-pays g c =
+    let v = world g.J.Judge.judgement c.args.graph.now in
+    let before = c.args.tasks.now.items in
+    let after = c.wait_wide.new.tasks.items in
+    let rights = c.group-others.result.now in
+    pays_waits v (name_cost v c.args.i c.args.j c.args.name) before after _
+    (subst (λ xs. CostsMore v (fields_weight v xs * fields_weight v (named c.args.name (own_of v c.args.j))) before after) c.group-fields.ensures
+    (subst (λ ys. CostsMore v (fields_weight v c.group-fields.result.now * fields_weight v ys) before after) c.group-others.ensures c.in_ok-wait_wide.ensures.costs))

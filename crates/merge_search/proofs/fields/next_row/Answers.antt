@@ -1,18 +1,20 @@
-use Rattle.std.proofs.Common.{◌≡◌, ◌+◌, ◌<◌, length, get_or, rules, slice_get, Some, subst, sym}
+use Rattle.std.proofs.Common.{◌≡◌, ◌+◌, ◌*◌, ◌<◌, arith, drop, length, get_or, rules, slice_get, Some, subst, sym}
 use Rattle.merge_search.proofs.Work.{no_entry}
 use Rattle.std.proofs.lemmas.Option.{slice_get-get_or}
-use Rattle.std.proofs.lemmas.Result.{on_ok_weaker}
+use Rattle.std.proofs.lemmas.Nat.{mul-le}
 use Rattle.merge_search.specs.declared.task.Task.TheVariants.{Listed, Rows}
 use Rattle.merge_search.specs.declared.node.Entry.{Entry}
 use Rattle.merge_search.specs.TwoSets.{rights_of}
 use Rattle.merge_search.specs.World.{world}
 use Rattle.merge_search.specs.Tasks.{Meets, MeetsBoth}
+use Rattle.merge_search.specs.Weight.{field_weight, fields_weight}
+use Rattle.merge_search.proofs.Costs.{costs_pushed, rows_next}
 use Rattle.merge_search.proofs.Leading.{leads_done, leads_next, waits_pushed}
 use Rattle.merge_search.proofs.Steps.{both_end, both_next, others_whole}
 use Rattle.merge_search.proofs.fields.next_row.Goals as goal
 
-pub returns-then-k-left : goal.returns-then-k-left
-returns-then-k-left g c =
+pub returns-then-k-left-clause-turns : goal.returns-then-k-left-clause-turns
+returns-then-k-left-clause-turns g c =
     let v = world g.J.Judge.judgement c.args.graph.now in
     let rows = c.args.rows in
     let left = c.as_slice-left.result.now in
@@ -20,8 +22,8 @@ returns-then-k-left g c =
     subst (λ xs. MeetsBoth v c.args.e xs (rights_of rows) c.args.k c.args.search.now c.args.search.now) c.as_slice-left.ensures.value
     (both_end v c.args.e left (rights_of rows) c.args.k c.args.search.now (search rules)))
 
-pub returns : goal.returns
-returns g c =
+pub returns-clause-turns : goal.returns-clause-turns
+returns-clause-turns g c =
     let v = world g.J.Judge.judgement c.args.graph.now in
     let e = c.args.e in
     let k = c.args.k in
@@ -32,12 +34,26 @@ returns g c =
     let less : k < length left = search rules in
     let a : Entry = get_or left k no_entry in
     let s = c.args.search.now in
-    on_ok_weaker c.next_listed.result
-    (λ go. leads_next v (Meets v (Listed a c.in_ok-others.others e 0)) (Meets v (Rows rows e (k + 1))) (Meets v (Rows rows e k)) _ _ _ _ s
+    leads_next v (Meets v (Listed a c.in_ok-others.others e 0)) (Meets v (Rows rows e (k + 1))) (Meets v (Rows rows e k)) _ _ _ _ s
     (λ t u one more knows.
     let at : slice_get rows.left.items k ≡ Some a = subst (λ xs. slice_get xs k ≡ Some a) is (slice_get-get_or left k no_entry less) in
-    let row = others_whole v e a rights c.in_ok-others.others.items s t (c.in_ok-others.ensures a knows at) one in
+    let row = others_whole v e a rights c.in_ok-others.others.items s t (c.in_ok-others.ensures.others a knows at) one in
     subst (λ xs. MeetsBoth v e xs rights k s u) is
     (both_next v e left rights k s t u less row (subst (λ xs. MeetsBoth v e xs rights (k + 1) t u) (sym is) (more knows))))
-    (waits_pushed v (Rows rows e (k + 1)) _ _ c.in_ok-push.ensures.items) go)
-    c.next_listed.ensures
+    (waits_pushed v (Rows rows e (k + 1)) _ _ c.in_ok-push.ensures.items) c.in_ok-next_listed.ensures.turns
+
+pub returns-clause-pays : goal.returns-clause-pays
+returns-clause-pays g c =
+    let v = world g.J.Judge.judgement c.args.graph.now in
+    let k = c.args.k in
+    let rows = c.args.rows in
+    let rights = rights_of rows in
+    let others = c.in_ok-others.others.items in
+    let left = c.as_slice-left.result.now in
+    let is = c.as_slice-left.ensures.value in
+    let less : k < length left = search rules in
+    let a : Entry = get_or left k no_entry in
+    let one = mul-le (field_weight v a) (fields_weight v others) (field_weight v a) (fields_weight v rights) (omega arith) (c.in_ok-others.ensures.once (field_weight v)) in
+    let next = subst (λ xs. fields_weight v (drop k xs) * fields_weight v rights ≡ field_weight v a * fields_weight v rights + fields_weight v (drop (k + 1) xs) * fields_weight v rights) is
+    (rows_next v left rights k less) in
+    record { paid = omega (arith, one, next, (costs_pushed v (Rows rows c.args.e (k + 1)) _ _ c.in_ok-push.ensures.items).most, c.in_ok-next_listed.ensures.pays.paid) }

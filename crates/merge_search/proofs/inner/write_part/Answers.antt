@@ -33,9 +33,9 @@ returns g c =
       done = on_ok_weaker c.put_opening.result
           (λ k. did_kept v _ k (did_map v _ _ (λ M h. tt)
           (did_then v _ _ (did_list v c.in_ok-opening.ensures.counted (omega (arith, c.in_ok-opening.ensures.opens.few)) (some_below c.args.starts.now n long c.requires)) c.in_ok-compare_opened.ensures.done)))
-          c.put_opening.ensures;
+          c.put_opening.ensures.keeps;
       real = on_ok_weaker c.put_opening.result
           (λ k. subst (λ zs. Adds v false (AtParts v c.args.part.now.own.items c.args.starts.now) c.args.search.now.found.items zs) (sym k.found)
           (adds_from v false _ c.in_ok-opening.ensures.counted.found c.in_ok-compare_opened.ensures.real))
-          c.put_opening.ensures;
+          c.put_opening.ensures.keeps;
     }

@@ -17,4 +17,4 @@ was_before s t (Below i e) h keeps was = (was.0, was.1, subst (λ l. in_log l wa
 pub returns-clause-opens : goal.returns-clause-opens
 returns-clause-opens g c =
     opens_where (world g.J.Judge.judgement c.args.graph.now) _ _ c.args.starts.now c.open_from.new.opening.order.items
-    (λ h was. was_before c.args.search.now c.take_opening-opening.new.search c.args.seeker h c.take_opening-opening.ensures was) c.in_ok-open_from.ensures
+    (λ h was. was_before c.args.search.now c.take_opening-opening.new.search c.args.seeker h c.take_opening-opening.ensures.keeps was) c.in_ok-open_from.ensures

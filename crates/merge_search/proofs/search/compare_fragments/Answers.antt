@@ -1,12 +1,10 @@
-use Rattle.std.proofs.Common.{reverse}
-use Rattle.std.proofs.lemmas.Result.{on_ok_weaker}
 use Rattle.merge_search.specs.Work.{Pair}
 use Rattle.merge_search.specs.Reports.{AtFragments}
-use Rattle.merge_search.specs.Tasks.{MeetsAll, MeetsFragments}
+use Rattle.merge_search.specs.Tasks.{MeetsFragments, Searches}
 use Rattle.merge_search.proofs.Steps.{searches_kept}
-use Rattle.merge_search.specs.State.{Keeps}
 use Rattle.merge_search.specs.declared.state.Search.{Search}
 use Rattle.merge_search.specs.World.{world}
+use Rattle.merge_search.proofs.Costs.{begun_spends, spends_none}
 use Rattle.merge_search.proofs.Leading.{all_done}
 use Rattle.merge_search.proofs.Work.{did_full}
 use Rattle.merge_search.proofs.Adding.{adds_none}
@@ -18,14 +16,19 @@ returns g c =
     let e = c.args.e in
     let s = c.args.search.now in
     let t : Search = c.take_tasks-tasks.new.search in
-    let whole = λ (d : (mid : Search) × MeetsAll v (reverse c.begin_fragments.new.tasks.items) c.begin_fragments.new.search mid × Keeps mid c.finish.new.search). searches_kept v e (λ M. Pair M e c.args.f c.args.g) (AtFragments v c.args.f c.args.g) s t (d.0) _ c.take_tasks-tasks.ensures.keeps (all_done v (MeetsFragments v e c.args.f c.args.g) _ _ _ t (d.0) c.take_tasks-tasks.ensures.none c.in_ok-begin_fragments.ensures d.1 c.requires.first c.requires.second) d.2 in
+    let d = c.in_ok-finish.ensures.meets in
+    let begun = c.in_ok-begin_fragments.ensures in
+    let whole : Searches v e (λ M. Pair M e c.args.f c.args.g) (AtFragments v c.args.f c.args.g) s c.finish.new.search =
+    searches_kept v e (λ M. Pair M e c.args.f c.args.g) (AtFragments v c.args.f c.args.g) s t (d.0) _ c.take_tasks-tasks.ensures.keeps
+    (all_done v (MeetsFragments v e c.args.f c.args.g) _ _ _ t (d.0) c.take_tasks-tasks.ensures.none begun.turns d.1 c.requires.first c.requires.second) d.2 in
     record {
-      done = on_ok_weaker c.finish.result (λ d. (whole d).done) c.finish.ensures;
-      real = on_ok_weaker c.finish.result (λ d. (whole d).real) c.finish.ensures;
+      done = whole.done;
+      real = whole.real;
+      spends = begun_spends v 0 _ _ s t _ _ c.take_tasks-tasks.ensures.keeps c.take_tasks-tasks.ensures.counts c.take_tasks-tasks.ensures.none begun.pays c.in_ok-finish.ensures.spends;
     }
 
 pub returns-then-is_full : goal.returns-then-is_full
 returns-then-is_full g c =
     let v = world g.J.Judge.judgement c.args.graph.now in
     let full = c.if-is_full.ensures in
-    record { done = did_full v _ c.args.search.now full; real = adds_none v c.args.e _ _ }
+    record { done = did_full v _ c.args.search.now full; real = adds_none v c.args.e _ _; spends = spends_none v 0 c.args.search.now }

@@ -7,8 +7,8 @@ said : {P : Type 0} (b : Bool) → P → OnTrue b P
 said true p = p
 said false p = tt
 
-pub returns : goal.returns
-returns g c =
+pub returns-clause-alone : goal.returns-clause-alone
+returns-clause-alone g c =
     let list = c.spreads.result.now in
     let empty : length list ≡ 0 = grind (arith, c.is_empty.ensures, c.if-not-is_empty.false) in
     said _ (sym c.spreads.ensures ∙ nil_from_length list empty)

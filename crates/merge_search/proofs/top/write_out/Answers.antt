@@ -22,9 +22,9 @@ returns g c =
       done = on_ok_weaker c.put_opening.result
           (λ k. did_kept v _ k (did_map v _ _ (λ M h. own_written v M c.args.s c.args.starts.now c.as_slice.result.now opens h.1)
           (did_then v _ _ (did_list v c.in_ok-opening.ensures.counted (omega (arith, c.in_ok-opening.ensures.opens.few)) (omega (arith, c.requires.some))) c.in_ok-write_all.ensures.done)))
-          c.put_opening.ensures;
+          c.put_opening.ensures.keeps;
       real = on_ok_weaker c.put_opening.result
           (λ k. subst (λ zs. AddsAll v false (AtSpreads v c.args.s c.args.starts.now) (AtSpreads v c.args.s c.args.starts.now) c.args.search.now.found.items zs) (sym k.found)
           (all_from v false _ _ c.in_ok-opening.ensures.counted.found c.in_ok-write_all.ensures.real))
-          c.put_opening.ensures;
+          c.put_opening.ensures.keeps;
     }

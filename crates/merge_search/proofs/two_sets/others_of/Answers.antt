@@ -1,15 +1,16 @@
-use Rattle.std.proofs.Common.{◌≡◌, ◌≤◌, ℕ, Some, get_or, length, rules, slice_get, subst, sym}
+use Rattle.std.proofs.Common.{◌≡◌, ◌≤◌, ℕ, Some, drop, get_or, length, rules, slice_get, subst, sym}
 use Rattle.std.specs.List.{Contains}
 use Rattle.std.proofs.lemmas.List.Elements.{All-weaker, Contains-get_or}
 use Rattle.merge_search.specs.declared.node.Entry.{Entry}
 use Rattle.merge_search.specs.Below.{KnowsPairs}
+use Rattle.merge_search.specs.Clear.{IsSumWithin}
 use Rattle.merge_search.specs.TwoSets.{rights_of}
 use Rattle.merge_search.specs.World.{world}
 use Rattle.merge_search.proofs.Order.{in_drop, drop_places}
 use Rattle.merge_search.proofs.two_sets.others_of.Goals as goal
 
-pub returns : goal.returns
-returns g c a knows at =
+pub returns-clause-others : goal.returns-clause-others
+returns-clause-others g c a knows at =
     let v = world g.J.Judge.judgement c.args.graph.now in
     let e = c.args.e in
     let rows = c.args.rows.now in
@@ -28,3 +29,10 @@ returns g c a knows at =
       only = All-weaker (λ (b : Entry). (l : ℕ) × (c.len.result ≤ l) × (slice_get c.as_slice.result.now l ≡ Some b)) (λ (b : Entry). Contains (rights_of rows) b)
           (λ b z. in_drop fields n z.0 b (subst (λ (i : ℕ). i ≤ z.0) same z.1) (subst (λ xs. slice_get xs z.0 ≡ Some b) is z.2)) others c.in_ok-others.ensures.only;
     }
+
+pub returns-clause-once : goal.returns-clause-once
+returns-clause-once g c =
+    let rows = c.args.rows.now in
+    let same : c.len.result ≡ length rows.left.items = search rules in
+    subst (λ xs. IsSumWithin c.in_ok-others.others.items (drop (length rows.left.items) xs)) c.as_slice.ensures.value
+    (subst (λ (n : ℕ). IsSumWithin c.in_ok-others.others.items (drop n c.as_slice.result.now)) same c.in_ok-others.ensures.once)

@@ -1,0 +1,136 @@
+-- What the questions of a search pay.
+use Rattle.std.proofs.Common.{◌≡◌, ◌+◌, ◌*◌, ◌-◌, ◌<◌, ◌≤◌, ℕ, zero, suc, Bool, true, false, cond, inl, inr, ap, arith, length, max, min, refl, subst, sym}
+use Rattle.std.proofs.lemmas.Bool.{cases_order}
+use Rattle.std.proofs.lemmas.Nat.{mul-le}
+use Rattle.merge_search.specs.declared.state.Search.{Search}
+use Rattle.merge_search.specs.Counts.{most_repeats}
+use Rattle.merge_search.specs.Log.{covers_of, in_log}
+use Rattle.merge_search.specs.Spending.{MayAsk, credit, pairs_worth, repeat_cost, searches_worth, sum_below, worth}
+use Rattle.merge_search.specs.State.{NotesPair, NotesSearch}
+use Rattle.merge_search.specs.Weight.{fragment_weight, weight}
+use Rattle.merge_search.specs.Work.{pair_in, search_in}
+use Rattle.merge_search.specs.World.{World}
+use Rattle.merge_search.proofs.Core.{lt_or_le}
+use Rattle.merge_search.proofs.Laws.{clash}
+use Rattle.merge_search.proofs.Weights.{nothing_weighs}
+use Rattle.merge_search.proofs.Work.{covers_no}
+
+pub sum_kept : (f g : ℕ → ℕ) (n : ℕ) → ((i : ℕ) → f i ≤ g i) → sum_below f n ≤ sum_below g n
+sum_kept f g zero le = omega arith
+sum_kept f g (suc n) le = omega (arith, sum_kept f g n le, le n)
+
+pub sum_more : (f g : ℕ → ℕ) (n k d : ℕ) → ((i : ℕ) → f i ≤ g i) → k < n → f k + d ≤ g k → sum_below f n + d ≤ sum_below g n
+sum_more f g zero k d le less here = absurd (omega (arith, less))
+sum_more f g (suc n) k d le less here = elim (cases_order k n) [
+  | inl eq ↦ omega (arith, sum_kept f g n le, subst (λ (i : ℕ). f i + d ≤ g i) eq here)
+  | inr o ↦ elim o [
+    | inl l ↦ omega (arith, sum_more f g n k d le l here, le n)
+    | inr l ↦ absurd (omega (arith, less, l))
+  ]
+]
+
+cond_kept : (a b : Bool) (x : ℕ) → (a ≡ true → b ≡ true) → cond a x 0 ≤ cond b x 0
+cond_kept true true x h = omega arith
+cond_kept true false x h = let z = h refl in cc
+cond_kept false true x h = omega arith
+cond_kept false false x h = omega arith
+
+cond_more : (a b : Bool) (x : ℕ) → a ≡ false → b ≡ true → cond a x 0 + x ≤ cond b x 0
+cond_more true b x p q = cc
+cond_more false true x p q = omega arith
+cond_more false false x p q = cc
+
+module _ (m n : ℕ) (f g : ℕ → ℕ) (old new : ℕ → ℕ → Bool) (kept : (i k : ℕ) → old i k ≡ true → new i k ≡ true) where
+  row_kept : (i : ℕ) → sum_below (λ k. cond (old i k) (f i * g k) 0) n ≤ sum_below (λ k. cond (new i k) (f i * g k) 0) n
+  row_kept i = sum_kept (λ k. cond (old i k) (f i * g k) 0) (λ k. cond (new i k) (f i * g k) 0) n (λ k. cond_kept (old i k) (new i k) (f i * g k) (kept i k))
+
+  pub worth_kept : worth m n f g old ≤ worth m n f g new
+  worth_kept = sum_kept (λ i. sum_below (λ k. cond (old i k) (f i * g k) 0) n) (λ i. sum_below (λ k. cond (new i k) (f i * g k) 0) n) m row_kept
+
+  pub worth_more : (i k : ℕ) → i < m → k < n → old i k ≡ false → new i k ≡ true → worth m n f g old + f i * g k ≤ worth m n f g new
+  worth_more i k li lk was is =
+      sum_more (λ i. sum_below (λ k. cond (old i k) (f i * g k) 0) n) (λ i. sum_below (λ k. cond (new i k) (f i * g k) 0) n) m i (f i * g k) row_kept li
+      (sum_more (λ k. cond (old i k) (f i * g k) 0) (λ k. cond (new i k) (f i * g k) 0) n k (f i * g k)
+      (λ k. cond_kept (old i k) (new i k) (f i * g k) (kept i k)) lk (cond_more (old i k) (new i k) (f i * g k) was is))
+
+-- two numbers below 50 together
+small : (x y : ℕ) → x + y < 50 → x * y ≤ repeat_cost
+small x y less = elim (lt_or_le x y) [
+  | inl l ↦ ordered x (y - x) y (omega (arith, l)) less
+  | inr l ↦ let z = ordered y (x - y) x (omega (arith, l)) (omega (arith, less)) in omega (arith, z)
+]
+  where
+    ordered : (x d y : ℕ) → y ≡ x + d → x + y < 50 → x * y ≤ 625
+    ordered x d y is less =
+        let most = mul-le (x + x + d) (x + x + d) 49 49 (omega (arith, is, less)) (omega (arith, is, less)) in
+        let same = ap (λ (z : ℕ). x * z) is in
+        omega (arith, most, same)
+
+not_asked : (asked : Bool → ℕ → ℕ → Bool) (e : Bool) (i g : ℕ) → covers_of asked e i g ≡ false → asked e i g ≡ false
+not_asked asked e i g h = flat (asked e i g) (covers_no asked e i g h)
+  where
+    flat : (b : Bool) → (b ≡ true → ⊥) → b ≡ false
+    flat true h = absurd (h refl)
+    flat false h = refl
+
+module _ (w : World) (s t : Search) where
+  module _ (i g : ℕ) (e : Bool) (n : NotesSearch i g e s t) where
+    same_pairs : (x : Bool) → pairs_worth w t x ≡ pairs_worth w s x
+    same_pairs x = ap (λ l. worth (length w.fragments) (length w.fragments) (fragment_weight w) (fragment_weight w) (λ f g. in_log l x (max f g) (min f g))) n.pairs
+
+    still : (x : Bool) → searches_worth w s x ≤ searches_worth w t x
+    still x = worth_kept (length w.sets) (length w.fragments) (weight w) (fragment_weight w) (search_in s x) (search_in t x) (n.notes.kept x)
+
+    more : (x : Bool) → x ≡ e → covers_of (search_in s) e i g ≡ false → g < length w.fragments → searches_worth w s x + weight w i * fragment_weight w g ≤ searches_worth w t x
+    more x is fresh there = elim (lt_or_le i (length w.sets)) [
+      | inl l ↦ worth_more (length w.sets) (length w.fragments) (weight w) (fragment_weight w) (search_in s x) (search_in t x) (n.notes.kept x) i g l there
+          (subst (λ y. search_in s y i g ≡ false) (sym is) (not_asked (search_in s) e i g fresh)) (subst (λ y. search_in t y i g ≡ true) (sym is) n.notes.noted)
+      | inr past ↦ omega (arith, still x, ap (λ (k : ℕ). k * fragment_weight w g) (nothing_weighs w i past))
+    ]
+
+    fresh_pays : (x : Bool) → x ≡ e → covers_of (search_in s) e i g ≡ false → g < length w.fragments → credit w s + weight w i * fragment_weight w g ≤ credit w t
+    fresh_pays true is fresh there = omega (arith, same_pairs true, same_pairs false, more true is fresh there, still false, n.first fresh)
+    fresh_pays false is fresh there = omega (arith, same_pairs true, same_pairs false, more false is fresh there, still true, n.first fresh)
+
+    again_pays : covers_of (search_in s) e i g ≡ true → s.repeated < most_repeats → weight w i + fragment_weight w g < 50
+        → credit w s + weight w i * fragment_weight w g ≤ credit w t
+    again_pays was few less =
+        omega (arith, same_pairs true, same_pairs false, still true, still false, small (weight w i) (fragment_weight w g) less, n.repeats was few, few)
+
+    pays_by : (b : Bool) → covers_of (search_in s) e i g ≡ b → MayAsk w s e i g → g < length w.fragments → credit w s + weight w i * fragment_weight w g ≤ credit w t
+    pays_by false is may there = fresh_pays e refl is there
+    pays_by true is (inl fresh) there = absurd (clash (covers_of (search_in s) e i g) is fresh)
+    pays_by true is (inr again) there = again_pays is again.0 again.1
+
+    -- a search that is noted pays for the two sets
+    pub search_pays : MayAsk w s e i g → g < length w.fragments → credit w s + weight w i * fragment_weight w g ≤ credit w t
+    search_pays may there = pays_by (covers_of (search_in s) e i g) refl may there
+
+    kept_by : (b : Bool) → covers_of (search_in s) e i g ≡ b → MayAsk w s e i g → credit w s ≤ credit w t
+    kept_by false is may = omega (arith, same_pairs true, same_pairs false, still true, still false, n.first is)
+    kept_by true is (inl fresh) = absurd (clash (covers_of (search_in s) e i g) is fresh)
+    kept_by true is (inr again) = omega (arith, same_pairs true, same_pairs false, still true, still false, n.repeats is again.0, again.0)
+
+    -- and costs nothing
+    pub search_kept : MayAsk w s e i g → credit w s ≤ credit w t
+    search_kept may = kept_by (covers_of (search_in s) e i g) refl may
+
+  module _ (f g : ℕ) (e : Bool) (n : NotesPair f g e s t) where
+    same_searches : (x : Bool) → searches_worth w t x ≡ searches_worth w s x
+    same_searches x = ap (λ l. worth (length w.sets) (length w.fragments) (weight w) (fragment_weight w) (λ i k. in_log l x i k)) n.searched
+
+    still_pairs : (x : Bool) → pairs_worth w s x ≤ pairs_worth w t x
+    still_pairs x = worth_kept (length w.fragments) (length w.fragments) (fragment_weight w) (fragment_weight w) (pair_in s x) (pair_in t x) (n.notes.kept x)
+
+    more_pairs : (x : Bool) → x ≡ e → pair_in s e f g ≡ false → f < length w.fragments → g < length w.fragments
+        → pairs_worth w s x + fragment_weight w f * fragment_weight w g ≤ pairs_worth w t x
+    more_pairs x is fresh lf lg = worth_more (length w.fragments) (length w.fragments) (fragment_weight w) (fragment_weight w) (pair_in s x) (pair_in t x) (n.notes.kept x) f g lf lg
+        (subst (λ y. pair_in s y f g ≡ false) (sym is) fresh) (subst (λ y. pair_in t y f g ≡ true) (sym is) n.notes.noted)
+
+    paid_by : (x : Bool) → x ≡ e → pair_in s e f g ≡ false → f < length w.fragments → g < length w.fragments → credit w s + fragment_weight w f * fragment_weight w g ≤ credit w t
+    paid_by true is fresh lf lg = omega (arith, same_searches true, same_searches false, more_pairs true is fresh lf lg, still_pairs false, n.repeated)
+    paid_by false is fresh lf lg = omega (arith, same_searches true, same_searches false, more_pairs false is fresh lf lg, still_pairs true, n.repeated)
+
+    -- two fragments that are noted pay for the two
+    pub pair_pays : covers_of (pair_in s) e f g ≡ false → f < length w.fragments → g < length w.fragments → credit w s + fragment_weight w f * fragment_weight w g ≤ credit w t
+    pair_pays fresh lf lg = paid_by e refl (not_asked (pair_in s) e f g fresh) lf lg
