@@ -10,7 +10,7 @@ use Rattle.merge_search.specs.declared.state.Search.{Search}
 use Rattle.merge_search.specs.World.{World, spreads_of}
 use Rattle.merge_search.specs.Work.{pair_in, Pair}
 use Rattle.merge_search.specs.Counts.{Compared, Distinct, Repeats, Tally, greatest}
-use Rattle.merge_search.specs.Sound.{NoRepeats}
+use Rattle.merge_search.specs.Opening.{NoRepeats}
 use Rattle.merge_search.specs.Tops.{SamePair, Together, Top}
 use Rattle.merge_search.proofs.Distinct.{few_below}
 use Rattle.merge_search.proofs.Flips.{flip_pair}

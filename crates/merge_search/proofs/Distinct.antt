@@ -7,7 +7,7 @@ use Rattle.std.proofs.lemmas.Option.{slice_get-get_or, slice_get_within, get_or_
 use Rattle.std.proofs.lemmas.Map.Steps.{length-le_from_distinct_below}
 use Rattle.std.proofs.lemmas.Bool.Decides.{nat_tests}
 use Rattle.std.proofs.lemmas.Bool.{cases_order}
-use Rattle.merge_search.specs.Sound.{NoRepeats}
+use Rattle.merge_search.specs.Opening.{NoRepeats}
 
 not_eqb : (x y : ℕ) → (x ≡ y → ⊥) → eqb x y ≡ false
 not_eqb x y ne = grind (arith, nat_tests)

@@ -29,6 +29,7 @@ pub mod Weights
 pub mod Spent
 pub mod OwnNames
 pub mod Costs
+pub mod Spends
 pub mod Worth
 pub mod Searching
 pub mod Tallying

@@ -10,7 +10,8 @@ use Rattle.bit_matrix.specs.Set.{has}
 use Rattle.merge_search.specs.Graph.{Falling}
 use Rattle.merge_search.specs.World.{World, spreads_of, set_of}
 use Rattle.merge_search.specs.Opening.{Reaches, start, step, ReachedFrom, Opens}
-use Rattle.merge_search.specs.Sound.{NoRepeats, Once, Gains, GoesOn, Sound}
+use Rattle.merge_search.specs.Sound.{Once, Gains, GoesOn, Sound}
+use Rattle.merge_search.specs.Opening.{NoRepeats}
 use Rattle.merge_search.specs.declared.opening.Opening.{Opening}
 use Rattle.merge_search.proofs.Distinct.{few_below, repeats_push}
 use Rattle.merge_search.proofs.Laws.{clash}
@@ -224,6 +225,8 @@ opens_end w IsPassed gs o s none = record {
   ];
   reached = s.reached;
   few = few_open w IsPassed gs o s;
+  there = s.below;
+  once = s.once.distinct;
 }
 
 -- what is passed in one state is in another
@@ -233,6 +236,8 @@ opens_where w P Q gs hs f o = record {
   followed = λ h k c d. elim (o.followed h k c d) [ inl there ↦ inl there | inr passed ↦ inr (f h passed) ];
   reached = o.reached;
   few = o.few;
+  there = o.there;
+  once = o.once;
 }
 
 -- each step leaves less to do

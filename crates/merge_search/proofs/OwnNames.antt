@@ -100,16 +100,20 @@ names_sum w (f ∷ fs) xs once =
 named_weight : (w : World) (n : ℕ) (xs : List Entry) → fields_weight w (named n xs) ≤ fields_weight w xs
 named_weight w n xs = omega (arith, parts (field_weight w) n xs)
 
--- two sets, name by name, cost no more than the product of their weights
-pub sets_within : (w : World) → Falling w.sets w.fragments → (i j : ℕ) (firsts : List Entry) → HaveOwnNames firsts → sets_cost w i j firsts ≤ weight w i * weight w j
-sets_within w falling i j firsts once =
-    let left = own_of w i in
-    let right = own_of w j in
+-- two lists, name by name, cost no more than the product of their weights
+pub lists_within : (w : World) (left right firsts : List Entry) → HaveOwnNames firsts
+    → sum_by (λ f. fields_weight w (named f.response left) * fields_weight w (named f.response right)) firsts ≤ fields_weight w left * fields_weight w right
+lists_within w left right firsts once =
     let f = λ (g : Entry). fields_weight w (named g.response left) in
     let m = fields_weight w right in
-    let wide : sets_cost w i j firsts ≤ sum_by (λ g. f g * m) firsts =
-    sum_by_below (λ (g : Entry). fields_weight w (named g.response left) * fields_weight w (named g.response right)) (λ (g : Entry). f g * m) firsts
+    let wide : sum_by (λ (g : Entry). f g * fields_weight w (named g.response right)) firsts ≤ sum_by (λ g. f g * m) firsts =
+    sum_by_below (λ (g : Entry). f g * fields_weight w (named g.response right)) (λ (g : Entry). f g * m) firsts
     (λ k d l. let g = get_or firsts k d in mul-le (f g) (fields_weight w (named g.response right)) (f g) m (omega arith) (named_weight w g.response right)) in
     let most : sum_by f firsts * m ≤ fields_weight w left * m = mul-le (sum_by f firsts) m (fields_weight w left) m (names_sum w firsts left once) (omega arith) in
+    omega (arith, wide, times f m firsts, most)
+
+-- so do two sets
+pub sets_within : (w : World) → Falling w.sets w.fragments → (i j : ℕ) (firsts : List Entry) → HaveOwnNames firsts → sets_cost w i j firsts ≤ weight w i * weight w j
+sets_within w falling i j firsts once =
     subst (λ (n : ℕ). sets_cost w i j firsts ≤ n * weight w j) (sym (own_weight w falling i))
-    (subst (λ (n : ℕ). sets_cost w i j firsts ≤ fields_weight w left * n) (sym (own_weight w falling j)) (omega (arith, wide, times f m firsts, most)))
+    (subst (λ (n : ℕ). sets_cost w i j firsts ≤ fields_weight w (own_of w i) * n) (sym (own_weight w falling j)) (lists_within w (own_of w i) (own_of w j) firsts once))

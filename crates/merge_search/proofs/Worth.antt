@@ -5,8 +5,8 @@ use Rattle.std.proofs.lemmas.Nat.{mul-le}
 use Rattle.merge_search.specs.declared.state.Search.{Search}
 use Rattle.merge_search.specs.Counts.{most_repeats}
 use Rattle.merge_search.specs.Log.{covers_of, in_log}
-use Rattle.merge_search.specs.Spending.{MayAsk, credit, pairs_worth, repeat_cost, searches_worth, sum_below, worth}
-use Rattle.merge_search.specs.State.{NotesPair, NotesSearch}
+use Rattle.merge_search.specs.Spending.{MayAsk, Spends, credit, fragments_weight, pairs_worth, repeat_cost, searches_worth, sets_weight, sum_below, worth}
+use Rattle.merge_search.specs.State.{NotesBelow, NotesPair, NotesSearch}
 use Rattle.merge_search.specs.Weight.{fragment_weight, weight}
 use Rattle.merge_search.specs.Work.{pair_in, search_in}
 use Rattle.merge_search.specs.World.{World}
@@ -134,3 +134,47 @@ module _ (w : World) (s t : Search) where
     -- two fragments that are noted pay for the two
     pub pair_pays : covers_of (pair_in s) e f g ≡ false → f < length w.fragments → g < length w.fragments → credit w s + fragment_weight w f * fragment_weight w g ≤ credit w t
     pair_pays fresh lf lg = paid_by e refl (not_asked (pair_in s) e f g fresh) lf lg
+
+    -- or they only are noted
+    pub pair_kept : Spends w 0 s t
+    pair_kept = record { paid = omega (arith, n.judged, n.repeated, same_searches true, same_searches false, still_pairs true, still_pairs false) }
+
+  -- so are many at once
+  pub below_kept : (f : ℕ) (among : ℕ → Bool) → NotesBelow f among s t → Spends w 0 s t
+  below_kept f among n =
+      let same = λ (x : Bool). ap (λ l. worth (length w.sets) (length w.fragments) (weight w) (fragment_weight w) (λ i k. in_log l x i k)) n.searched in
+      let still = λ (x : Bool). worth_kept (length w.fragments) (length w.fragments) (fragment_weight w) (fragment_weight w) (pair_in s x) (pair_in t x) (n.kept x) in
+      let same_true : searches_worth w t true ≡ searches_worth w s true = same true in
+      let same_false : searches_worth w t false ≡ searches_worth w s false = same false in
+      let more_true : pairs_worth w s true ≤ pairs_worth w t true = still true in
+      let more_false : pairs_worth w s false ≤ pairs_worth w t false = still false in
+      record { paid = omega (arith, n.judged, n.repeated, same_true, same_false, more_true, more_false) }
+
+sum_times : (f : ℕ → ℕ) (d n : ℕ) → sum_below (λ i. f i * d) n ≡ sum_below f n * d
+sum_times f d zero = omega arith
+sum_times f d (suc n) = omega (arith, sum_times f d n)
+
+cond_most : (b : Bool) (x : ℕ) → cond b x 0 ≤ x
+cond_most true x = omega arith
+cond_most false x = omega arith
+
+row_most : (n x : ℕ) (g : ℕ → ℕ) (asked : ℕ → Bool) → sum_below (λ k. cond (asked k) (x * g k) 0) n ≤ x * sum_below g n
+row_most zero x g asked = omega arith
+row_most (suc n) x g asked = omega (arith, row_most n x g asked, cond_most (asked n) (x * g n))
+
+-- all questions are worth the product at most
+pub worth_most : (m n : ℕ) (f g : ℕ → ℕ) (asked : ℕ → ℕ → Bool) → worth m n f g asked ≤ sum_below f m * sum_below g n
+worth_most m n f g asked =
+    omega (arith, sum_kept (λ i. sum_below (λ k. cond (asked i k) (f i * g k) 0) n) (λ i. f i * sum_below g n) m (λ i. row_most n (f i) g (asked i)), sum_times f (sum_below g n) m)
+
+pub credit_most : (w : World) (s : Search) → credit w s ≤ 2 * (fragments_weight w * (fragments_weight w + sets_weight w)) + repeat_cost * most_repeats
+credit_most w s =
+    let n = length w.fragments in
+    let m = length w.sets in
+    omega (
+      arith,
+      worth_most n n (fragment_weight w) (fragment_weight w) (pair_in s false),
+      worth_most n n (fragment_weight w) (fragment_weight w) (pair_in s true),
+      worth_most m n (weight w) (fragment_weight w) (search_in s false),
+      worth_most m n (weight w) (fragment_weight w) (search_in s true),
+    )

@@ -42,9 +42,9 @@ MergeBelow w e fields places =
     (k l : ℕ) (a b : Entry) → Contains places k → Contains places l → slice_get fields k ≡ Some a → slice_get fields l ≡ Some b
     → IsClearBelow w e a b
 
--- Some fields are no more than others, however they count.
-abbrev pub IsSumWithin : List Entry → List Entry → Type 0
-IsSumWithin some all = (f : Entry → ℕ) → sum_by f some ≤ sum_by f all
+-- Some things are no more than others, however they count.
+abbrev pub IsSumWithin : {X : Type 0} → List X → List X → Type 0
+IsSumWithin {X} some all = (f : X → ℕ) → sum_by f some ≤ sum_by f all
 
 -- Some of the fields that one is compared with: all but those that merge with it.
 pub record AreOthers (w : World) (e : Bool) (a : Entry) (rest others : List Entry) : Type 0 where

@@ -1,14 +1,10 @@
 -- A search's fragments as far as they were opened.
-use Rattle.std.specs.Prelude.{ℕ, ◌+◌, ◌<◌, ◌≤◌, List, length, Some, true, ◌≡◌, ◌⊎◌, slice_get}
+use Rattle.std.specs.Prelude.{ℕ, ◌+◌, ◌<◌, ◌≤◌, List, length, true, ◌≡◌, ◌⊎◌}
 use Rattle.std.specs.List.{All, Contains}
 use Rattle.bit_matrix.specs.Set.{has}
 use Rattle.merge_search.specs.World.{World, spreads_of, set_of}
-use Rattle.merge_search.specs.Opening.{ReachedFrom}
+use Rattle.merge_search.specs.Opening.{NoRepeats, ReachedFrom}
 use Rattle.merge_search.specs.declared.opening.Opening.{Opening}
-
--- Nothing stands at two places.
-abbrev pub NoRepeats : List ℕ → Type 0
-NoRepeats xs = (k l x : ℕ) → k < l → slice_get xs k ≡ Some x → slice_get xs l ≡ Some x → ⊥
 
 -- No fragment is opened twice.
 pub record Once (o : Opening) : Type 0 where

@@ -2,7 +2,7 @@
 //!
 //! All that stands in them stands in the set round them, so nothing is missed without this. It reports a conflict for
 //! each set that it stands in.
-ghost use Rattle.std.specs.Prelude.{◌≡◌, ◌<◌, ℕ, OnOk, IfOk, length, true, false};
+ghost use Rattle.std.specs.Prelude.{◌≡◌, ◌*◌, ◌<◌, ℕ, OnOk, IfOk, length, sum_by, true, false};
 ghost use Rattle.std.specs.Bool.{OnTrue};
 ghost use Rattle.std.specs.List.{All, Contains};
 ghost use Rattle.bit_matrix.specs.Set.{has};
@@ -13,6 +13,9 @@ ghost use Rattle.merge_search.specs.Work.{Did};
 ghost use Rattle.merge_search.specs.Reports.{Finds, AtPlaces};
 ghost use Rattle.merge_search.specs.Inner.{IsPart, IsStart, AtLists, AtPart, AtParts};
 ghost use Rattle.merge_search.specs.Plain.{ArePlain};
+ghost use Rattle.merge_search.specs.Clear.{IsSumWithin};
+ghost use Rattle.merge_search.specs.Spending.{Spends, fragments_weight, inner_cost, inner_set_cost, part_in, top_cost};
+ghost use Rattle.merge_search.specs.Weight.{fields_weight, fragment_weight, weight};
 
 use crate::clear::are_clear;
 use crate::graph::Graph;
@@ -29,7 +32,9 @@ use bit_matrix::set::BitSet;
 use std::alloc::{AllocError, Global};
 
 // The sets of the inline fragments in a set, in the order of a walk.
-fn inner_sets<J>(graph: &Graph<J>, s: usize) -> &[InnerSet] {
+fn inner_sets<J>(graph: &Graph<J>, s: usize) -> &[InnerSet]
+    ensures { IsSumWithin result.now graph.now.inner.items }
+{
     let inner = graph.inner.as_slice();
     let start = inner.partition_point(|i| i.outer < s);
     let rest = &inner[start..];
@@ -39,7 +44,8 @@ fn inner_sets<J>(graph: &Graph<J>, s: usize) -> &[InnerSet] {
 
 // The fields of an inner set, among those of the set round it.
 fn part_of(fields: &[Entry], inner: InnerSet) -> &[Entry]
-    ensures { IsPart result.now fields.now }
+    ensures part { IsPart result.now fields.now }
+    ensures within { IsSumWithin result.now (part_in fields.now inner) }
 {
     if inner.first_field <= inner.fields_end && inner.fields_end <= fields.len() {
         &fields[inner.first_field..inner.fields_end]
@@ -70,6 +76,8 @@ fn compare_own_part<J: Judge>(
     ensures done { OnOk result (Did (world J.judgement graph.now) (λ M. Unit {0}) search.old search.new) }
     ensures real { let w = world J.judgement graph.now in
         OnOk result (Finds w false (AtPlaces w s) search.old search.new) }
+    ensures spends { let w = world J.judgement graph.now in let f = fields_weight w part.now.own.items in
+        OnOk result (Spends w (f * f) search.old search.new) }
 {
     for first in first_fields(part) {
         compare_each(
@@ -93,6 +101,8 @@ fn compare_groups<J: Judge>(
     ensures done { OnOk result (Did (world J.judgement graph.now) (λ M. Unit {0}) search.old search.new) }
     ensures real { let w = world J.judgement graph.now in
         OnOk result (Finds w false (AtLists left.now right.now) search.old search.new) }
+    ensures spends { let w = world J.judgement graph.now in
+        OnOk result (Spends w (fields_weight w left.now * fields_weight w right.now) search.old search.new) }
 {
     if left.len() > 1 && are_clear(graph, search, false, left, right)? {
         return Ok(());
@@ -113,6 +123,8 @@ fn compare_part<J: Judge>(
     ensures done { OnOk result (Did (world J.judgement graph.now) (λ M. Unit {0}) search.old search.new) }
     ensures real { let w = world J.judgement graph.now in
         OnOk result (Finds w false (AtPart part.now.own.items (own_of w j)) search.old search.new) }
+    ensures spends { let w = world J.judgement graph.now in
+        OnOk result (Spends w (fields_weight w part.now.own.items * weight w j) search.old search.new) }
 {
     for first in first_fields(part) {
         compare_groups(
@@ -137,6 +149,8 @@ fn compare_opened<J: Judge>(
     ensures done { OnOk result (Did (world J.judgement graph.now) (λ M. Unit {0}) search.old search.new) }
     ensures real { let w = world J.judgement graph.now in
         OnOk result (Finds w false (AtParts w part.now.own.items starts.now) search.old search.new) }
+    ensures spends { let w = world J.judgement graph.now in let f = fields_weight w part.now.own.items in
+        OnOk result (Spends w (f * sum_by (fragment_weight w) opening.now) search.old search.new) }
 {
     for h in opening {
         compare_part(graph, part, set(graph, *h), search)?;
@@ -155,6 +169,8 @@ fn write_part<J: Judge>(
     ensures done { OnOk result (Did (world J.judgement graph.now) (λ M. Unit {0}) search.old search.new) }
     ensures real { let w = world J.judgement graph.now in
         OnOk result (Finds w false (AtParts w part.now.own.items starts.now) search.old search.new) }
+    ensures spends { let w = world J.judgement graph.now in
+        OnOk result (Spends w (fields_weight w part.now.own.items * fragments_weight w) search.old search.new) }
 {
     if starts.is_empty() {
         return Ok(());
@@ -234,6 +250,9 @@ fn compare_inner<J: Judge>(
     ensures done { OnOk result (Did (world J.judgement graph.now) (λ M. Unit {0}) search.old search.new) }
     ensures real { let w = world J.judgement graph.now in
         OnOk result (Finds w false (AtPlaces w s) search.old search.new) }
+    ensures spends { let w = world J.judgement graph.now in
+        let cost = top_cost w (fields_weight w (part_in (own_of w s) inner)) in
+        OnOk result (Spends w cost search.old search.new) }
 {
     let fields = part_of(own(graph, s), inner);
     if fields.is_empty() {
@@ -253,7 +272,7 @@ fn compare_inner<J: Judge>(
 }
 
 // Compares the inner set at a place, unless the next to be compared stands behind it; returns the next. Where nothing
-// was found the sets in it are passed over.
+// was found the sets in it are passed over. One that stands in another set has nothing to say here.
 fn compare_next<J: Judge>(
     graph: &Graph<J>,
     s: usize,
@@ -269,8 +288,10 @@ fn compare_next<J: Judge>(
     ensures done { OnOk result (Did (world J.judgement graph.now) (λ M. Unit {0}) search.old search.new) }
     ensures real { let w = world J.judgement graph.now in
         OnOk result (Finds w false (AtPlaces w s) search.old search.new) }
+    ensures spends { let w = world J.judgement graph.now in
+        OnOk result (Spends w (inner_set_cost w s inner) search.old search.new) }
 {
-    if place < next {
+    if place < next || inner.outer != s {
         return Ok(next);
     }
     let start = search.found.len();
@@ -294,6 +315,8 @@ fn compare_each_inner<J: Judge>(
     ensures done { OnOk result (Did (world J.judgement graph.now) (λ M. Unit {0}) search.old search.new) }
     ensures real { let w = world J.judgement graph.now in
         OnOk result (Finds w false (AtPlaces w s) search.old search.new) }
+    ensures spends { let w = world J.judgement graph.now in
+        OnOk result (Spends w (inner_cost w inner.now s) search.old search.new) }
 {
     let listed = set_of_numbers(search.alloc, spreads(graph, s))?;
     let mut next = 0;
@@ -319,6 +342,8 @@ pub(crate) fn search_inner<J: Judge>(
     ensures done { OnOk result (Did (world J.judgement graph.now) (λ M. Unit {0}) search.old search.new) }
     ensures real { let w = world J.judgement graph.now in
         OnOk result (Finds w false (AtPlaces w s) search.old search.new) }
+    ensures spends { let w = world J.judgement graph.now in
+        OnOk result (Spends w (inner_cost w graph.now.inner.items s) search.old search.new) }
 {
     let inner = inner_sets(graph, s);
     if inner.is_empty() {

@@ -1,13 +1,15 @@
 //! Comparing the fields of one response name with each other.
-ghost use Rattle.std.specs.Prelude.{OnOk, false};
+ghost use Rattle.std.specs.Prelude.{◌*◌, OnOk, false};
 ghost use Rattle.std.specs.Bool.{OnTrue};
 ghost use Rattle.std.specs.List.{All};
 ghost use Rattle.merge_search.specs.World.{world};
-ghost use Rattle.merge_search.specs.Clear.{AreClear, AreOthers};
+ghost use Rattle.merge_search.specs.Clear.{AreClear, AreOthers, IsSumWithin};
 ghost use Rattle.merge_search.specs.Kinds.{NeverFailsWith};
 ghost use Rattle.merge_search.specs.Plain.{ArePlain};
 ghost use Rattle.merge_search.specs.Work.{Did, Done};
 ghost use Rattle.merge_search.specs.Reports.{FindsAll};
+ghost use Rattle.merge_search.specs.Spending.{Spends};
+ghost use Rattle.merge_search.specs.Weight.{field_weight, fields_weight};
 ghost use Rattle.merge_search.specs.Tops.{AllBefore, AtBefore, AtRest};
 
 use crate::below::{known_below, others_from};
@@ -38,6 +40,8 @@ pub(crate) fn compare_rest<J: Judge>(
         OnOk result (Did w (λ M. All (λ b. Done w M false a b) rest.now) search.old search.new) }
     ensures real { let w = world J.judgement graph.now in
         OnOk result (FindsAll w false (AtRest a rest.now) (AtRest a rest.now) search.old search.new) }
+    ensures spends { let w = world J.judgement graph.now in
+        OnOk result (Spends w (field_weight w a * fields_weight w rest.now) search.old search.new) }
 {
     if is_full(graph, search) {
         return Ok(());
@@ -76,6 +80,8 @@ fn compare_unless<J: Judge>(
         OnOk result (Did w (λ M. All (λ b. Done w M false a b) rest.now) search.old search.new) }
     ensures real { let w = world J.judgement graph.now in
         OnOk result (FindsAll w false (AtRest a rest.now) (AtRest a rest.now) search.old search.new) }
+    ensures spends { let w = world J.judgement graph.now in
+        OnOk result (Spends w (field_weight w a * fields_weight w rest.now) search.old search.new) }
 {
     if is_clear && is_plain_below(graph, a, plain) {
         return Ok(());
@@ -95,11 +101,14 @@ fn compare_others<J: Judge>(
 ) -> Result<(), AllocError>
     requires clear { OnTrue is_clear (NeverFailsWith (J.judgement graph.now.judge) false a rest.now) }
     requires others { AreOthers (world J.judgement graph.now) false a rest.now others.now }
+    requires once { IsSumWithin others.now rest.now }
     requires plain { ArePlain (world J.judgement graph.now) plain.now }
     ensures done { let w = world J.judgement graph.now in
         OnOk result (Did w (λ M. All (λ b. Done w M false a b) rest.now) search.old search.new) }
     ensures real { let w = world J.judgement graph.now in
         OnOk result (FindsAll w false (AtRest a rest.now) (AtRest a rest.now) search.old search.new) }
+    ensures spends { let w = world J.judgement graph.now in
+        OnOk result (Spends w (field_weight w a * fields_weight w rest.now) search.old search.new) }
 {
     if is_plain_below(graph, a, plain) && is_clear {
         return compare_unless(graph, a, rest, is_clear, plain, search);
@@ -119,6 +128,8 @@ fn compare_all<J: Judge>(
         OnOk result (Did w (λ M. AllBefore (Done w M false) fields.now) search.old search.new) }
     ensures real { let w = world J.judgement graph.now in
         OnOk result (FindsAll w false (AtBefore fields.now) (AtBefore fields.now) search.old search.new) }
+    ensures spends { let w = world J.judgement graph.now in let f = fields_weight w fields.now in
+        OnOk result (Spends w (f * f) search.old search.new) }
 {
     let clear = agreeing_rows(search.alloc, graph, false, fields, fields)?;
     let most = fields.len().saturating_mul(fields.len()) / 4;
@@ -167,6 +178,8 @@ pub(crate) fn compare_each<J: Judge>(
         OnOk result (Did w (λ M. AllBefore (Done w M false) fields.now) search.old search.new) }
     ensures real { let w = world J.judgement graph.now in
         OnOk result (FindsAll w false (AtBefore fields.now) (AtBefore fields.now) search.old search.new) }
+    ensures spends { let w = world J.judgement graph.now in let f = fields_weight w fields.now in
+        OnOk result (Spends w (f * f) search.old search.new) }
 {
     if fields.len() < 2 {
         return Ok(());

@@ -4,6 +4,7 @@ ghost use Rattle.std.specs.Prelude.{◌≡◌, ◌<◌, ℕ, OnOk, IfOk, length,
 ghost use Rattle.std.specs.List.{All, Contains};
 ghost use Rattle.bit_matrix.specs.Set.{has};
 ghost use Rattle.merge_search.specs.World.{world, set_of};
+ghost use Rattle.merge_search.specs.Spending.{Spends};
 ghost use Rattle.merge_search.specs.Work.{Did, Pair};
 ghost use Rattle.merge_search.specs.Plain.{ArePlain, IsOnePlain};
 ghost use Rattle.merge_search.specs.Merging.{MergeWritten};
@@ -28,6 +29,7 @@ pub(crate) fn pass_over<J: Judge>(
     requires plain { IsOnePlain (world J.judgement graph.now) f g }
     ensures done { OnOk result (Did (world J.judgement graph.now) (λ M. Pair M false f g) search.old search.new) }
     ensures real { OnOk result (search.new.found.items ≡ search.old.found.items) }
+    ensures spends { OnOk result (Spends (world J.judgement graph.now) 0 search.old search.new) }
 {
     if f == g {
         return Ok(());
@@ -68,6 +70,7 @@ fn note_with<J: Judge>(
         OnOk result (Did w (λ M. has plain.now (set_of w f) ≡ true → (g : ℕ) → has list.now g ≡ true → g < f
         → Pair M false f g) search.old search.new) }
     ensures real { OnOk result (search.new.found.items ≡ search.old.found.items) }
+    ensures spends { OnOk result (Spends (world J.judgement graph.now) 0 search.old search.new) }
 {
     if is_plain(graph, f, plain) {
         note_below(search, f, list)
@@ -88,6 +91,7 @@ pub(crate) fn note_plain<J: Judge>(
     ensures done { let w = world J.judgement graph.now in
         OnOk result (Did w (λ M. All (MarkedDone w M plain.now list.now) list.now) search.old search.new) }
     ensures real { OnOk result (search.new.found.items ≡ search.old.found.items) }
+    ensures spends { OnOk result (Spends (world J.judgement graph.now) 0 search.old search.new) }
 {
     if list.len() < 2 {
         return Ok(());
@@ -115,6 +119,7 @@ pub(crate) fn note_merged<J: Judge>(
     ensures done { let w = world J.judgement graph.now in
         OnOk result (Did w (λ M. AllBefore (Pair M false) list.now) search.old search.new) }
     ensures real { OnOk result (search.new.found.items ≡ search.old.found.items) }
+    ensures spends { OnOk result (Spends (world J.judgement graph.now) 0 search.old search.new) }
 {
     let all = set_of_numbers(search.alloc, list)?;
     for f in list {

@@ -11,6 +11,8 @@ ghost use Rattle.merge_search.specs.Quiet.{AreQuiet};
 ghost use Rattle.merge_search.specs.Tops.{AddsUnmarked, AllBefore, AreAllBut, AtListed, AtSpread, AtSpreads, AtTop};
 ghost use Rattle.merge_search.specs.Tops.{AtTwo, AtWithin, MarkedDone, OwnWithin, OwnWritten, SpreadDone, Together};
 ghost use Rattle.merge_search.specs.Tops.{Top};
+ghost use Rattle.merge_search.specs.Spending.{Spends, fragments_weight, search_cost, set_cost, top_cost};
+ghost use Rattle.merge_search.specs.Weight.{weight};
 
 use crate::clear::MANY;
 use crate::graph::Graph;
@@ -41,6 +43,8 @@ fn compare_within<J: Judge>(
         OnOk result (Did w (λ M. OwnWithin w M s) search.old search.new) }
     ensures real { let w = world J.judgement graph.now in
         OnOk result (FindsAll w false (AtWithin w s) (AtWithin w s) search.old search.new) }
+    ensures spends { let w = world J.judgement graph.now in
+        OnOk result (Spends w (weight w s * weight w s) search.old search.new) }
 {
     for first in firsts(graph, s) {
         compare_each(graph, group(graph, s, first.response), plain, search)?;
@@ -61,6 +65,8 @@ fn write_all<J: Judge>(
         OnOk result (Did w (λ M. All (λ h. OwnPairs w M false s (set_of w h)) opening.now) search.old search.new) }
     ensures real { let w = world J.judgement graph.now in
         OnOk result (FindsAll w false (AtSpreads w s starts.now) (AtSpreads w s starts.now) search.old search.new) }
+    ensures spends { let w = world J.judgement graph.now in
+        OnOk result (Spends w (weight w s * fragments_weight w) search.old search.new) }
 {
     for h in opening {
         compare_own(graph, s, set(graph, *h), false, search)?;
@@ -81,6 +87,8 @@ fn write_out<J: Judge>(
         OnOk result (Did w (λ M. All (λ g. OwnWritten w M s g) starts.now) search.old search.new) }
     ensures real { let w = world J.judgement graph.now in
         OnOk result (FindsAll w false (AtSpreads w s starts.now) (AtSpreads w s starts.now) search.old search.new) }
+    ensures spends { let w = world J.judgement graph.now in
+        OnOk result (Spends w (weight w s * fragments_weight w) search.old search.new) }
 {
     let opening = opened(graph, starts, Seeker::Top, search)?;
     write_all(graph, s, starts, opening.order.as_slice(), search)?;
@@ -137,6 +145,8 @@ fn write_own<J: Judge>(
         OnOk result (Did w (λ M. All (λ g. OwnWritten w M s g) list.now) search.old search.new) }
     ensures real { let w = world J.judgement graph.now in
         OnOk result (FindsAll w false (AtSpreads w s list.now) (AtSpreads w s list.now) search.old search.new) }
+    ensures spends { let w = world J.judgement graph.now in
+        OnOk result (Spends w (weight w s * fragments_weight w) search.old search.new) }
 {
     if firsts(graph, s).is_empty() {
         return Ok(());
@@ -159,6 +169,7 @@ fn compare_pair<J: Judge>(
     ensures done { OnOk result (Did (world J.judgement graph.now) (λ M. Pair M false f g) search.old search.new) }
     ensures real { let w = world J.judgement graph.now in
         OnOk result (Finds w false (AtFragments w f g) search.old search.new) }
+    ensures spends { OnOk result (Spends (world J.judgement graph.now) 0 search.old search.new) }
 {
     if is_plain(graph, g, plain) {
         return pass_over(graph, f, g, search);
@@ -181,6 +192,7 @@ fn compare_spread<J: Judge>(
         OnOk result (Did w (λ M. SpreadDone w M plain.now list.now f) search.old search.new) }
     ensures real { let w = world J.judgement graph.now in
         OnOk result (Finds w false (AtListed w f list.now) search.old search.new) }
+    ensures spends { OnOk result (Spends (world J.judgement graph.now) 0 search.old search.new) }
 {
     if is_plain(graph, f, plain) {
         return Ok(());
@@ -207,6 +219,7 @@ fn compare_pairs<J: Judge>(
         OnOk result (Did w (λ M. AllBefore (Pair M false) list.now) search.old search.new) }
     ensures real { let w = world J.judgement graph.now in
         OnOk result (Finds w false (AtTwo w list.now) search.old search.new) }
+    ensures spends { OnOk result (Spends (world J.judgement graph.now) 0 search.old search.new) }
 {
     for f in list {
         compare_spread(graph, *f, list, plain, search)?;
@@ -227,6 +240,8 @@ fn compare_spreads<J: Judge>(
         × AllBefore (Pair M false) (spreads_of w s)) search.old search.new) }
     ensures real { let w = world J.judgement graph.now in
         OnOk result (FindsAll w false (AtPlaces w s) (AtSpread w s) search.old search.new) }
+    ensures spends { let w = world J.judgement graph.now in
+        OnOk result (Spends w (weight w s * fragments_weight w) search.old search.new) }
 {
     let list = spreads(graph, s);
     if list.is_empty() {
@@ -248,6 +263,8 @@ fn compare_set<J: Judge>(
         OnOk result (Did w (λ M. Top w M s) search.old search.new) }
     ensures real { let w = world J.judgement graph.now in
         OnOk result (FindsAll w false (AtPlaces w s) (AtTop w s) search.old search.new) }
+    ensures spends { let w = world J.judgement graph.now in
+        OnOk result (Spends w (top_cost w (weight w s)) search.old search.new) }
 {
     compare_within(graph, s, plain, search)?;
     compare_spreads(graph, s, plain, search)
@@ -278,6 +295,7 @@ fn pass_set<J: Judge>(graph: &Graph<J>, s: usize, search: &mut Search) -> Result
         OnOk result (Did w (λ M. Top w M s) search.old search.new) }
     ensures real { let w = world J.judgement graph.now in
         OnOk result (FindsAll w false (AtPlaces w s) (AtTop w s) search.old search.new) }
+    ensures spends { OnOk result (Spends (world J.judgement graph.now) 0 search.old search.new) }
 {
     note_merged(graph, spreads(graph, s), search)
 }
@@ -295,6 +313,8 @@ fn search_set<J: Judge>(
         OnOk result (Did w (λ M. Top w M s) search.old search.new) }
     ensures real { let w = world J.judgement graph.now in
         OnOk result (FindsAll w false (AtPlaces w s) (AtTop w s) search.old search.new) }
+    ensures spends { let w = world J.judgement graph.now in
+        OnOk result (Spends w (set_cost w graph.now.inner.items s) search.old search.new) }
 {
     if is_full(graph, search) {
         return Ok(());
@@ -316,7 +336,8 @@ fn search_set<J: Judge>(
 /// order, what stands below one field alone may be. A search that has found enough only ends what it has begun.
 ///
 /// Of `n` fragments at most `n (n - 1)` pairs are compared, and at least those that some set spreads together, unless it
-/// found enough. No search opens more than `n` fragments.
+/// found enough. No search opens more than `n` fragments. Fields are compared one by one at most four times as often as
+/// `search_cost` says: by the numbers of fields in and below the sets.
 ///
 /// # Errors
 ///
@@ -328,6 +349,8 @@ pub fn search_all<J: Judge>(alloc: Global, graph: &Graph<J>) -> Result<Search, A
         IfOk result (λ m. HasRoom w m.found.items → (ps : List (ℕ × ℕ)) → Together w graph.now.order.items ps
         → length ps ≤ m.compared) }
     ensures opened { IfOk result (λ m. m.opened ≤ length graph.now.fragments.items * m.lists) }
+    ensures compares { let w = world J.judgement graph.now in
+        IfOk result (λ m. m.judged ≤ 4 * search_cost w graph.now.inner.items graph.now.order.items) }
 {
     let plain = passed_over(alloc, graph)?;
     let mut search = no_search(alloc);

@@ -17,7 +17,8 @@ use std::alloc::AllocError;
 
 /// The first own field of each response name of a set, in the order in which they stand.
 pub fn firsts<J: Judge>(graph: &Graph<J>, s: usize) -> &[Entry]
-    ensures { AreListed result.now (own_of (world J.judgement graph.now) s) }
+    ensures listed { AreListed result.now (own_of (world J.judgement graph.now) s) }
+    ensures once { HaveOwnNames result.now }
 {
     match graph.sets.get(s) {
         Some(node) => first_fields(node),

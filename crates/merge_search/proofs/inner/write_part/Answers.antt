@@ -1,4 +1,4 @@
-use Rattle.std.proofs.Common.{ℕ, ◌<◌, List, length, sym, subst, arith, false}
+use Rattle.std.proofs.Common.{◌*◌, ◌≤◌, ℕ, ◌<◌, List, length, sym, subst, arith, false}
 use Rattle.std.specs.List.{All}
 use Rattle.std.proofs.lemmas.Result.{on_ok_weaker}
 use Rattle.merge_search.specs.World.{world}
@@ -7,6 +7,11 @@ use Rattle.merge_search.specs.Reports.{Adds}
 use Rattle.merge_search.specs.Inner.{AtParts}
 use Rattle.merge_search.proofs.Adding.{adds_none, adds_from}
 use Rattle.merge_search.proofs.Work.{did_none, did_then, did_map, did_list, did_kept}
+use Rattle.std.specs.Prelude.{sum_by}
+use Rattle.merge_search.specs.Spending.{fragments_weight}
+use Rattle.merge_search.specs.Weight.{fields_weight, fragment_weight}
+use Rattle.merge_search.proofs.Costs.{on_ok_ok}
+use Rattle.merge_search.proofs.Spends.{fragments_cost, listed_spends, spends_more, times_left}
 use Rattle.merge_search.proofs.inner.write_part.Goals as goal
 
 pub returns-then-is_empty-clause-done : goal.returns-then-is_empty-clause-done
@@ -29,6 +34,10 @@ returns g c =
     let v = world g.J.Judge.judgement c.args.graph.now in
     let n = length c.args.graph.now.fragments.items in
     let long : 0 < length c.args.starts.now = grind (arith, c.is_empty.ensures, c.if-is_empty.false) in
+    let m = fields_weight v c.args.part.now.own.items in
+    let opens = c.in_ok-opening.ensures.opens in
+    let most = subst (λ hs. m * sum_by (fragment_weight v) hs ≤ m * fragments_weight v) (sym c.as_slice.ensures.value)
+    (omega (arith, times_left (fragment_weight v) m c.in_ok-opening.opening.order.items, fragments_cost v m c.in_ok-opening.opening.order.items opens.once opens.there)) in
     record {
       done = on_ok_weaker c.put_opening.result
           (λ k. did_kept v _ k (did_map v _ _ (λ M h. tt)
@@ -38,4 +47,8 @@ returns g c =
           (λ k. subst (λ zs. Adds v false (AtParts v c.args.part.now.own.items c.args.starts.now) c.args.search.now.found.items zs) (sym k.found)
           (adds_from v false _ c.in_ok-opening.ensures.counted.found c.in_ok-compare_opened.ensures.real))
           c.put_opening.ensures.keeps;
+      spends = on_ok_ok c.put_opening.result
+          (λ k counts. listed_spends v _ _ _ _ _ _ c.in_ok-opening.ensures.counted
+          (spends_more v (fields_weight v c.args.part.now.own.items * sum_by (fragment_weight v) c.as_slice.result.now) _ _ _ most c.in_ok-compare_opened.ensures.spends) k counts)
+          c.put_opening.ensures.keeps c.put_opening.ensures.counts;
     }

@@ -6,9 +6,13 @@ use Rattle.merge_search.specs.Reports.{AddsAll}
 use Rattle.merge_search.specs.Tops.{AtBefore, AtRest}
 use Rattle.merge_search.proofs.Adding.{UptoIndex}
 use Rattle.merge_search.proofs.Work.{no_entry}
+use Rattle.std.specs.Prelude.{sum_by, take, ◌*◌}
+use Rattle.merge_search.specs.Spending.{Spends}
+use Rattle.merge_search.specs.Weight.{field_weight, fields_weight}
 use Rattle.merge_search.proofs.pairs.compare_all.Given as goal
 
 abbrev pub invariant-loop-k : goal.invariant-loop-k
 invariant-loop-k g l =
     Did (world g.J.Judge.judgement l.graph) (λ M. (i : ℕ) → i < l.k → All (Done (world g.J.Judge.judgement l.graph) M false (get_or l.fields i no_entry)) (drop (i + 1) l.fields)) l.fn.search l.search
     × AddsAll (world g.J.Judge.judgement l.graph) false (AtBefore l.fields) (UptoIndex l.k (λ m. AtRest (get_or l.fields m no_entry) (drop (m + 1) l.fields))) l.fn.search.found.items l.search.found.items
+    × Spends (world g.J.Judge.judgement l.graph) (sum_by (λ a. fields_weight (world g.J.Judge.judgement l.graph) l.fields * field_weight (world g.J.Judge.judgement l.graph) a) (take l.k l.fields)) l.fn.search l.search

@@ -4,6 +4,7 @@ use Rattle.merge_search.specs.World.{world}
 use Rattle.merge_search.specs.Kinds.{NeverFailsWith}
 use Rattle.merge_search.proofs.Clearing.{one_clear, rest_clear}
 use Rattle.merge_search.proofs.Harmless.{below_merges}
+use Rattle.merge_search.proofs.Costs.{spends_none}
 use Rattle.merge_search.proofs.pairs.compare_unless.Goals as goal
 
 pub returns-then-is_plain_below : goal.returns-then-is_plain_below
@@ -13,4 +14,4 @@ returns-then-is_plain_below g c =
     let ys = c.args.rest.now in
     let never = subst (λ b. OnTrue b (NeverFailsWith v.judgement false a ys)) c.if-is_clear.true c.requires.clear in
     let d = rest_clear v false a ys c.args.search.now (one_clear v false a ys never (λ k x l. below_merges v c.if-is_plain_below.ensures)) in
-    record { done = d.done; real = d.real }
+    record { done = d.done; real = d.real; spends = spends_none v _ c.args.search.now }

@@ -8,12 +8,15 @@ use Rattle.merge_search.specs.Work.{Pair}
 use Rattle.merge_search.specs.World.{world}
 use Rattle.merge_search.proofs.Spreads.{all_noted}
 use Rattle.merge_search.proofs.Work.{did_start, did_map, did_more, did_all, did_below}
+use Rattle.merge_search.proofs.Worth.{below_kept}
+use Rattle.merge_search.proofs.Costs.{spends_none}
+use Rattle.merge_search.proofs.Spends.{spends_then}
 use Rattle.merge_search.proofs.passing.note_merged.Goals as goal
 
 pub loop-f-init : goal.loop-f-init
 loop-f-init g c =
     let v = world g.J.Judge.judgement c.args.graph.now in
-    (did_start v (λ f M. (h : ℕ) → Contains c.args.list.now h → h < f → Pair M false f h) c.args.list.now c.args.search.now, refl)
+    (did_start v (λ f M. (h : ℕ) → Contains c.args.list.now h → h < f → Pair M false f h) c.args.list.now c.args.search.now, refl, spends_none v 0 c.args.search.now)
 
 pub loop-f-preserved : goal.loop-f-preserved
 loop-f-preserved g c =
@@ -39,6 +42,7 @@ loop-f-preserved g c =
           (did_map v _ _ (λ M p h there less. p h (All-contains (λ (x : ℕ). has all x ≡ true) list h c.in_ok-all.ensures.all there) less)
           (did_below v f (has all) c.in_ok-note_below.ensures (All-get_or (λ (m : ℕ). m < length v.fragments) list k 0 c.loop-f-test.true c.requires.list) merge)),
       c.in_ok-note_below.ensures.found ∙ c.loop-f.invariant.1,
+      spends_then v 0 0 _ _ _ c.loop-f.invariant.2 (below_kept v _ _ f (has all) c.in_ok-note_below.ensures),
     )
 
 pub returns : goal.returns
@@ -48,4 +52,5 @@ returns g c =
     record {
       done = did_map v _ _ (λ M h. all_noted M list h) (did_all v (λ f M. (h : ℕ) → Contains list h → h < f → Pair M false f h) list list c.loop-f.f-index c.loop-f-test.false refl c.loop-f.invariant.0);
       real = c.loop-f.invariant.1;
+      spends = c.loop-f.invariant.2;
     }

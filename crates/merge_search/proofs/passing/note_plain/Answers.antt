@@ -8,6 +8,8 @@ use Rattle.merge_search.specs.declared.state.Search.{Search}
 use Rattle.merge_search.specs.World.{World, world}
 use Rattle.merge_search.specs.Tops.{MarkedDone}
 use Rattle.merge_search.proofs.Work.{did_none, did_start, did_map, did_more, did_all}
+use Rattle.merge_search.proofs.Costs.{spends_none}
+use Rattle.merge_search.proofs.Spends.{spends_then}
 use Rattle.merge_search.proofs.passing.note_plain.Goals as goal
 
 -- one alone has no other beside it
@@ -30,7 +32,7 @@ note_with-requires g c =
 pub loop-f-init : goal.loop-f-init
 loop-f-init g c =
     let v = world g.J.Judge.judgement c.args.graph.now in
-    (did_start v (λ f M. MarkedDone v M c.args.plain.now c.args.list.now f) c.args.list.now c.args.search.now, refl)
+    (did_start v (λ f M. MarkedDone v M c.args.plain.now c.args.list.now f) c.args.list.now c.args.search.now, refl, spends_none v 0 c.args.search.now)
 
 pub loop-f-preserved : goal.loop-f-preserved
 loop-f-preserved g c =
@@ -38,6 +40,7 @@ loop-f-preserved g c =
       did_more v (λ f M. MarkedDone v M c.args.plain.now c.args.list.now f) c.args.list.now c.loop-f.f-index 0 c.loop-f-test.true c.loop-f.invariant.0
           (did_map v _ _ (λ M h marked k there less. h marked k (All-contains (λ (x : ℕ). has c.in_ok-all.all x ≡ true) c.args.list.now k c.in_ok-all.ensures.all there) less) c.in_ok-note_with.ensures.done),
       c.in_ok-note_with.ensures.real ∙ c.loop-f.invariant.1,
+      spends_then v 0 0 _ _ _ c.loop-f.invariant.2 c.in_ok-note_with.ensures.spends,
     )
 
 pub returns : goal.returns
@@ -46,4 +49,5 @@ returns g c =
     record {
       done = did_all v (λ f M. MarkedDone v M c.args.plain.now c.args.list.now f) c.args.list.now c.args.list.now c.loop-f.f-index c.loop-f-test.false refl c.loop-f.invariant.0;
       real = c.loop-f.invariant.1;
+      spends = c.loop-f.invariant.2;
     }

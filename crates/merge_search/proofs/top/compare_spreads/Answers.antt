@@ -14,6 +14,8 @@ use Rattle.merge_search.proofs.Falls.{spread_falls}
 use Rattle.merge_search.proofs.Judging.{places_written, places_listed}
 use Rattle.merge_search.proofs.Passed.{are_there}
 use Rattle.merge_search.proofs.Work.{did_none, did_then, did_map}
+use Rattle.merge_search.proofs.Costs.{spends_none}
+use Rattle.merge_search.proofs.Spends.{spends_after_none}
 use Rattle.merge_search.proofs.top.compare_spreads.Goals as goal
 
 -- where nothing is spread
@@ -32,6 +34,7 @@ returns-then-is_empty g c =
         adds = adds_none v false (AtPlaces v c.args.s) c.args.search.now.found.items;
         tells = λ room r at fails. absurd (omega (arith, at.1.1, ap length none));
       };
+      spends = spends_none v _ c.args.search.now;
     }
 
 pub write_own-requires : goal.write_own-requires
@@ -62,4 +65,5 @@ returns g c =
       real = on_ok_weaker c.compare_pairs.result (λ d. all_plus v false (AtPlaces v s) (AtSpread v s) (AtTwo v list) (λ r z. places_listed v s z.0 list is z.1 r z.2)
           (all_told v false (AtPlaces v s) (AtSpreads v s list) (AtSpread v s) (λ r z. (z.0, subst (λ zs. Contains zs z.0) (sym is) z.1, z.2))
           (all_map v false (AtSpreads v s list) (AtPlaces v s) (AtSpreads v s list) (λ r z. places_written v s z.0 (subst (λ zs. Contains zs z.0) is z.1) r z.2) c.in_ok-write_own.ensures.real)) d) c.compare_pairs.ensures.real;
+      spends = on_ok_weaker c.compare_pairs.result (λ p. spends_after_none v _ _ _ _ c.in_ok-write_own.ensures.spends p) c.compare_pairs.ensures.spends;
     }

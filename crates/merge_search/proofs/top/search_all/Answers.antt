@@ -1,4 +1,4 @@
-use Rattle.std.proofs.Common.{◌^◌, ◌<◌, [], length, get_or, sym, subst, arith, false}
+use Rattle.std.proofs.Common.{◌≤◌, ◌*◌, ◌^◌, ◌<◌, [], length, get_or, sym, subst, arith, false}
 use Rattle.std.proofs.lemmas.List.Elements.{Contains-get_or}
 use Rattle.merge_search.specs.World.{world}
 use Rattle.merge_search.specs.Reports.{AddsAll, AtSearched}
@@ -8,6 +8,8 @@ use Rattle.merge_search.proofs.Counting.{at_most, at_least, small_square}
 use Rattle.merge_search.proofs.Judging.{next_tops, no_tops, judged_at, all_tops}
 use Rattle.merge_search.proofs.Tallying.{no_tally}
 use Rattle.merge_search.proofs.Work.{grows_same}
+use Rattle.merge_search.specs.Spending.{search_cost, set_cost}
+use Rattle.merge_search.proofs.Spends.{all_compared, spends_list, spends_next, spends_start}
 use Rattle.merge_search.proofs.top.search_all.Goals as goal
 
 pub loop-s-init : goal.loop-s-init
@@ -18,6 +20,7 @@ loop-s-init g c =
       no_tops v c.order-s-items.result.now c.no_search-search.result b,
       subst (λ ys. AddsAll v false (AtSearched v c.order-s-items.result.now) (Upto c.order-s-items.result.now 0 0 (λ s. AtTop v s)) [] ys) (sym b.found) (all_start v false _ (λ s. AtTop v s) c.order-s-items.result.now 0 []),
       no_tally (length v.fragments) c.no_search-search.result b,
+      spends_start v (set_cost v c.args.graph.now.inner.items) c.order-s-items.result.now 0 c.no_search-search.result,
     )
 
 pub loop-s-preserved : goal.loop-s-preserved
@@ -27,6 +30,7 @@ loop-s-preserved g c =
       next_tops v c.order-s-items.result.now c.loop-s.s-index c.loop-s.invariant.1 c.in_ok-search_set.ensures.done,
       all_more v false _ _ (λ s. AtTop v s) c.order-s-items.result.now c.loop-s.s-index 0 (λ r z. (get_or c.order-s-items.result.now c.loop-s.s-index 0, Contains-get_or c.order-s-items.result.now c.loop-s.s-index 0 c.loop-s-test.true, z)) c.loop-s.invariant.2 c.in_ok-search_set.ensures.real,
       c.in_ok-search_set.ensures.done.keeps c.loop-s.invariant.3,
+      spends_next v (set_cost v c.args.graph.now.inner.items) c.order-s-items.result.now 0 c.loop-s.s-index _ _ _ c.loop-s-test.true c.loop-s.invariant.4 c.in_ok-search_set.ensures.spends,
     )
 
 pub returns : goal.returns
@@ -39,4 +43,7 @@ returns g c =
       few = at_most (length v.fragments) m c.loop-s.invariant.3;
       enough = λ room ps h. at_least v (length v.fragments) m c.order-s-items.result.now (all_tops v m c.order-s-items.result.now c.loop-s.s-index c.loop-s-test.false (c.loop-s.invariant.1 m (grows_same m) room).1) c.loop-s.invariant.3 (small_square (length v.fragments) n) ps (subst (λ zs. Together v zs ps) (sym c.loop-s.invariant.0) h);
       opened = c.loop-s.invariant.3.opened;
+      compares = subst (λ order. m.judged ≤ 4 * search_cost v c.args.graph.now.inner.items order) c.loop-s.invariant.0
+          (all_compared v c.args.graph.now.inner.items c.order-s-items.result.now c.no_search-search.result m c.no_search-search.ensures.judged
+          (spends_list v (set_cost v c.args.graph.now.inner.items) c.order-s-items.result.now 0 c.loop-s.s-index _ _ _ c.loop-s-test.false (omega arith) c.loop-s.invariant.4));
     }

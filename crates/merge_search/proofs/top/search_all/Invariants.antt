@@ -6,6 +6,8 @@ use Rattle.merge_search.specs.Reports.{AddsAll, AtSearched}
 use Rattle.merge_search.specs.Tops.{AtTop}
 use Rattle.merge_search.proofs.Adding.{Upto}
 use Rattle.merge_search.proofs.Judging.{TopsDone}
+use Rattle.std.specs.Prelude.{sum_by, take}
+use Rattle.merge_search.specs.Spending.{Spends, set_cost}
 use Rattle.merge_search.proofs.top.search_all.Given as goal
 
 abbrev pub invariant-loop-s : goal.invariant-loop-s
@@ -14,3 +16,4 @@ invariant-loop-s g l =
     × TopsDone (world g.J.Judge.judgement l.graph) l.s-items l.s-index l.search
     × AddsAll (world g.J.Judge.judgement l.graph) false (AtSearched (world g.J.Judge.judgement l.graph) l.s-items) (Upto l.s-items l.s-index 0 (λ s. AtTop (world g.J.Judge.judgement l.graph) s)) [] l.search.found.items
     × Tally (pair_in l.search) (length l.graph.fragments.items) l.search
+    × Spends (world g.J.Judge.judgement l.graph) (sum_by (set_cost (world g.J.Judge.judgement l.graph) l.graph.inner.items) (take l.s-index l.s-items)) l.initial.search l.search

@@ -1,4 +1,4 @@
-use Rattle.std.proofs.Common.{ℕ, get_or, refl, sym, subst, false}
+use Rattle.std.proofs.Common.{◌*◌, ℕ, get_or, refl, sym, subst, false}
 use Rattle.std.proofs.lemmas.List.Elements.{All-get_or}
 use Rattle.merge_search.specs.World.{world, set_of}
 use Rattle.merge_search.specs.Opening.{ReachedFrom}
@@ -7,12 +7,15 @@ use Rattle.merge_search.specs.Reports.{AtOwn}
 use Rattle.merge_search.proofs.Adding.{all_start, all_more, all_done, all_change}
 use Rattle.merge_search.proofs.Judging.{tell_written, row_written}
 use Rattle.merge_search.proofs.Work.{did_start, did_map, did_more, did_all}
+use Rattle.merge_search.specs.Spending.{Spends}
+use Rattle.merge_search.specs.Weight.{fragment_weight, weight}
+use Rattle.merge_search.proofs.Spends.{fragments_cost, spends_list, spends_next, spends_start}
 use Rattle.merge_search.proofs.top.write_all.Goals as goal
 
 pub loop-h-init : goal.loop-h-init
 loop-h-init g c =
     let v = world g.J.Judge.judgement c.args.graph.now in
-    (did_start v (λ h M. OwnPairs v M false c.args.s (set_of v h)) c.args.opening.now c.args.search.now, all_start v false _ (λ h. AtOwn v c.args.s (set_of v h)) c.args.opening.now 0 _)
+    (did_start v (λ h M. OwnPairs v M false c.args.s (set_of v h)) c.args.opening.now c.args.search.now, all_start v false _ (λ h. AtOwn v c.args.s (set_of v h)) c.args.opening.now 0 _, spends_start v (λ h. weight v c.args.s * fragment_weight v h) c.args.opening.now 0 c.args.search.now)
 
 pub loop-h-preserved : goal.loop-h-preserved
 loop-h-preserved g c =
@@ -22,6 +25,8 @@ loop-h-preserved g c =
       all_more v false _ _ (λ k. AtOwn v c.args.s (set_of v k)) c.args.opening.now c.loop-h.h-index 0
           (row_written v c.args.s h c.args.starts.now (All-get_or (ReachedFrom v c.args.starts.now) c.args.opening.now c.loop-h.h-index 0 c.loop-h-test.true c.requires.reached)) c.loop-h.invariant.1
           (all_change v false _ (AtOwn v c.args.s (set_of v h)) _ (AtOwn v c.args.s (set_of v h)) (λ r z. subst (λ (s : ℕ). AtOwn v c.args.s s r) c.set.ensures z) (λ r z. subst (λ (s : ℕ). AtOwn v c.args.s s r) (sym c.set.ensures) z) c.in_ok-compare_own.ensures.real),
+      spends_next v (λ k. weight v c.args.s * fragment_weight v k) c.args.opening.now 0 c.loop-h.h-index _ _ _ c.loop-h-test.true c.loop-h.invariant.2
+          (subst (λ (t : ℕ). Spends v (weight v c.args.s * weight v t) c.loop-h.search c.compare_own.new.search) c.set.ensures c.in_ok-compare_own.ensures.spends),
     )
 
 pub returns : goal.returns
@@ -30,4 +35,6 @@ returns g c =
     record {
       done = did_all v (λ h M. OwnPairs v M false c.args.s (set_of v h)) c.args.opening.now c.args.opening.now c.loop-h.h-index c.loop-h-test.false refl c.loop-h.invariant.0;
       real = all_done v false _ _ (λ h. AtOwn v c.args.s (set_of v h)) c.args.opening.now c.loop-h.h-index 0 c.loop-h-test.false (tell_written v c.args.s c.args.starts.now c.args.opening.now c.requires) c.loop-h.invariant.1;
+      spends = spends_list v (λ h. weight v c.args.s * fragment_weight v h) c.args.opening.now 0 c.loop-h.h-index _ _ _ c.loop-h-test.false
+          (fragments_cost v (weight v c.args.s) c.args.opening.now c.requires.once c.requires.there) c.loop-h.invariant.2;
     }

@@ -7,6 +7,8 @@ use Rattle.merge_search.specs.Tops.{AtSpreads}
 use Rattle.merge_search.proofs.Adding.{all_from}
 use Rattle.merge_search.proofs.Judging.{own_written}
 use Rattle.merge_search.proofs.Work.{did_then, did_map, did_list, did_kept}
+use Rattle.merge_search.proofs.Costs.{on_ok_ok}
+use Rattle.merge_search.proofs.Spends.{listed_spends}
 use Rattle.merge_search.proofs.top.write_out.Goals as goal
 
 pub write_all-requires : goal.write_all-requires
@@ -27,4 +29,7 @@ returns g c =
           (λ k. subst (λ zs. AddsAll v false (AtSpreads v c.args.s c.args.starts.now) (AtSpreads v c.args.s c.args.starts.now) c.args.search.now.found.items zs) (sym k.found)
           (all_from v false _ _ c.in_ok-opening.ensures.counted.found c.in_ok-write_all.ensures.real))
           c.put_opening.ensures.keeps;
+      spends = on_ok_ok c.put_opening.result
+          (λ k counts. listed_spends v _ _ _ _ _ _ c.in_ok-opening.ensures.counted c.in_ok-write_all.ensures.spends k counts)
+          c.put_opening.ensures.keeps c.put_opening.ensures.counts;
     }

@@ -22,7 +22,7 @@ pub returns-then-is_empty-clause-done : goal.returns-then-is_empty-clause-done
 returns-then-is_empty-clause-done g c =
     let v = world g.J.Judge.judgement c.args.graph.now in
     let empty : length c.firsts.result.now ≡ 0 = grind (arith, c.is_empty.ensures, c.if-is_empty.true) in
-    did_none v _ c.args.search.now (λ M grown k d l a b own stands same. absurd (no_field c.firsts.result.now (own_of v c.args.s) c.firsts.ensures empty a own))
+    did_none v _ c.args.search.now (λ M grown k d l a b own stands same. absurd (no_field c.firsts.result.now (own_of v c.args.s) c.firsts.ensures.listed empty a own))
 
 pub returns-then-is_empty-clause-real : goal.returns-then-is_empty-clause-real
 returns-then-is_empty-clause-real g c =
@@ -30,7 +30,7 @@ returns-then-is_empty-clause-real g c =
     let empty : length c.firsts.result.now ≡ 0 = grind (arith, c.is_empty.ensures, c.if-is_empty.true) in
     record {
       adds = adds_none v false (AtSpreads v c.args.s c.args.list.now) c.args.search.now.found.items;
-      tells = λ room r at fails. absurd (no_field c.firsts.result.now (own_of v c.args.s) c.firsts.ensures empty r.left at.2.0);
+      tells = λ room r at fails. absurd (no_field c.firsts.result.now (own_of v c.args.s) c.firsts.ensures.listed empty r.left at.2.0);
     }
 
 pub write_out-requires : goal.write_out-requires
@@ -51,4 +51,5 @@ returns g c =
     record {
       done = on_ok_weaker c.write_out.result (λ d. did_map v _ _ (λ M all. all_written v M s list c.as_slice.result.now but all) d) c.write_out.ensures.done;
       real = on_ok_weaker c.write_out.result (λ d. told_written v s list c.as_slice.result.now but d) c.write_out.ensures.real;
+      spends = c.write_out.ensures.spends;
     }
