@@ -6,7 +6,7 @@ use Rattle.merge_search.specs.declared.node.InnerSet.{InnerSet}
 use Rattle.merge_search.specs.declared.state.Search.{Search}
 use Rattle.merge_search.specs.declared.task.Task.{Task}
 use Rattle.merge_search.specs.declared.task.Task.TheVariants.{With, Listed, Rows, Own, Close, Opened, Mark, Spreads}
-use Rattle.merge_search.specs.Counts.{most_repeats}
+use Rattle.merge_search.specs.Counts.{greatest, most_repeats}
 use Rattle.merge_search.specs.Log.{covers_of}
 use Rattle.merge_search.specs.Names.{named}
 use Rattle.merge_search.specs.Tasks.{firsts_at}
@@ -88,6 +88,10 @@ pub record Compares (n : ℕ) (old new : Search) : Type 0 where
   pub searched : new.searched ≡ old.searched
   pub repeated : new.repeated ≡ old.repeated
 
+-- So many fields were compared at least.
+abbrev pub CountsAtLeast : ℕ → Search → Search → Type 0
+CountsAtLeast n old new = min (old.judged + n) greatest ≤ new.judged
+
 -- Four times so many fields were compared at most, but for what pays.
 pub record Spends (w : World) (n : ℕ) (old new : Search) : Type 0 where
   pub paid : new.judged + 4 * credit w old ≤ old.judged + 4 * (credit w new + n)
@@ -105,6 +109,7 @@ settle_cost w a b false = 1 + 4 * below_weight w b
 pub record LooksFlatly (left right : ℕ) (old new : Search) : Type 0 where
   pub all : Compares (left * right) old new
   pub few : Compares (4 * right) old new
+  pub more : min old.judged greatest ≤ new.judged
 
 -- What the field at a place costs that is not settled, if there is one.
 abbrev pub open_cost : World → List Entry → ℕ → ℕ

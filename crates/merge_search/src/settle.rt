@@ -1,12 +1,12 @@
 //! Pairs of fields that are settled at once, so that no task has to wait: most are.
-ghost use Rattle.std.specs.Prelude.{◌≡◌, ◌≤◌, IfOk, OnOk, Some, false, length, slice_get};
+ghost use Rattle.std.specs.Prelude.{◌≡◌, ◌*◌, ◌≤◌, IfOk, OnOk, Some, false, length, slice_get};
 ghost use Rattle.std.specs.Bool.{OnTrue};
 ghost use Rattle.merge_search.specs.Settle.{AgreesWith, AgreeFlatly, IsSpreadless, Settles};
 ghost use Rattle.merge_search.specs.Clear.{IsClearBelow};
 ghost use Rattle.merge_search.specs.Tasks.{MeetsList};
-ghost use Rattle.merge_search.specs.Spending.{Compares, ComparesUpto, LooksFlatly, open_cost, settle_cost};
+ghost use Rattle.merge_search.specs.Spending.{Compares, ComparesUpto, CountsAtLeast, LooksFlatly, open_cost, settle_cost};
 ghost use Rattle.merge_search.specs.State.{Keeps};
-ghost use Rattle.merge_search.specs.World.{world, conflict_of, own_of, Same};
+ghost use Rattle.merge_search.specs.World.{world, conflict_of, own_of, HasRoom, Same};
 ghost use Rattle.merge_search.specs.declared.state.Search.{Search};
 
 use crate::graph::Graph;
@@ -90,6 +90,8 @@ fn is_clear_below<J: Judge>(
     ensures keeps { OnOk result (Keeps search.old search.new) }
     ensures counts { let w = world J.judgement graph.now in
         OnOk result (LooksFlatly (length (own_of w i)) (length (own_of w j)) search.old search.new) }
+    ensures ticks { let w = world J.judgement graph.now in IfOk result (λ is.
+        OnTrue is (CountsAtLeast (length (own_of w i) * length (own_of w j)) search.old search.new)) }
 {
     if !is_small(graph, i) {
         return Ok(false);
@@ -124,6 +126,8 @@ pub(crate) fn settle<J: Judge>(
         IfOk result (λ is. Settles w e a b is search.old search.new) }
     ensures counts { let w = world J.judgement graph.now in
         IfOk result (λ is. Compares (settle_cost w a b is) search.old search.new) }
+    ensures ticks { let w = world J.judgement graph.now in
+        OnOk result (HasRoom w search.old.found.items → CountsAtLeast 1 search.old search.new) }
 {
     if is_full(graph, search) {
         return Ok(true);
