@@ -9,13 +9,13 @@ use Rattle.merge_field_pairs.specs.Numbered.{exclusive_between, exclusive_at}
 use Rattle.merge_field_pairs.specs.Objects.{object_number, object_number_at}
 
 abbrev number_of : Option (List ℕ) → ℕ
-number_of name = option_map_or (λ n. suc (slot_number n 4294967296)) name 0
+number_of name = option_map_or (λ n. suc (slot_number n 16384)) name 0
 
-differ : (n m : List ℕ) → (suc (slot_number n 4294967296) ≡ suc (slot_number m 4294967296) → ⊥) → not (bytes_eq n m) ≡ true
+differ : (n m : List ℕ) → (suc (slot_number n 16384) ≡ suc (slot_number m 16384) → ⊥) → not (bytes_eq n m) ≡ true
 differ n m apart = step (bytes_eq n m) refl
   where
     step : (b : Bool) → bytes_eq n m ≡ b → not b ≡ true
-    step true is = absurd (apart (ap (λ k. suc (slot_number k 4294967296)) (bytes_eq-same n m is)))
+    step true is = absurd (apart (ap (λ k. suc (slot_number k 16384)) (bytes_eq-same n m is)))
     step false is = refl
 
 names_differ : (p q : Option (List ℕ)) → (number_of p ≡ 0 → ⊥) → (number_of q ≡ 0 → ⊥) → (number_of p ≡ number_of q → ⊥) → are_different p q ≡ true

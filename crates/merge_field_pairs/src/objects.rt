@@ -7,8 +7,8 @@ use crate::entry::Entry;
 use meta::kinds::MetaTypeOf;
 use name_tables::slots::slot_of;
 
-// So many numbers there are; two names may share one.
-const NUMBERS: usize = 1 << 32;
+// So many numbers there are; two names may share one. A set of them takes 2 KB.
+const NUMBERS: usize = 1 << 14;
 
 /// The name of a type, if it is an object type.
 pub(crate) fn name_of_object<'a, S, C>(parent: Option<&'a MetaTypeOf<S, C>>) -> Option<&'a str>
