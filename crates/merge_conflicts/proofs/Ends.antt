@@ -2,9 +2,9 @@
 use Rattle.std.proofs.Common.{◌≡◌, ℕ, ◌-◌, List, [], ◌∷◌, ◌++◌, length, take, drop, Bool, refl, sym, ap, ◌∙◌, append_assoc, length-append, subst}
 use Rattle.std.proofs.Math.Nat.{add-sub_cancel}
 use Rattle.std.proofs.Math.Seq.{drop-append_seam, take-append_seam}
-use Rattle.merge_search.specs.declared.node.Entry.{Entry}
-use Rattle.merge_search.specs.declared.state.Finding.{Finding}
-use Rattle.merge_search.specs.declared.state.Finding.TheVariants.{Direct, Nested}
+use Rattle.merge_sets.specs.declared.node.Entry.{Entry}
+use Rattle.merge_sets.specs.declared.finding.Finding.{Finding}
+use Rattle.merge_sets.specs.declared.finding.Finding.TheVariants.{Direct, Nested}
 use Rattle.merge_conflicts.specs.declared.parts.Part.{Part}
 use Rattle.merge_conflicts.specs.Reports.{Reports, none, direct, nested, postfix}
 use Rattle.merge_conflicts.specs.declared.parts.Why.TheVariants as why

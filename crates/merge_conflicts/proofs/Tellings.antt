@@ -4,8 +4,8 @@ use denote.Ref.{Bor}
 use Rattle.std.proofs.lemmas.List.{append-nil}
 use Rattle.std.proofs.lemmas.Option.{slice_get-map, same_Some}
 use Rattle.language.specs.declared.position.SourcePosition.{SourcePosition}
-use Rattle.merge_search.specs.declared.node.Entry.{Entry}
-use Rattle.merge_search.specs.declared.state.Finding.{Finding}
+use Rattle.merge_sets.specs.declared.node.Entry.{Entry}
+use Rattle.merge_sets.specs.declared.finding.Finding.{Finding}
 use Rattle.schema.specs.Catalog.{Catalog}
 use Rattle.merge_field_pairs.specs.declared.entry.Entry as field
 use Rattle.merge_field_pairs.specs.Entries.{PlainEntry, plain, response_of}

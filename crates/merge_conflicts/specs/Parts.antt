@@ -1,8 +1,8 @@
 -- Findings by the conflicts whose trees they write out.
 use Rattle.std.specs.Prelude.{◌≡◌, ℕ, ◌+◌, List, [], ◌∷◌, ◌++◌, Bool, Option, Some, None, length}
 use denote.Ref.{Bor}
-use Rattle.merge_search.specs.declared.node.Entry.{Entry}
-use Rattle.merge_search.specs.declared.state.Finding.{Finding}
+use Rattle.merge_sets.specs.declared.node.Entry.{Entry}
+use Rattle.merge_sets.specs.declared.finding.Finding.{Finding}
 use Rattle.merge_conflicts.specs.declared.parts.Part.{Part}
 use Rattle.merge_conflicts.specs.declared.parts.Why.{Why}
 use Rattle.merge_conflicts.specs.declared.parts.Why.TheVariants as why

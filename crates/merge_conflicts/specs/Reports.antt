@@ -1,8 +1,8 @@
 -- Conflicts of fields as trees: two fields fail by themselves, or by the fields below them (section 5.3.2).
 use Rattle.std.specs.Prelude.{◌≡◌, ◌+◌, ℕ, suc, List, [], ◌∷◌, ◌++◌, Bool, Some, length, slice_get}
-use Rattle.merge_search.specs.declared.node.Entry.{Entry}
-use Rattle.merge_search.specs.declared.state.Finding.{Finding}
-use Rattle.merge_search.specs.declared.state.Finding.TheVariants.{Direct, Nested}
+use Rattle.merge_sets.specs.declared.node.Entry.{Entry}
+use Rattle.merge_sets.specs.declared.finding.Finding.{Finding}
+use Rattle.merge_sets.specs.declared.finding.Finding.TheVariants.{Direct, Nested}
 use Rattle.merge_field_pairs.specs.Entries.{PlainEntry}
 
 -- Some conflicts, one after the other: of two fields by themselves, under a flag, or of two fields by the conflicts

@@ -2,7 +2,7 @@
 use Rattle.std.specs.Prelude.{◌≡◌, ℕ, List, [], ◌∷◌, ◌++◌, Bool, map, slice_get, Some, codes, string_bytes}
 use Rattle.std.specs.List.{flat_map}
 use Rattle.language.specs.declared.position.SourcePosition.{SourcePosition}
-use Rattle.merge_search.specs.declared.node.Entry.{Entry}
+use Rattle.merge_sets.specs.declared.node.Entry.{Entry}
 use Rattle.schema.specs.Catalog.{Catalog}
 use Rattle.merge_field_pairs.specs.Entries.{PlainEntry}
 use Rattle.merge_field_pairs.specs.Texts.{joined}

@@ -1,13 +1,13 @@
 //! Findings by the conflicts whose trees they write out.
 ghost use Rattle.std.specs.Prelude.{◌≡◌, ◌<◌, ◌≤◌, IfOk, IfSome, length};
 ghost use Rattle.std.specs.List.{All};
-ghost use Rattle.merge_search.specs.declared.node.Entry as numbered;
+ghost use Rattle.merge_sets.specs.declared.node.Entry as numbered;
 ghost use Rattle.merge_conflicts.specs.Reports.{Reports, postfix};
 ghost use Rattle.merge_conflicts.specs.Parts.{part_of, ArePartsOf, IsLastPart, extent};
 
 use language::error::OutOfMemory;
-use merge_search::node::Entry;
-use merge_search::state::Finding;
+use merge_sets::finding::Finding;
+use merge_sets::node::Entry;
 use std::alloc::Global;
 
 /// A conflict of two fields, by their numbers.

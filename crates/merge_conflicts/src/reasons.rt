@@ -1,7 +1,7 @@
 //! Why two fields can't be merged, written out with all that stands below them. What is left to tell stands on a list
 //! in memory, so no depth is too deep.
 ghost use Rattle.std.specs.Prelude.{◌≡◌, ◌++◌, ◌∷◌, [], OnOk, Some, List, codes, map, reverse, slice_get};
-ghost use Rattle.merge_search.specs.declared.node.Entry as numbered;
+ghost use Rattle.merge_sets.specs.declared.node.Entry as numbered;
 ghost use Rattle.merge_field_pairs.specs.Entries.{PlainEntry, plain, response_of};
 ghost use Rattle.merge_conflicts.specs.declared.parts.Part as numbers;
 ghost use Rattle.merge_conflicts.specs.Reports.{Reports, postfix, AreReportsOf};
@@ -16,7 +16,7 @@ use crate::parts::{Part, Why, parts_of};
 use language::error::OutOfMemory;
 use language::scalar::ScalarValue;
 use merge_field_pairs::entry::Entry;
-use merge_search::state::Finding;
+use merge_sets::finding::Finding;
 use schema::model::SchemaTypeOf;
 use std::alloc::{AllocError, Global};
 

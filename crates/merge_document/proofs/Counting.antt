@@ -11,7 +11,7 @@ use Rattle.language.specs.declared.tree.Selection.{Selection}
 use Rattle.meta.specs.declared.kinds.MetaTypeOf.{MetaTypeOf}
 use Rattle.schema.specs.Catalog.{Catalog}
 use Rattle.fragment_graph.proofs.Lists.{same_some, none_some, contains_at}
-use Rattle.merge_search.specs.World.{World, spreads_of}
+use Rattle.merge_sets.specs.World.{World, spreads_of}
 use Rattle.merge_search.specs.Tops.{SamePair, SpreadTogether, Together}
 use Rattle.merge_set_table.specs.Table.{Numbered}
 use Rattle.merge_set_table.specs.Parts.{IsPartAt}

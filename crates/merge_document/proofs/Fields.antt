@@ -9,8 +9,8 @@ use Rattle.merge_field_pairs.specs.Entries.{PlainEntry, response_of, exclusive_o
 use Rattle.merge_field_pairs.specs.OwnFields.{type_below}
 use Rattle.merge_field_pairs.specs.DirectReason.{direct_of}
 use Rattle.merge_field_pairs.specs.Numbered.{exclusive_between, direct_between}
-use Rattle.merge_search.specs.declared.node.Entry.{Entry}
-use Rattle.merge_search.specs.Judgement.{Judgement}
+use Rattle.merge_sets.specs.declared.node.Entry.{Entry}
+use Rattle.merge_sets.specs.Judgement.{Judgement}
 use Rattle.merge_set_table.specs.Names.{number_in, AreApart}
 use Rattle.merge_set_table.specs.Table.{Numbered, IsOwnField}
 use Rattle.merge_set_table.specs.Represents.{IsSetOf}

@@ -11,13 +11,13 @@ use Rattle.merge_field_pairs.specs.Entries.{PlainEntry, exclusive_of}
 use Rattle.merge_field_pairs.specs.OwnFields.{entry_under}
 use Rattle.merge_field_pairs.specs.DirectReason.{direct_of}
 use Rattle.merge_field_pairs.specs.Numbered.{AreTidy}
-use Rattle.merge_search.specs.declared.node.Entry.{Entry}
-use Rattle.merge_search.specs.declared.state.Finding.{Finding}
-use Rattle.merge_search.specs.declared.state.Finding.TheVariants.{Direct}
-use Rattle.merge_search.specs.World.{World}
-use Rattle.merge_search.specs.Merging as graph
+use Rattle.merge_sets.specs.declared.node.Entry.{Entry}
+use Rattle.merge_sets.specs.declared.finding.Finding.{Finding}
+use Rattle.merge_sets.specs.declared.finding.Finding.TheVariants.{Direct}
+use Rattle.merge_sets.specs.World.{World}
+use Rattle.merge_sets.specs.Merging as graph
 use Rattle.merge_search.specs.Reports.{Root, AtSearched, Real, Complete}
-use Rattle.merge_search.specs.Graph.{IsWhole}
+use Rattle.merge_sets.specs.Graph.{IsWhole}
 use Rattle.merge_set_table.specs.Table.{Numbered}
 use Rattle.merge_set_table.specs.Parts.{IsPartAt}
 use Rattle.merge_graph.specs.DocumentGraph.{AreOrigins}

@@ -7,9 +7,9 @@ use Rattle.meta.specs.declared.kinds.MetaTypeOf.{MetaTypeOf}
 use Rattle.schema.specs.Catalog.{Catalog}
 use Rattle.merge_field_pairs.specs.Entries.{plain}
 use Rattle.merge_field_pairs.specs.Numbered.{AreTidy}
-use Rattle.merge_search.specs.declared.graph.Graph.{Graph}
-use Rattle.merge_search.specs.Judgement.{Lawful}
-use Rattle.merge_search.specs.World.{World, world}
+use Rattle.merge_sets.specs.declared.graph.Graph.{Graph}
+use Rattle.merge_sets.specs.Judgement.{Lawful}
+use Rattle.merge_sets.specs.World.{World, world}
 use Rattle.merge_search.specs.Reports.{Judged}
 use Rattle.merge_search.specs.Tops.{Together}
 use Rattle.merge_graph.specs.declared.judge.FieldJudge.{FieldJudge}

@@ -11,8 +11,8 @@ use Rattle.fragment_graph.specs.Numbers.{Defines}
 use Rattle.fragment_graph.proofs.Lists.{same_item, contains_at, contains_get}
 use Rattle.merge_field_pairs.specs.Entries.{PlainEntry}
 use Rattle.merge_field_pairs.specs.OwnFields.{own_fields, own_spreads}
-use Rattle.merge_search.specs.World.{World, own_of, spreads_of, set_of}
-use Rattle.merge_search.specs.declared.node.Entry.{Entry}
+use Rattle.merge_sets.specs.World.{World, own_of, spreads_of, set_of}
+use Rattle.merge_sets.specs.declared.node.Entry.{Entry}
 use Rattle.merge_set_table.specs.declared.table.NumberedSet.{NumberedSet}
 use Rattle.merge_set_table.specs.Names.{AreApart}
 use Rattle.merge_set_table.specs.Once.{is_among}

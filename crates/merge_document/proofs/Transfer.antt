@@ -9,10 +9,10 @@ use Rattle.fragment_graph.proofs.Lists.{same_some, contains_at, contains_get}
 use Rattle.merge_field_pairs.specs.Entries.{PlainEntry, exclusive_of}
 use Rattle.merge_field_pairs.specs.OwnFields.{own_fields, own_spreads}
 use Rattle.merge_field_pairs.specs.DirectReason.{direct_of}
-use Rattle.merge_search.specs.declared.node.Entry.{Entry}
-use Rattle.merge_search.specs.World as graph_world
-use Rattle.merge_search.specs.World.{World, spreads_of, set_of, conflict_of}
-use Rattle.merge_search.specs.Merging as graph
+use Rattle.merge_sets.specs.declared.node.Entry.{Entry}
+use Rattle.merge_sets.specs.World as graph_world
+use Rattle.merge_sets.specs.World.{World, spreads_of, set_of, conflict_of}
+use Rattle.merge_sets.specs.Merging as graph
 use Rattle.merge_set_table.specs.Table.{Numbered}
 use Rattle.merge_set_table.specs.Parts.{IsPartOf}
 use Rattle.merge_document.specs.WrittenOut.{Stands, own, spread, StandsIn, Apart, own_own, own_spread, spread_own, two_spreads, one_spread}

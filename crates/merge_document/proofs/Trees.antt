@@ -7,10 +7,10 @@ use Rattle.schema.specs.Catalog.{Catalog}
 use Rattle.fragment_graph.proofs.Lists.{contains_none, contains_one, one_contains}
 use Rattle.merge_field_pairs.specs.Entries.{PlainEntry}
 use Rattle.merge_field_pairs.specs.DirectReason.{direct_of}
-use Rattle.merge_search.specs.declared.node.Entry.{Entry}
-use Rattle.merge_search.specs.declared.state.Finding.{Finding}
-use Rattle.merge_search.specs.declared.state.Finding.TheVariants.{Direct, Nested}
-use Rattle.merge_search.specs.World.{World, conflict_of}
+use Rattle.merge_sets.specs.declared.node.Entry.{Entry}
+use Rattle.merge_sets.specs.declared.finding.Finding.{Finding}
+use Rattle.merge_sets.specs.declared.finding.Finding.TheVariants.{Direct, Nested}
+use Rattle.merge_sets.specs.World.{World, conflict_of}
 use Rattle.merge_search.specs.Reports.{Root, NestedRoot, Trees, leaf, node}
 use Rattle.merge_search.specs.Reports as found
 use Rattle.merge_set_table.specs.Table.{Numbered}

@@ -8,7 +8,7 @@ use Rattle.schema.specs.Catalog.{Catalog}
 use Rattle.fragment_graph.specs.Numbers.{Defines}
 use Rattle.merge_field_pairs.specs.Entries.{PlainEntry, plain}
 use Rattle.merge_field_pairs.specs.OwnFields.{own_spreads}
-use Rattle.merge_search.specs.declared.node.Entry.{Entry}
+use Rattle.merge_sets.specs.declared.node.Entry.{Entry}
 use Rattle.merge_graph.specs.SetsIn.{IsSetIn, HasKnownConditions}
 use Rattle.merge_conflicts.specs.Reports.{Reports, postfix, AreReportsOf}
 use Rattle.merge_document.specs.Conflicts.{AreReal, AreTold, AreAll, IsTidyDocument}

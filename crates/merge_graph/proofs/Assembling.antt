@@ -15,7 +15,7 @@ use Rattle.fragment_graph.specs.DocumentCycles.{NameSpreads}
 use Rattle.fragment_graph.specs.Numbers.{IsNamed}
 use Rattle.fragment_graph.specs.Spreads.{PlacedSpread, PlacedSpreads, placed_spreads_of_all, spreads_named}
 use Rattle.fragment_graph.proofs.Lists.{same_some, none_some, contains_get, get_some, set_other}
-use Rattle.merge_search.specs.declared.graph.Graph.{Graph}
+use Rattle.merge_sets.specs.declared.graph.Graph.{Graph}
 use Rattle.merge_set_table.specs.Once.{is_among}
 use Rattle.merge_set_table.specs.Sizes.{table_size}
 use Rattle.merge_set_table.specs.Table.{numbered, height, IsWithin, Falling}

@@ -8,7 +8,7 @@ use Rattle.merge_field_pairs.specs.Entries.{PlainEntry}
 use Rattle.merge_field_pairs.specs.Numbered.{direct_at, AreTidy}
 use Rattle.merge_field_pairs.proofs.DirectLaws.{least}
 use Rattle.merge_field_pairs.proofs.NumberedLaws.{exclusive_at_flip, exclusive_at_true, direct_at_up, direct_at_flip, direct_at_self}
-use Rattle.merge_search.specs.Judgement.{Lawful}
+use Rattle.merge_sets.specs.Judgement.{Lawful}
 use Rattle.merge_graph.specs.Judging.{judgement_by}
 
 clash : {X : Type 0} (o : Option X) → o ≡ None → is_some o ≡ true → ⊥

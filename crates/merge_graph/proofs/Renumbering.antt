@@ -12,7 +12,7 @@ use Rattle.fragment_graph.specs.Spreads.{PlacedSpread, PlacedSpreads, placed_spr
 use Rattle.fragment_graph.proofs.Lists.{one_contains, none_some, same_some, contains_get}
 use Rattle.fragment_graph.proofs.Placed.{placed-Field, placed-Spread, placed-Inline}
 use Rattle.merge_field_pairs.specs.OwnFields.{Placed}
-use Rattle.merge_search.specs.declared.node.Entry.{Entry as OwnField}
+use Rattle.merge_sets.specs.declared.node.Entry.{Entry as OwnField}
 use Rattle.merge_set_table.specs.Table.{Numbered, Extends}
 use Rattle.merge_set_table.specs.Represents.{Represents, nothing, join, leaf, field, spread, unknown, inline, IsSetOf}
 use Rattle.merge_set_table.specs.Inside.{IsInside, itself, below_field, of_inline}

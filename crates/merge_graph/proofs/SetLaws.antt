@@ -4,8 +4,8 @@ use Rattle.std.specs.List.{All, list_any}
 use Rattle.std.specs.Option.{option_map_or}
 use Rattle.std.proofs.lemmas.List.{length-map}
 use Rattle.std.proofs.lemmas.Option.{slice_get-map}
-use Rattle.merge_search.specs.declared.node.SetNode.{SetNode}
-use Rattle.merge_search.specs.Graph as searched
+use Rattle.merge_sets.specs.declared.node.SetNode.{SetNode}
+use Rattle.merge_sets.specs.Graph as searched
 use Rattle.merge_set_table.specs.declared.table.NumberedSet.{NumberedSet}
 use Rattle.merge_set_table.specs.Once.{is_among}
 use Rattle.merge_set_table.specs.Table.{own_at, spreads_at, IsWithin, Falling}

@@ -5,7 +5,7 @@ use Rattle.std.proofs.lemmas.List.Sums.{sum_by-cons}
 use Rattle.language.specs.declared.tree.Definition.{Definition}
 use Rattle.language.proofs.InsideLaws.{sum_by-map}
 use Rattle.fragment_graph.proofs.Lists.{same_some}
-use Rattle.merge_search.specs.declared.node.SetNode.{SetNode}
+use Rattle.merge_sets.specs.declared.node.SetNode.{SetNode}
 use Rattle.merge_set_table.specs.declared.table.NumberedSet.{NumberedSet}
 use Rattle.merge_set_table.specs.Sizes.{row_size}
 use Rattle.merge_graph.specs.Sets.{plain_row, plain_node}

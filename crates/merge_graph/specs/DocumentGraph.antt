@@ -7,7 +7,7 @@ use Rattle.meta.specs.declared.kinds.MetaTypeOf.{MetaTypeOf}
 use Rattle.schema.specs.Catalog.{Catalog}
 use Rattle.fragment_graph.specs.Numbers.{Defines}
 use Rattle.merge_field_pairs.specs.Entries.{PlainEntry}
-use Rattle.merge_search.specs.declared.graph.Graph.{Graph}
+use Rattle.merge_sets.specs.declared.graph.Graph.{Graph}
 use Rattle.merge_set_table.specs.Names.{AreApart}
 use Rattle.merge_set_table.specs.Table.{Numbered}
 use Rattle.merge_set_table.specs.Parts.{IsPartAt}

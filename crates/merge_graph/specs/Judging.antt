@@ -7,7 +7,7 @@ use Rattle.merge_field_pairs.specs.Entries.{PlainEntry, plain}
 use Rattle.merge_field_pairs.specs.Alike.{AreAlikeAt}
 use Rattle.merge_field_pairs.specs.Kinds.{IsKinAt}
 use Rattle.merge_field_pairs.specs.Numbered.{exclusive_at, direct_at}
-use Rattle.merge_search.specs.Judgement.{Judgement}
+use Rattle.merge_sets.specs.Judgement.{Judgement}
 use Rattle.merge_graph.specs.declared.judge.FieldJudge.{FieldJudge}
 
 module _ {S C : Type 0} where

@@ -6,7 +6,7 @@ use Rattle.schema.specs.Catalog.{Catalog}
 use Rattle.merge_field_pairs.specs.declared.direct.DirectReason.{DirectReason}
 use Rattle.merge_field_pairs.specs.Entries.{PlainEntry}
 use Rattle.merge_field_pairs.proofs.KinLaws.{kin_at}
-use Rattle.merge_search.specs.Judgement.{KinAgree}
+use Rattle.merge_sets.specs.Judgement.{KinAgree}
 use Rattle.merge_graph.specs.Judging.{judgement_by, kin_by}
 
 pub kin_judged_alike : {S C : Type 0} (E : S → S → Bool) (schema : Catalog S C) (fields : List (PlainEntry S C))

@@ -4,7 +4,7 @@ use Rattle.schema.specs.Catalog.{Catalog}
 use Rattle.merge_field_pairs.specs.Entries.{PlainEntry}
 use Rattle.merge_field_pairs.specs.Objects.{object_number_at}
 use Rattle.merge_field_pairs.proofs.ObjectLaws.{objects_apart}
-use Rattle.merge_search.specs.Judgement.{ObjectsApart}
+use Rattle.merge_sets.specs.Judgement.{ObjectsApart}
 use Rattle.merge_graph.specs.Judging.{judgement_by}
 
 pub objects_judged : {S C : Type 0} (E : S → S → Bool) (schema : Catalog S C) (fields : List (PlainEntry S C))

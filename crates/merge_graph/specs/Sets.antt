@@ -1,7 +1,7 @@
 -- The sets of a table, as a search has them.
 use Rattle.std.specs.Prelude.{ℕ, List}
-use Rattle.merge_search.specs.declared.node.Entry.{Entry}
-use Rattle.merge_search.specs.declared.node.SetNode.{SetNode}
+use Rattle.merge_sets.specs.declared.node.Entry.{Entry}
+use Rattle.merge_sets.specs.declared.node.SetNode.{SetNode}
 use Rattle.merge_set_table.specs.declared.table.NumberedSet.{NumberedSet}
 
 -- A set by its own fields and its spreads.

@@ -3,7 +3,7 @@ use Rattle.std.specs.Prelude.{ℕ, ◌+◌, ◌*◌, List, [], ◌∷◌, Option
 use Rattle.std.specs.List.{sum_by}
 use Rattle.language.specs.declared.tree.Definition.{Definition}
 use Rattle.language.specs.SelectionsInside.{all_inside}
-use Rattle.merge_search.specs.declared.graph.Graph.{Graph}
+use Rattle.merge_sets.specs.declared.graph.Graph.{Graph}
 use Rattle.merge_graph.specs.declared.judge.FieldJudge.{FieldJudge}
 use Rattle.merge_graph.specs.Sets.{PlainSet, plain_node}
 use Rattle.merge_graph.specs.Definitions.{selections_of}

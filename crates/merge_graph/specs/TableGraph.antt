@@ -2,7 +2,7 @@
 use Rattle.std.specs.Prelude.{◌≡◌, ◌<◌, ℕ, List, map, length, get_or, true}
 use Rattle.schema.specs.Catalog.{Catalog}
 use Rattle.merge_field_pairs.specs.Entries.{plain}
-use Rattle.merge_search.specs.declared.graph.Graph.{Graph}
+use Rattle.merge_sets.specs.declared.graph.Graph.{Graph}
 use Rattle.merge_set_table.specs.Once.{is_among}
 use Rattle.merge_set_table.specs.Table.{Numbered}
 use Rattle.merge_graph.specs.declared.judge.FieldJudge.{FieldJudge}

@@ -5,7 +5,7 @@ ghost use Rattle.std.specs.List.{flat_map};
 ghost use Rattle.fragment_graph.specs.DocumentCycles.{HasNoCycle, SearchedDocument};
 ghost use Rattle.merge_field_pairs.specs.Entries.{plain};
 ghost use Rattle.merge_field_pairs.specs.Numbered.{AreTidy};
-ghost use Rattle.merge_search.specs.Judgement.{Lawful};
+ghost use Rattle.merge_sets.specs.Judgement.{Lawful};
 ghost use Rattle.merge_set_table.specs.Known.{known_rank};
 ghost use Rattle.merge_set_table.specs.Table.{Falling, numbered};
 ghost use Rattle.merge_set_table.specs.Sizes.{table_size};
@@ -26,8 +26,8 @@ use fragment_graph::cycles::DocumentCycles;
 use language::error::OutOfMemory;
 use language::scalar::ScalarValue;
 use language::tree::Document;
-use merge_search::graph::Graph;
 use merge_set_table::known::KnownFragments;
+use merge_sets::graph::Graph;
 use schema::model::SchemaTypeOf;
 use std::alloc::{AllocError, Global};
 

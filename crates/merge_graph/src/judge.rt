@@ -3,7 +3,7 @@ ghost use Rattle.std.specs.Prelude.{◌≡◌, map};
 ghost use Rattle.merge_field_pairs.specs.Entries.{plain};
 ghost use Rattle.merge_field_pairs.specs.Numbered.{AreTidy};
 ghost use Rattle.merge_field_pairs.specs.Objects.{object_number_at};
-ghost use Rattle.merge_search.specs.Judgement.{Lawful};
+ghost use Rattle.merge_sets.specs.Judgement.{Lawful};
 ghost use Rattle.merge_graph.specs.AlikeLaw.{alike_agree};
 ghost use Rattle.merge_graph.specs.Judging.{judgement_of, alike_of, kin_of};
 ghost use Rattle.merge_graph.specs.ExclusiveLaw.{exclusive_judged};
@@ -15,7 +15,7 @@ use merge_field_pairs::entry::Entry;
 use merge_field_pairs::numbered::{
     are_alike_at, are_exclusive_at, are_kin_at, direct_reason_at, object_number_at,
 };
-use merge_search::judge::Judge;
+use merge_sets::judge::Judge;
 use schema::model::SchemaTypeOf;
 use std::alloc::AllocError;
 

@@ -8,10 +8,10 @@ ghost use Rattle.merge_graph.specs.TableGraph.{AreListed, IsGraphOfTable};
 
 use crate::judge::{FieldJudge, judge_fields};
 use language::scalar::ScalarValue;
-use merge_search::graph::Graph;
-use merge_search::groups::make_set;
-use merge_search::node::SetNode;
 use merge_set_table::table::{NumberedSet, Table};
+use merge_sets::graph::Graph;
+use merge_sets::groups::make_set;
+use merge_sets::node::SetNode;
 use schema::model::SchemaTypeOf;
 use std::alloc::{AllocError, Global};
 

@@ -4,15 +4,15 @@ use Rattle.std.specs.List.{All, Contains}
 use Rattle.std.proofs.lemmas.Bool.{cases_order}
 use Rattle.std.proofs.lemmas.List.{get_or_default}
 use Rattle.std.proofs.lemmas.List.Elements.{All-append, All-weaker, All-nil, All-cons, Contains-append_left, Contains-append_right, Contains-push}
-use Rattle.merge_search.specs.declared.node.Entry.{Entry}
-use Rattle.merge_search.specs.declared.state.Finding.{Finding}
-use Rattle.merge_search.specs.declared.state.Finding.TheVariants.{Direct, Nested}
-use Rattle.merge_search.specs.Judgement.{Lawful}
-use Rattle.merge_search.specs.World.{World, HasRoom, conflict_of, exclusive_of}
-use Rattle.merge_search.specs.Merging.{Below, below, Merges, merges}
+use Rattle.merge_sets.specs.declared.node.Entry.{Entry}
+use Rattle.merge_sets.specs.declared.finding.Finding.{Finding}
+use Rattle.merge_sets.specs.declared.finding.Finding.TheVariants.{Direct, Nested}
+use Rattle.merge_sets.specs.Judgement.{Lawful}
+use Rattle.merge_sets.specs.World.{World, HasRoom, conflict_of, exclusive_of}
+use Rattle.merge_sets.specs.Merging.{Below, below, Merges, merges}
 use Rattle.merge_search.specs.Reports.{Root, NestedRoot, Trees, none, leaf, node, Adds, AddsAll, AtFields}
-use Rattle.merge_search.proofs.Laws.{conflict_flip, exclusive_flip, clash}
-use Rattle.merge_search.proofs.Work.{no_entry}
+use Rattle.merge_sets.proofs.Laws.{conflict_flip, exclusive_flip, clash}
+use Rattle.merge_sets.proofs.OneName.{no_entry}
 
 trees_join : {w : World} {e : Bool} {rs ss : List Root} {xs ys : List Finding} → Trees w e rs xs → Trees w e ss ys → Trees w e (ss ++ rs) (xs ++ ys)
 trees_join {w} {e} {rs} {xs = xs} d none = subst (λ zs. Trees w e rs zs) (sym (append-nil xs)) d

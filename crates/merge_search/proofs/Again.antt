@@ -6,19 +6,20 @@ use Rattle.std.proofs.lemmas.List.{length-take, get_or-take, get_or-drop}
 use Rattle.std.proofs.lemmas.Option.{slice_get-get_or, slice_get_within, get_or_from_slice_get}
 use Rattle.bit_matrix.specs.Set.{has}
 use Rattle.bit_matrix.specs.declared.set.BitSet.{BitSet}
-use Rattle.merge_search.specs.declared.node.Entry.{Entry}
-use Rattle.merge_search.specs.declared.state.Finding.{Finding}
-use Rattle.merge_search.specs.Names.{named, HaveSameGroups}
-use Rattle.merge_search.specs.World.{World, own_of, spreads_of, set_of}
-use Rattle.merge_search.specs.Opening.{ReachedFrom}
-use Rattle.merge_search.specs.Merging.{Stands, own, own_own}
+use Rattle.merge_sets.specs.declared.node.Entry.{Entry}
+use Rattle.merge_sets.specs.declared.finding.Finding.{Finding}
+use Rattle.merge_sets.specs.Names.{named, HaveSameGroups}
+use Rattle.merge_sets.specs.World.{World, own_of, spreads_of, set_of}
+use Rattle.merge_sets.specs.Opening.{ReachedFrom}
+use Rattle.merge_sets.specs.Merging.{Stands, own, own_own}
 use Rattle.merge_search.specs.Reports.{Root, Adds, AtPlaces}
 use Rattle.merge_search.specs.Tops.{AtBefore}
 use Rattle.merge_search.specs.Inner.{IsPart, IsStart, AtLists, AtPart, AtParts}
 use Rattle.merge_search.proofs.Adding.{adds_then, adds_map}
 use Rattle.merge_search.proofs.Judging.{places_written}
-use Rattle.merge_search.proofs.Order.{Places, at_of, places_named}
-use Rattle.merge_search.proofs.Rows.{named_own, named_is, reached_stands}
+use Rattle.merge_sets.proofs.InOrder.{Places, at_of, places_named}
+use Rattle.merge_sets.proofs.OneName.{named_own, named_is}
+use Rattle.merge_search.proofs.Rows.{reached_stands}
 
 part_places : (part fields : List Entry) → IsPart part fields → (a b : Entry) → Places part a b → Places fields a b
 part_places part fields h a b p = (h.0 + p.0, h.0 + p.1, omega (arith, p.2), h.1 p.0 a p.3, h.1 p.1 b p.4)

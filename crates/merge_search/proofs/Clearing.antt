@@ -1,5 +1,5 @@
 -- Where all fields of two lists merge the work is done, and nothing is told.
-use Rattle.std.proofs.Common.{◌≡◌, ℕ, List, Bool, true, false, get_or, inl, inr, ◌⊎◌, None, Some, Option, refl, sym, subst, ◌∙◌, slice_get}
+use Rattle.std.proofs.Common.{◌≡◌, ℕ, List, Bool, true, false, get_or, inl, inr, ◌⊎◌, None, Some, Option, sym, subst, ◌∙◌, slice_get}
 use Rattle.std.specs.Bool.{OnTrue}
 use Rattle.std.specs.Option.{is_some}
 use Rattle.std.specs.List.{All, Contains}
@@ -7,28 +7,24 @@ use Rattle.std.proofs.lemmas.List.Elements.{All-contains, Contains-get_or}
 use Rattle.std.proofs.lemmas.Option.{get_or_from_slice_get, slice_get_within}
 use Rattle.bit_matrix.specs.Set.{has}
 use Rattle.bit_matrix.specs.declared.set.BitSet.{BitSet}
-use Rattle.merge_search.specs.declared.node.Entry.{Entry}
+use Rattle.merge_sets.specs.declared.node.Entry.{Entry}
 use Rattle.merge_search.specs.declared.state.Search.{Search}
-use Rattle.merge_search.specs.declared.state.Finding.{Finding}
-use Rattle.merge_search.specs.Judgement.{NoneConflict}
-use Rattle.merge_search.specs.Kinds.{NeverFailsWith, AreAgreeingRows}
-use Rattle.merge_search.specs.Names.{named}
-use Rattle.merge_search.specs.World.{World, own_of, conflict_of}
-use Rattle.merge_search.specs.Merging.{Merges, merges, below}
-use Rattle.merge_search.specs.Clear.{IsClear, AreClear, AreClearRows, AreLeaves, AreOthers, IsClearBelow, AreClearBelow, AreClearRowsBelow}
+use Rattle.merge_sets.specs.declared.finding.Finding.{Finding}
+use Rattle.merge_sets.specs.Judgement.{NoneConflict}
+use Rattle.merge_sets.specs.Kinds.{NeverFailsWith, AreAgreeingRows}
+use Rattle.merge_sets.specs.Names.{named}
+use Rattle.merge_sets.specs.World.{World, own_of, conflict_of}
+use Rattle.merge_sets.specs.Merging.{Merges, merges, below}
+use Rattle.merge_sets.specs.Clear.{IsClear, AreClear, AreClearRows, AreLeaves, AreOthers, IsClearBelow, AreClearBelow, AreClearRowsBelow}
 use Rattle.merge_search.specs.Work as done
 use Rattle.merge_search.specs.Work.{Done}
 use Rattle.merge_search.specs.Reports.{Root, AddsAll, AtNamed}
 use Rattle.merge_search.specs.Tasks.{Compares}
 use Rattle.merge_search.specs.Tops.{AtRest}
 use Rattle.merge_search.proofs.Adding.{adds_none, all_map, merges_none}
-use Rattle.merge_search.proofs.Laws.{clash, clash_some}
-use Rattle.merge_search.proofs.Rows.{named_in, named_is}
+use Rattle.merge_sets.proofs.Laws.{clash, clash_some}
+use Rattle.merge_sets.proofs.OneName.{named_in, named_is}
 use Rattle.merge_search.proofs.Work.{did_none}
-
-pub is_leaf : {X : Type 0} (o : Option X) → is_some o ≡ false → o ≡ None
-is_leaf None h = refl
-is_leaf (Some x) h = cc
 
 pub is_leaf_too : {X : Type 0} (o : Option X) → is_some o ≡ true → o ≡ None → ⊥
 is_leaf_too None h is = cc

@@ -1,32 +1,27 @@
 -- What a closed log says of every pair of a written-out set.
-use Rattle.std.proofs.Common.{refl, ℕ, zero, suc, ◌<◌, ◌≤◌, List, Some, None, Bool, true, false, ◌≡◌, ◌⊎◌, inl, inr, subst, sym, arith, slice_get, [], ◌∙◌, ap, length}
+use Rattle.std.proofs.Common.{refl, ℕ, zero, suc, ◌<◌, ◌≤◌, List, Some, None, Bool, true, false, ◌≡◌, ◌⊎◌, inl, inr, subst, sym, arith, slice_get, ◌∙◌, ap, length}
 use Rattle.std.specs.List.{All, Contains}
 use Rattle.std.specs.Option.{option_map_or}
 use Rattle.std.proofs.lemmas.List.Elements.{All-contains}
-use Rattle.std.proofs.lemmas.Option.{slice_get-get_or, slice_get_past}
+use Rattle.std.proofs.lemmas.Option.{slice_get-get_or}
 use Rattle.std.proofs.lemmas.Bool.{cases_order}
-use Rattle.merge_search.specs.declared.node.Entry.{Entry}
+use Rattle.merge_sets.specs.declared.node.Entry.{Entry}
 use Rattle.merge_search.specs.declared.state.Search.{Search}
-use Rattle.merge_search.specs.declared.state.Finding.TheVariants.{Direct}
-use Rattle.merge_search.specs.Judgement.{Lawful}
-use Rattle.merge_search.specs.Graph.{Falling, IsWhole, height}
-use Rattle.merge_search.specs.World.{World, own_of, spreads_of, set_of, conflict_of, exclusive_of, Same}
+use Rattle.merge_sets.specs.declared.finding.Finding.TheVariants.{Direct}
+use Rattle.merge_sets.specs.Judgement.{Lawful}
+use Rattle.merge_sets.specs.Graph.{Falling, IsWhole, height}
+use Rattle.merge_sets.specs.World.{World, own_of, spreads_of, set_of, conflict_of, exclusive_of, Same}
 use Rattle.merge_search.specs.Log.{Covers}
 use Rattle.merge_search.specs.Work.{pair_in, Searched, Pair, Asked, Done, stood, shallow, deep, merged, OwnPairs, FollowedUp, AllClosed}
-use Rattle.merge_search.specs.Merging.{Stands, own, spread, Below, below, Merges, merges, MergeEither, Way, here, down, Good, Passes}
+use Rattle.merge_sets.specs.Merging.{Stands, own, spread, Below, below, Merges, merges, MergeEither, Way, here, down, Good, Passes}
 use Rattle.merge_search.specs.Tops.{Top}
 use Rattle.merge_search.specs.Reports.{Told}
-use Rattle.merge_search.proofs.Laws.{Le, least, even, up, both, conflict_up, exclusive_up, conflict_flip, exclusive_flip, conflict_self, clash, clash_some, same_some}
+use Rattle.merge_sets.proofs.Laws.{Le, least, even, up, both, conflict_up, exclusive_up, conflict_flip, exclusive_flip, conflict_self, clash, clash_some, same_some}
 use Rattle.merge_search.proofs.Flips.{flip_pair}
+use Rattle.merge_sets.proofs.NoSet.{no_own, no_spreads}
 
 place_of : {X : Type 0} (xs : List X) (a : X) (p : Contains xs a) → slice_get xs p.0 ≡ Some a
 place_of xs a p = slice_get-get_or xs p.0 a p.1 ∙ ap (λ x. Some x) p.2
-
-pub no_own : (w : World) (s : ℕ) → length w.sets ≤ s → length (own_of w s) ≡ 0
-no_own w s le = ap (λ o. length (option_map_or (λ n. n.own.items) o [])) (slice_get_past w.sets s le)
-
-pub no_spreads : (w : World) (s : ℕ) → length w.sets ≤ s → length (spreads_of w s) ≡ 0
-no_spreads w s le = ap (λ o. length (option_map_or (λ n. n.spreads.items) o [])) (slice_get_past w.sets s le)
 
 pub lt_or_le : (s n : ℕ) → (s < n) ⊎ (n ≤ s)
 lt_or_le s n = elim (cases_order s n) [ inl eq ↦ inr (omega (arith, eq)) | inr o ↦ elim o [ inl l ↦ inl l | inr g ↦ inr (omega (arith, g)) ] ]

@@ -5,7 +5,7 @@ use Rattle.std.specs.Option.{option_map_or}
 use Rattle.std.proofs.lemmas.List.Sums.{get_or-le-sum_by, sum_by-drop_more, sum_by_push}
 use Rattle.std.proofs.lemmas.Option.{slice_get-get_or, slice_get_past}
 use Rattle.merge_search.specs.declared.log.Log.{Log}
-use Rattle.merge_search.specs.declared.node.Entry.{Entry}
+use Rattle.merge_sets.specs.declared.node.Entry.{Entry}
 use Rattle.merge_search.specs.declared.state.Search.{Search}
 use Rattle.merge_search.specs.declared.task.Task.{Task}
 use Rattle.merge_search.specs.Counts.{most_repeats}
@@ -13,13 +13,12 @@ use Rattle.merge_search.specs.Log.{in_log}
 use Rattle.merge_search.specs.Spending.{Compares, ComparesUpto, CostsMore, Pays, Spends, credit, name_cost, open_cost, repeat_cost, row_cost, sets_cost, settle_cost, task_cost, tasks_cost, worth}
 use Rattle.merge_search.specs.State.{CountsStay, Keeps}
 use Rattle.merge_search.specs.Weight.{below_weight, field_weight, fields_weight, fragment_weight, weight}
-use Rattle.merge_search.specs.Names.{named}
-use Rattle.merge_search.specs.World.{World, own_of}
+use Rattle.merge_sets.specs.Names.{named}
+use Rattle.merge_sets.specs.World.{World, own_of}
 use Rattle.merge_search.proofs.OwnNames.{times}
-use Rattle.merge_search.proofs.Rows.{in_list, named_is}
+use Rattle.merge_sets.proofs.OneName.{in_list, named_is, no_entry}
 use Rattle.merge_search.proofs.Spent.{row_next}
 use Rattle.merge_search.proofs.Weights.{sum_by_same}
-use Rattle.merge_search.proofs.Work.{no_entry}
 
 pub pushed_cost : (w : World) (t : Task) (ts us : List Task) → us ≡ ts ++ t ∷ [] → tasks_cost w us ≡ tasks_cost w ts + task_cost w t
 pushed_cost w t ts us is = ap (tasks_cost w) is ∙ sum_by_push (task_cost w) ts t

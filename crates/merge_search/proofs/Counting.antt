@@ -7,14 +7,14 @@ use Rattle.std.proofs.lemmas.Option.{slice_get-get_or, slice_get_within, get_or_
 use Rattle.std.proofs.Math.Nat.{mul-le-mul_left}
 use Rattle.std.proofs.lemmas.Bool.{cases_order}
 use Rattle.merge_search.specs.declared.state.Search.{Search}
-use Rattle.merge_search.specs.World.{World, spreads_of}
+use Rattle.merge_sets.specs.World.{World, spreads_of}
 use Rattle.merge_search.specs.Work.{pair_in, Pair}
 use Rattle.merge_search.specs.Counts.{Compared, Distinct, Repeats, Tally, greatest}
-use Rattle.merge_search.specs.Opening.{NoRepeats}
+use Rattle.merge_sets.specs.Opening.{NoRepeats}
 use Rattle.merge_search.specs.Tops.{SamePair, Together, Top}
-use Rattle.merge_search.proofs.Distinct.{few_below}
+use Rattle.merge_sets.proofs.Distinct.{few_below}
 use Rattle.merge_search.proofs.Flips.{flip_pair}
-use Rattle.merge_search.proofs.Laws.{same_some}
+use Rattle.merge_sets.proofs.Laws.{same_some}
 
 place_inj : (m a b c d : ℕ) → b < m → d < m → m * a + b ≡ m * c + d → (a ≡ c) × (b ≡ d)
 place_inj m a b c d lb ld e = elim (cases_order a c) [

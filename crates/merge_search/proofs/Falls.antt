@@ -2,11 +2,11 @@
 use Rattle.std.proofs.Common.{◌≡◌, ◌==◌, ℕ, ◌<◌, ◌≤◌, List, length, get_or, sym, subst, arith}
 use Rattle.std.specs.List.{All}
 use Rattle.std.proofs.lemmas.List.Elements.{All-get_or, All-filter, All-contains}
-use Rattle.merge_search.specs.declared.node.Entry.{Entry}
-use Rattle.merge_search.specs.Graph.{Falling, height}
-use Rattle.merge_search.specs.Names.{named}
-use Rattle.merge_search.specs.World.{World, own_of, spreads_of, set_of}
-use Rattle.merge_search.specs.Opening.{Reaches, start, step}
+use Rattle.merge_sets.specs.declared.node.Entry.{Entry}
+use Rattle.merge_sets.specs.Graph.{Falling, height}
+use Rattle.merge_sets.specs.Names.{named}
+use Rattle.merge_sets.specs.World.{World, own_of, spreads_of, set_of}
+use Rattle.merge_sets.specs.Opening.{Reaches, start, step}
 
 pub spread_falls : (w : World) (s : ℕ) (xs : List ℕ) (k : ℕ) → Falling w.sets w.fragments → xs ≡ spreads_of w s → k < length xs
     → (get_or xs k 0 < length w.fragments) × (set_of w (get_or xs k 0) < s)

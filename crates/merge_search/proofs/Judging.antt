@@ -6,21 +6,21 @@ use Rattle.std.proofs.lemmas.Bool.{cases_order}
 use Rattle.std.proofs.lemmas.List.{get_or_default}
 use Rattle.std.proofs.lemmas.List.Elements.{All-contains, All-weaker}
 use Rattle.std.proofs.lemmas.Map.Views.{Contains-from_any}
-use Rattle.merge_search.specs.declared.node.Entry.{Entry}
+use Rattle.merge_sets.specs.declared.node.Entry.{Entry}
 use Rattle.merge_search.specs.declared.state.Search.{Search}
-use Rattle.merge_search.specs.declared.state.Finding.{Finding}
-use Rattle.merge_search.specs.declared.state.Finding.TheVariants.{Direct}
-use Rattle.merge_search.specs.Judgement.{Lawful}
-use Rattle.merge_search.specs.Graph.{Falling, AreListed, IsWhole}
-use Rattle.merge_search.specs.World.{World, HasRoom, own_of, spreads_of, set_of, conflict_of, Same}
-use Rattle.merge_search.specs.Opening.{ReachedFrom, Opens}
+use Rattle.merge_sets.specs.declared.finding.Finding.{Finding}
+use Rattle.merge_sets.specs.declared.finding.Finding.TheVariants.{Direct}
+use Rattle.merge_sets.specs.Judgement.{Lawful}
+use Rattle.merge_sets.specs.Graph.{Falling, AreListed, IsWhole}
+use Rattle.merge_sets.specs.World.{World, HasRoom, own_of, spreads_of, set_of, conflict_of, Same}
+use Rattle.merge_sets.specs.Opening.{ReachedFrom, Opens}
 use Rattle.merge_search.specs.Work.{pair_in, search_in, OwnPairs, Done, AllClosed, Grows, Did}
-use Rattle.merge_search.specs.Merging.{Stands, own, spread, Apart, own_own, own_spread, spread_own, two_spreads, one_spread, SetMerges, Merges}
+use Rattle.merge_sets.specs.Merging.{Stands, own, spread, Apart, own_own, own_spread, spread_own, two_spreads, one_spread, SetMerges, Merges}
 use Rattle.merge_search.specs.Reports.{Root, Judged, Real, AddsAll, AtOwn, AtPlaces, AtSearched, IsRoot}
 use Rattle.merge_search.specs.State.{Begins}
 use Rattle.merge_search.specs.Tops.{AtTop, AtWithin, AtWritten, AtSpreads, AtListed, OwnWritten, Top}
 use Rattle.merge_search.proofs.Adding.{Upto, refuted, roots_of, no_root}
-use Rattle.merge_search.proofs.Laws.{clash, conflict_self, same_some}
+use Rattle.merge_sets.proofs.Laws.{clash, conflict_self, same_some}
 use Rattle.merge_search.proofs.Work.{grows_same, grows_then}
 use Rattle.merge_search.proofs.Rows.{row_opened}
 use Rattle.merge_search.proofs.Core.{set_merges, ways, failing}

@@ -3,7 +3,7 @@ use Rattle.std.proofs.Common.{◌≡◌, List, [], ◌∷◌, ◌++◌, reverse,
 use Rattle.std.proofs.lemmas.List.{reverse-append}
 use Rattle.merge_search.specs.declared.state.Search.{Search}
 use Rattle.merge_search.specs.declared.task.Task.{Task}
-use Rattle.merge_search.specs.World.{World}
+use Rattle.merge_sets.specs.World.{World}
 use Rattle.merge_search.specs.Tasks.{Meets, MeetsAll, Leads, Waits}
 
 pushed : {A : Type 0} (ts : List A) (t : A) → reverse (ts ++ t ∷ []) ≡ t ∷ reverse ts

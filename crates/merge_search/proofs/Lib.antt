@@ -1,20 +1,15 @@
 pub mod Adding
 pub mod Again
 pub mod Clearing
-pub mod Harmless
-pub mod NamesSeen
 pub mod Core
 pub mod Counting
-pub mod Distinct
 pub mod Falls
 pub mod Flips
 pub mod Judging
-pub mod OneOfKind
-pub mod Laws
+pub mod KindNumbers
 pub mod Leading
 pub mod Merged
 pub mod Logs
-pub mod Opened
 pub mod Passed
 pub mod Touching
 pub mod Uniting
@@ -35,4 +30,3 @@ pub mod Searching
 pub mod Tallying
 pub mod TallyingBelow
 pub mod Work
-pub mod Naming

@@ -1,23 +1,22 @@
 -- What is known of sets below fields says it of the sets in which the fields stand.
-use Rattle.std.proofs.Common.{◌≡◌, ℕ, List, [], ◌∷◌, ◌++◌, Bool, true, false, inl, inr, ◌⊎◌, get_or, ap, refl, sym, subst, ◌∙◌}
+use Rattle.std.proofs.Common.{◌≡◌, ℕ, List, [], ◌∷◌, ◌++◌, Bool, false, inl, inr, ◌⊎◌, get_or, ap, refl, sym, subst, ◌∙◌}
 use Rattle.std.specs.List.{All, Contains}
-use Rattle.std.proofs.lemmas.Bool.{cases_eq}
 use Rattle.std.proofs.lemmas.List.Elements.{All-contains, All-push, Contains-get_or}
 use Rattle.bit_matrix.specs.Set.{has}
 use Rattle.bit_matrix.specs.declared.set.BitSet.{BitSet}
-use Rattle.merge_search.specs.declared.node.Entry.{Entry}
+use Rattle.merge_sets.specs.declared.node.Entry.{Entry}
 use Rattle.merge_search.specs.declared.unions.Union.{Union}
-use Rattle.merge_search.specs.Judgement.{NoneConflict}
-use Rattle.merge_search.specs.Merging.{Stands, own, spread, below, Merges, merges}
-use Rattle.merge_search.specs.Names.{named, AreListed}
-use Rattle.merge_search.specs.Opening.{Opens}
+use Rattle.merge_sets.specs.Judgement.{NoneConflict}
+use Rattle.merge_sets.specs.Merging.{Stands, own, spread, below, Merges, merges}
+use Rattle.merge_sets.specs.Names.{named, AreListed}
+use Rattle.merge_sets.specs.Opening.{Opens}
 use Rattle.merge_search.specs.Quiet.{AllMergeBut, AllQuiet, AllQuietBut, AreQuiet, AreQuietBut, AreWrittenOut, HoldAll, IsFrom}
 use Rattle.merge_search.specs.Quiet.{Covers, MergesBut, merges_but}
 use Rattle.merge_search.specs.Unions.{AllJoined, UnionsKept}
-use Rattle.merge_search.specs.Clear.{AreClearBelow}
-use Rattle.merge_search.specs.World.{World, own_of, spreads_of, set_of, conflict_of, exclusive_of}
-use Rattle.merge_search.proofs.Laws.{clash, not_true}
-use Rattle.merge_search.proofs.Rows.{listed_in, named_in}
+use Rattle.merge_sets.specs.Clear.{AreClearBelow}
+use Rattle.merge_sets.specs.World.{World, own_of, spreads_of, set_of, conflict_of, exclusive_of}
+use Rattle.merge_sets.proofs.Laws.{clash, not_true}
+use Rattle.merge_sets.proofs.OneName.{listed_in, named_in}
 
 module _ (w : World) where
   -- what stands in sets that are written out is an own field of one of them
@@ -41,13 +40,6 @@ module _ (w : World) where
       | inr of ↦ elim (opens.followed of.0 f of.1 (subst (λ (t : ℕ). Contains (spreads_of w t) f) of.2 v)) [ inl there ↦ there | inr never ↦ absurd never ]
     ]);
   }
-
--- a number was added, and those before it stay
-pub stays : (old new : BitSet) (n : ℕ) → has new n ≡ true → ((m : ℕ) → (m ≡ n → ⊥) → has new m ≡ has old m) → (m : ℕ) → has old m ≡ true → has new m ≡ true
-stays old new n there others m h = elim (cases_eq m n) [
-  | inl is ↦ subst (λ (k : ℕ). has new k ≡ true) (sym is) there
-  | inr other ↦ others m other ∙ h
-]
 
 -- what isn't covered isn't in the set
 pub uncovered : (apart : ℕ → Bool) (names : BitSet) (n : ℕ) → Covers apart names → apart n ≡ false → has names n ≡ false

@@ -6,11 +6,11 @@ use Rattle.std.proofs.lemmas.Bool.{cases_eq}
 use Rattle.std.proofs.lemmas.List.Elements.{All-contains, All-weaker}
 use Rattle.bit_matrix.specs.Set.{has}
 use Rattle.bit_matrix.specs.declared.set.BitSet.{BitSet}
-use Rattle.merge_search.specs.declared.node.Entry.{Entry}
+use Rattle.merge_sets.specs.declared.node.Entry.{Entry}
 use Rattle.merge_search.specs.declared.touched.Touched.{Touched}
 use Rattle.merge_search.specs.Near.{IsApartRow, IsNear, listed_at}
 use Rattle.merge_search.specs.Touched.{told_at}
-use Rattle.merge_search.proofs.Laws.{clash}
+use Rattle.merge_sets.proofs.Laws.{clash}
 
 module _ (touched : Touched) (l : ℕ) (untold : BitSet) (old : List Entry) (before : IsNear touched l untold old) where
   -- one more place that is told

@@ -1,47 +1,17 @@
 -- Fields of which no two have one response name.
-use Rattle.std.proofs.Common.{◌≡◌, ◌==◌, ◌++◌, ◌+◌, ◌*◌, ◌<◌, ◌≤◌, ◌∙◌, ◌∷◌, [], ℕ, zero, suc, List, Some, Bool, true, false, cond, not, inl, inr, ap, arith, get_or, length, length-append, refl, slice_get, subst, sym}
+use Rattle.std.proofs.Common.{◌≡◌, ◌==◌, ◌+◌, ◌*◌, ◌≤◌, ◌∙◌, ◌∷◌, [], ℕ, suc, List, Bool, true, false, cond, not, ap, arith, get_or, refl, subst, sym}
 use Rattle.std.specs.Prelude.{sum_by}
 use Rattle.std.specs.List.{All, filter}
-use Rattle.std.proofs.lemmas.Bool.{cases_order}
-use Rattle.std.proofs.lemmas.List.Elements.{All-contains}
 use Rattle.std.proofs.lemmas.List.Sums.{sum_by-cons}
 use Rattle.std.proofs.lemmas.Nat.{mul-le}
-use Rattle.std.proofs.lemmas.Option.{get_or_from_slice_get, slice_get-get_or, slice_get_within}
-use Rattle.merge_search.specs.declared.node.Entry.{Entry}
-use Rattle.merge_search.specs.Graph.{Falling}
-use Rattle.merge_search.specs.Names.{HaveOwnNames, named}
+use Rattle.std.proofs.lemmas.Option.{slice_get-get_or}
+use Rattle.merge_sets.specs.declared.node.Entry.{Entry}
+use Rattle.merge_sets.specs.Graph.{Falling}
+use Rattle.merge_sets.specs.Names.{HaveOwnNames, named}
 use Rattle.merge_search.specs.Spending.{sets_cost}
 use Rattle.merge_search.specs.Weight.{field_weight, fields_weight, weight}
-use Rattle.merge_search.specs.World.{World, own_of}
-use Rattle.merge_search.proofs.Laws.{same_some}
+use Rattle.merge_sets.specs.World.{World, own_of}
 use Rattle.merge_search.proofs.Weights.{own_weight, sum_by_below, sum_by_same}
-
-front : (xs ys : List Entry) (k : ℕ) → k < length xs → slice_get (xs ++ ys) k ≡ slice_get xs k
-front [] ys k l = absurd (omega (arith, l))
-front (x ∷ xs) ys zero l = refl
-front (x ∷ xs) ys (suc k) l = front xs ys k (omega (arith, l))
-
-last : (xs : List Entry) (x : Entry) → slice_get (xs ++ x ∷ []) (length xs) ≡ Some x
-last [] x = refl
-last (y ∷ xs) x = last xs x
-
-pub own_names_none : HaveOwnNames []
-own_names_none k l a b lt p q same = absurd (omega (arith, slice_get_within [] k a p))
-
-pub own_names_push : (xs : List Entry) (y : Entry) → HaveOwnNames xs → All (λ (f : Entry). f.response ≡ y.response → ⊥) xs → HaveOwnNames (xs ++ y ∷ [])
-own_names_push xs y once apart k l a b lt p q same =
-    let inside : l < length (xs ++ y ∷ []) = slice_get_within (xs ++ y ∷ []) l b q in
-    let short : k < length xs = omega (arith, inside, lt, length-append xs (y ∷ [])) in
-    let first : slice_get xs k ≡ Some a = sym (front xs (y ∷ []) k short) ∙ p in
-    elim (cases_order l (length xs)) [
-      | inl eq ↦
-          let is : y ≡ b = same_some y b (slice_get (xs ++ y ∷ []) l) (subst (λ (i : ℕ). slice_get (xs ++ y ∷ []) i ≡ Some y) (sym eq) (last xs y)) q in
-          All-contains (λ (f : Entry). f.response ≡ y.response → ⊥) xs a apart (k, short, get_or_from_slice_get xs k a a first) (same ∙ ap (λ (x : Entry). x.response) (sym is))
-      | inr o ↦ elim o [
-        | inl less ↦ once k l a b lt first (sym (front xs (y ∷ []) l less) ∙ q) same
-        | inr more ↦ omega (arith, inside, more, length-append xs (y ∷ []))
-      ]
-    ]
 
 own_names_tail : (x : Entry) (xs : List Entry) → HaveOwnNames (x ∷ xs) → HaveOwnNames xs
 own_names_tail x xs once k l a b lt p q same = once (suc k) (suc l) a b (omega (arith, lt)) p q same

@@ -2,20 +2,20 @@
 use Rattle.std.proofs.Common.{◌≡◌, ◌∷◌, [], ℕ, ◌<◌, List, Bool, true, false, inl, inr, sym, subst, length}
 use Rattle.std.specs.List.{All, Contains}
 use Rattle.std.proofs.lemmas.List.Elements.{All-weaker, Contains-get_or, Contains-push}
-use Rattle.merge_search.specs.declared.node.Entry.{Entry}
+use Rattle.merge_sets.specs.declared.node.Entry.{Entry}
 use Rattle.merge_search.specs.declared.state.Search.{Search}
-use Rattle.merge_search.specs.declared.state.Finding.{Finding}
-use Rattle.merge_search.specs.Graph.{Falling}
-use Rattle.merge_search.specs.Merging.{Stands, own, spread, Merges, MergeWritten}
+use Rattle.merge_sets.specs.declared.finding.Finding.{Finding}
+use Rattle.merge_sets.specs.Graph.{Falling}
+use Rattle.merge_sets.specs.Merging.{Stands, own, spread, Merges, MergeWritten}
 use Rattle.merge_search.specs.Quiet.{AreQuiet, IsFrom}
 use Rattle.merge_search.specs.Reports.{Root, AddsAll, AtPlaces}
 use Rattle.merge_search.specs.Tops.{AllBefore, AtTop, Top}
 use Rattle.merge_search.specs.Work as done
 use Rattle.merge_search.specs.Work.{Pair}
-use Rattle.merge_search.specs.World.{World, own_of, spreads_of, set_of, conflict_of, Same}
+use Rattle.merge_sets.specs.World.{World, own_of, spreads_of, set_of, conflict_of, Same}
 use Rattle.merge_search.proofs.Adding.{adds_none, merges_none}
-use Rattle.merge_search.proofs.Laws.{clash}
-use Rattle.merge_search.proofs.Order.{at_of}
+use Rattle.merge_sets.proofs.Laws.{clash}
+use Rattle.merge_sets.proofs.InOrder.{at_of}
 
 -- what a set spreads is there
 pub are_there : (w : World) (s : ℕ) (list : List ℕ) → Falling w.sets w.fragments → list ≡ spreads_of w s → All (λ k. k < length w.fragments) list

@@ -6,23 +6,23 @@ use Rattle.std.specs.List.{All}
 use Rattle.std.proofs.lemmas.Bool.Decides.{nat_tests}
 use Rattle.std.proofs.lemmas.List.Elements.{All-cons, All-contains, All-head, All-nil, All-tail, All-weaker}
 use Rattle.std.proofs.lemmas.List.Sums.{sum_by-cons}
-use Rattle.merge_search.specs.declared.node.SetNode.{SetNode}
+use Rattle.merge_sets.specs.declared.node.SetNode.{SetNode}
 use Rattle.merge_search.specs.declared.state.Search.{Search}
 use Rattle.merge_search.specs.declared.task.Task.{Task}
 use Rattle.merge_search.specs.declared.task.Task.TheVariants.{Own, Mark}
-use Rattle.merge_search.specs.Graph.{Falling}
-use Rattle.merge_search.specs.Indexed.{firsts_of}
+use Rattle.merge_sets.specs.Graph.{Falling, firsts_at}
+use Rattle.merge_sets.specs.Indexed.{firsts_of}
 use Rattle.merge_search.specs.Log.{covers_of}
-use Rattle.merge_search.specs.Names.{HaveOwnNames}
+use Rattle.merge_sets.specs.Names.{HaveOwnNames}
 use Rattle.merge_search.specs.Spending.{CostsMore, MayAsk, Pays, Spends, sets_cost, stray_weight, task_cost, tasks_cost}
-use Rattle.merge_search.specs.Opening.{ReachedFrom, Reaches, start, step}
+use Rattle.merge_sets.specs.Opening.{ReachedFrom, Reaches, start, step}
 use Rattle.merge_search.specs.State.{CountsList, CountsStay, Keeps, NotesPair, NotesSearch}
-use Rattle.merge_search.specs.Tasks.{firsts_at}
 use Rattle.merge_search.specs.Weight.{fragment_weight, weight}
 use Rattle.merge_search.specs.Work.{pair_in}
-use Rattle.merge_search.specs.World.{World, set_of, spreads_of}
+use Rattle.merge_sets.specs.World.{World, set_of, spreads_of}
 use Rattle.merge_search.proofs.Costs.{begun_spends, credit_same}
-use Rattle.merge_search.proofs.OwnNames.{own_names_none, sets_within}
+use Rattle.merge_sets.proofs.Naming.{own_names_none}
+use Rattle.merge_search.proofs.OwnNames.{sets_within}
 use Rattle.merge_search.proofs.Worth.{pair_pays, search_kept, search_pays}
 
 own_names_of : (o : Option SetNode) → HaveOwnNames (option_map_or (λ n. firsts_of n.own.items n.index) o [])

@@ -3,20 +3,20 @@ use Rattle.std.proofs.Common.{◌≡◌, ◌⊎◌, ◌++◌, ◌∷◌, [], ℕ
 use Rattle.std.specs.Bool.{OnTrue}
 use Rattle.std.specs.List.{Contains}
 use Rattle.std.proofs.lemmas.List.Elements.{All-contains}
-use Rattle.merge_search.specs.declared.node.Entry.{Entry}
+use Rattle.merge_sets.specs.declared.node.Entry.{Entry}
 use Rattle.merge_search.specs.declared.state.Search.{Search}
-use Rattle.merge_search.specs.Clear.{AreLeaves, IsClearBelow}
-use Rattle.merge_search.specs.Merging.{Stands, own, spread, below, merges}
+use Rattle.merge_sets.specs.Clear.{AreLeaves, IsClearBelow}
+use Rattle.merge_sets.specs.Merging.{Stands, own, spread, below, merges}
 use Rattle.merge_search.specs.Reports.{AddsAll, AtFields}
 use Rattle.merge_search.specs.State.{Keeps, Reports}
 use Rattle.merge_search.specs.Tasks.{MeetsFields}
-use Rattle.merge_search.specs.declared.state.Finding.TheVariants.{Direct}
+use Rattle.merge_sets.specs.declared.finding.Finding.TheVariants.{Direct}
 use Rattle.merge_search.specs.Settle.{AgreesWith, AgreeFlatly, IsSpreadless, Settles}
 use Rattle.merge_search.specs.Work as done
-use Rattle.merge_search.specs.World.{World, own_of, conflict_of, exclusive_of, Same}
+use Rattle.merge_sets.specs.World.{World, own_of, conflict_of, exclusive_of, Same}
 use Rattle.merge_search.proofs.Adding.{adds_none, all_leaf, all_quiet}
 use Rattle.merge_search.proofs.Clearing.{leaf_below}
-use Rattle.merge_search.proofs.Laws.{same_some}
+use Rattle.merge_sets.proofs.Laws.{same_some}
 use Rattle.merge_search.proofs.Work.{did_kept, did_map, did_none, did_report}
 
 module _ (w : World) where

@@ -7,17 +7,17 @@ use Rattle.std.proofs.lemmas.List.Elements.{All-head, All-tail}
 use Rattle.std.proofs.lemmas.Option.{slice_get-get_or}
 use Rattle.std.proofs.lemmas.List.Sums.{sum_by-cons, sum_by-take-drop, sum_by-take-le, sum_by_more}
 use Rattle.std.proofs.lemmas.Nat.{mul-le}
-use Rattle.merge_search.specs.declared.node.Entry.{Entry}
-use Rattle.merge_search.specs.declared.node.InnerSet.{InnerSet}
+use Rattle.merge_sets.specs.declared.node.Entry.{Entry}
+use Rattle.merge_sets.specs.declared.node.InnerSet.{InnerSet}
 use Rattle.merge_search.specs.declared.state.Search.{Search}
-use Rattle.merge_search.specs.Opening.{NoRepeats}
+use Rattle.merge_sets.specs.Opening.{NoRepeats}
 use Rattle.merge_search.specs.Spending.{Spends, fragments_weight, search_cost, set_cost, sum_below, top_cost}
 use Rattle.merge_search.specs.State.{CountsList, CountsStay, Keeps}
 use Rattle.merge_search.specs.Weight.{field_weight, fields_weight, fragment_weight}
-use Rattle.merge_search.specs.World.{World}
+use Rattle.merge_sets.specs.World.{World}
 use Rattle.merge_search.proofs.Costs.{credit_same}
-use Rattle.merge_search.proofs.Distinct.{repeats_tail}
-use Rattle.merge_search.proofs.Work.{no_entry}
+use Rattle.merge_sets.proofs.Distinct.{repeats_tail}
+use Rattle.merge_sets.proofs.OneName.{no_entry}
 use Rattle.merge_search.proofs.Worth.{credit_most, sum_kept, sum_more}
 
 abbrev pub no_inner : InnerSet

@@ -5,15 +5,15 @@ use Rattle.std.specs.Prelude.{drop, get_or}
 use Rattle.std.proofs.lemmas.List.Sums.{sum_by-drop_more}
 use Rattle.std.proofs.lemmas.Nat.{mul-le}
 use Rattle.std.proofs.lemmas.Option.{slice_get-get_or}
-use Rattle.merge_search.specs.declared.node.Entry.{Entry}
+use Rattle.merge_sets.specs.declared.node.Entry.{Entry}
 use Rattle.merge_search.specs.declared.state.Search.{Search}
-use Rattle.merge_search.specs.Graph.{Falling}
+use Rattle.merge_sets.specs.Graph.{Falling}
 use Rattle.merge_search.specs.State.{CountsFields}
 use Rattle.merge_search.specs.Spending.{Compares, ComparesUpto, LooksFlatly, open_cost, settle_cost}
 use Rattle.merge_search.specs.Weight.{below_weight, field_weight, fields_weight, weight}
-use Rattle.merge_search.specs.World.{World, own_of}
+use Rattle.merge_sets.specs.World.{World, own_of}
 use Rattle.merge_search.proofs.Weights.{length_weight, own_weight}
-use Rattle.merge_search.proofs.Work.{no_entry}
+use Rattle.merge_sets.proofs.OneName.{no_entry}
 
 module _ (w : World) (falling : Falling w.sets w.fragments) where
   pub own_length : (s : ℕ) → length (own_of w s) ≤ weight w s

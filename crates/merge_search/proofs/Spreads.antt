@@ -6,9 +6,9 @@ use Rattle.std.proofs.lemmas.List.Elements.{All-contains, All-weaker, All-more, 
 use Rattle.std.proofs.lemmas.Option.{slice_get_within, get_or_from_slice_get}
 use Rattle.bit_matrix.specs.declared.set.BitSet.{BitSet}
 use Rattle.merge_search.specs.declared.state.Search.{Search}
-use Rattle.merge_search.specs.World.{World, set_of}
+use Rattle.merge_sets.specs.World.{World, set_of}
 use Rattle.merge_search.specs.Work.{Pair}
-use Rattle.merge_search.specs.Plain.{IsPlain}
+use Rattle.merge_sets.specs.Plain.{IsPlain}
 use Rattle.merge_search.specs.Tops.{AllBefore, SpreadDone, MarkedDone, AddsUnmarked, AreAllBut}
 use Rattle.merge_search.proofs.Flips.{flip_pair}
 

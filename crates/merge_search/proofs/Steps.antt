@@ -6,17 +6,17 @@ use Rattle.std.specs.List.{All, Contains}
 use Rattle.std.proofs.lemmas.List.{drop_more}
 use Rattle.std.proofs.Math.ListN.{drop_of_length-le}
 use Rattle.std.proofs.lemmas.List.Elements.{All-nil, All-cons, All-contains, Contains-append_cases, Contains-get_or, Contains-push}
-use Rattle.merge_search.specs.declared.node.Entry.{Entry}
-use Rattle.merge_search.specs.declared.node.SetNode.{SetNode}
+use Rattle.merge_sets.specs.declared.node.Entry.{Entry}
+use Rattle.merge_sets.specs.declared.node.SetNode.{SetNode}
 use Rattle.merge_search.specs.declared.state.Search.{Search}
-use Rattle.merge_search.specs.Names.{named, AreListed}
-use Rattle.merge_search.specs.Indexed.{firsts_of}
-use Rattle.merge_search.specs.World.{World, HasRoom, own_of, spreads_of, set_of, conflict_of, exclusive_of}
-use Rattle.merge_search.specs.Opening.{Opens}
+use Rattle.merge_sets.specs.Names.{named, AreListed}
+use Rattle.merge_sets.specs.Indexed.{firsts_of}
+use Rattle.merge_sets.specs.World.{World, HasRoom, own_of, spreads_of, set_of, conflict_of, exclusive_of}
+use Rattle.merge_sets.specs.Opening.{Opens}
 use Rattle.merge_search.specs.State.{Keeps, NotesPair, NotesSearch, CountsList}
 use Rattle.merge_search.specs.Work as done
-use Rattle.merge_search.specs.Merging.{Merges}
-use Rattle.merge_search.specs.Clear.{AreOthers, IsClear}
+use Rattle.merge_sets.specs.Merging.{Merges}
+use Rattle.merge_sets.specs.Clear.{AreOthers, IsClear}
 use Rattle.merge_search.specs.Inner.{AtLists}
 use Rattle.merge_search.specs.Tops.{AtRest}
 use Rattle.merge_search.specs.Work.{pair_in, Did, Owes, Done, Searched, Pair, OwnPairs, AllClosed}
@@ -24,12 +24,14 @@ use Rattle.merge_search.specs.Reports.{Root, Adds, AddsAll, AtFields, AtWith, At
 use Rattle.merge_search.specs.declared.task.Partner.TheVariants as partner
 use Rattle.merge_search.specs.declared.task.Task.{Task}
 use Rattle.merge_search.specs.declared.task.Task.TheVariants.{With, Listed, Rows, Own, Close, Opened, Mark, Spreads}
-use Rattle.merge_search.specs.Tasks.{Meets, firsts_at, AtPartners, Compares, Searches, SearchesOwing, ComparesEach, MeetsNested, MeetsBelow, MeetsBoth, MeetsFields, MeetsList, MeetsNamed, MeetsRows, MeetsOne, MeetsSearch, MeetsFragments, RowDone, WithDone, NameDone, SpreadsSearched, Closes}
-use Rattle.merge_search.proofs.Work.{no_entry, did_none, did_full, owes_full, did_then, did_map, did_list, did_opened, did_fragments, did_report, did_kept, owes_search, grows_then}
-use Rattle.merge_search.proofs.Laws.{clash}
+use Rattle.merge_search.specs.Tasks.{Meets, AtPartners, Compares, Searches, SearchesOwing, ComparesEach, MeetsNested, MeetsBelow, MeetsBoth, MeetsFields, MeetsList, MeetsNamed, MeetsRows, MeetsOne, MeetsSearch, MeetsFragments, RowDone, WithDone, NameDone, SpreadsSearched, Closes}
+use Rattle.merge_sets.specs.Graph.{firsts_at}
+use Rattle.merge_sets.proofs.OneName.{no_entry, named_in, named_is, named_own}
+use Rattle.merge_search.proofs.Work.{did_none, did_full, owes_full, did_then, did_map, did_list, did_opened, did_fragments, did_report, did_kept, owes_search, grows_then}
+use Rattle.merge_sets.proofs.Laws.{clash}
 use Rattle.merge_search.proofs.Adding.{all_full, merges_none, adds_none, adds_map, adds_then, adds_from, adds_node, adds_same, all_both, all_map, all_told}
 use Rattle.merge_search.proofs.Clearing.{others_done, others_told}
-use Rattle.merge_search.proofs.Rows.{named_in, named_is, named_own, row_named, row_with, tell_with, tell_named, tell_own, own_pairs, row_first, row_second, row_fragments, row_nested, row_below_own, row_below_forth, row_below_back, row_below_spreads}
+use Rattle.merge_search.proofs.Rows.{row_named, row_with, tell_with, tell_named, tell_own, own_pairs, row_first, row_second, row_fragments, row_nested, row_below_own, row_below_forth, row_below_back, row_below_spreads}
 
 pub drop_next : {X : Type 0} (ys xs : List X) (k : ℕ) (d : X) → ys ≡ xs → k < length ys → drop k xs ≡ get_or ys k d ∷ drop (k + 1) xs
 drop_next ys xs k d h l = subst (λ zs. drop k zs ≡ get_or ys k d ∷ drop (k + 1) zs) h (drop_more ys k d l)

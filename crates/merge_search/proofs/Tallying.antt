@@ -10,7 +10,7 @@ use Rattle.merge_search.specs.Work.{pair_in}
 use Rattle.merge_search.specs.Counts.{Compared, Repeats, Distinct, Tally, greatest}
 use Rattle.merge_search.specs.State.{NotesPair, CountsList, Begins}
 use Rattle.merge_search.proofs.Flips.{flip_in}
-use Rattle.merge_search.proofs.Laws.{clash}
+use Rattle.merge_sets.proofs.Laws.{clash}
 
 get_front : {X : Type 0} (xs ys : List X) (n : ℕ) → n < length xs → slice_get (xs ++ ys) n ≡ slice_get xs n
 get_front [] ys n l = absurd (omega (arith, l))

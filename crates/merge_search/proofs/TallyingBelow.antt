@@ -9,7 +9,7 @@ use Rattle.merge_search.specs.Log.{in_log}
 use Rattle.merge_search.specs.Work.{pair_in}
 use Rattle.merge_search.specs.Counts.{Compared, Repeats, Distinct, Tally, greatest}
 use Rattle.merge_search.specs.State.{NotesBelow}
-use Rattle.merge_search.proofs.Laws.{clash}
+use Rattle.merge_sets.proofs.Laws.{clash}
 use Rattle.merge_search.proofs.Tallying.{distinct_push, either_more}
 
 -- a log of the pairs that were asked for, each once

@@ -11,16 +11,16 @@ use Rattle.std.specs.List.{All, Contains}
 use Rattle.std.proofs.lemmas.List.Elements.{All-contains, All-weaker}
 use Rattle.bit_matrix.specs.Set.{has}
 use Rattle.bit_matrix.specs.declared.set.BitSet.{BitSet}
-use Rattle.merge_search.specs.declared.node.Entry.{Entry}
+use Rattle.merge_sets.specs.declared.node.Entry.{Entry}
 use Rattle.merge_search.specs.declared.touched.Touched.{Touched}
 use Rattle.merge_search.specs.declared.unions.Union.{Union}
 use Rattle.merge_search.specs.Unions.{AllJoined}
-use Rattle.merge_search.specs.Merging.{own, spread, below, Merges, merges}
+use Rattle.merge_sets.specs.Merging.{own, spread, below, Merges, merges}
 use Rattle.merge_search.specs.Quiet.{AllQuietBut, AreKept, AreQuietBut, HoldBelow, MergesBut, merges_but}
 use Rattle.merge_search.specs.Touched.{AreApart, AreApartAt, AreListedAt, AreTouched, IsFreeOf, KnowsTouched, ListsBelow, StandsIn, here, told_at, under}
-use Rattle.merge_search.specs.World.{World, own_of, spreads_of, set_of, exclusive_of, Same}
-use Rattle.merge_search.proofs.Laws.{clash, not_true}
-use Rattle.merge_search.proofs.Order.{at_of}
+use Rattle.merge_sets.specs.World.{World, own_of, spreads_of, set_of, exclusive_of, Same}
+use Rattle.merge_sets.proofs.Laws.{clash, not_true}
+use Rattle.merge_sets.proofs.InOrder.{at_of}
 
 module _ (w : World) (names : BitSet) where
   -- what stands in a set is an own field, whose name is listed, or stands in a set that waits

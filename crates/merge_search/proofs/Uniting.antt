@@ -4,15 +4,15 @@ use Rattle.std.specs.Bool.{OnTrue}
 use Rattle.std.specs.List.{All, Contains}
 use Rattle.std.proofs.lemmas.Bool.{cases_eq}
 use Rattle.std.proofs.lemmas.List.Elements.{All-contains}
-use Rattle.merge_search.specs.declared.node.Entry.{Entry}
+use Rattle.merge_sets.specs.declared.node.Entry.{Entry}
 use Rattle.merge_search.specs.declared.unions.Union.{Union}
-use Rattle.merge_search.specs.Judgement.{ExclusiveStays, ObjectsApart}
-use Rattle.merge_search.specs.Names.{named}
+use Rattle.merge_sets.specs.Judgement.{ExclusiveStays, ObjectsApart}
+use Rattle.merge_sets.specs.Names.{named}
 use Rattle.merge_search.specs.Quiet.{HoldBelow, HoldsBelow, IsFrom}
 use Rattle.merge_search.specs.Unions.{AllJoined, AllJoinedFlat, AreJoined, HasUnion, HaveUnions, UnionsKept, under_object}
-use Rattle.merge_search.specs.World.{World, exclusive_of}
-use Rattle.merge_search.proofs.Laws.{clash}
-use Rattle.merge_search.proofs.Rows.{named_in}
+use Rattle.merge_sets.specs.World.{World, exclusive_of}
+use Rattle.merge_sets.proofs.Laws.{clash}
+use Rattle.merge_sets.proofs.OneName.{named_in}
 
 pub union_kept : (old new : List Union) (flag : Bool) (fields : List Entry) (more : List ℕ) → UnionsKept old new → HasUnion old flag fields more
     → HasUnion new flag fields more

@@ -6,11 +6,11 @@ use Rattle.std.specs.Option.{option_map_or}
 use Rattle.std.proofs.lemmas.List.Elements.{All-head, All-tail, All-weaker}
 use Rattle.std.proofs.lemmas.List.Sums.{sum_by-cons}
 use Rattle.std.proofs.lemmas.Option.{slice_get_past}
-use Rattle.merge_search.specs.declared.node.Entry.{Entry}
-use Rattle.merge_search.specs.declared.node.SetNode.{SetNode}
-use Rattle.merge_search.specs.Graph.{Falling, height, own_at}
+use Rattle.merge_sets.specs.declared.node.Entry.{Entry}
+use Rattle.merge_sets.specs.declared.node.SetNode.{SetNode}
+use Rattle.merge_sets.specs.Graph.{Falling, height, own_at}
 use Rattle.merge_search.specs.Weight.{weigh, weight, field_weight, fields_weight}
-use Rattle.merge_search.specs.World.{World, own_of}
+use Rattle.merge_sets.specs.World.{World, own_of}
 
 pub sum_by_same : {X : Type 0} (f g : X → ℕ) (xs : List X) → All (λ x. f x ≡ g x) xs → sum_by f xs ≡ sum_by g xs
 sum_by_same f g [] all = refl

@@ -1,21 +1,17 @@
 -- How pieces of work join.
-use Rattle.std.proofs.Common.{◌≡◌, ap, ◌∙◌, length-append, ℕ, ◌+◌, ◌*◌, ◌<◌, ◌≤◌, List, [], ◌∷◌, length, take, get_or, refl, sym, subst, arith, Bool, true, false, None, inl, inr, ◌⊎◌, min, max, ◌||◌, ◌&&◌, below_more}
+use Rattle.std.proofs.Common.{◌≡◌, ap, ◌∙◌, length-append, ℕ, ◌+◌, ◌*◌, ◌<◌, ◌≤◌, List, [], ◌∷◌, length, take, get_or, refl, sym, subst, arith, Bool, true, false, inl, inr, ◌⊎◌, min, max, ◌||◌, ◌&&◌, below_more}
 use Rattle.std.specs.List.{All, Contains}
 use Rattle.std.proofs.lemmas.List.{take_all, length-take}
 use Rattle.std.proofs.lemmas.List.Elements.{All-more, Contains-push, Contains-append_left}
-use Rattle.merge_search.specs.declared.node.Entry.{Entry}
 use Rattle.merge_search.specs.declared.state.Search.{Search}
-use Rattle.merge_search.specs.declared.state.Finding.{Finding}
-use Rattle.merge_search.specs.World.{World, HasRoom, spreads_of, set_of}
+use Rattle.merge_sets.specs.declared.finding.Finding.{Finding}
+use Rattle.merge_sets.specs.World.{World, HasRoom, spreads_of, set_of}
 use Rattle.merge_search.specs.Log.{in_log, covers_of, Covers}
 use Rattle.merge_search.specs.Work.{pair_in, search_in, Searched, Pair, OwnPairs, ClosedSearch, ClosedPair, AllClosed, Grows, Did, Owes}
-use Rattle.merge_search.specs.Merging.{MergeEither}
+use Rattle.merge_sets.specs.Merging.{MergeEither}
 use Rattle.merge_search.specs.State.{NotesBelow, NotesPair, NotesSearch, Reports, CountsList, Keeps}
 use Rattle.merge_search.proofs.Tallying.{tally_same, tally_pair, tally_list}
 use Rattle.merge_search.proofs.TallyingBelow.{tally_below}
-
-abbrev pub no_entry : Entry
-no_entry = record { response = 0; field = 0; below = None }
 
 pub grows_same : (s : Search) → Grows s s
 grows_same s = record { more_pairs = λ x f g h. h; more_searched = λ x i g h. h; more_found = λ y h. h; longer = omega arith }

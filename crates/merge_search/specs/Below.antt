@@ -4,13 +4,13 @@ use Rattle.std.specs.Option.{IfSome}
 use Rattle.bit_matrix.specs.Set.{has}
 use Rattle.bit_matrix.specs.declared.set.BitSet.{BitSet}
 use Rattle.merge_search.specs.declared.below.Below.{Below}
-use Rattle.merge_search.specs.declared.node.Entry.{Entry}
-use Rattle.merge_search.specs.Clear.{IsClearBelow}
+use Rattle.merge_sets.specs.declared.node.Entry.{Entry}
+use Rattle.merge_sets.specs.Clear.{IsClearBelow}
 use Rattle.merge_search.specs.declared.failing.Numbered.{Numbered}
 use Rattle.merge_search.specs.Failing.{AgreesBy, StandFor}
 use Rattle.merge_search.specs.Near.{IsNear}
 use Rattle.merge_search.specs.Touched.{AreApartAt}
-use Rattle.merge_search.specs.World.{World}
+use Rattle.merge_sets.specs.World.{World}
 
 -- That what stands below the fields at two places merges: all does, or both are among those below which it does, or no
 -- name that is set apart stands below both.

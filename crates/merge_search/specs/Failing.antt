@@ -3,8 +3,8 @@ use Rattle.std.specs.Prelude.{ℕ, List, Bool, Option, None, Some, true, false, 
 use Rattle.std.specs.Option.{IfSome}
 use Rattle.bit_matrix.specs.Set.{has}
 use Rattle.bit_matrix.specs.declared.set.BitSet.{BitSet}
-use Rattle.merge_search.specs.Judgement.{Judgement}
-use Rattle.merge_search.specs.declared.node.Entry.{Entry}
+use Rattle.merge_sets.specs.Judgement.{Judgement}
+use Rattle.merge_sets.specs.declared.node.Entry.{Entry}
 
 -- The field is of the kind that has the number.
 abbrev pub IsKindAt : (ℕ → ℕ → Type 0) → List ℕ → ℕ → ℕ → Type 0

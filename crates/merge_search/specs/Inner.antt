@@ -3,9 +3,9 @@ use Rattle.std.specs.Prelude.{ℕ, ◌+◌, ◌<◌, List, Some, true, ◌≡◌
 use Rattle.std.specs.List.{Contains}
 use Rattle.bit_matrix.specs.Set.{has}
 use Rattle.bit_matrix.specs.declared.set.BitSet.{BitSet}
-use Rattle.merge_search.specs.declared.node.Entry.{Entry}
-use Rattle.merge_search.specs.World.{World, set_of, Same}
-use Rattle.merge_search.specs.Merging.{Stands}
+use Rattle.merge_sets.specs.declared.node.Entry.{Entry}
+use Rattle.merge_sets.specs.World.{World, set_of, Same}
+use Rattle.merge_sets.specs.Merging.{Stands}
 use Rattle.merge_search.specs.Reports.{Root}
 
 -- The fields of the one list stand in the other, one beside the next.

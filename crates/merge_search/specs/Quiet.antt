@@ -3,10 +3,10 @@ use Rattle.std.specs.Prelude.{ℕ, List, Bool, Some, true, false, ◌≡◌}
 use Rattle.std.specs.List.{All, Contains}
 use Rattle.bit_matrix.specs.Set.{has}
 use Rattle.bit_matrix.specs.declared.set.BitSet.{BitSet}
-use Rattle.merge_search.specs.declared.node.Entry.{Entry}
+use Rattle.merge_sets.specs.declared.node.Entry.{Entry}
 use Rattle.merge_search.specs.declared.unions.Union.{Union}
-use Rattle.merge_search.specs.Merging.{Stands, Below, Merges}
-use Rattle.merge_search.specs.World.{World, spreads_of, set_of, conflict_of, exclusive_of, Same}
+use Rattle.merge_sets.specs.Merging.{Stands, Below, Merges}
+use Rattle.merge_sets.specs.World.{World, spreads_of, set_of, conflict_of, exclusive_of, Same}
 
 -- A flag at or above another: above `false` stand both.
 abbrev pub IsFrom : Bool → Bool → Type 0

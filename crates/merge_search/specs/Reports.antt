@@ -1,14 +1,14 @@
 -- What was found is a list of true reasons, in postfix order.
 use Rattle.std.specs.Prelude.{ℕ, ◌<◌, List, [], ◌∷◌, ◌++◌, length, Bool, true, false, ◌≡◌, ◌⊎◌}
 use Rattle.std.specs.List.{All, Contains}
-use Rattle.merge_search.specs.declared.node.Entry.{Entry}
+use Rattle.merge_sets.specs.declared.node.Entry.{Entry}
 use Rattle.merge_search.specs.declared.state.Search.{Search}
-use Rattle.merge_search.specs.declared.state.Finding.{Finding}
-use Rattle.merge_search.specs.declared.state.Finding.TheVariants.{Direct, Nested}
-use Rattle.merge_search.specs.Judgement.{Lawful}
-use Rattle.merge_search.specs.Graph.{IsWhole}
-use Rattle.merge_search.specs.World.{World, HasRoom, own_of, spreads_of, set_of, conflict_of, exclusive_of, Same}
-use Rattle.merge_search.specs.Merging.{Stands, Below, Apart, Merges, SetMerges, Way, Passes}
+use Rattle.merge_sets.specs.declared.finding.Finding.{Finding}
+use Rattle.merge_sets.specs.declared.finding.Finding.TheVariants.{Direct, Nested}
+use Rattle.merge_sets.specs.Judgement.{Lawful}
+use Rattle.merge_sets.specs.Graph.{IsWhole}
+use Rattle.merge_sets.specs.World.{World, HasRoom, own_of, spreads_of, set_of, conflict_of, exclusive_of, Same}
+use Rattle.merge_sets.specs.Merging.{Stands, Below, Apart, Merges, SetMerges, Way, Passes}
 
 -- The two fields of a report.
 pub record Root : Type 0 where

@@ -1,11 +1,11 @@
 -- Pairs of fields that are settled at once.
 use Rattle.std.specs.Prelude.{ℕ, List, [], Bool, true, false, ◌≡◌}
 use Rattle.std.specs.List.{All}
-use Rattle.merge_search.specs.declared.node.Entry.{Entry}
+use Rattle.merge_sets.specs.declared.node.Entry.{Entry}
 use Rattle.merge_search.specs.declared.state.Search.{Search}
 use Rattle.merge_search.specs.State.{Keeps}
 use Rattle.merge_search.specs.Tasks.{MeetsFields}
-use Rattle.merge_search.specs.World.{World, spreads_of, conflict_of, Same}
+use Rattle.merge_sets.specs.World.{World, spreads_of, conflict_of, Same}
 
 -- The set spreads nothing.
 abbrev pub IsSpreadless : World → ℕ → Type 0

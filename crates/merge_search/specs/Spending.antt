@@ -1,19 +1,19 @@
 -- How many fields a search compares: what each part of its work may cost, and what pays for it.
 use Rattle.std.specs.Prelude.{ℕ, zero, suc, ◌+◌, ◌*◌, ◌<◌, ◌≤◌, min, List, Bool, true, false, cond, drop, length, nat_lt, slice_get, take, ◌-◌, ◌==◌, sum_by, ◌≡◌, ◌⊎◌}
 use Rattle.std.specs.Option.{option_map_or}
-use Rattle.merge_search.specs.declared.node.Entry.{Entry}
-use Rattle.merge_search.specs.declared.node.InnerSet.{InnerSet}
+use Rattle.merge_sets.specs.declared.node.Entry.{Entry}
+use Rattle.merge_sets.specs.declared.node.InnerSet.{InnerSet}
 use Rattle.merge_search.specs.declared.state.Search.{Search}
 use Rattle.merge_search.specs.declared.task.Task.{Task}
 use Rattle.merge_search.specs.declared.task.Task.TheVariants.{With, Listed, Rows, Own, Close, Opened, Mark, Spreads}
 use Rattle.merge_search.specs.Counts.{greatest, most_repeats}
 use Rattle.merge_search.specs.Log.{covers_of}
-use Rattle.merge_search.specs.Names.{named}
-use Rattle.merge_search.specs.Tasks.{firsts_at}
+use Rattle.merge_sets.specs.Names.{named}
+use Rattle.merge_sets.specs.Graph.{firsts_at}
 use Rattle.merge_search.specs.TwoSets.{rights_of}
 use Rattle.merge_search.specs.Weight.{weight, below_weight, field_weight, fields_weight, fragment_weight}
 use Rattle.merge_search.specs.Work.{pair_in, search_in}
-use Rattle.merge_search.specs.World.{World, own_of}
+use Rattle.merge_sets.specs.World.{World, own_of}
 
 -- The sum of the first so many.
 abbrev pub sum_below : (ℕ → ℕ) → ℕ → ℕ

@@ -2,7 +2,7 @@
 use Rattle.std.specs.Prelude.{ℕ, ◌+◌, ◌<◌, min, max, [], ◌∷◌, ◌++◌, Bool, true, false, not, ◌&&◌, ◌≡◌, ◌⊎◌}
 use Rattle.bit_matrix.specs.Count.{count_below}
 use Rattle.merge_search.specs.declared.state.Search.{Search}
-use Rattle.merge_search.specs.declared.state.Finding.{Finding}
+use Rattle.merge_sets.specs.declared.finding.Finding.{Finding}
 use Rattle.merge_search.specs.Log.{covers_of, Notes, NotesBoth}
 use Rattle.merge_search.specs.Counts.{greatest, most_repeats}
 use Rattle.merge_search.specs.Work.{pair_in, search_in}

@@ -1,23 +1,21 @@
 -- What the tasks of a search make of its state.
 use Rattle.std.specs.Prelude.{ℕ, ◌<◌, ◌≤◌, ◌-◌, List, [], ◌∷◌, length, drop, reverse, Bool, Some, true, false, ◌≡◌, ◌⊎◌}
 use Rattle.std.specs.Prelude.{slice_get}
-use Rattle.std.specs.Option.{option_map_or}
 use Rattle.std.specs.List.{All, Contains}
 use Rattle.bit_matrix.specs.Set.{has}
 use Rattle.bit_matrix.specs.declared.set.BitSet.{BitSet}
-use Rattle.merge_search.specs.declared.node.Entry.{Entry}
-use Rattle.merge_search.specs.declared.node.SetNode.{SetNode}
+use Rattle.merge_sets.specs.declared.node.Entry.{Entry}
 use Rattle.merge_search.specs.declared.state.Search.{Search}
-use Rattle.merge_search.specs.declared.state.Finding.TheVariants.{Nested}
+use Rattle.merge_sets.specs.declared.finding.Finding.TheVariants.{Nested}
 use Rattle.merge_search.specs.declared.task.Task.{Task}
 use Rattle.merge_search.specs.declared.task.Task.TheVariants.{With, Listed, Rows, Own, Close, Opened, Mark, Spreads}
 use Rattle.merge_search.specs.declared.task.Partner.{Partner}
 use Rattle.merge_search.specs.declared.task.Partner.TheVariants as partner
-use Rattle.merge_search.specs.Clear.{IsClear}
-use Rattle.merge_search.specs.Names.{named}
-use Rattle.merge_search.specs.Indexed.{firsts_of}
-use Rattle.merge_search.specs.World.{World, own_of, spreads_of, set_of, conflict_of, exclusive_of}
-use Rattle.merge_search.specs.Opening.{Reaches}
+use Rattle.merge_sets.specs.Clear.{IsClear}
+use Rattle.merge_sets.specs.Names.{named}
+use Rattle.merge_sets.specs.Graph.{firsts_at}
+use Rattle.merge_sets.specs.World.{World, own_of, spreads_of, set_of, conflict_of, exclusive_of}
+use Rattle.merge_sets.specs.Opening.{Reaches}
 use Rattle.merge_search.specs.State.{Keeps, Reports}
 use Rattle.merge_search.specs.Work.{Did, Owes, Done, Searched, Pair, SetsDone}
 use Rattle.merge_search.specs.Reports.{Root, Finds, FindsAll, AtFields, AtWith, AtNamed, AtOwn, AtSearch, AtFragments}
@@ -25,10 +23,6 @@ use Rattle.merge_search.specs.Reports.{AtFirst, AtBelow}
 use Rattle.merge_search.specs.Inner.{AtLists}
 use Rattle.merge_search.specs.TwoSets.{KnowsRows, rights_of}
 use Rattle.merge_search.specs.Tops.{AtRest}
-
--- The first own field of each response name of a set.
-abbrev pub firsts_at : List SetNode → ℕ → List Entry
-firsts_at sets s = option_map_or (λ n. firsts_of n.own.items n.index) (slice_get sets s) []
 
 -- From old to new D was done, what was found stands at P, and each pair of Q that fails of itself has a report of its
 -- own.

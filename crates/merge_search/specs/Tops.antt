@@ -3,12 +3,12 @@ use Rattle.std.specs.Prelude.{ℕ, ◌<◌, List, [], ◌∷◌, ◌++◌, Some,
 use Rattle.std.specs.List.{All, Contains}
 use Rattle.bit_matrix.specs.Set.{has}
 use Rattle.bit_matrix.specs.declared.set.BitSet.{BitSet}
-use Rattle.merge_search.specs.declared.node.Entry.{Entry}
+use Rattle.merge_sets.specs.declared.node.Entry.{Entry}
 use Rattle.merge_search.specs.declared.state.Search.{Search}
-use Rattle.merge_search.specs.World.{World, own_of, spreads_of, set_of, Same}
-use Rattle.merge_search.specs.Plain.{IsPlain}
+use Rattle.merge_sets.specs.World.{World, own_of, spreads_of, set_of, Same}
+use Rattle.merge_sets.specs.Plain.{IsPlain}
 use Rattle.merge_search.specs.Work.{Pair, Done}
-use Rattle.merge_search.specs.Merging.{Stands}
+use Rattle.merge_sets.specs.Merging.{Stands}
 use Rattle.merge_search.specs.Reports.{Root, AtFragments}
 
 -- Two own fields, the first before the second.

@@ -4,11 +4,11 @@ use Rattle.std.specs.List.{All, Contains}
 use Rattle.std.specs.declared.alloc.Global.{Global}
 use Rattle.bit_matrix.specs.Set.{has}
 use Rattle.bit_matrix.specs.declared.set.BitSet.{BitSet}
-use Rattle.merge_search.specs.declared.node.Entry.{Entry}
+use Rattle.merge_sets.specs.declared.node.Entry.{Entry}
 use Rattle.merge_search.specs.declared.touched.Touched.{Touched}
-use Rattle.merge_search.specs.Clear.{IsClearBelow}
-use Rattle.merge_search.specs.Merging.{Stands}
-use Rattle.merge_search.specs.World.{World}
+use Rattle.merge_sets.specs.Clear.{IsClearBelow}
+use Rattle.merge_sets.specs.Merging.{Stands}
+use Rattle.merge_sets.specs.World.{World}
 
 -- The field stands in a set or below a field that does, at any depth; what is spread is written out.
 pub data StandsIn (w : World) : ℕ → Entry → Type 0 where

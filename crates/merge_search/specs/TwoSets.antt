@@ -1,10 +1,10 @@
 -- The fields of one response name of two sets, row by row.
 use Rattle.std.specs.Prelude.{ℕ, List, Bool, Some, ◌≡◌, drop, length, slice_get}
-use Rattle.merge_search.specs.declared.node.Entry.{Entry}
+use Rattle.merge_sets.specs.declared.node.Entry.{Entry}
 use Rattle.merge_search.specs.declared.two_sets.Rows.{Rows}
 use Rattle.merge_search.specs.Below.{KnowsPairs}
-use Rattle.merge_search.specs.Clear.{AreClearRows}
-use Rattle.merge_search.specs.World.{World}
+use Rattle.merge_sets.specs.Clear.{AreClearRows}
+use Rattle.merge_sets.specs.World.{World}
 
 -- The fields begin with some.
 abbrev pub BeginWith : List Entry → List Entry → Type 0

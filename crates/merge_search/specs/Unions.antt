@@ -1,11 +1,11 @@
 -- Unions of the sets below fields that are compared with each other.
 use Rattle.std.specs.Prelude.{ℕ, List, Bool, false, ◌≡◌}
 use Rattle.std.specs.List.{Contains}
-use Rattle.merge_search.specs.declared.node.Entry.{Entry}
+use Rattle.merge_sets.specs.declared.node.Entry.{Entry}
 use Rattle.merge_search.specs.declared.unions.Union.{Union}
-use Rattle.merge_search.specs.Names.{named}
+use Rattle.merge_sets.specs.Names.{named}
 use Rattle.merge_search.specs.Quiet.{HoldBelow, HoldsBelow, IsFrom}
-use Rattle.merge_search.specs.World.{World, exclusive_of}
+use Rattle.merge_sets.specs.World.{World, exclusive_of}
 
 -- The unions of the one list are in the other.
 abbrev pub UnionsKept : List Union → List Union → Type 0

@@ -1,10 +1,10 @@
 -- How many fields stand in sets and below them.
 use Rattle.std.specs.Prelude.{ℕ, zero, suc, ◌+◌, List, sum_by}
 use Rattle.std.specs.Option.{option_map_or}
-use Rattle.merge_search.specs.Graph.{own_at}
-use Rattle.merge_search.specs.World.{World, set_of}
-use Rattle.merge_search.specs.declared.node.Entry.{Entry}
-use Rattle.merge_search.specs.declared.node.SetNode.{SetNode}
+use Rattle.merge_sets.specs.Graph.{own_at}
+use Rattle.merge_sets.specs.World.{World, set_of}
+use Rattle.merge_sets.specs.declared.node.Entry.{Entry}
+use Rattle.merge_sets.specs.declared.node.SetNode.{SetNode}
 
 -- The own fields of a set, and those of the sets below them, down to a depth. What is spread is left out.
 abbrev pub weigh : List SetNode → ℕ → ℕ → ℕ

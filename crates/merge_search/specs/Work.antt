@@ -1,13 +1,13 @@
 -- What a search has done, seen from any later state M.
 use Rattle.std.specs.Prelude.{ℕ, ◌≤◌, min, max, length, Some, None, Bool, true, false, ◌≡◌, ◌⊎◌}
 use Rattle.std.specs.List.{All, Contains}
-use Rattle.merge_search.specs.declared.node.Entry.{Entry}
+use Rattle.merge_sets.specs.declared.node.Entry.{Entry}
 use Rattle.merge_search.specs.declared.state.Search.{Search}
-use Rattle.merge_search.specs.declared.state.Finding.{Finding}
-use Rattle.merge_search.specs.declared.state.Finding.TheVariants.{Direct}
-use Rattle.merge_search.specs.World.{World, HasRoom, own_of, spreads_of, set_of, conflict_of, exclusive_of, Same}
+use Rattle.merge_sets.specs.declared.finding.Finding.{Finding}
+use Rattle.merge_sets.specs.declared.finding.Finding.TheVariants.{Direct}
+use Rattle.merge_sets.specs.World.{World, HasRoom, own_of, spreads_of, set_of, conflict_of, exclusive_of, Same}
 use Rattle.merge_search.specs.Log.{in_log, Covers}
-use Rattle.merge_search.specs.Merging.{Merges, MergeEither}
+use Rattle.merge_sets.specs.Merging.{Merges, MergeEither}
 use Rattle.merge_search.specs.Counts.{Tally}
 
 -- Two fragments were compared under the flag, in either order.

@@ -5,21 +5,21 @@ ghost use Rattle.std.specs.Bool.{OnTrue};
 ghost use Rattle.std.specs.List.{All, Contains};
 ghost use Rattle.merge_search.specs.Below.{IsIndexed, IsKnownBelow, IsPassedAt, KnowsBelow, KnowsPairs};
 ghost use Rattle.merge_search.specs.Near.{IsApartRow};
-ghost use Rattle.merge_search.specs.Clear.{IsSumWithin, MergeBelow};
+ghost use Rattle.merge_sets.specs.Clear.{IsSumWithin, MergeBelow};
 ghost use Rattle.merge_search.specs.Failing.{AgreeAt};
-ghost use Rattle.merge_search.specs.Merging.{Merges};
-ghost use Rattle.merge_search.specs.World.{world};
+ghost use Rattle.merge_sets.specs.Merging.{Merges};
+ghost use Rattle.merge_sets.specs.World.{world};
 
 use crate::clear::{WIDE, are_clear_below};
 use crate::failing::{Numbered, agreeing_at, agrees_by};
-use crate::graph::Graph;
-use crate::judge::Judge;
 use crate::near::{Near, near_of, places_near};
-use crate::node::Entry;
-use crate::passing::set_of_numbers;
 use crate::state::Search;
 use crate::touched::{Touched, none_touched, touched_below};
 use bit_matrix::set::BitSet;
+use merge_sets::graph::Graph;
+use merge_sets::judge::Judge;
+use merge_sets::node::Entry;
+use merge_sets::numbers::set_of_numbers;
 use std::alloc::{AllocError, Global};
 
 /// What is known of what stands below some fields: that each two of them merge there, or each two at these places, or

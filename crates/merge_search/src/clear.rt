@@ -2,20 +2,20 @@
 ghost use Rattle.std.specs.Prelude.{◌≡◌, ◌⊎◌, ℕ, IfOk, None, Some, slice_get, true};
 ghost use Rattle.std.specs.Bool.{OnTrue};
 ghost use Rattle.bit_matrix.specs.Set.{has};
-ghost use Rattle.merge_search.specs.Judgement.{NoneConflict};
-ghost use Rattle.merge_search.specs.Clear.{AreClear, AreClearBelow, AreClearRows, AreClearRowsBelow};
-ghost use Rattle.merge_search.specs.World.{world};
+ghost use Rattle.merge_sets.specs.Judgement.{NoneConflict};
+ghost use Rattle.merge_sets.specs.Clear.{AreClear, AreClearBelow, AreClearRows, AreClearRowsBelow};
+ghost use Rattle.merge_sets.specs.World.{world};
 
-use crate::graph::Graph;
-use crate::judge::Judge;
-use crate::kinds::{FEW, agree_by_kinds, agreeing_rows};
-use crate::node::Entry;
 use crate::quiet::are_quiet;
 use crate::state::Search;
 use crate::touched::{rows_apart, touched_below};
 use crate::unions::unions_below;
-use crate::view::{agree_plainly, are_leaves};
 use bit_matrix::set::BitSet;
+use merge_sets::graph::Graph;
+use merge_sets::judge::Judge;
+use merge_sets::kinds::{FEW, agree_by_kinds, agreeing_rows};
+use merge_sets::node::Entry;
+use merge_sets::view::{agree_plainly, are_leaves};
 use std::alloc::{AllocError, Global};
 
 /// With fewer fields of a response name, comparing each two is as fast.

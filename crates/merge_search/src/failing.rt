@@ -4,11 +4,11 @@ ghost use Rattle.std.specs.Bool.{OnTrue};
 ghost use Rattle.merge_search.specs.Failing.{AgreeAt, AgreeKinds, AgreesBy, AreNumbered, IsKindAt, IsNumberIn};
 ghost use Rattle.merge_search.specs.Failing.{StandFor};
 
-use crate::graph::Graph;
-use crate::judge::Judge;
-use crate::kinds::{FEW, MOST, are_all_in, kinds_of};
-use crate::node::Entry;
 use bit_matrix::set::BitSet;
+use merge_sets::graph::Graph;
+use merge_sets::judge::Judge;
+use merge_sets::kinds::{FEW, MOST, are_all_in, kinds_of};
+use merge_sets::node::Entry;
 use std::alloc::{AllocError, Global};
 
 /// A field of each kind among some, and the number of its kind for each field, where it is known.

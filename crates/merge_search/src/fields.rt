@@ -2,9 +2,9 @@
 ghost use Rattle.std.specs.Prelude.{◌≡◌, ◌*◌, ◌≤◌, OnOk, Bool, false, reverse, sum_by};
 ghost use Rattle.merge_search.specs.declared.state.Search.{Search};
 ghost use Rattle.std.specs.Bool.{OnTrue};
-ghost use Rattle.merge_search.specs.Clear.{AreClearRows, IsClear};
-ghost use Rattle.merge_search.specs.Names.{named};
-ghost use Rattle.merge_search.specs.World.{World, world, own_of, conflict_of};
+ghost use Rattle.merge_sets.specs.Clear.{AreClearRows, IsClear};
+ghost use Rattle.merge_sets.specs.Names.{named};
+ghost use Rattle.merge_sets.specs.World.{World, world, own_of, conflict_of};
 ghost use Rattle.merge_search.specs.Tasks.{Turns, Waits, Meets, MeetsFields, MeetsNamed, MeetsNested, MeetsBelow};
 ghost use Rattle.merge_search.specs.Tasks.{AreClearWith, Closes, MeetsBoth, MeetsRows, MeetsWith};
 ghost use Rattle.merge_search.specs.Spending.{Compares, CostsMore, Pays, name_cost, row_cost, task_cost};
@@ -12,15 +12,16 @@ ghost use Rattle.merge_search.specs.Weight.{below_weight, fields_weight, weight}
 ghost use Rattle.merge_search.specs.declared.task.Task.{Task};
 
 use crate::clear::{MANY, are_clear, clear_rows};
-use crate::graph::Graph;
-use crate::judge::Judge;
-use crate::node::Entry;
 use crate::settle::settle_from;
-use crate::state::{Finding, Search, report};
+use crate::state::{Search, report};
 use crate::task::{Partner, Task, wait};
 use crate::two_sets::{Rows, others_of, rows_of};
-use crate::view::{are_exclusive, first_of_names, group, spreads};
 use bit_matrix::set::BitSet;
+use merge_sets::finding::Finding;
+use merge_sets::graph::Graph;
+use merge_sets::judge::Judge;
+use merge_sets::node::Entry;
+use merge_sets::view::{are_exclusive, first_of_names, group, spreads};
 use std::alloc::AllocError;
 
 /// Lets what stands below two fields wait that don't fail by themselves.

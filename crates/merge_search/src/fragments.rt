@@ -1,19 +1,20 @@
 //! The steps of a search that compare fragments.
 ghost use Rattle.std.specs.Prelude.{◌≡◌, ◌*◌, ◌<◌, OnOk, length};
-ghost use Rattle.merge_search.specs.World.{world};
+ghost use Rattle.merge_sets.specs.World.{world};
 ghost use Rattle.merge_search.specs.Tasks.{Meets, MeetsFragments, MeetsOne, MeetsPartner, MeetsSearch, Turns};
 ghost use Rattle.merge_search.specs.Spending.{Pays, stray_weight, task_cost};
 ghost use Rattle.merge_search.specs.Weight.{weight};
 ghost use Rattle.merge_search.specs.declared.task.Task.{Task};
 
 use crate::fields::next_own;
-use crate::graph::Graph;
-use crate::judge::Judge;
-use crate::opening::{Opening, opened};
+use crate::opening::opened;
 use crate::repeats::{Seeker, is_settled};
 use crate::state::{Search, is_compared, note_pair, note_search, put_opening};
 use crate::task::{Partner, Task, wait};
-use crate::view::{set, spreads};
+use merge_sets::graph::Graph;
+use merge_sets::judge::Judge;
+use merge_sets::opening::Opening;
+use merge_sets::view::{set, spreads};
 use std::alloc::AllocError;
 use std::slice;
 

@@ -7,28 +7,28 @@ ghost use Rattle.std.specs.Bool.{OnTrue};
 ghost use Rattle.std.specs.List.{All, Contains};
 ghost use Rattle.bit_matrix.specs.Set.{has};
 ghost use Rattle.bit_matrix.specs.declared.set.BitSet.{BitSet};
-ghost use Rattle.merge_search.specs.World.{world, own_of, spreads_of};
-ghost use Rattle.merge_search.specs.Opening.{ReachedFrom};
+ghost use Rattle.merge_sets.specs.World.{world, own_of, spreads_of};
+ghost use Rattle.merge_sets.specs.Opening.{ReachedFrom};
 ghost use Rattle.merge_search.specs.Work.{Did};
 ghost use Rattle.merge_search.specs.Reports.{Finds, AtPlaces};
 ghost use Rattle.merge_search.specs.Inner.{IsPart, IsStart, AtLists, AtPart, AtParts};
-ghost use Rattle.merge_search.specs.Plain.{ArePlain};
-ghost use Rattle.merge_search.specs.Clear.{IsSumWithin};
+ghost use Rattle.merge_sets.specs.Plain.{ArePlain};
+ghost use Rattle.merge_sets.specs.Clear.{IsSumWithin};
 ghost use Rattle.merge_search.specs.Spending.{Spends, fragments_weight, inner_cost, inner_set_cost, part_in, top_cost};
 ghost use Rattle.merge_search.specs.Weight.{fields_weight, fragment_weight, weight};
 
 use crate::clear::are_clear;
-use crate::graph::Graph;
-use crate::groups::{fields_named, first_fields, make_set, sorted_fields};
-use crate::judge::Judge;
-use crate::node::{Entry, InnerSet, SetNode};
 use crate::opening::opened;
 use crate::pairs::{compare_each, compare_rest};
-use crate::passing::set_of_numbers;
 use crate::repeats::Seeker;
 use crate::state::{Search, put_opening};
-use crate::view::{group, own, set, spreads};
 use bit_matrix::set::BitSet;
+use merge_sets::graph::Graph;
+use merge_sets::groups::{fields_named, first_fields, make_set, sorted_fields};
+use merge_sets::judge::Judge;
+use merge_sets::node::{Entry, InnerSet, SetNode};
+use merge_sets::numbers::set_of_numbers;
+use merge_sets::view::{group, own, set, spreads};
 use std::alloc::{AllocError, Global};
 
 // The sets of the inline fragments in a set, in the order of a walk.

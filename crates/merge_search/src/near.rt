@@ -5,10 +5,10 @@ ghost use Rattle.bit_matrix.specs.Set.{has};
 ghost use Rattle.merge_search.specs.Near.{IsApartRow, IsNear, listed_at};
 ghost use Rattle.merge_search.specs.Quiet.{AreKept};
 
-use crate::groups::{fields_named, make_set, sorted_fields};
-use crate::node::{Entry, SetNode};
 use crate::touched::{Touched, names_at};
 use bit_matrix::set::BitSet;
+use merge_sets::groups::{fields_named, make_set, sorted_fields};
+use merge_sets::node::{Entry, SetNode};
 use std::alloc::{AllocError, Global};
 
 /// The places by the names that are listed there, and those of which nothing is told.

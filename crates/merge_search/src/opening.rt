@@ -1,61 +1,18 @@
 //! The fragments that a search opens, each once.
-ghost use Rattle.std.specs.Prelude.{◌≡◌, ◌<◌, ◌∷◌, [], ℕ, false, OnOk, IfOk, length};
+ghost use Rattle.std.specs.Prelude.{◌<◌, OnOk, IfOk, length};
 ghost use Rattle.std.specs.List.{All};
-ghost use Rattle.bit_matrix.specs.Set.{has};
-ghost use Rattle.merge_search.specs.World.{world};
-ghost use Rattle.merge_search.specs.Opening.{Opens, WasSearched};
-ghost use Rattle.merge_search.specs.Sound.{Gains, GoesOn};
+ghost use Rattle.merge_sets.specs.World.{world};
+ghost use Rattle.merge_sets.specs.Opening.{Opens};
+ghost use Rattle.merge_search.specs.Repeats.{WasSearched};
+ghost use Rattle.merge_sets.specs.Sound.{GoesOn};
 ghost use Rattle.merge_search.specs.State.{CountsList};
 
-use crate::graph::Graph;
-use crate::judge::Judge;
 use crate::repeats::{Seeker, is_passed};
 use crate::state::{Search, count_list, take_opening};
-use crate::view::{set, spreads};
-use bit_matrix::set::BitSet;
-use std::alloc::{AllocError, Global};
-
-/// The fragments that are open, in order, and those whose spreads wait.
-#[derive(Drop)]
-pub struct Opening {
-    pub seen: BitSet,
-    pub order: Vec<usize>,
-    pub waiting: Vec<usize>,
-}
-
-/// No fragment is open.
-pub(crate) fn no_opening(alloc: Global) -> Opening
-    ensures seen { (h : ℕ) → has result.seen h ≡ false }
-    ensures order { result.order.items ≡ [] }
-    ensures waiting { result.waiting.items ≡ [] }
-{
-    Opening {
-        seen: BitSet::new(alloc),
-        order: Vec::new(alloc),
-        waiting: Vec::new(alloc),
-    }
-}
-
-// Opens a fragment, unless it is open.
-fn open(opening: &mut Opening, f: usize) -> Result<(), AllocError>
-    ensures { OnOk result (Gains (f ∷ []) (f ∷ []) opening.old opening.new) }
-{
-    if opening.seen.insert(f)? {
-        opening.order.push(f)?;
-        opening.waiting.push(f)?;
-    }
-    Ok(())
-}
-
-// Opens some fragments.
-fn open_all(fragments: &[usize], opening: &mut Opening) -> Result<(), AllocError>
-    ensures { OnOk result (Gains fragments.now fragments.now opening.old opening.new) }
-{
-    for f in fragments {
-        open(opening, *f)?;
-    }
-    Ok(())
-}
+use merge_sets::graph::Graph;
+use merge_sets::judge::Judge;
+use merge_sets::opening::{Opening, close_all, follow, open_all};
+use std::alloc::AllocError;
 
 // Opens the fragments that one spreads, unless a search need not go on with them.
 fn go_on<J: Judge>(
@@ -71,18 +28,7 @@ fn go_on<J: Judge>(
     if is_passed(search, seeker, f) {
         return Ok(());
     }
-    open_all(spreads(graph, set(graph, f)), opening)
-}
-
-// Closes all that is open. The room stays, for the next search.
-fn close_all(opening: &mut Opening)
-    ensures seen { (h : ℕ) → has opening.new.seen h ≡ false }
-    ensures order { opening.new.order.items ≡ [] }
-    ensures waiting { opening.new.waiting.items ≡ [] }
-{
-    opening.seen.clear();
-    opening.order.clear();
-    opening.waiting.clear();
+    follow(graph, f, opening)
 }
 
 /// Opens what some fragments reach, but for what a search need not go on with, and nothing else.

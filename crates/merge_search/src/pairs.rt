@@ -2,10 +2,10 @@
 ghost use Rattle.std.specs.Prelude.{◌*◌, OnOk, false};
 ghost use Rattle.std.specs.Bool.{OnTrue};
 ghost use Rattle.std.specs.List.{All};
-ghost use Rattle.merge_search.specs.World.{world};
-ghost use Rattle.merge_search.specs.Clear.{AreClear, AreOthers, IsSumWithin};
-ghost use Rattle.merge_search.specs.Kinds.{NeverFailsWith};
-ghost use Rattle.merge_search.specs.Plain.{ArePlain};
+ghost use Rattle.merge_sets.specs.World.{world};
+ghost use Rattle.merge_sets.specs.Clear.{AreClear, AreOthers, IsSumWithin};
+ghost use Rattle.merge_sets.specs.Kinds.{NeverFailsWith};
+ghost use Rattle.merge_sets.specs.Plain.{ArePlain};
 ghost use Rattle.merge_search.specs.Work.{Did, Done};
 ghost use Rattle.merge_search.specs.Reports.{FindsAll};
 ghost use Rattle.merge_search.specs.Spending.{Spends};
@@ -14,15 +14,15 @@ ghost use Rattle.merge_search.specs.Tops.{AllBefore, AtBefore, AtRest};
 
 use crate::below::{known_below, others_from};
 use crate::failing::numbered_kinds;
-use crate::graph::Graph;
-use crate::judge::Judge;
-use crate::kinds::agreeing_rows;
-use crate::node::Entry;
-use crate::plain::{are_plain_below, is_plain_below};
 use crate::search::compare_fields;
-use crate::state::Search;
-use crate::view::{agree_plainly, is_full};
+use crate::state::{Search, is_full};
 use bit_matrix::set::BitSet;
+use merge_sets::graph::Graph;
+use merge_sets::judge::Judge;
+use merge_sets::kinds::agreeing_rows;
+use merge_sets::node::Entry;
+use merge_sets::plain::{are_plain_below, is_plain_below};
+use merge_sets::view::agree_plainly;
 use std::alloc::AllocError;
 
 /// Compares a field with some others.

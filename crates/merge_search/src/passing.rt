@@ -3,18 +3,19 @@
 ghost use Rattle.std.specs.Prelude.{◌≡◌, ◌<◌, ℕ, OnOk, IfOk, length, true, false};
 ghost use Rattle.std.specs.List.{All, Contains};
 ghost use Rattle.bit_matrix.specs.Set.{has};
-ghost use Rattle.merge_search.specs.World.{world, set_of};
+ghost use Rattle.merge_sets.specs.World.{world, set_of};
 ghost use Rattle.merge_search.specs.Spending.{Spends};
 ghost use Rattle.merge_search.specs.Work.{Did, Pair};
-ghost use Rattle.merge_search.specs.Plain.{ArePlain, IsOnePlain};
-ghost use Rattle.merge_search.specs.Merging.{MergeWritten};
+ghost use Rattle.merge_sets.specs.Plain.{ArePlain, IsOnePlain};
+ghost use Rattle.merge_sets.specs.Merging.{MergeWritten};
 ghost use Rattle.merge_search.specs.Tops.{AllBefore, MarkedDone};
 
-use crate::graph::Graph;
-use crate::judge::Judge;
-use crate::plain::is_plain;
 use crate::state::{Search, is_compared, note_below, note_pair};
 use bit_matrix::set::BitSet;
+use merge_sets::graph::Graph;
+use merge_sets::judge::Judge;
+use merge_sets::numbers::set_of_numbers;
+use merge_sets::plain::is_plain;
 use std::alloc::{AllocError, Global};
 
 /// Passes over two fragments of which one is plain: there is nothing to find, so it only notes that they were compared.
@@ -38,22 +39,6 @@ pub(crate) fn pass_over<J: Judge>(
         return Ok(());
     }
     note_pair(search, f, g, false)
-}
-
-/// Some numbers as a set.
-///
-/// # Errors
-///
-/// Out of memory.
-pub(crate) fn set_of_numbers(alloc: Global, list: &[usize]) -> Result<BitSet, AllocError>
-    ensures all { IfOk result (λ set. All (λ g. has set g ≡ true) list.now) }
-    ensures only { IfOk result (λ set. (g : ℕ) → has set g ≡ true → Contains list.now g) }
-{
-    let mut set = BitSet::new(alloc);
-    for number in list {
-        set.insert(*number)?;
-    }
-    Ok(set)
 }
 
 // Notes a fragment, if it is plain, with those of some others that have smaller numbers.

@@ -5,23 +5,22 @@
 ghost use Rattle.std.specs.Prelude.{◌≡◌, ◌<◌, ◌⊎◌, ℕ, Bool, IfOk, IfSome, OnOk, false, length, true};
 ghost use Rattle.std.specs.Bool.{OnTrue};
 ghost use Rattle.std.specs.List.{All, Contains};
-ghost use Rattle.merge_search.specs.Judgement.{NoneConflict};
+ghost use Rattle.merge_sets.specs.Judgement.{NoneConflict};
 ghost use Rattle.bit_matrix.specs.Set.{has};
 ghost use Rattle.merge_search.specs.Quiet.{AllMergeBut, AllQuiet, AllQuietBut, AreKept, AreWrittenOut, Covers};
 ghost use Rattle.merge_search.specs.Quiet.{HoldAll, IsFrom};
-ghost use Rattle.merge_search.specs.World.{world, own_of, set_of, spreads_of};
+ghost use Rattle.merge_sets.specs.World.{world, own_of, set_of, spreads_of};
 
-use crate::graph::Graph;
-use crate::groups::{fields_named, first_fields, make_set, sorted_fields};
-use crate::judge::Judge;
-use crate::kinds::agree_together;
-use crate::node::{Entry, SetNode};
-use crate::opening::{no_opening, open_from};
-use crate::repeats::Seeker;
 use crate::state::Search;
 use crate::unions::{Union, unions_below};
-use crate::view::{agree_plainly, own, set, spreads};
 use bit_matrix::set::BitSet;
+use merge_sets::graph::Graph;
+use merge_sets::groups::{fields_named, first_fields, make_set, sorted_fields};
+use merge_sets::judge::Judge;
+use merge_sets::kinds::agree_together;
+use merge_sets::node::{Entry, SetNode};
+use merge_sets::opening::{no_opening, open_reached};
+use merge_sets::view::{agree_plainly, own, set, spreads};
 use std::alloc::{AllocError, Global};
 
 // The fragments that some sets spread.
@@ -78,7 +77,7 @@ fn written_out<J: Judge>(
     }
     let mut written = Vec::from_slice(search.alloc, sets)?;
     let mut opening = no_opening(search.alloc);
-    open_from(graph, starts.as_slice(), Seeker::Top, search, &mut opening)?;
+    open_reached(graph, starts.as_slice(), &mut opening)?;
     add_sets(graph, opening.order.as_slice(), &mut written)?;
     Ok(Some(written))
 }

@@ -5,18 +5,18 @@
 //! taking long.
 ghost use Rattle.std.specs.Prelude.{◌≡◌, ◌+◌, ◌<◌, ◌≤◌, false, true};
 ghost use Rattle.merge_search.specs.Log.{covers_of};
-ghost use Rattle.merge_search.specs.Opening.{WasSearched};
+ghost use Rattle.merge_search.specs.Repeats.{WasSearched};
 ghost use Rattle.merge_search.specs.Counts.{most_repeats};
 ghost use Rattle.merge_search.specs.Spending.{MayAsk};
 ghost use Rattle.merge_search.specs.Weight.{field_weight, weight};
 ghost use Rattle.merge_search.specs.Work.{search_in};
-ghost use Rattle.merge_search.specs.World.{world};
+ghost use Rattle.merge_sets.specs.World.{world};
 
-use crate::graph::Graph;
-use crate::judge::Judge;
-use crate::node::Entry;
 use crate::state::{Search, is_searched};
-use crate::view::{own, set};
+use merge_sets::graph::Graph;
+use merge_sets::judge::Judge;
+use merge_sets::node::Entry;
+use merge_sets::view::{own, set};
 
 /// The most searches below fields that are repeated in one document.
 pub const REPEATS: usize = 100;

@@ -2,7 +2,7 @@
 //! enough was found, it is passed over.
 ghost use Rattle.std.specs.Prelude.{◌≡◌, ◌∷◌, ◌*◌, ◌<◌, OnOk, length, reverse};
 ghost use Rattle.std.specs.Bool.{OnTrue};
-ghost use Rattle.merge_search.specs.World.{world};
+ghost use Rattle.merge_sets.specs.World.{world};
 ghost use Rattle.merge_search.specs.State.{Keeps};
 ghost use Rattle.merge_search.specs.Work.{Did, Done, Pair, OwnPairs};
 ghost use Rattle.merge_search.specs.Reports.{Finds, FindsAll, AtFields, AtOwn, AtFragments};
@@ -13,13 +13,12 @@ ghost use Rattle.merge_search.specs.declared.state.Search.{Search};
 
 use crate::fields::{begin_below, close, next_listed, next_own, next_row, next_with};
 use crate::fragments::{begin_fragments, next_opened, next_spread};
-use crate::graph::Graph;
-use crate::judge::Judge;
-use crate::node::Entry;
 use crate::settle::settle;
-use crate::state::{Search, note_conflicts};
+use crate::state::{Search, is_full, note_conflicts};
 use crate::task::{Task, put_tasks, take_tasks};
-use crate::view::is_full;
+use merge_sets::graph::Graph;
+use merge_sets::judge::Judge;
+use merge_sets::node::Entry;
 use std::alloc::AllocError;
 
 /// Compares two fields of one response name.

@@ -2,18 +2,19 @@
 ghost use Rattle.std.specs.Prelude.{◌≡◌, ◌*◌, ◌≤◌, IfOk, OnOk, Some, false, length, slice_get};
 ghost use Rattle.std.specs.Bool.{OnTrue};
 ghost use Rattle.merge_search.specs.Settle.{AgreesWith, AgreeFlatly, IsSpreadless, Settles};
-ghost use Rattle.merge_search.specs.Clear.{IsClearBelow};
+ghost use Rattle.merge_sets.specs.Clear.{IsClearBelow};
 ghost use Rattle.merge_search.specs.Tasks.{MeetsList};
 ghost use Rattle.merge_search.specs.Spending.{Compares, ComparesUpto, CountsAtLeast, LooksFlatly, open_cost, settle_cost};
 ghost use Rattle.merge_search.specs.State.{Keeps};
-ghost use Rattle.merge_search.specs.World.{world, conflict_of, own_of, HasRoom, Same};
+ghost use Rattle.merge_sets.specs.World.{world, conflict_of, own_of, HasRoom, Same};
 ghost use Rattle.merge_search.specs.declared.state.Search.{Search};
 
-use crate::graph::Graph;
-use crate::judge::Judge;
-use crate::node::Entry;
-use crate::state::{Finding, Search, count_fields, report};
-use crate::view::{are_exclusive, are_in_conflict, are_leaves, is_full, own, spreads};
+use crate::state::{Search, count_fields, is_full, report};
+use merge_sets::finding::Finding;
+use merge_sets::graph::Graph;
+use merge_sets::judge::Judge;
+use merge_sets::node::Entry;
+use merge_sets::view::{are_exclusive, are_in_conflict, are_leaves, own, spreads};
 use std::alloc::AllocError;
 
 // Of more fields each two are not looked at.

@@ -1,26 +1,21 @@
 //! The state of a search: what it has found and noted.
 ghost use Rattle.std.specs.Prelude.{◌≡◌, ◌≤◌, ◌++◌, ◌∷◌, [], OnOk, ℕ, Bool, false, max, min, length};
+ghost use Rattle.std.specs.Bool.{OnTrue};
 ghost use Rattle.bit_matrix.specs.Set.{has};
+ghost use Rattle.merge_sets.specs.World.{HasRoom, world};
 ghost use Rattle.merge_search.specs.Log.{covers_of};
 ghost use Rattle.merge_search.specs.Work.{pair_in, search_in};
 ghost use Rattle.merge_search.specs.State.{Begins, NotesBelow, NotesPair, NotesSearch, Reports, CountsList, Keeps};
 ghost use Rattle.merge_search.specs.State.{CountsFields, CountsStay};
 
 use crate::log::{Log, is_in, no_questions, note};
-use crate::node::Entry;
-use crate::opening::{Opening, no_opening};
 use crate::task::Task;
 use bit_matrix::set::BitSet;
+use merge_sets::finding::Finding;
+use merge_sets::graph::Graph;
+use merge_sets::judge::Judge;
+use merge_sets::opening::{Opening, no_opening};
 use std::alloc::{AllocError, Global};
-
-/// What was found, in postfix order: a nested conflict stands after those below it, with their number.
-///
-/// A direct one has the flag under which its two fields conflict.
-#[derive(Clone, Copy, Debug)]
-pub enum Finding {
-    Direct(Entry, Entry, bool),
-    Nested(Entry, Entry, usize),
-}
 
 /// The state of a search.
 #[derive(Drop)]
@@ -189,4 +184,11 @@ pub fn count_list(search: &mut Search, opened: usize)
 {
     search.lists = search.lists.saturating_add(1);
     search.opened = search.opened.saturating_add(opened as u128);
+}
+
+/// Whether enough was found.
+pub fn is_full<J: Judge>(graph: &Graph<J>, search: &Search) -> bool
+    ensures { OnTrue result (HasRoom (world J.judgement graph.now) search.now.found.items → ⊥) }
+{
+    graph.limit != 0 && search.found.len() >= graph.limit
 }

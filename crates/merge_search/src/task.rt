@@ -1,15 +1,15 @@
 //! What a search still has to do.
 ghost use Rattle.std.specs.Prelude.{◌≡◌, [], OnOk, reverse};
-ghost use Rattle.merge_search.specs.World.{World};
+ghost use Rattle.merge_sets.specs.World.{World};
 ghost use Rattle.merge_search.specs.Spending.{CostsMore, task_cost};
 ghost use Rattle.merge_search.specs.State.{CountsStay, Keeps};
 ghost use Rattle.merge_search.specs.Tasks.{Meets, Waits};
 ghost use Rattle.merge_search.specs.declared.state.Search.{Search};
 
-use crate::node::Entry;
-use crate::opening::Opening;
 use crate::state::Search;
 use crate::two_sets::Rows;
+use merge_sets::node::Entry;
+use merge_sets::opening::Opening;
 use std::alloc::AllocError;
 use std::mem;
 

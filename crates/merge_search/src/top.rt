@@ -2,11 +2,11 @@
 ghost use Rattle.std.specs.Prelude.{◌≡◌, ◌<◌, ◌≤◌, ◌*◌, ◌-◌, ◌∷◌, [], ℕ, List, OnOk, IfOk, length, false};
 ghost use Rattle.std.specs.Bool.{OnTrue};
 ghost use Rattle.std.specs.List.{All};
-ghost use Rattle.merge_search.specs.World.{world, HasRoom, set_of, spreads_of};
-ghost use Rattle.merge_search.specs.Opening.{Opens};
+ghost use Rattle.merge_sets.specs.World.{world, HasRoom, set_of, spreads_of};
+ghost use Rattle.merge_sets.specs.Opening.{Opens};
 ghost use Rattle.merge_search.specs.Work.{Did, OwnPairs, Pair};
 ghost use Rattle.merge_search.specs.Reports.{Finds, FindsAll, AtFragments, AtPlaces, Judged};
-ghost use Rattle.merge_search.specs.Plain.{ArePlain};
+ghost use Rattle.merge_sets.specs.Plain.{ArePlain};
 ghost use Rattle.merge_search.specs.Quiet.{AreQuiet};
 ghost use Rattle.merge_search.specs.Tops.{AddsUnmarked, AllBefore, AreAllBut, AtListed, AtSpread, AtSpreads, AtTop};
 ghost use Rattle.merge_search.specs.Tops.{AtTwo, AtWithin, MarkedDone, OwnWithin, OwnWritten, SpreadDone, Together};
@@ -15,20 +15,20 @@ ghost use Rattle.merge_search.specs.Spending.{Spends, fragments_weight, search_c
 ghost use Rattle.merge_search.specs.Weight.{weight};
 
 use crate::clear::MANY;
-use crate::graph::Graph;
 use crate::inner::search_inner;
-use crate::judge::Judge;
 use crate::opening::opened;
 use crate::pairs::compare_each;
 use crate::passing::{note_merged, note_plain, pass_over};
-use crate::plain::{is_plain, passed_over};
 use crate::quiet::are_quiet;
 use crate::repeats::Seeker;
 use crate::search::{compare_fragments, compare_own};
-use crate::state::{Search, no_search, put_opening};
+use crate::state::{Search, is_full, no_search, put_opening};
 use crate::unions::Union;
-use crate::view::{firsts, group, is_full, order, own, set, spreads};
 use bit_matrix::set::BitSet;
+use merge_sets::graph::Graph;
+use merge_sets::judge::Judge;
+use merge_sets::plain::{is_plain, passed_over};
+use merge_sets::view::{firsts, group, order, own, set, spreads};
 use std::alloc::{AllocError, Global};
 
 // Compares the own fields of a set, by response names.

@@ -9,16 +9,16 @@ ghost use Rattle.bit_matrix.specs.Set.{has};
 ghost use Rattle.merge_search.specs.Quiet.{AreKept};
 ghost use Rattle.merge_search.specs.Touched.{AreApartAt, AreListedAt, AreTouched, IsFreeOf, KnowsTouched, ListsAll};
 ghost use Rattle.merge_search.specs.Touched.{ListsBelow, told_at};
-ghost use Rattle.merge_search.specs.World.{world};
+ghost use Rattle.merge_sets.specs.World.{world};
 
-use crate::graph::Graph;
-use crate::judge::Judge;
-use crate::node::Entry;
 use crate::quiet::{add_sets, are_quiet_but, none_apart};
 use crate::state::Search;
 use crate::unions::{sets_below, unions_below};
-use crate::view::{own, spreads};
 use bit_matrix::set::BitSet;
+use merge_sets::graph::Graph;
+use merge_sets::judge::Judge;
+use merge_sets::node::Entry;
+use merge_sets::view::{own, spreads};
 use std::alloc::{AllocError, Global};
 
 // Where more of the names stand below a field, nothing is told of it.

@@ -1,18 +1,18 @@
 //! The fields of one response name of two sets: each of the one is compared with those of the other that it isn't known
 //! to merge with.
 ghost use Rattle.std.specs.Prelude.{◌≡◌, IfOk, Some, slice_get};
-ghost use Rattle.merge_search.specs.Clear.{AreClearRows, AreOthers, IsSumWithin};
+ghost use Rattle.merge_sets.specs.Clear.{AreClearRows, AreOthers, IsSumWithin};
 ghost use Rattle.merge_search.specs.TwoSets.{KnowsRows, rights_of};
-ghost use Rattle.merge_search.specs.World.{world};
-ghost use Rattle.merge_search.specs.declared.node.Entry.{Entry};
+ghost use Rattle.merge_sets.specs.World.{world};
+ghost use Rattle.merge_sets.specs.declared.node.Entry.{Entry};
 
 use crate::below::{Below, known_below, others_from};
 use crate::failing::{Numbered, numbered_kinds};
-use crate::graph::Graph;
-use crate::judge::Judge;
-use crate::node::Entry;
 use crate::state::Search;
 use bit_matrix::set::BitSet;
+use merge_sets::graph::Graph;
+use merge_sets::judge::Judge;
+use merge_sets::node::Entry;
 use std::alloc::{AllocError, Global};
 
 /// The fields of the one set, and what is known of them: which merge with all of the other set, and of each two what

@@ -6,15 +6,15 @@
 ghost use Rattle.std.specs.Prelude.{◌≡◌, ◌⊎◌, [], IfOk, OnOk, false};
 ghost use Rattle.std.specs.Bool.{OnTrue};
 ghost use Rattle.std.specs.List.{All, Contains};
-ghost use Rattle.merge_search.specs.Names.{named};
+ghost use Rattle.merge_sets.specs.Names.{named};
 ghost use Rattle.merge_search.specs.Quiet.{HoldBelow};
 ghost use Rattle.merge_search.specs.Unions.{AllJoined, AllJoinedFlat, HasUnion, HaveUnions, UnionsKept, under_object};
-ghost use Rattle.merge_search.specs.World.{world};
+ghost use Rattle.merge_sets.specs.World.{world};
 
-use crate::graph::Graph;
-use crate::groups::{fields_named, first_fields, make_set, sorted_fields};
-use crate::judge::Judge;
-use crate::node::{Entry, SetNode};
+use merge_sets::graph::Graph;
+use merge_sets::groups::{fields_named, first_fields, make_set, sorted_fields};
+use merge_sets::judge::Judge;
+use merge_sets::node::{Entry, SetNode};
 use std::alloc::{AllocError, Global};
 
 /// Sets whose fields are compared with each other, under each flag from this one on.

@@ -18,7 +18,7 @@ use Rattle.meta.specs.declared.kinds.MetaTypeOf.{MetaTypeOf}
 use Rattle.schema.specs.Catalog.{Catalog}
 use Rattle.merge_field_pairs.specs.Entries.{PlainEntry}
 use Rattle.merge_field_pairs.specs.OwnFields.{Placed, entry_under, type_inside, type_below}
-use Rattle.merge_search.specs.declared.node.Entry.{Entry as OwnField}
+use Rattle.merge_sets.specs.declared.node.Entry.{Entry as OwnField}
 use Rattle.merge_set_table.specs.declared.table.NumberedSet.{NumberedSet}
 use Rattle.merge_set_table.specs.declared.table.Table.{Table}
 use Rattle.merge_set_table.specs.Once.{is_among}

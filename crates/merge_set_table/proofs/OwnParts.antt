@@ -12,7 +12,7 @@ use Rattle.schema.specs.Catalog.{Catalog}
 use Rattle.merge_field_pairs.specs.Entries.{PlainEntry}
 use Rattle.merge_field_pairs.specs.OwnFields.{Names, own_fields, own_fields_of, own_spreads, own_spreads_of}
 use Rattle.merge_field_pairs.proofs.OwnFieldLaws.{own_fields_of-Field, own_fields_of-Spread, own_fields_of-Inline, own_spreads_of-Field, own_spreads_of-Spread, own_spreads_of-Inline}
-use Rattle.merge_search.specs.declared.node.Entry.{Entry as OwnField}
+use Rattle.merge_sets.specs.declared.node.Entry.{Entry as OwnField}
 use Rattle.merge_set_table.specs.Table.{Numbered}
 use Rattle.merge_set_table.specs.Represents.{Represents, nothing, join, leaf, field, spread, unknown, inline}
 use Rattle.merge_set_table.specs.OwnParts.{without_set, with_set, AreFieldsOf, no_fields, more_fields, AreNumbersOf}

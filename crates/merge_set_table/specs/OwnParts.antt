@@ -7,7 +7,7 @@ use Rattle.language.specs.declared.tree.Selection.{Selection}
 use Rattle.schema.specs.Catalog.{Catalog}
 use Rattle.merge_field_pairs.specs.Entries.{PlainEntry}
 use Rattle.merge_field_pairs.specs.OwnFields.{type_below, Names}
-use Rattle.merge_search.specs.declared.node.Entry.{Entry as OwnField}
+use Rattle.merge_sets.specs.declared.node.Entry.{Entry as OwnField}
 use Rattle.merge_set_table.specs.Once.{is_among}
 use Rattle.merge_set_table.specs.Table.{Numbered, IsOwnField}
 use Rattle.merge_set_table.specs.Represents.{IsSetOf}

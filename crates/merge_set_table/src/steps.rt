@@ -11,7 +11,7 @@ use crate::once::each_once;
 use crate::table::{NumberedSet, Table};
 use language::error::OutOfMemory;
 use merge_field_pairs::entry::Entry;
-use merge_search::node::{Entry as OwnField, InnerSet};
+use merge_sets::node::{Entry as OwnField, InnerSet};
 use std::alloc::Global;
 
 /// An empty set, with room for `room` fields, so that its list seldom grows.

@@ -6,7 +6,7 @@ ghost use Rattle.merge_set_table.specs.Sizes.{table_size};
 use crate::names::no_names;
 use crate::responses::ResponseNames;
 use merge_field_pairs::entry::Entry;
-use merge_search::node::{Entry as OwnField, InnerSet};
+use merge_sets::node::{Entry as OwnField, InnerSet};
 use std::alloc::{AllocError, Global};
 
 /// A set: its own fields, and the numbers of the fragments that it spreads.

@@ -11,8 +11,8 @@ use Rattle.merge_graph.specs.Definitions.{fragment_count}
 use Rattle.merge_conflicts.specs.Reports as trees
 use Rattle.merge_conflicts.specs.Reports.{AreReportsOf, Reports, count_of, none, postfix}
 use Rattle.merge_field_pairs.specs.Entries.{PlainEntry}
-use Rattle.merge_search.specs.declared.node.Entry.{Entry}
-use Rattle.merge_search.specs.declared.state.Finding.TheVariants.{Nested}
+use Rattle.merge_sets.specs.declared.node.Entry.{Entry}
+use Rattle.merge_sets.specs.declared.finding.Finding.TheVariants.{Nested}
 use Rattle.merge_conflicts.specs.Texts.{errors_of}
 use Rattle.merge_document.specs.Conflicts.{true_none}
 use Rattle.merge_document.specs.Found.{IsFinished, IsJudged, AreTogether}

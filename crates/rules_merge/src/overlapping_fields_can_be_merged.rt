@@ -10,7 +10,7 @@ ghost use Rattle.rules_document.specs.AtDocument.{document_step, given_at_end};
 ghost use Rattle.rules_document.specs.AtDocumentLaws.{document_keeps};
 ghost use Rattle.fragment_graph.specs.DocumentCycles.{SearchedDocument};
 ghost use Rattle.merge_field_pairs.specs.Entries.{PlainEntry, plain};
-ghost use Rattle.merge_search.specs.declared.node.Entry.{Entry};
+ghost use Rattle.merge_sets.specs.declared.node.Entry.{Entry};
 ghost use Rattle.merge_conflicts.specs.Reports.{Reports, postfix, AreReportsOf};
 ghost use Rattle.merge_conflicts.specs.Telling.{IsToldOf};
 ghost use Rattle.merge_conflicts.specs.Texts.{Told, error_of, errors_of};

@@ -1,6 +1,6 @@
 use Rattle.std.proofs.Common.{◌≡◌, ◌≤◌, List, ◌++◌, length, reverse}
 use Rattle.std.specs.List.{All}
-use Rattle.merge_search.specs.declared.node.Entry.{Entry}
+use Rattle.merge_sets.specs.declared.node.Entry.{Entry}
 use Rattle.merge_conflicts.specs.declared.parts.Part.{Part}
 use Rattle.merge_conflicts.specs.Reports.{Reports, postfix}
 use Rattle.merge_conflicts.specs.Parts.{ArePartsOf, extent}

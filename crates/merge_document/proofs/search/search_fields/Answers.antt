@@ -3,8 +3,8 @@ use Rattle.std.specs.Option.{IsSome}
 use Rattle.fragment_graph.specs.DocumentCycles.{HasNoCycle}
 use Rattle.merge_field_pairs.specs.Entries.{plain}
 use Rattle.merge_field_pairs.specs.Numbered.{AreTidy}
-use Rattle.merge_search.specs.Judgement.{Lawful}
-use Rattle.merge_search.specs.World.{world}
+use Rattle.merge_sets.specs.Judgement.{Lawful}
+use Rattle.merge_sets.specs.World.{world}
 use Rattle.merge_search.specs.Reports.{Judged}
 use Rattle.merge_graph.specs.Definitions.{fragment_count}
 use Rattle.merge_graph.specs.DocumentGraph.{IsGraphOf}

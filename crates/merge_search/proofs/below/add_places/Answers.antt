@@ -2,9 +2,9 @@ use Rattle.std.proofs.Common.{◌≡◌, ℕ, Some, slice_get, subst}
 use Rattle.std.specs.Bool.{OnTrue}
 use Rattle.std.specs.List.{All, Contains}
 use Rattle.std.proofs.lemmas.List.Elements.{All-contains}
-use Rattle.merge_search.specs.declared.node.Entry.{Entry}
-use Rattle.merge_search.specs.Clear.{AreClearBelow}
-use Rattle.merge_search.specs.World.{world}
+use Rattle.merge_sets.specs.declared.node.Entry.{Entry}
+use Rattle.merge_sets.specs.Clear.{AreClearBelow}
+use Rattle.merge_sets.specs.World.{world}
 use Rattle.merge_search.proofs.below.add_places.Goals as goal
 
 pub returns : goal.returns

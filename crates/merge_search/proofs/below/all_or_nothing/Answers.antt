@@ -1,6 +1,6 @@
 use Rattle.std.proofs.Common.{inl, inr}
 use Rattle.bit_matrix.specs.Set.{has}
-use Rattle.merge_search.proofs.Laws.{clash}
+use Rattle.merge_sets.proofs.Laws.{clash}
 use Rattle.merge_search.proofs.Touching.{none_at}
 use Rattle.merge_search.proofs.below.all_or_nothing.Goals as goal
 

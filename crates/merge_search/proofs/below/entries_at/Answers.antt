@@ -3,8 +3,8 @@ use Rattle.std.specs.List.{All, Contains}
 use Rattle.std.proofs.lemmas.List.{take_all}
 use Rattle.std.proofs.lemmas.List.Elements.{All-more, All-weaker, Contains-append_left, Contains-push}
 use Rattle.std.proofs.lemmas.Option.{get_or_from_slice_get, slice_get_within}
-use Rattle.merge_search.specs.declared.node.Entry.{Entry}
-use Rattle.merge_search.proofs.Work.{no_entry}
+use Rattle.merge_sets.specs.declared.node.Entry.{Entry}
+use Rattle.merge_sets.proofs.OneName.{no_entry}
 use Rattle.merge_search.proofs.below.entries_at.Goals as goal
 use Rattle.merge_search.proofs.below.entries_at.Goals.{then-place-fields+in_ok-push, else-place-fields}
 

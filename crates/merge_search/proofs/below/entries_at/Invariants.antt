@@ -1,6 +1,6 @@
 use Rattle.std.proofs.Common.{◌≡◌, Some, take, slice_get}
 use Rattle.std.specs.List.{All, Contains}
-use Rattle.merge_search.specs.declared.node.Entry.{Entry}
+use Rattle.merge_sets.specs.declared.node.Entry.{Entry}
 use Rattle.merge_search.proofs.below.entries_at.Given as goal
 
 abbrev pub invariant-loop-place : goal.invariant-loop-place

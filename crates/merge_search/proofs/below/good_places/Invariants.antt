@@ -1,5 +1,5 @@
-use Rattle.merge_search.specs.Clear.{MergeBelow}
-use Rattle.merge_search.specs.World.{world}
+use Rattle.merge_sets.specs.Clear.{MergeBelow}
+use Rattle.merge_sets.specs.World.{world}
 use Rattle.merge_search.proofs.below.good_places.Given as goal
 
 abbrev pub invariant-loop-left : goal.invariant-loop-left

@@ -1,7 +1,7 @@
 use Rattle.std.proofs.Common.{subst}
 use Rattle.std.specs.Bool.{OnTrue}
 use Rattle.merge_search.specs.Failing.{AgreesBy}
-use Rattle.merge_search.proofs.Laws.{on_true_weaker}
+use Rattle.merge_sets.proofs.Laws.{on_true_weaker}
 use Rattle.merge_search.proofs.below.is_passed.Goals as goal
 
 pub returns : goal.returns

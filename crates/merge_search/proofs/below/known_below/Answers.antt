@@ -1,8 +1,8 @@
 use Rattle.std.proofs.Common.{subst}
 use Rattle.std.specs.Bool.{OnTrue}
-use Rattle.merge_search.specs.Clear.{AreClearBelow}
-use Rattle.merge_search.specs.World.{world}
-use Rattle.merge_search.proofs.Order.{at_of}
+use Rattle.merge_sets.specs.Clear.{AreClearBelow}
+use Rattle.merge_sets.specs.World.{world}
+use Rattle.merge_sets.proofs.InOrder.{at_of}
 use Rattle.merge_search.proofs.below.known_below.Goals as goal
 
 pub returns-then-fields-lt-WIDE-clause-knows : goal.returns-then-fields-lt-WIDE-clause-knows

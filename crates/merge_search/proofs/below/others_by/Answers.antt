@@ -7,10 +7,10 @@ use Rattle.std.specs.List.{All, Contains}
 use Rattle.std.proofs.lemmas.Bool.{cases_eq}
 use Rattle.std.proofs.lemmas.Option.{get_or_from_slice_get, slice_get-get_or, slice_get_within}
 use Rattle.std.proofs.lemmas.List.Elements.{All-nil, All-push, Contains-append_left, Contains-push}
-use Rattle.merge_search.specs.declared.node.Entry.{Entry}
+use Rattle.merge_sets.specs.declared.node.Entry.{Entry}
 use Rattle.merge_search.specs.Below.{IsPassedAt}
 use Rattle.merge_search.specs.Near.{IsApartRow}
-use Rattle.merge_search.proofs.Work.{no_entry}
+use Rattle.merge_sets.proofs.OneName.{no_entry}
 use Rattle.merge_search.proofs.below.others_by.Goals as goal
 use Rattle.merge_search.proofs.below.others_by.Goals.{then-not-is_passed+in_ok-push, else-not-is_passed}
 

@@ -1,6 +1,6 @@
 use Rattle.std.proofs.Common.{inl, inr, subst}
 use Rattle.merge_search.specs.Failing.{AgreesBy}
-use Rattle.merge_search.specs.Merging.{merges}
+use Rattle.merge_sets.specs.Merging.{merges}
 use Rattle.merge_search.proofs.below.others_from.Goals as goal
 
 pub returns-clause-rest : goal.returns-clause-rest

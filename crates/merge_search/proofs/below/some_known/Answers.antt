@@ -1,7 +1,7 @@
 use Rattle.std.proofs.Common.{ℕ, ◌≡◌, true, inl, inr, subst}
 use Rattle.std.specs.List.{Contains}
 use Rattle.bit_matrix.specs.Set.{has}
-use Rattle.merge_search.proofs.Laws.{clash}
+use Rattle.merge_sets.proofs.Laws.{clash}
 use Rattle.merge_search.proofs.below.some_known.Goals as goal
 
 pub returns-then-branch-clause-knows : goal.returns-then-branch-clause-knows

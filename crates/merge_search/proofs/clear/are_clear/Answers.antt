@@ -1,9 +1,9 @@
 use Rattle.std.proofs.Common.{subst}
 use Rattle.std.specs.Bool.{OnTrue}
-use Rattle.merge_search.specs.Judgement.{NoneConflict}
-use Rattle.merge_search.specs.World.{world}
+use Rattle.merge_sets.specs.Judgement.{NoneConflict}
+use Rattle.merge_sets.specs.World.{world}
 use Rattle.merge_search.proofs.Clearing.{lists_clear}
-use Rattle.merge_search.proofs.Laws.{on_true_weaker}
+use Rattle.merge_sets.proofs.Laws.{on_true_weaker}
 use Rattle.merge_search.proofs.clear.are_clear.Goals as goal
 
 pub returns : goal.returns

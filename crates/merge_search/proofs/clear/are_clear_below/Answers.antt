@@ -1,4 +1,4 @@
-use Rattle.merge_search.specs.World.{world}
+use Rattle.merge_sets.specs.World.{world}
 use Rattle.merge_search.proofs.Clearing.{lefts_below}
 use Rattle.merge_search.proofs.clear.are_clear_below.Goals as goal
 

@@ -1,4 +1,4 @@
-use Rattle.merge_search.specs.World.{world}
+use Rattle.merge_sets.specs.World.{world}
 use Rattle.merge_search.proofs.Clearing.{both_clear, rows_below}
 use Rattle.merge_search.proofs.clear.clear_rows.Goals as goal
 

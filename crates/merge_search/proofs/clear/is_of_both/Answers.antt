@@ -1,5 +1,5 @@
 use Rattle.std.proofs.Common.{inl, inr, sym, ◌∙◌}
-use Rattle.merge_search.proofs.Clearing.{is_leaf}
+use Rattle.merge_sets.proofs.Laws.{is_leaf}
 use Rattle.merge_search.proofs.clear.is_of_both.Goals as goal
 
 pub returns-then-is_none : goal.returns-then-is_none

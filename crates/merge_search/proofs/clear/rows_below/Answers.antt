@@ -1,8 +1,8 @@
 use Rattle.std.proofs.Common.{◌≡◌, ◌+◌, ◌++◌, ◌∙◌, Some, ap, arith, get_or, length, length-append, slice_get, subst, sym}
 use Rattle.std.proofs.lemmas.Result.{IfOk-weaker}
 use Rattle.bit_matrix.specs.Set.{has}
-use Rattle.merge_search.proofs.Laws.{clash}
-use Rattle.merge_search.specs.World.{world}
+use Rattle.merge_sets.proofs.Laws.{clash}
+use Rattle.merge_sets.specs.World.{world}
 use Rattle.merge_search.proofs.Touching.{left_of, right_of}
 use Rattle.merge_search.proofs.clear.rows_below.Goals as goal
 

@@ -1,6 +1,6 @@
 use Rattle.std.proofs.Common.{◌≡◌, ◌⊎◌, ℕ, None, Some, true, slice_get}
 use Rattle.bit_matrix.specs.Set.{has}
-use Rattle.merge_search.specs.declared.node.Entry.{Entry}
+use Rattle.merge_sets.specs.declared.node.Entry.{Entry}
 use Rattle.merge_search.proofs.clear.rows_of_both.Given as goal
 
 abbrev pub invariant-loop-k : goal.invariant-loop-k

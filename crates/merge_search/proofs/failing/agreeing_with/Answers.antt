@@ -1,6 +1,6 @@
 use Rattle.std.proofs.Common.{◌≡◌, None, Some, get_or, length, refl, slice_get, subst}
 use Rattle.std.proofs.lemmas.Option.{slice_get_read}
-use Rattle.merge_search.proofs.OneOfKind.{kinds_agree}
+use Rattle.merge_search.proofs.KindNumbers.{kinds_agree}
 use Rattle.merge_search.specs.Failing.{AgreeKinds}
 use Rattle.merge_search.proofs.failing.agreeing_with.Goals as goal
 

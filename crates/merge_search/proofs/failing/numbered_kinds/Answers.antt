@@ -1,6 +1,6 @@
 use Rattle.std.proofs.Common.{subst}
 use Rattle.merge_search.specs.Failing.{StandFor}
-use Rattle.merge_search.proofs.OneOfKind.{kinds_stand}
+use Rattle.merge_search.proofs.KindNumbers.{kinds_stand}
 use Rattle.merge_search.proofs.failing.numbered_kinds.Goals as goal
 
 pub returns : goal.returns

@@ -1,6 +1,6 @@
 use Rattle.std.proofs.Common.{◌≡◌, ◌+◌, ◌∷◌, [], None, Some, ℕ, ap, arith, get_or, length, length-append, sym, ◌∙◌}
 use Rattle.std.proofs.lemmas.List.{get_or_past}
-use Rattle.merge_search.proofs.OneOfKind.{one_numbered}
+use Rattle.merge_search.proofs.KindNumbers.{one_numbered}
 use Rattle.merge_search.proofs.failing.numbers_of.Goals as goal
 
 none_told : (i : ℕ) → None ≡ Some i → ⊥

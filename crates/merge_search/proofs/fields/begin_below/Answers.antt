@@ -1,6 +1,6 @@
 use Rattle.std.proofs.Common.{arith, inl, inr}
 use Rattle.std.proofs.lemmas.Result.{on_ok_weaker}
-use Rattle.merge_search.specs.World.{world}
+use Rattle.merge_sets.specs.World.{world}
 use Rattle.merge_search.specs.Work.{shallow, deep}
 use Rattle.merge_search.specs.Tasks.{MeetsFields, MeetsNested}
 use Rattle.merge_search.proofs.Work.{did_none, did_map}

@@ -1,6 +1,6 @@
 use Rattle.std.proofs.Common.{◌≡◌, ℕ, arith, length, subst, rules}
 use Rattle.merge_search.specs.declared.task.Task.TheVariants.{Close}
-use Rattle.merge_search.specs.World.{world}
+use Rattle.merge_sets.specs.World.{world}
 use Rattle.merge_search.specs.Tasks.{Meets, MeetsBelow, MeetsNested, Closes}
 use Rattle.merge_search.proofs.Costs.{costs_pushed}
 use Rattle.merge_search.proofs.Leading.{leads_next, waits_pushed}

@@ -1,10 +1,10 @@
 use Rattle.std.proofs.Common.{◌+◌, ◌*◌, ◌<◌, ◌≤◌, drop, length, arith, get_or, rules, subst, sym}
-use Rattle.merge_search.proofs.Work.{no_entry}
+use Rattle.merge_sets.proofs.OneName.{no_entry}
 use Rattle.std.proofs.lemmas.Option.{slice_get-get_or}
 use Rattle.merge_search.specs.declared.task.Task.TheVariants.{Listed}
-use Rattle.merge_search.specs.declared.node.Entry.{Entry}
+use Rattle.merge_sets.specs.declared.node.Entry.{Entry}
 use Rattle.merge_search.specs.declared.state.Search.{Search}
-use Rattle.merge_search.specs.World.{world}
+use Rattle.merge_sets.specs.World.{world}
 use Rattle.merge_search.specs.Tasks.{Meets, MeetsFields, MeetsList}
 use Rattle.merge_search.proofs.Leading.{leads_done, leads_next, leads_turn}
 use Rattle.merge_search.proofs.Steps.{list_end, list_next}

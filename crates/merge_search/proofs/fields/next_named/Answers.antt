@@ -2,21 +2,21 @@ use Rattle.std.proofs.Common.{◌≡◌, ◌*◌, ℕ, length, arith, drop, get_
 use Rattle.std.specs.List.{Contains}
 use Rattle.std.specs.Bool.{OnTrue}
 use Rattle.merge_search.specs.declared.task.Task.TheVariants.{With}
-use Rattle.merge_search.specs.declared.node.Entry.{Entry}
-use Rattle.merge_search.specs.Names.{named}
-use Rattle.merge_search.specs.World.{world, own_of}
-use Rattle.merge_search.specs.Clear.{AreClear, IsClear}
+use Rattle.merge_sets.specs.declared.node.Entry.{Entry}
+use Rattle.merge_sets.specs.Names.{named}
+use Rattle.merge_sets.specs.World.{world, own_of}
+use Rattle.merge_sets.specs.Clear.{AreClear, IsClear}
 use Rattle.merge_search.specs.Reports.{AtWith}
 use Rattle.merge_search.specs.Tasks.{AreClearWith, AtRows, Meets, MeetsBoth, MeetsNamed, MeetsRows, WithDone}
-use Rattle.merge_search.proofs.Work.{no_entry, did_none}
+use Rattle.merge_sets.proofs.OneName.{no_entry, named_is, in_list}
+use Rattle.merge_search.proofs.Work.{did_none}
 use Rattle.merge_search.proofs.Clearing.{named_done, named_tells}
 use Rattle.std.specs.Prelude.{sum_by}
 use Rattle.merge_search.specs.Spending.{CostsMore, name_cost, row_cost}
 use Rattle.merge_search.specs.Weight.{fields_weight}
 use Rattle.merge_search.proofs.Costs.{all_rows, one_row, pays_more, pays_waits}
 use Rattle.merge_search.proofs.Leading.{leads_done, leads_turn}
-use Rattle.merge_search.proofs.Order.{at_of}
-use Rattle.merge_search.proofs.Rows.{named_is, in_list}
+use Rattle.merge_sets.proofs.InOrder.{at_of}
 use Rattle.merge_search.proofs.Steps.{both_named, drop_end, drop_next, each_none, each_next, with_whole, rows_named}
 use Rattle.merge_search.proofs.fields.next_named.Goals as goal
 

@@ -1,10 +1,11 @@
 use Rattle.std.proofs.Common.{◌+◌, ◌<◌, length, arith, drop, get_or, rules}
 use Rattle.merge_search.specs.declared.task.Task.TheVariants.{Own}
-use Rattle.merge_search.specs.declared.node.Entry.{Entry}
-use Rattle.merge_search.specs.World.{world}
+use Rattle.merge_sets.specs.declared.node.Entry.{Entry}
+use Rattle.merge_sets.specs.World.{world}
 use Rattle.merge_search.specs.Reports.{AtNamed, AtOwn}
-use Rattle.merge_search.specs.Tasks.{Meets, MeetsNamed, NameDone, firsts_at}
-use Rattle.merge_search.proofs.Work.{no_entry}
+use Rattle.merge_search.specs.Tasks.{Meets, MeetsNamed, NameDone}
+use Rattle.merge_sets.specs.Graph.{firsts_at}
+use Rattle.merge_sets.proofs.OneName.{no_entry}
 use Rattle.merge_search.proofs.Costs.{costs_next}
 use Rattle.merge_search.proofs.Leading.{leads_done, leads_next}
 use Rattle.merge_search.proofs.Rows.{row_own}

@@ -1,11 +1,12 @@
 use Rattle.std.proofs.Common.{◌≡◌, ◌+◌, ◌<◌, [], arith, length, drop, get_or, rules, sym, ◌∙◌}
 use Rattle.std.proofs.lemmas.List.{nil_from_length}
-use Rattle.merge_search.specs.declared.node.Entry.{Entry}
-use Rattle.merge_search.specs.Names.{named}
-use Rattle.merge_search.specs.World.{world, own_of}
+use Rattle.merge_sets.specs.declared.node.Entry.{Entry}
+use Rattle.merge_sets.specs.Names.{named}
+use Rattle.merge_sets.specs.World.{world, own_of}
 use Rattle.merge_search.specs.Reports.{AtNamed, AtOwn}
-use Rattle.merge_search.specs.Tasks.{NameDone, firsts_at}
-use Rattle.merge_search.proofs.Work.{no_entry}
+use Rattle.merge_search.specs.Tasks.{NameDone}
+use Rattle.merge_sets.specs.Graph.{firsts_at}
+use Rattle.merge_sets.proofs.OneName.{no_entry}
 use Rattle.merge_search.proofs.Rows.{row_own}
 use Rattle.merge_search.proofs.Costs.{costs_next}
 use Rattle.merge_search.proofs.Steps.{drop_next, each_next, name_absent}

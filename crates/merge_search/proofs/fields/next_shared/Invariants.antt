@@ -1,6 +1,6 @@
 use Rattle.std.proofs.Common.{Bool, length, ◌-◌, ◌≤◌}
 use Rattle.merge_search.specs.Spending.{task_cost}
-use Rattle.merge_search.specs.World.{world}
+use Rattle.merge_sets.specs.World.{world}
 use Rattle.merge_search.specs.declared.state.Search.{Search}
 use Rattle.merge_search.specs.declared.task.Task.TheVariants.{Own}
 use Rattle.merge_search.specs.Tasks.{Meets}

@@ -2,11 +2,12 @@ use Rattle.std.proofs.Common.{arith, subst}
 use Rattle.std.specs.List.{All}
 use Rattle.merge_search.specs.declared.task.Task.TheVariants.{Own, Spreads}
 use Rattle.merge_search.specs.declared.task.Partner.TheVariants as partner
-use Rattle.merge_search.specs.World.{world, spreads_of}
+use Rattle.merge_sets.specs.World.{world, spreads_of}
 use Rattle.merge_search.specs.Work.{Searched, Pair}
 use Rattle.merge_search.specs.Reports.{AtOwn, AtNamed}
-use Rattle.merge_search.specs.Tasks.{AtPartners, Meets, MeetsBelow, NameDone, firsts_at}
-use Rattle.merge_search.specs.Names.{HaveOwnNames}
+use Rattle.merge_search.specs.Tasks.{AtPartners, Meets, MeetsBelow, NameDone}
+use Rattle.merge_sets.specs.Graph.{firsts_at}
+use Rattle.merge_sets.specs.Names.{HaveOwnNames}
 use Rattle.merge_search.proofs.OwnNames.{sets_within}
 use Rattle.merge_search.proofs.Leading.{waits_four}
 use Rattle.merge_search.proofs.Steps.{drop_end, each_none, searches_none, below_whole}

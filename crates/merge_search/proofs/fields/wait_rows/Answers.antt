@@ -3,10 +3,10 @@ use Rattle.std.specs.Bool.{OnTrue}
 use Rattle.std.proofs.lemmas.Option.{slice_get-get_or}
 use Rattle.std.proofs.lemmas.List.Elements.{Contains-get_or}
 use Rattle.bit_matrix.specs.Set.{has}
-use Rattle.merge_search.specs.declared.node.Entry.{Entry}
+use Rattle.merge_sets.specs.declared.node.Entry.{Entry}
 use Rattle.merge_search.specs.Reports.{AtWith}
 use Rattle.merge_search.specs.Tasks.{AtRows, ComparesEach, MeetsWith, Waits, WithDone}
-use Rattle.merge_search.proofs.Work.{no_entry}
+use Rattle.merge_sets.proofs.OneName.{no_entry}
 use Rattle.merge_search.proofs.Leading.{leads_next, waits_none}
 use Rattle.merge_search.proofs.Steps.{drop_end, drop_next, each_none, each_next}
 use Rattle.std.specs.Prelude.{sum_by}

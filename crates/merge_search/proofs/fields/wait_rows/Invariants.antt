@@ -1,7 +1,7 @@
 use Rattle.std.proofs.Common.{◌≤◌, drop, length, reverse}
 use Rattle.std.specs.Prelude.{sum_by}
 use Rattle.merge_search.specs.Spending.{CostsMore, row_cost}
-use Rattle.merge_search.specs.World.{World}
+use Rattle.merge_sets.specs.World.{World}
 use Rattle.merge_search.specs.Reports.{AtWith}
 use Rattle.merge_search.specs.Tasks.{AreClearWith, AtRows, ComparesEach, Waits, WithDone}
 use Rattle.merge_search.proofs.fields.wait_rows.Given as goal

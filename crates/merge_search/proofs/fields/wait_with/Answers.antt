@@ -1,9 +1,9 @@
 use Rattle.std.proofs.Common.{subst}
 use Rattle.std.specs.Bool.{OnTrue}
 use Rattle.merge_search.specs.declared.task.Task.TheVariants.{With}
-use Rattle.merge_search.specs.Clear.{IsClear}
-use Rattle.merge_search.specs.Names.{named}
-use Rattle.merge_search.specs.World.{own_of}
+use Rattle.merge_sets.specs.Clear.{IsClear}
+use Rattle.merge_sets.specs.Names.{named}
+use Rattle.merge_sets.specs.World.{own_of}
 use Rattle.merge_search.specs.Tasks.{Meets, MeetsWith}
 use Rattle.merge_search.proofs.Costs.{costs_pushed}
 use Rattle.merge_search.proofs.Leading.{leads_turn, waits_none, waits_pushed}

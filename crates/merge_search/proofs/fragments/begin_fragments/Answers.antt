@@ -2,7 +2,7 @@ use Rattle.std.proofs.Common.{ℕ, ◌≤◌, arith, length, max, rules, sym, su
 use Rattle.merge_search.specs.declared.task.Task.TheVariants.{Own, Spreads}
 use Rattle.merge_search.specs.declared.task.Partner.TheVariants as partner
 use Rattle.merge_search.specs.declared.state.Search.{Search}
-use Rattle.merge_search.specs.World.{world, spreads_of, set_of}
+use Rattle.merge_sets.specs.World.{world, spreads_of, set_of}
 use Rattle.merge_search.specs.Work.{pair_in, Pair}
 use Rattle.merge_search.specs.Reports.{AtFirst}
 use Rattle.merge_search.specs.Tasks.{AtPartners, Meets, MeetsFragments}

@@ -1,7 +1,7 @@
 use Rattle.std.proofs.Common.{ℕ, subst}
 use Rattle.merge_search.specs.declared.task.Task.TheVariants.{Own, Mark}
 use Rattle.merge_search.specs.declared.state.Search.{Search}
-use Rattle.merge_search.specs.World.{world}
+use Rattle.merge_sets.specs.World.{world}
 use Rattle.merge_search.specs.Work.{search_in}
 use Rattle.merge_search.specs.Tasks.{Meets, MeetsOne}
 use Rattle.merge_search.proofs.Work.{owes_none, covers_yes}

@@ -3,15 +3,15 @@ use Rattle.std.specs.List.{All}
 use Rattle.std.proofs.lemmas.List.Elements.{All-cons, All-nil}
 use Rattle.merge_search.specs.declared.task.Task.TheVariants.{Opened}
 use Rattle.merge_search.specs.declared.state.Search.{Search}
-use Rattle.merge_search.specs.World.{world}
-use Rattle.merge_search.specs.Opening.{Opens}
+use Rattle.merge_sets.specs.World.{world}
+use Rattle.merge_sets.specs.Opening.{Opens}
 use Rattle.merge_search.specs.Work.{search_in, Searched}
 use Rattle.merge_search.specs.Tasks.{Meets, MeetsSearch}
 use Rattle.merge_search.proofs.Work.{did_none, covers_yes}
 use Rattle.merge_search.proofs.Adding.{adds_none}
 use Rattle.merge_search.proofs.Searching.{search_pays_all}
 use Rattle.merge_search.proofs.Leading.{leads_done, leads_turn}
-use Rattle.merge_search.proofs.Opened.{reached_one}
+use Rattle.merge_sets.proofs.Opened.{reached_one}
 use Rattle.merge_search.proofs.Steps.{search_counted}
 use Rattle.merge_search.proofs.fragments.begin_search.Goals as goal
 

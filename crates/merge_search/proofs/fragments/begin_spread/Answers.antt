@@ -1,7 +1,7 @@
 use Rattle.std.proofs.Common.{arith}
 use Rattle.std.proofs.lemmas.Result.{on_ok_weaker}
 use Rattle.merge_search.specs.declared.task.Partner.TheVariants.{Own, First, Second, Each}
-use Rattle.merge_search.specs.World.{world, spreads_of}
+use Rattle.merge_sets.specs.World.{world, spreads_of}
 use Rattle.merge_search.specs.Tasks.{Meets, MeetsSearch, MeetsFragments, MeetsPartner, PartnerDone, AtPartners}
 use Rattle.merge_search.specs.declared.task.Task.TheVariants.{Spreads}
 use Rattle.merge_search.proofs.Costs.{pays_waits}

@@ -3,8 +3,8 @@ use Rattle.std.proofs.lemmas.Result.{on_ok_weaker}
 use Rattle.std.proofs.lemmas.List.Elements.{All-contains}
 use Rattle.std.specs.List.{All, Contains}
 use Rattle.merge_search.specs.declared.task.Task.TheVariants.{Opened}
-use Rattle.merge_search.specs.World.{world, set_of}
-use Rattle.merge_search.specs.Opening.{Reaches}
+use Rattle.merge_sets.specs.World.{world, set_of}
+use Rattle.merge_sets.specs.Opening.{Reaches}
 use Rattle.merge_search.specs.Work.{Searched}
 use Rattle.merge_search.specs.Reports.{AtSearch, AtOwn}
 use Rattle.merge_search.specs.Tasks.{Meets, MeetsOne, SpreadsSearched}

@@ -1,8 +1,8 @@
 use Rattle.std.proofs.Common.{◌+◌, ◌<◌, ℕ, List, length, drop, get_or, arith, rules}
 use Rattle.merge_search.specs.declared.task.Task.TheVariants.{Spreads}
-use Rattle.merge_search.specs.World.{world, spreads_of}
+use Rattle.merge_sets.specs.World.{world, spreads_of}
 use Rattle.merge_search.specs.Tasks.{Meets, MeetsPartner, PartnerDone, AtPartner, AtPartners}
-use Rattle.merge_search.proofs.Rows.{in_list}
+use Rattle.merge_sets.proofs.OneName.{in_list}
 use Rattle.merge_search.proofs.Falls.{spread_falls}
 use Rattle.merge_search.proofs.Costs.{pays_after}
 use Rattle.merge_search.proofs.Leading.{leads_done, leads_next}

@@ -1,6 +1,6 @@
 use Rattle.std.proofs.Common.{arith, subst, false}
 use Rattle.std.specs.List.{Contains}
-use Rattle.merge_search.specs.World.{world}
+use Rattle.merge_sets.specs.World.{world}
 use Rattle.merge_search.specs.Reports.{AtPlaces}
 use Rattle.merge_search.proofs.Adding.{adds_none, adds_then}
 use Rattle.merge_search.proofs.Work.{did_none, did_then, did_map}

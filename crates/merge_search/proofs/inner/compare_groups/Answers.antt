@@ -1,12 +1,13 @@
 use Rattle.std.proofs.Common.{◌*◌, arith, get_or, sym, subst, false}
 use Rattle.std.specs.List.{Contains}
 use Rattle.std.proofs.lemmas.List.Elements.{Contains-get_or}
-use Rattle.merge_search.specs.World.{world}
+use Rattle.merge_sets.specs.World.{world}
 use Rattle.merge_search.specs.Tops.{AtRest}
 use Rattle.merge_search.specs.Inner.{AtLists}
 use Rattle.merge_search.proofs.Adding.{adds_none}
 use Rattle.merge_search.proofs.Again.{adds_next}
-use Rattle.merge_search.proofs.Work.{no_entry, did_none, did_then, did_map}
+use Rattle.merge_sets.proofs.OneName.{no_entry}
+use Rattle.merge_search.proofs.Work.{did_none, did_then, did_map}
 use Rattle.merge_search.specs.Weight.{field_weight, fields_weight}
 use Rattle.merge_search.proofs.Spends.{spends_list, spends_more, spends_next, spends_start, times_left}
 use Rattle.merge_search.proofs.inner.compare_groups.Goals as goal

@@ -1,5 +1,5 @@
 use Rattle.std.proofs.Common.{false}
-use Rattle.merge_search.specs.World.{world}
+use Rattle.merge_sets.specs.World.{world}
 use Rattle.merge_search.specs.Work.{Did}
 use Rattle.merge_search.specs.Reports.{Adds}
 use Rattle.merge_search.specs.Inner.{AtLists}

@@ -2,7 +2,7 @@ use Rattle.std.proofs.Common.{◌≤◌, ◌<◌, length, sym, subst, ap, ◌∙
 use Rattle.std.specs.List.{All}
 use Rattle.std.proofs.lemmas.List.Elements.{All-weaker}
 use Rattle.std.proofs.lemmas.Result.{on_ok_weaker}
-use Rattle.merge_search.specs.World.{world, own_of}
+use Rattle.merge_sets.specs.World.{world, own_of}
 use Rattle.merge_search.specs.Reports.{AtPlaces}
 use Rattle.merge_search.specs.Inner.{IsPart, IsStart, AtParts}
 use Rattle.merge_search.proofs.Adding.{adds_none}

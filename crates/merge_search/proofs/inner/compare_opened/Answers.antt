@@ -1,7 +1,7 @@
 use Rattle.std.proofs.Common.{◌*◌, ℕ, arith, subst, get_or, false}
 use Rattle.std.proofs.lemmas.List.Elements.{All-get_or}
-use Rattle.merge_search.specs.World.{world, own_of}
-use Rattle.merge_search.specs.Opening.{ReachedFrom}
+use Rattle.merge_sets.specs.World.{world, own_of}
+use Rattle.merge_sets.specs.Opening.{ReachedFrom}
 use Rattle.merge_search.specs.Inner.{AtPart, AtParts}
 use Rattle.merge_search.proofs.Adding.{adds_none}
 use Rattle.merge_search.proofs.Again.{row_reached, adds_next}

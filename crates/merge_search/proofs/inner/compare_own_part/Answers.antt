@@ -1,11 +1,12 @@
 use Rattle.std.proofs.Common.{◌*◌, ◌∙◌, ◌≡◌, subst, sym, get_or, false}
-use Rattle.merge_search.specs.World.{world}
+use Rattle.merge_sets.specs.World.{world}
 use Rattle.merge_search.specs.Reports.{AtPlaces}
 use Rattle.merge_search.specs.Tops.{AtBefore}
 use Rattle.merge_search.proofs.Adding.{adds_none}
 use Rattle.merge_search.proofs.Again.{row_part, adds_next}
-use Rattle.merge_search.proofs.Work.{no_entry, did_none, did_then, did_map}
-use Rattle.merge_search.specs.Names.{HaveOwnNames, named}
+use Rattle.merge_sets.proofs.OneName.{no_entry}
+use Rattle.merge_search.proofs.Work.{did_none, did_then, did_map}
+use Rattle.merge_sets.specs.Names.{HaveOwnNames, named}
 use Rattle.merge_search.specs.Spending.{Spends}
 use Rattle.merge_search.specs.Weight.{fields_weight}
 use Rattle.merge_search.proofs.OwnNames.{lists_within}

@@ -1,10 +1,10 @@
 use Rattle.std.proofs.Common.{false}
-use Rattle.merge_search.specs.World.{world, own_of}
+use Rattle.merge_sets.specs.World.{world, own_of}
 use Rattle.merge_search.specs.Work.{Did}
 use Rattle.merge_search.specs.Reports.{Adds}
 use Rattle.merge_search.specs.Inner.{AtPart}
 use Rattle.std.specs.Prelude.{sum_by, take, ◌*◌}
-use Rattle.merge_search.specs.Names.{named}
+use Rattle.merge_sets.specs.Names.{named}
 use Rattle.merge_search.specs.Spending.{Spends}
 use Rattle.merge_search.specs.Weight.{fields_weight}
 use Rattle.merge_search.proofs.inner.compare_part.Given as goal

@@ -1,5 +1,5 @@
 use Rattle.std.proofs.Common.{false}
-use Rattle.merge_search.specs.World.{world}
+use Rattle.merge_sets.specs.World.{world}
 use Rattle.merge_search.specs.Reports.{AtPlaces}
 use Rattle.merge_search.proofs.Adding.{adds_none}
 use Rattle.merge_search.proofs.Work.{did_none}

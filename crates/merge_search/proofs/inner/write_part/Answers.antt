@@ -1,8 +1,8 @@
 use Rattle.std.proofs.Common.{◌*◌, ◌≤◌, ℕ, ◌<◌, List, length, sym, subst, arith, false}
 use Rattle.std.specs.List.{All}
 use Rattle.std.proofs.lemmas.Result.{on_ok_weaker}
-use Rattle.merge_search.specs.World.{world}
-use Rattle.merge_search.specs.Opening.{ReachedFrom}
+use Rattle.merge_sets.specs.World.{world}
+use Rattle.merge_sets.specs.Opening.{ReachedFrom}
 use Rattle.merge_search.specs.Reports.{Adds}
 use Rattle.merge_search.specs.Inner.{AtParts}
 use Rattle.merge_search.proofs.Adding.{adds_none, adds_from}

@@ -1,7 +1,7 @@
 use Rattle.std.proofs.Common.{◌+◌, ℕ, ap, arith, subst, sym}
 use Rattle.std.specs.List.{All, Contains}
 use Rattle.merge_search.specs.Near.{IsNear, listed_at}
-use Rattle.merge_search.proofs.Merged.{stays}
+use Rattle.merge_sets.proofs.Marks.{stays}
 use Rattle.merge_search.proofs.Nearness.{one_near, one_untold}
 use Rattle.merge_search.proofs.near.near_of.Goals as goal
 use Rattle.merge_search.proofs.near.near_of.Goals.{in-Some+in_ok-add_places-in-Some, in-None+in_ok-insert-in-None}

@@ -5,11 +5,11 @@ use Rattle.std.specs.List.{All, Contains}
 use Rattle.std.proofs.lemmas.List.{take_all}
 use Rattle.std.proofs.lemmas.List.Elements.{All-contains, All-more, All-weaker}
 use Rattle.bit_matrix.specs.Set.{has}
-use Rattle.merge_search.specs.declared.node.Entry.{Entry}
-use Rattle.merge_search.specs.Names.{named}
+use Rattle.merge_sets.specs.declared.node.Entry.{Entry}
+use Rattle.merge_sets.specs.Names.{named}
 use Rattle.merge_search.specs.Near.{listed_at}
 use Rattle.merge_search.proofs.Nearness.{row_apart}
-use Rattle.merge_search.proofs.Rows.{named_in}
+use Rattle.merge_sets.proofs.OneName.{named_in}
 use Rattle.merge_search.proofs.near.places_near.Goals as goal
 
 pub loop-name-init : goal.loop-name-init

@@ -1,9 +1,9 @@
 use Rattle.std.proofs.Common.{rules, ◌≡◌, [], refl, length, arith}
 use Rattle.std.proofs.lemmas.Grind.{common_steps}
-use Rattle.merge_search.specs.World.{world}
-use Rattle.merge_search.specs.Opening.{WasSearched}
-use Rattle.merge_search.specs.declared.opening.Opening.{Opening}
-use Rattle.merge_search.proofs.Opened.{sound_start, sound_next, opens_end, few_open, less_left}
+use Rattle.merge_sets.specs.World.{world}
+use Rattle.merge_search.specs.Repeats.{WasSearched}
+use Rattle.merge_sets.specs.declared.opening.Opening.{Opening}
+use Rattle.merge_sets.proofs.Opened.{sound_start, sound_next, opens_end, few_open, less_left}
 use Rattle.merge_search.proofs.opening.open_from.Goals as goal
 
 pub loop-f-init : goal.loop-f-init

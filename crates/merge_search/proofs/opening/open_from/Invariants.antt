@@ -1,7 +1,7 @@
 use Rattle.std.proofs.Common.{◌+◌, ◌-◌, ◌*◌, length}
-use Rattle.merge_search.specs.World.{world}
-use Rattle.merge_search.specs.Opening.{WasSearched}
-use Rattle.merge_search.specs.Sound.{Sound}
+use Rattle.merge_sets.specs.World.{world}
+use Rattle.merge_search.specs.Repeats.{WasSearched}
+use Rattle.merge_sets.specs.Sound.{Sound}
 use Rattle.merge_search.proofs.opening.open_from.Given as goal
 
 abbrev pub invariant-loop-f : goal.invariant-loop-f

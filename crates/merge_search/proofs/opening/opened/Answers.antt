@@ -3,10 +3,10 @@ use Rattle.merge_search.specs.declared.repeats.Seeker.{Seeker}
 use Rattle.merge_search.specs.declared.repeats.Seeker.TheVariants.{Top, Below}
 use Rattle.merge_search.specs.declared.state.Search.{Search}
 use Rattle.merge_search.specs.State.{Keeps}
-use Rattle.merge_search.specs.World.{world}
+use Rattle.merge_sets.specs.World.{world}
 use Rattle.merge_search.specs.Log.{in_log}
-use Rattle.merge_search.specs.Opening.{WasSearched}
-use Rattle.merge_search.proofs.Opened.{opens_where}
+use Rattle.merge_search.specs.Repeats.{WasSearched}
+use Rattle.merge_sets.proofs.Opened.{opens_where}
 use Rattle.merge_search.proofs.opening.opened.Goals as goal
 
 -- what was searched is so in a state that has the same searches

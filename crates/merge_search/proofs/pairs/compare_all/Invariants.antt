@@ -1,11 +1,11 @@
 use Rattle.std.proofs.Common.{ℕ, ◌+◌, ◌<◌, drop, get_or, false}
 use Rattle.std.specs.List.{All}
-use Rattle.merge_search.specs.World.{world}
+use Rattle.merge_sets.specs.World.{world}
 use Rattle.merge_search.specs.Work.{Did, Done}
 use Rattle.merge_search.specs.Reports.{AddsAll}
 use Rattle.merge_search.specs.Tops.{AtBefore, AtRest}
 use Rattle.merge_search.proofs.Adding.{UptoIndex}
-use Rattle.merge_search.proofs.Work.{no_entry}
+use Rattle.merge_sets.proofs.OneName.{no_entry}
 use Rattle.std.specs.Prelude.{sum_by, take, ◌*◌}
 use Rattle.merge_search.specs.Spending.{Spends}
 use Rattle.merge_search.specs.Weight.{field_weight, fields_weight}

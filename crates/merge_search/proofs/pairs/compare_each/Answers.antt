@@ -1,10 +1,10 @@
 use Rattle.std.proofs.Common.{arith, false}
 use Rattle.std.proofs.lemmas.Option.{slice_get_within}
-use Rattle.merge_search.specs.World.{world}
+use Rattle.merge_sets.specs.World.{world}
 use Rattle.merge_search.specs.Tops.{AtBefore}
 use Rattle.merge_search.proofs.Adding.{adds_none}
 use Rattle.merge_search.proofs.Clearing.{clear_done, clear_tells}
-use Rattle.merge_search.proofs.Order.{at_of}
+use Rattle.merge_sets.proofs.InOrder.{at_of}
 use Rattle.merge_search.proofs.Work.{did_none}
 use Rattle.merge_search.proofs.pairs.compare_each.Goals as goal
 

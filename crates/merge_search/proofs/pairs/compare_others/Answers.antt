@@ -1,7 +1,7 @@
 use Rattle.std.proofs.Common.{◌*◌, arith, false}
 use Rattle.std.proofs.lemmas.Nat.{mul-le}
 use Rattle.std.proofs.lemmas.Result.{on_ok_weaker}
-use Rattle.merge_search.specs.World.{world}
+use Rattle.merge_sets.specs.World.{world}
 use Rattle.merge_search.proofs.Clearing.{others_done, others_told}
 use Rattle.merge_search.proofs.Work.{did_map}
 use Rattle.merge_search.specs.Weight.{field_weight, fields_weight}

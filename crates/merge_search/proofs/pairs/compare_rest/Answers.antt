@@ -1,11 +1,12 @@
 use Rattle.std.proofs.Common.{◌*◌, arith, refl, sym, subst, false}
 use Rattle.std.specs.List.{Contains}
 use Rattle.std.proofs.lemmas.List.Elements.{Contains-get_or}
-use Rattle.merge_search.specs.World.{world}
+use Rattle.merge_sets.specs.World.{world}
 use Rattle.merge_search.specs.Work.{Done}
 use Rattle.merge_search.specs.Reports.{AtFields}
 use Rattle.merge_search.proofs.Adding.{all_full, all_start, all_more, all_done}
-use Rattle.merge_search.proofs.Work.{did_full, no_entry, did_start, did_more, did_all}
+use Rattle.merge_search.proofs.Work.{did_full, did_start, did_more, did_all}
+use Rattle.merge_sets.proofs.OneName.{no_entry}
 use Rattle.merge_search.specs.Weight.{field_weight}
 use Rattle.merge_search.proofs.Costs.{spends_none}
 use Rattle.merge_search.proofs.Spends.{spends_list, spends_next, spends_start, times_left}

@@ -1,11 +1,11 @@
 use Rattle.std.proofs.Common.{take, false}
 use Rattle.std.specs.List.{All}
-use Rattle.merge_search.specs.World.{world}
+use Rattle.merge_sets.specs.World.{world}
 use Rattle.merge_search.specs.Work.{Did, Done}
 use Rattle.merge_search.specs.Reports.{AddsAll, AtFields}
 use Rattle.merge_search.specs.Tops.{AtRest}
 use Rattle.merge_search.proofs.Adding.{Upto}
-use Rattle.merge_search.proofs.Work.{no_entry}
+use Rattle.merge_sets.proofs.OneName.{no_entry}
 use Rattle.std.specs.Prelude.{sum_by, ◌*◌}
 use Rattle.merge_search.specs.Spending.{Spends}
 use Rattle.merge_search.specs.Weight.{field_weight}

@@ -1,9 +1,9 @@
 use Rattle.std.proofs.Common.{false, subst}
 use Rattle.std.specs.Bool.{OnTrue}
-use Rattle.merge_search.specs.World.{world}
-use Rattle.merge_search.specs.Kinds.{NeverFailsWith}
+use Rattle.merge_sets.specs.World.{world}
+use Rattle.merge_sets.specs.Kinds.{NeverFailsWith}
 use Rattle.merge_search.proofs.Clearing.{one_clear, rest_clear}
-use Rattle.merge_search.proofs.Harmless.{below_merges}
+use Rattle.merge_sets.proofs.Harmless.{below_merges}
 use Rattle.merge_search.proofs.Costs.{spends_none}
 use Rattle.merge_search.proofs.pairs.compare_unless.Goals as goal
 

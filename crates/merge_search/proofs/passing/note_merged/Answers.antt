@@ -3,9 +3,9 @@ use Rattle.std.specs.List.{Contains}
 use Rattle.std.proofs.lemmas.Bool.{cases_lt}
 use Rattle.std.proofs.lemmas.List.Elements.{All-contains, All-get_or, Contains-get_or}
 use Rattle.bit_matrix.specs.Set.{has}
-use Rattle.merge_search.specs.Merging.{MergeEither}
+use Rattle.merge_sets.specs.Merging.{MergeEither}
 use Rattle.merge_search.specs.Work.{Pair}
-use Rattle.merge_search.specs.World.{world}
+use Rattle.merge_sets.specs.World.{world}
 use Rattle.merge_search.proofs.Spreads.{all_noted}
 use Rattle.merge_search.proofs.Work.{did_start, did_map, did_more, did_all, did_below}
 use Rattle.merge_search.proofs.Worth.{below_kept}

@@ -1,6 +1,6 @@
 use Rattle.std.proofs.Common.{◌≡◌, ◌<◌, ℕ, take, false}
 use Rattle.std.specs.List.{All, Contains}
-use Rattle.merge_search.specs.World.{world}
+use Rattle.merge_sets.specs.World.{world}
 use Rattle.merge_search.specs.Work.{Did, Pair}
 use Rattle.merge_search.specs.Spending.{Spends}
 use Rattle.merge_search.proofs.passing.note_merged.Given as goal

@@ -5,7 +5,7 @@ use Rattle.std.proofs.lemmas.List.Elements.{All-contains, All-get_or}
 use Rattle.bit_matrix.specs.Set.{has}
 use Rattle.bit_matrix.specs.declared.set.BitSet.{BitSet}
 use Rattle.merge_search.specs.declared.state.Search.{Search}
-use Rattle.merge_search.specs.World.{World, world}
+use Rattle.merge_sets.specs.World.{World, world}
 use Rattle.merge_search.specs.Tops.{MarkedDone}
 use Rattle.merge_search.proofs.Work.{did_none, did_start, did_map, did_more, did_all}
 use Rattle.merge_search.proofs.Costs.{spends_none}

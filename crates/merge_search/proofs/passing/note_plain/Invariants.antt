@@ -1,6 +1,6 @@
 use Rattle.std.proofs.Common.{◌≡◌, take}
 use Rattle.std.specs.List.{All}
-use Rattle.merge_search.specs.World.{world}
+use Rattle.merge_sets.specs.World.{world}
 use Rattle.merge_search.specs.Work.{Did}
 use Rattle.merge_search.specs.Tops.{MarkedDone}
 use Rattle.merge_search.specs.Spending.{Spends}

@@ -1,9 +1,9 @@
 use Rattle.std.proofs.Common.{sym, ◌∙◌}
 use Rattle.std.proofs.lemmas.Result.{on_ok_weaker}
 use Rattle.bit_matrix.specs.Set.{has}
-use Rattle.merge_search.specs.World.{world}
-use Rattle.merge_search.proofs.Harmless.{plain_either}
-use Rattle.merge_search.proofs.Laws.{clash}
+use Rattle.merge_sets.specs.World.{world}
+use Rattle.merge_sets.proofs.Harmless.{plain_either}
+use Rattle.merge_sets.proofs.Laws.{clash}
 use Rattle.merge_search.proofs.Work.{did_none, did_map, did_below}
 use Rattle.merge_search.proofs.Worth.{below_kept}
 use Rattle.merge_search.proofs.passing.note_with.Goals as goal

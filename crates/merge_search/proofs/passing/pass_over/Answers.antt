@@ -1,8 +1,8 @@
 use Rattle.std.proofs.Common.{inl, inr, sym, ◌∙◌, false}
 use Rattle.std.proofs.lemmas.Result.{on_ok_weaker}
-use Rattle.merge_search.specs.World.{world}
+use Rattle.merge_sets.specs.World.{world}
 use Rattle.merge_search.specs.Work.{pair_in}
-use Rattle.merge_search.proofs.Harmless.{one_merges}
+use Rattle.merge_sets.proofs.Harmless.{one_merges}
 use Rattle.merge_search.proofs.Work.{did_none, did_passed, covers_yes, covers_no}
 use Rattle.merge_search.proofs.Worth.{pair_kept}
 use Rattle.merge_search.proofs.passing.pass_over.Goals as goal

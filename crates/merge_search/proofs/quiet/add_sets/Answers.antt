@@ -2,7 +2,7 @@ use Rattle.std.proofs.Common.{◌≡◌, ◌++◌, ◌∷◌, [], ℕ, take, get
 use Rattle.std.specs.List.{All, Contains}
 use Rattle.std.proofs.lemmas.List.{take_all, length-take}
 use Rattle.std.proofs.lemmas.List.Elements.{All-more, All-weaker, Contains-append_left, Contains-get_or, Contains-push, Contains-push_cases}
-use Rattle.merge_search.specs.World.{world, set_of}
+use Rattle.merge_sets.specs.World.{world, set_of}
 use Rattle.merge_search.proofs.quiet.add_sets.Goals as goal
 
 pub loop-f-init : goal.loop-f-init

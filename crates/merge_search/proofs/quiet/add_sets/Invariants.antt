@@ -1,6 +1,6 @@
 use Rattle.std.proofs.Common.{◌≡◌, ◌⊎◌, ℕ, take}
 use Rattle.std.specs.List.{All, Contains}
-use Rattle.merge_search.specs.World.{world, set_of}
+use Rattle.merge_sets.specs.World.{world, set_of}
 use Rattle.merge_search.proofs.quiet.add_sets.Given as goal
 
 abbrev pub invariant-loop-f : goal.invariant-loop-f

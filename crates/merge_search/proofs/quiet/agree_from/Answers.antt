@@ -1,8 +1,8 @@
 use Rattle.std.proofs.Common.{true, subst}
 use Rattle.std.specs.Bool.{OnTrue}
 use Rattle.std.proofs.lemmas.Result.{IfOk-weaker}
-use Rattle.merge_search.specs.Judgement.{NoneConflict}
-use Rattle.merge_search.proofs.Laws.{on_true_weaker, both_flags}
+use Rattle.merge_sets.specs.Judgement.{NoneConflict}
+use Rattle.merge_sets.proofs.Laws.{on_true_weaker, both_flags}
 use Rattle.merge_search.proofs.quiet.agree_from.Goals as goal
 
 pub returns : goal.returns

@@ -2,8 +2,8 @@ use Rattle.std.proofs.Common.{false, ap, ◌∙◌}
 use Rattle.bit_matrix.specs.Set.{has}
 use Rattle.merge_search.specs.declared.quiet.Apart.{Apart}
 use Rattle.merge_search.specs.Quiet.{Covers}
-use Rattle.merge_search.specs.World.{world}
-use Rattle.merge_search.proofs.Laws.{clash, on_true_weaker}
+use Rattle.merge_sets.specs.World.{world}
+use Rattle.merge_sets.proofs.Laws.{clash, on_true_weaker}
 use Rattle.merge_search.proofs.Merged.{quiet_whole}
 use Rattle.merge_search.proofs.quiet.are_quiet.Goals as goal
 

@@ -3,7 +3,7 @@ use Rattle.std.specs.Bool.{OnTrue}
 use Rattle.std.specs.Option.{IfSome}
 use Rattle.merge_search.specs.declared.quiet.Apart.{Apart}
 use Rattle.merge_search.specs.Quiet.{AllMergeBut, AllQuietBut, Covers, HoldAll}
-use Rattle.merge_search.specs.World.{world}
+use Rattle.merge_sets.specs.World.{world}
 use Rattle.merge_search.proofs.Merged.{quiet_popped, sets_merged}
 use Rattle.merge_search.proofs.quiet.are_quiet_but.Goals as goal
 

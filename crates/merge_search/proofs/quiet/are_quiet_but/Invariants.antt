@@ -1,6 +1,6 @@
 use Rattle.std.proofs.Common.{Bool, ℕ, ◌≡◌}
 use Rattle.merge_search.specs.Quiet.{AllQuietBut, Covers}
-use Rattle.merge_search.specs.World.{world}
+use Rattle.merge_sets.specs.World.{world}
 use Rattle.merge_search.proofs.quiet.are_quiet_but.Given as goal
 
 abbrev pub invariant-loop-rest : goal.invariant-loop-rest

@@ -1,9 +1,9 @@
 use Rattle.std.proofs.Common.{Bool, ◌≡◌, false, subst}
 use Rattle.std.specs.Bool.{OnTrue}
 use Rattle.bit_matrix.specs.Set.{has}
-use Rattle.merge_search.specs.Judgement.{NoneConflict}
+use Rattle.merge_sets.specs.Judgement.{NoneConflict}
 use Rattle.merge_search.specs.Quiet.{IsFrom}
-use Rattle.merge_search.specs.World.{world}
+use Rattle.merge_sets.specs.World.{world}
 use Rattle.merge_search.proofs.Merged.{group_merged, uncovered, unions_kept}
 use Rattle.merge_search.proofs.quiet.is_quiet_group.Goals as goal
 

@@ -3,14 +3,13 @@ use Rattle.std.specs.Bool.{OnTrue}
 use Rattle.std.specs.List.{All}
 use Rattle.std.proofs.lemmas.List.{take_all, length-take}
 use Rattle.std.proofs.lemmas.List.Elements.{All-more, Contains-get_or}
-use Rattle.merge_search.specs.declared.node.Entry.{Entry}
+use Rattle.merge_sets.specs.declared.node.Entry.{Entry}
 use Rattle.merge_search.specs.declared.quiet.Apart.{Apart}
-use Rattle.merge_search.specs.Names.{named}
+use Rattle.merge_sets.specs.Names.{named}
 use Rattle.merge_search.specs.Quiet.{AllMergeBut, AllQuietBut, Covers}
-use Rattle.merge_search.specs.World.{world}
+use Rattle.merge_sets.specs.World.{world}
 use Rattle.merge_search.proofs.Merged.{groups_merged}
-use Rattle.merge_search.proofs.Rows.{named_is}
-use Rattle.merge_search.proofs.Work.{no_entry}
+use Rattle.merge_sets.proofs.OneName.{named_is, no_entry}
 use Rattle.merge_search.proofs.quiet.is_quiet_set.Goals as goal
 
 pub is_quiet_group-requires : goal.is_quiet_group-requires

@@ -1,10 +1,10 @@
 use Rattle.std.proofs.Common.{Bool, ℕ, ◌≡◌, take}
 use Rattle.std.specs.List.{All}
-use Rattle.merge_search.specs.declared.node.Entry.{Entry}
-use Rattle.merge_search.specs.Indexed.{firsts_of}
-use Rattle.merge_search.specs.Names.{named}
+use Rattle.merge_sets.specs.declared.node.Entry.{Entry}
+use Rattle.merge_sets.specs.Indexed.{firsts_of}
+use Rattle.merge_sets.specs.Names.{named}
 use Rattle.merge_search.specs.Quiet.{AllMergeBut, AllQuietBut, AreKept, Covers}
-use Rattle.merge_search.specs.World.{world}
+use Rattle.merge_sets.specs.World.{world}
 use Rattle.merge_search.proofs.quiet.is_quiet_set.Given as goal
 
 abbrev pub invariant-loop-first : goal.invariant-loop-first

@@ -1,7 +1,7 @@
 use Rattle.std.proofs.Common.{take}
 use Rattle.std.specs.List.{All, Contains}
-use Rattle.merge_search.specs.declared.node.Entry.{Entry}
-use Rattle.merge_search.specs.World.{world, own_of}
+use Rattle.merge_sets.specs.declared.node.Entry.{Entry}
+use Rattle.merge_sets.specs.World.{world, own_of}
 use Rattle.merge_search.proofs.quiet.own_fields.Given as goal
 
 abbrev pub invariant-loop-s : goal.invariant-loop-s

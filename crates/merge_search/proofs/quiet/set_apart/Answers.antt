@@ -1,4 +1,4 @@
-use Rattle.merge_search.proofs.Merged.{stays}
+use Rattle.merge_sets.proofs.Marks.{stays}
 use Rattle.merge_search.proofs.quiet.set_apart.Goals as goal
 
 pub returns-clause-kept : goal.returns-clause-kept

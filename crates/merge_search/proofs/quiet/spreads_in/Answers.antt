@@ -2,7 +2,7 @@ use Rattle.std.proofs.Common.{◌≡◌, ◌<◌, ◌++◌, ℕ, length, take, g
 use Rattle.std.specs.List.{All, Contains}
 use Rattle.std.proofs.lemmas.List.{take_all}
 use Rattle.std.proofs.lemmas.List.Elements.{All-append, All-more, All-weaker, Contains-append_left, Contains-append_right, All-contains_itself}
-use Rattle.merge_search.specs.World.{world, spreads_of}
+use Rattle.merge_sets.specs.World.{world, spreads_of}
 use Rattle.merge_search.proofs.quiet.spreads_in.Goals as goal
 
 pub loop-s-preserved : goal.loop-s-preserved

@@ -1,6 +1,6 @@
 use Rattle.std.proofs.Common.{◌<◌, length, take}
 use Rattle.std.specs.List.{All, Contains}
-use Rattle.merge_search.specs.World.{world, spreads_of}
+use Rattle.merge_sets.specs.World.{world, spreads_of}
 use Rattle.merge_search.proofs.quiet.spreads_in.Given as goal
 
 abbrev pub invariant-loop-s : goal.invariant-loop-s

@@ -1,9 +1,9 @@
 use Rattle.std.proofs.Common.{ap, subst, sym}
 use Rattle.std.specs.List.{All, Contains}
 use Rattle.std.specs.Option.{IfSome}
-use Rattle.merge_search.specs.declared.node.Entry.{Entry}
+use Rattle.merge_sets.specs.declared.node.Entry.{Entry}
 use Rattle.merge_search.specs.Quiet.{AreWrittenOut, HoldAll}
-use Rattle.merge_search.specs.World.{world, own_of}
+use Rattle.merge_sets.specs.World.{world, own_of}
 use Rattle.merge_search.proofs.Merged.{written_holds}
 use Rattle.merge_search.proofs.quiet.united.Goals as goal
 

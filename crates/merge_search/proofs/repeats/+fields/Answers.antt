@@ -2,9 +2,9 @@ use Rattle.std.proofs.Common.{◌≡◌, ◌+◌, ◌<◌, ℕ, arith, get_or, l
 use Rattle.std.proofs.lemmas.List.{take_all}
 use Rattle.std.proofs.lemmas.List.Sums.{sum_by_more}
 use Rattle.merge_search.specs.Weight.{field_weight, fields_weight}
-use Rattle.merge_search.specs.World.{world, own_of}
+use Rattle.merge_sets.specs.World.{world, own_of}
 use Rattle.merge_search.proofs.Weights.{own_weight}
-use Rattle.merge_search.proofs.Work.{no_entry}
+use Rattle.merge_sets.proofs.OneName.{no_entry}
 use Rattle.merge_search.proofs.repeats.+fields.Goals as goal
 
 pub less_fields-loop-field-preserved : goal.less_fields-loop-field-preserved

@@ -1,6 +1,6 @@
 use Rattle.std.proofs.Common.{◌≡◌, ◌+◌, ◌*◌, ◌<◌, ◌≤◌, take}
 use Rattle.merge_search.specs.Weight.{fields_weight}
-use Rattle.merge_search.specs.World.{world, own_of}
+use Rattle.merge_sets.specs.World.{world, own_of}
 use Rattle.merge_search.proofs.repeats.+fields.Given as goal
 
 abbrev pub decreases-less_fields : goal.decreases-less_fields

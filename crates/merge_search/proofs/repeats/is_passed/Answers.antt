@@ -1,5 +1,5 @@
 use Rattle.std.proofs.Common.{subst, sym}
-use Rattle.merge_search.specs.Opening.{WasSearched}
+use Rattle.merge_search.specs.Repeats.{WasSearched}
 use Rattle.merge_search.specs.Work.{search_in}
 use Rattle.merge_search.proofs.Work.{covers_yes}
 use Rattle.merge_search.proofs.repeats.is_passed.Goals as goal

@@ -6,7 +6,7 @@ use Rattle.merge_search.specs.Tasks.{MeetsFields}
 use Rattle.merge_search.proofs.Steps.{compares_kept}
 use Rattle.merge_search.specs.Settle.{Settles}
 use Rattle.merge_search.specs.declared.state.Search.{Search}
-use Rattle.merge_search.specs.World.{world}
+use Rattle.merge_sets.specs.World.{world}
 use Rattle.merge_search.proofs.Costs.{fields_spend, spends_counts}
 use Rattle.merge_search.proofs.Settling.{kept_twice}
 use Rattle.merge_search.proofs.Leading.{all_done}

@@ -3,7 +3,7 @@ use Rattle.merge_search.specs.Reports.{AtFragments}
 use Rattle.merge_search.specs.Tasks.{MeetsFragments, Searches}
 use Rattle.merge_search.proofs.Steps.{searches_kept}
 use Rattle.merge_search.specs.declared.state.Search.{Search}
-use Rattle.merge_search.specs.World.{world}
+use Rattle.merge_sets.specs.World.{world}
 use Rattle.merge_search.proofs.Costs.{begun_spends, spends_none}
 use Rattle.merge_search.proofs.Leading.{all_done}
 use Rattle.merge_search.proofs.Work.{did_full}

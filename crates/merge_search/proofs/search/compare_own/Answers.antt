@@ -6,7 +6,7 @@ use Rattle.merge_search.specs.Tasks.{Compares, Meets}
 use Rattle.merge_search.specs.Weight.{weight}
 use Rattle.merge_search.proofs.Steps.{own_whole, compares_kept}
 use Rattle.merge_search.specs.declared.state.Search.{Search}
-use Rattle.merge_search.specs.World.{world}
+use Rattle.merge_sets.specs.World.{world}
 use Rattle.merge_search.proofs.Costs.{spends_none}
 use Rattle.merge_search.proofs.Searching.{own_spends}
 use Rattle.merge_search.proofs.Leading.{all_done}

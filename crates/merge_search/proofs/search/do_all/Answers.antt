@@ -1,5 +1,5 @@
 use Rattle.std.proofs.Common.{rules, reverse}
-use Rattle.merge_search.specs.World.{world}
+use Rattle.merge_sets.specs.World.{world}
 use Rattle.merge_search.proofs.Costs.{pays_end, pays_none, pays_taken}
 use Rattle.merge_search.proofs.Leading.{taken, none_left}
 use Rattle.merge_search.proofs.search.do_all.Goals as goal

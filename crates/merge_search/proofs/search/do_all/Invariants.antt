@@ -1,6 +1,6 @@
 use Rattle.std.proofs.Common.{reverse}
 use Rattle.merge_search.specs.Spending.{Pays}
-use Rattle.merge_search.specs.World.{world}
+use Rattle.merge_sets.specs.World.{world}
 use Rattle.merge_search.specs.Tasks.{MeetsAll}
 use Rattle.merge_search.specs.declared.state.Search.{Search}
 use Rattle.merge_search.proofs.search.do_all.Given as goal

@@ -1,4 +1,4 @@
-use Rattle.merge_search.specs.World.{world}
+use Rattle.merge_sets.specs.World.{world}
 use Rattle.merge_search.proofs.Costs.{spends_after}
 use Rattle.merge_search.proofs.search.finish.Goals as goal
 

@@ -1,5 +1,5 @@
-use Rattle.merge_search.specs.World.{world}
-use Rattle.merge_search.proofs.Laws.{on_true_weaker}
+use Rattle.merge_sets.specs.World.{world}
+use Rattle.merge_sets.proofs.Laws.{on_true_weaker}
 use Rattle.merge_search.proofs.Steps.{skipped}
 use Rattle.merge_search.proofs.search.is_skipped.Goals as goal
 

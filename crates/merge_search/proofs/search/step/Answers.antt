@@ -1,5 +1,5 @@
 use Rattle.std.proofs.lemmas.Result.{on_ok_weaker}
-use Rattle.merge_search.specs.World.{world}
+use Rattle.merge_sets.specs.World.{world}
 use Rattle.merge_search.specs.State.{Keeps}
 use Rattle.merge_search.specs.Tasks.{Meets, Closes}
 use Rattle.merge_search.specs.Spending.{task_cost}

@@ -2,10 +2,10 @@ use Rattle.std.proofs.Common.{get_or, subst}
 use Rattle.std.specs.Bool.{OnTrue}
 use Rattle.std.proofs.lemmas.List.{take_all}
 use Rattle.std.proofs.lemmas.List.Elements.{All-more}
-use Rattle.merge_search.specs.declared.node.Entry.{Entry}
+use Rattle.merge_sets.specs.declared.node.Entry.{Entry}
 use Rattle.merge_search.specs.Settle.{AgreesWith, AgreeFlatly}
-use Rattle.merge_search.specs.World.{world}
-use Rattle.merge_search.proofs.Work.{no_entry}
+use Rattle.merge_sets.specs.World.{world}
+use Rattle.merge_sets.proofs.OneName.{no_entry}
 use Rattle.merge_search.proofs.settle.agree_flatly.Goals as goal
 
 pub loop-c-preserved : goal.loop-c-preserved

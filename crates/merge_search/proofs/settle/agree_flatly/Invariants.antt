@@ -1,6 +1,6 @@
 use Rattle.std.proofs.Common.{take}
 use Rattle.merge_search.specs.Settle.{AgreeFlatly}
-use Rattle.merge_search.specs.World.{world}
+use Rattle.merge_sets.specs.World.{world}
 use Rattle.merge_search.proofs.settle.agree_flatly.Given as goal
 
 abbrev pub invariant-loop-c : goal.invariant-loop-c

@@ -1,10 +1,10 @@
 use Rattle.std.proofs.Common.{◌≡◌, false, subst}
 use Rattle.std.proofs.lemmas.List.{take_all}
 use Rattle.std.proofs.lemmas.List.Elements.{All-more}
-use Rattle.merge_search.specs.declared.node.Entry.{Entry}
+use Rattle.merge_sets.specs.declared.node.Entry.{Entry}
 use Rattle.merge_search.specs.Settle.{AgreesWith}
-use Rattle.merge_search.specs.World.{world, conflict_of, Same}
-use Rattle.merge_search.proofs.Work.{no_entry}
+use Rattle.merge_sets.specs.World.{world, conflict_of, Same}
+use Rattle.merge_sets.proofs.OneName.{no_entry}
 use Rattle.merge_search.proofs.settle.agrees_with.Goals as goal
 
 pub loop-d-preserved : goal.loop-d-preserved

@@ -1,8 +1,8 @@
 use Rattle.std.proofs.Common.{subst}
-use Rattle.merge_search.specs.Clear.{AreLeaves}
+use Rattle.merge_sets.specs.Clear.{AreLeaves}
 use Rattle.merge_search.specs.Settle.{AgreeFlatly}
-use Rattle.merge_search.specs.World.{world, own_of}
-use Rattle.merge_search.proofs.Laws.{on_true_weaker}
+use Rattle.merge_sets.specs.World.{world, own_of}
+use Rattle.merge_sets.proofs.Laws.{on_true_weaker}
 use Rattle.merge_search.proofs.Settling.{flat_below}
 use Rattle.merge_search.proofs.settle.is_clear_below.Goals as goal
 

@@ -1,5 +1,5 @@
 use Rattle.std.proofs.Common.{sym, ◌∙◌, inl, inr}
-use Rattle.merge_search.specs.World.{world}
+use Rattle.merge_sets.specs.World.{world}
 use Rattle.merge_search.proofs.Adding.{all_full}
 use Rattle.merge_search.proofs.Settling.{failing_settled, kept_twice, leaf_settled, settles}
 use Rattle.merge_search.proofs.Spent.{settle_pays}

@@ -1,15 +1,15 @@
 use Rattle.std.proofs.Common.{◌≡◌, ◌≤◌, None, arith, false, get_or, length, slice_get, subst}
 use Rattle.std.proofs.lemmas.Option.{slice_get-get_or, slice_get_past}
-use Rattle.merge_search.specs.declared.node.Entry.{Entry}
+use Rattle.merge_sets.specs.declared.node.Entry.{Entry}
 use Rattle.merge_search.specs.declared.state.Search.{Search}
 use Rattle.merge_search.specs.Settle.{Settles}
 use Rattle.merge_search.specs.Spending.{Compares, settle_cost}
 use Rattle.merge_search.specs.Tasks.{MeetsFields}
-use Rattle.merge_search.specs.World.{world, conflict_of}
-use Rattle.merge_search.proofs.Laws.{same_some}
+use Rattle.merge_sets.specs.World.{world, conflict_of}
+use Rattle.merge_sets.proofs.Laws.{same_some}
 use Rattle.merge_search.proofs.Spent.{upto_end, upto_next, upto_none, upto_open}
 use Rattle.merge_search.proofs.Steps.{list_kept, list_next}
-use Rattle.merge_search.proofs.Work.{no_entry}
+use Rattle.merge_sets.proofs.OneName.{no_entry}
 use Rattle.merge_search.proofs.settle.settle_from.Goals as goal
 
 pub loop-k-init : goal.loop-k-init

@@ -2,7 +2,7 @@ use Rattle.std.proofs.Common.{◌-◌, length}
 use Rattle.merge_search.specs.declared.state.Search.{Search}
 use Rattle.merge_search.specs.Spending.{ComparesUpto}
 use Rattle.merge_search.specs.Tasks.{MeetsList}
-use Rattle.merge_search.specs.World.{world}
+use Rattle.merge_sets.specs.World.{world}
 use Rattle.merge_search.proofs.settle.settle_from.Given as goal
 
 abbrev pub invariant-loop-k : goal.invariant-loop-k

@@ -1,7 +1,7 @@
 use Rattle.std.proofs.Common.{◌<◌, length, get_or, refl, sym, subst, false}
 use Rattle.std.proofs.lemmas.List.Elements.{All-get_or, Contains-get_or}
 use Rattle.std.proofs.lemmas.Result.{on_ok_weaker}
-use Rattle.merge_search.specs.World.{world}
+use Rattle.merge_sets.specs.World.{world}
 use Rattle.merge_search.specs.Reports.{Adds}
 use Rattle.merge_search.specs.Tops.{AtTwo, SpreadDone}
 use Rattle.merge_search.proofs.Adding.{adds_none, adds_map, adds_then}

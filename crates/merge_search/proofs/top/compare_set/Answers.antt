@@ -1,6 +1,6 @@
 use Rattle.std.proofs.Common.{false}
 use Rattle.std.proofs.lemmas.Result.{on_ok_weaker}
-use Rattle.merge_search.specs.World.{world}
+use Rattle.merge_sets.specs.World.{world}
 use Rattle.merge_search.proofs.Adding.{all_both, all_map}
 use Rattle.merge_search.proofs.Judging.{places_within}
 use Rattle.merge_search.proofs.Work.{did_then, did_map}

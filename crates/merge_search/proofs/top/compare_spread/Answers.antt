@@ -1,6 +1,6 @@
 use Rattle.std.proofs.Common.{◌<◌, length, get_or, inl, inr, refl, false, sym, ◌∙◌}
 use Rattle.std.proofs.lemmas.List.Elements.{All-get_or, Contains-get_or}
-use Rattle.merge_search.specs.World.{world}
+use Rattle.merge_sets.specs.World.{world}
 use Rattle.merge_search.specs.Work.{Pair}
 use Rattle.merge_search.specs.Tops.{AtListed}
 use Rattle.merge_search.proofs.Adding.{adds_none, adds_map, adds_then}

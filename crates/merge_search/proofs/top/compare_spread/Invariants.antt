@@ -1,6 +1,6 @@
 use Rattle.std.proofs.Common.{take, false}
 use Rattle.std.specs.List.{All}
-use Rattle.merge_search.specs.World.{world}
+use Rattle.merge_sets.specs.World.{world}
 use Rattle.merge_search.specs.Work.{Did, Pair}
 use Rattle.merge_search.specs.Reports.{Adds}
 use Rattle.merge_search.specs.Tops.{AtListed}

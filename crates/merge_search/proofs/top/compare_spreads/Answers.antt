@@ -4,7 +4,7 @@ use Rattle.std.proofs.lemmas.List.{nil_from_length}
 use Rattle.std.proofs.lemmas.List.Elements.{All-nil}
 use Rattle.std.proofs.lemmas.Option.{slice_get_within}
 use Rattle.std.proofs.lemmas.Result.{on_ok_weaker}
-use Rattle.merge_search.specs.World.{World, world, spreads_of}
+use Rattle.merge_sets.specs.World.{World, world, spreads_of}
 use Rattle.merge_search.specs.declared.state.Search.{Search}
 use Rattle.merge_search.specs.Work.{Pair}
 use Rattle.merge_search.specs.Reports.{AtPlaces}

@@ -1,11 +1,12 @@
 use Rattle.std.proofs.Common.{◌*◌, get_or, refl, sym, subst, false}
-use Rattle.merge_search.specs.Names.{named}
-use Rattle.merge_search.specs.World.{world, own_of}
+use Rattle.merge_sets.specs.Names.{named}
+use Rattle.merge_sets.specs.World.{world, own_of}
 use Rattle.merge_search.specs.Work.{Done}
 use Rattle.merge_search.specs.Tops.{AllBefore, AtBefore}
 use Rattle.merge_search.proofs.Adding.{all_start, all_more, all_done, all_change}
 use Rattle.merge_search.proofs.Order.{own_within, row_within, tell_within}
-use Rattle.merge_search.proofs.Work.{did_start, did_map, did_more, did_all, no_entry}
+use Rattle.merge_search.proofs.Work.{did_start, did_map, did_more, did_all}
+use Rattle.merge_sets.proofs.OneName.{no_entry}
 use Rattle.merge_search.specs.Spending.{Spends, name_cost}
 use Rattle.merge_search.specs.Weight.{fields_weight}
 use Rattle.merge_search.proofs.OwnNames.{sets_within}

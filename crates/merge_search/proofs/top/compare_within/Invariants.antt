@@ -1,12 +1,12 @@
 use Rattle.std.proofs.Common.{take, false}
 use Rattle.std.specs.List.{All}
-use Rattle.merge_search.specs.Names.{named, AreListed}
-use Rattle.merge_search.specs.World.{world, own_of}
+use Rattle.merge_sets.specs.Names.{named, AreListed}
+use Rattle.merge_sets.specs.World.{world, own_of}
 use Rattle.merge_search.specs.Work.{Did, Done}
 use Rattle.merge_search.specs.Reports.{AddsAll}
 use Rattle.merge_search.specs.Tops.{AllBefore, AtBefore, AtWithin}
 use Rattle.merge_search.proofs.Adding.{Upto}
-use Rattle.merge_search.proofs.Work.{no_entry}
+use Rattle.merge_sets.proofs.OneName.{no_entry}
 use Rattle.std.specs.Prelude.{sum_by}
 use Rattle.merge_search.specs.Spending.{Spends, name_cost}
 use Rattle.merge_search.proofs.top.compare_within.Given as goal

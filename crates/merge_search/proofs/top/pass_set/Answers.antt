@@ -1,7 +1,7 @@
 use Rattle.std.proofs.Common.{sym, subst, false}
 use Rattle.std.specs.List.{Contains}
 use Rattle.std.proofs.lemmas.Result.{on_ok_weaker}
-use Rattle.merge_search.specs.World.{world}
+use Rattle.merge_sets.specs.World.{world}
 use Rattle.merge_search.specs.Reports.{AddsAll, AtPlaces}
 use Rattle.merge_search.specs.Tops.{AllBefore, AtTop}
 use Rattle.merge_search.specs.Work.{Pair}

@@ -1,6 +1,6 @@
 use Rattle.std.proofs.Common.{◌≤◌, ◌*◌, ◌^◌, ◌<◌, [], length, get_or, sym, subst, arith, false}
 use Rattle.std.proofs.lemmas.List.Elements.{Contains-get_or}
-use Rattle.merge_search.specs.World.{world}
+use Rattle.merge_sets.specs.World.{world}
 use Rattle.merge_search.specs.Reports.{AddsAll, AtSearched}
 use Rattle.merge_search.specs.Tops.{AtTop, Together}
 use Rattle.merge_search.proofs.Adding.{Upto, all_start, all_more}

@@ -1,5 +1,5 @@
 use Rattle.std.proofs.Common.{◌≡◌, [], length, false}
-use Rattle.merge_search.specs.World.{world}
+use Rattle.merge_sets.specs.World.{world}
 use Rattle.merge_search.specs.Counts.{Tally}
 use Rattle.merge_search.specs.Work.{pair_in}
 use Rattle.merge_search.specs.Reports.{AddsAll, AtSearched}

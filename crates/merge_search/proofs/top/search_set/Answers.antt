@@ -2,7 +2,7 @@ use Rattle.std.proofs.Common.{◌∷◌, [], false, subst}
 use Rattle.std.specs.Bool.{OnTrue}
 use Rattle.merge_search.specs.Quiet.{AreQuiet}
 use Rattle.std.proofs.lemmas.Result.{on_ok_weaker}
-use Rattle.merge_search.specs.World.{world}
+use Rattle.merge_sets.specs.World.{world}
 use Rattle.merge_search.proofs.Adding.{all_full, all_plus}
 use Rattle.merge_search.proofs.Work.{did_full, did_then, did_map}
 use Rattle.merge_search.proofs.Costs.{spends_none}

@@ -1,5 +1,5 @@
 use Rattle.std.proofs.Common.{take}
-use Rattle.merge_search.specs.World.{world}
+use Rattle.merge_sets.specs.World.{world}
 use Rattle.merge_search.specs.Tops.{AreAllBut}
 use Rattle.merge_search.proofs.top.unmarked.Given as goal
 

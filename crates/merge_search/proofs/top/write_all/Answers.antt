@@ -1,7 +1,7 @@
 use Rattle.std.proofs.Common.{◌*◌, ℕ, get_or, refl, sym, subst, false}
 use Rattle.std.proofs.lemmas.List.Elements.{All-get_or}
-use Rattle.merge_search.specs.World.{world, set_of}
-use Rattle.merge_search.specs.Opening.{ReachedFrom}
+use Rattle.merge_sets.specs.World.{world, set_of}
+use Rattle.merge_sets.specs.Opening.{ReachedFrom}
 use Rattle.merge_search.specs.Work.{OwnPairs}
 use Rattle.merge_search.specs.Reports.{AtOwn}
 use Rattle.merge_search.proofs.Adding.{all_start, all_more, all_done, all_change}

@@ -1,6 +1,6 @@
 use Rattle.std.proofs.Common.{take, false}
 use Rattle.std.specs.List.{All}
-use Rattle.merge_search.specs.World.{world, set_of}
+use Rattle.merge_sets.specs.World.{world, set_of}
 use Rattle.merge_search.specs.Work.{Did, OwnPairs}
 use Rattle.merge_search.specs.Reports.{AddsAll, AtOwn}
 use Rattle.merge_search.specs.Tops.{AtSpreads}

@@ -1,7 +1,7 @@
 use Rattle.std.proofs.Common.{sym, subst, arith, false}
 use Rattle.std.proofs.lemmas.Result.{on_ok_weaker}
-use Rattle.merge_search.specs.World.{world}
-use Rattle.merge_search.specs.Opening.{Opens}
+use Rattle.merge_sets.specs.World.{world}
+use Rattle.merge_sets.specs.Opening.{Opens}
 use Rattle.merge_search.specs.Reports.{AddsAll}
 use Rattle.merge_search.specs.Tops.{AtSpreads}
 use Rattle.merge_search.proofs.Adding.{all_from}

@@ -3,12 +3,12 @@ use Rattle.std.specs.List.{All, Contains, list_any}
 use Rattle.std.proofs.lemmas.List.Elements.{All-contains, All-nil, All-weaker}
 use Rattle.std.proofs.lemmas.List.Folds.{list_any_none}
 use Rattle.std.proofs.lemmas.Result.{on_ok_weaker}
-use Rattle.merge_search.specs.declared.node.Entry.{Entry}
-use Rattle.merge_search.specs.Names.{AreListed}
-use Rattle.merge_search.specs.World.{world, own_of}
+use Rattle.merge_sets.specs.declared.node.Entry.{Entry}
+use Rattle.merge_sets.specs.Names.{AreListed}
+use Rattle.merge_sets.specs.World.{world, own_of}
 use Rattle.merge_search.specs.Tops.{AtSpreads, AreAllBut}
 use Rattle.merge_search.proofs.Adding.{adds_none}
-use Rattle.merge_search.proofs.Laws.{clash}
+use Rattle.merge_sets.proofs.Laws.{clash}
 use Rattle.merge_search.proofs.Work.{did_none, did_map}
 use Rattle.merge_search.proofs.Unmarked.{all_written, told_written}
 use Rattle.merge_search.proofs.top.write_own.Goals as goal

@@ -3,7 +3,7 @@ use Rattle.std.specs.List.{All}
 use Rattle.std.proofs.lemmas.List.{length-take, take_all}
 use Rattle.std.proofs.lemmas.List.Elements.{All-more, All-weaker}
 use Rattle.bit_matrix.specs.Set.{has}
-use Rattle.merge_search.proofs.Merged.{stays}
+use Rattle.merge_sets.proofs.Marks.{stays}
 use Rattle.merge_search.proofs.touched.add_all.Goals as goal
 
 pub loop-number-init : goal.loop-number-init

@@ -3,8 +3,8 @@ use Rattle.std.specs.List.{All, Contains}
 use Rattle.std.proofs.lemmas.List.{take_all, length-take}
 use Rattle.std.proofs.lemmas.List.Elements.{All-more, All-weaker}
 use Rattle.bit_matrix.specs.Set.{has}
-use Rattle.merge_search.specs.declared.node.Entry.{Entry}
-use Rattle.merge_search.proofs.Work.{no_entry}
+use Rattle.merge_sets.specs.declared.node.Entry.{Entry}
+use Rattle.merge_sets.proofs.OneName.{no_entry}
 use Rattle.merge_search.proofs.touched.add_names.Goals as goal
 
 pub loop-field-init : goal.loop-field-init

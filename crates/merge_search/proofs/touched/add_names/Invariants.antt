@@ -1,7 +1,7 @@
 use Rattle.std.proofs.Common.{ℕ, ◌≡◌, true, take}
 use Rattle.std.specs.List.{All, Contains}
 use Rattle.bit_matrix.specs.Set.{has}
-use Rattle.merge_search.specs.declared.node.Entry.{Entry}
+use Rattle.merge_sets.specs.declared.node.Entry.{Entry}
 use Rattle.merge_search.proofs.touched.add_names.Given as goal
 
 abbrev pub invariant-loop-field : goal.invariant-loop-field

@@ -1,7 +1,7 @@
 use Rattle.std.proofs.Common.{◌≡◌, ℕ, false, subst}
 use Rattle.std.specs.List.{All}
 use Rattle.bit_matrix.specs.Set.{has}
-use Rattle.merge_search.proofs.Laws.{on_true_weaker}
+use Rattle.merge_sets.proofs.Laws.{on_true_weaker}
 use Rattle.merge_search.proofs.touched.is_free_of.Goals as goal
 
 pub returns-in-Some : goal.returns-in-Some

@@ -1,8 +1,8 @@
 use Rattle.std.proofs.Common.{ℕ, ◌≡◌, None, Some, Vec, get_or, slice_get, length}
 use Rattle.std.specs.declared.alloc.Global.{Global}
-use Rattle.merge_search.specs.declared.node.Entry.{Entry}
+use Rattle.merge_sets.specs.declared.node.Entry.{Entry}
 use Rattle.merge_search.specs.Touched.{ListsBelow}
-use Rattle.merge_search.specs.World.{world}
+use Rattle.merge_sets.specs.World.{world}
 use Rattle.merge_search.proofs.touched.names_below_each.Given as goal
 
 abbrev pub invariant-loop-k : goal.invariant-loop-k

@@ -3,10 +3,10 @@ use Rattle.std.proofs.lemmas.List.{append-nil}
 use Rattle.std.specs.List.{All, Contains}
 use Rattle.std.proofs.lemmas.List.Elements.{Contains-append_left, Contains-append_right, Contains-get_or, Contains-push_cases}
 use Rattle.bit_matrix.specs.Set.{has}
-use Rattle.merge_search.specs.declared.node.Entry.{Entry}
+use Rattle.merge_sets.specs.declared.node.Entry.{Entry}
 use Rattle.merge_search.specs.Quiet.{HoldBelow}
 use Rattle.merge_search.specs.Touched.{StandsIn}
-use Rattle.merge_search.specs.World.{world, own_of, set_of}
+use Rattle.merge_sets.specs.World.{world, own_of, set_of}
 use Rattle.merge_search.proofs.Touching.{next_set}
 use Rattle.merge_search.proofs.touched.names_in.Goals as goal
 

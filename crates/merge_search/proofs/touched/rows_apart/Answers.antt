@@ -4,7 +4,7 @@ use Rattle.bit_matrix.specs.Set.{has}
 use Rattle.bit_matrix.specs.declared.set.BitSet.{BitSet}
 use Rattle.std.specs.Option.{IfSome}
 use Rattle.merge_search.specs.Touched.{AreListedAt, IsFreeOf}
-use Rattle.merge_search.proofs.Laws.{clash}
+use Rattle.merge_sets.proofs.Laws.{clash}
 use Rattle.merge_search.proofs.Touching.{free_apart}
 use Rattle.merge_search.proofs.touched.rows_apart.Goals as goal
 use Rattle.merge_search.proofs.touched.rows_apart.Goals.{then-is_free_of+in_ok-insert, else-is_free_of}

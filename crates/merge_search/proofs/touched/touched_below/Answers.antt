@@ -3,7 +3,7 @@ use Rattle.std.specs.Bool.{OnTrue}
 use Rattle.std.proofs.lemmas.Result.{IfOk-weaker}
 use Rattle.bit_matrix.specs.Set.{has}
 use Rattle.merge_search.specs.Quiet.{AllQuietBut, Covers}
-use Rattle.merge_search.specs.World.{world}
+use Rattle.merge_sets.specs.World.{world}
 use Rattle.merge_search.proofs.Touching.{apart_below, none_at}
 use Rattle.merge_search.proofs.touched.touched_below.Goals as goal
 

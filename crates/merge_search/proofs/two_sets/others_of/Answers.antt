@@ -1,12 +1,12 @@
 use Rattle.std.proofs.Common.{◌≡◌, ◌≤◌, ℕ, Some, drop, get_or, length, rules, slice_get, subst, sym}
 use Rattle.std.specs.List.{Contains}
 use Rattle.std.proofs.lemmas.List.Elements.{All-weaker, Contains-get_or}
-use Rattle.merge_search.specs.declared.node.Entry.{Entry}
+use Rattle.merge_sets.specs.declared.node.Entry.{Entry}
 use Rattle.merge_search.specs.Below.{KnowsPairs}
-use Rattle.merge_search.specs.Clear.{IsSumWithin}
+use Rattle.merge_sets.specs.Clear.{IsSumWithin}
 use Rattle.merge_search.specs.TwoSets.{rights_of}
-use Rattle.merge_search.specs.World.{world}
-use Rattle.merge_search.proofs.Order.{in_drop, drop_places}
+use Rattle.merge_sets.specs.World.{world}
+use Rattle.merge_sets.proofs.InOrder.{in_drop, drop_places}
 use Rattle.merge_search.proofs.two_sets.others_of.Goals as goal
 
 pub returns-clause-others : goal.returns-clause-others

@@ -1,9 +1,9 @@
 use Rattle.std.proofs.Common.{◌≡◌, ◌++◌, ap, length, subst, sym, ◌∙◌}
 use Rattle.std.proofs.lemmas.List.Prefix.{front_rest}
 use Rattle.merge_search.specs.Below.{IsIndexed, KnowsBelow}
-use Rattle.merge_search.specs.Clear.{AreClearRows}
+use Rattle.merge_sets.specs.Clear.{AreClearRows}
 use Rattle.merge_search.specs.Failing.{StandFor}
-use Rattle.merge_search.specs.World.{world}
+use Rattle.merge_sets.specs.World.{world}
 use Rattle.merge_search.proofs.Order.{begin_with}
 use Rattle.merge_search.proofs.two_sets.rows_of.Goals as goal
 

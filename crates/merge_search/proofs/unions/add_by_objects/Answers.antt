@@ -1,8 +1,8 @@
 use Rattle.std.proofs.Common.{subst, ◌∙◌, sym}
-use Rattle.merge_search.specs.Names.{named}
+use Rattle.merge_sets.specs.Names.{named}
 use Rattle.merge_search.specs.Quiet.{HoldBelow}
 use Rattle.merge_search.specs.Unions.{HaveUnions}
-use Rattle.merge_search.specs.World.{world}
+use Rattle.merge_sets.specs.World.{world}
 use Rattle.merge_search.proofs.Uniting.{flat_joined}
 use Rattle.merge_search.proofs.unions.add_by_objects.Goals as goal
 

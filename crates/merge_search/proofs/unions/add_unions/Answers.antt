@@ -2,13 +2,12 @@ use Rattle.std.proofs.Common.{◌<◌, ℕ, List, false, take, get_or, sym, subs
 use Rattle.std.specs.List.{All}
 use Rattle.std.proofs.lemmas.List.{take_all, length-take}
 use Rattle.std.proofs.lemmas.List.Elements.{All-contains, All-more, All-weaker}
-use Rattle.merge_search.specs.declared.node.Entry.{Entry}
-use Rattle.merge_search.specs.Indexed.{firsts_of}
-use Rattle.merge_search.specs.Names.{named}
+use Rattle.merge_sets.specs.declared.node.Entry.{Entry}
+use Rattle.merge_sets.specs.Indexed.{firsts_of}
+use Rattle.merge_sets.specs.Names.{named}
 use Rattle.merge_search.specs.Unions.{HasUnion}
-use Rattle.merge_search.proofs.Rows.{listed_in}
+use Rattle.merge_sets.proofs.OneName.{listed_in, no_entry}
 use Rattle.merge_search.proofs.Uniting.{union_in, union_kept}
-use Rattle.merge_search.proofs.Work.{no_entry}
 use Rattle.merge_search.proofs.unions.add_unions.Goals as goal
 
 pub loop-first-init : goal.loop-first-init

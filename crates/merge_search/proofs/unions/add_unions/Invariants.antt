@@ -1,7 +1,7 @@
 use Rattle.std.proofs.Common.{◌≡◌, false, take}
 use Rattle.std.specs.List.{All}
-use Rattle.merge_search.specs.Indexed.{firsts_of}
-use Rattle.merge_search.specs.Names.{named}
+use Rattle.merge_sets.specs.Indexed.{firsts_of}
+use Rattle.merge_sets.specs.Names.{named}
 use Rattle.merge_search.specs.Unions.{HasUnion, UnionsKept}
 use Rattle.merge_search.proofs.unions.add_unions.Given as goal
 

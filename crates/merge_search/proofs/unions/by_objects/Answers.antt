@@ -4,9 +4,9 @@ use Rattle.std.specs.declared.alloc.Global.{Global}
 use Rattle.std.proofs.lemmas.Result.{IfOk-weaker}
 use Rattle.std.proofs.lemmas.List.{take_all}
 use Rattle.std.proofs.lemmas.List.Elements.{All-more, All-weaker, Contains-append_left, Contains-push}
-use Rattle.merge_search.specs.declared.node.Entry.{Entry}
+use Rattle.merge_sets.specs.declared.node.Entry.{Entry}
 use Rattle.merge_search.specs.Unions.{under_object}
-use Rattle.merge_search.proofs.Work.{no_entry}
+use Rattle.merge_sets.proofs.OneName.{no_entry}
 use Rattle.merge_search.proofs.unions.by_objects.Goals as goal
 
 pub loop-field-preserved : goal.loop-field-preserved

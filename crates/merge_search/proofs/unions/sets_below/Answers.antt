@@ -2,10 +2,10 @@ use Rattle.std.proofs.Common.{◌≡◌, ◌++◌, ◌∷◌, [], ℕ, Some, tak
 use Rattle.std.specs.List.{Contains}
 use Rattle.std.proofs.lemmas.List.{take_all}
 use Rattle.std.proofs.lemmas.List.Elements.{All-more, All-weaker, Contains-append_left, Contains-push}
-use Rattle.merge_search.specs.declared.node.Entry.{Entry}
+use Rattle.merge_sets.specs.declared.node.Entry.{Entry}
 use Rattle.merge_search.specs.Quiet.{HoldBelow}
-use Rattle.merge_search.proofs.Laws.{same_some, clash_some}
-use Rattle.merge_search.proofs.Work.{no_entry}
+use Rattle.merge_sets.proofs.Laws.{same_some, clash_some}
+use Rattle.merge_sets.proofs.OneName.{no_entry}
 use Rattle.merge_search.proofs.unions.sets_below.Goals as goal
 use Rattle.merge_search.proofs.unions.sets_below.Goals.{in-Some+in_ok-push, in_default}
 

@@ -1,4 +1,4 @@
-use Rattle.merge_search.specs.World.{world}
+use Rattle.merge_sets.specs.World.{world}
 use Rattle.merge_search.proofs.Uniting.{all_joined, joined_whole}
 use Rattle.merge_search.proofs.unions.unions_below.Goals as goal
 

@@ -1,5 +1,5 @@
 use Rattle.std.proofs.Common.{◌≡◌, drop, map}
-use Rattle.merge_search.specs.declared.node.Entry.{Entry}
+use Rattle.merge_sets.specs.declared.node.Entry.{Entry}
 use Rattle.merge_field_pairs.specs.Entries.{plain}
 use Rattle.merge_conflicts.specs.Reports.{Reports, postfix, AreReportsOf}
 use Rattle.merge_conflicts.specs.Texts.{errors_of}

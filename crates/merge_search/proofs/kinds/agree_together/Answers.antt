@@ -1,7 +1,0 @@
-use Rattle.merge_search.proofs.OneOfKind.{rows_all}
-use Rattle.merge_search.proofs.kinds.agree_together.Goals as goal
-
-pub returns : goal.returns
-returns g c =
-    let j = g.J.Judge.judgement c.args.graph.now.judge in
-    rows_all j c.args.e c.args.fields.now c.args.fields.now c.in_ok-rows.rows c.in_ok-rows.ensures c.are_all_in.result c.are_all_in.ensures

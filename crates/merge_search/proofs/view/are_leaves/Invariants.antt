@@ -1,6 +1,0 @@
-use Rattle.std.proofs.Common.{take}
-use Rattle.merge_search.specs.Clear.{AreLeaves}
-use Rattle.merge_search.proofs.view.are_leaves.Given as goal
-
-abbrev pub invariant-loop-field : goal.invariant-loop-field
-invariant-loop-field l = AreLeaves (take l.field-index l.fields)

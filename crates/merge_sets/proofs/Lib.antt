@@ -1,0 +1,11 @@
+pub mod Distinct
+pub mod Harmless
+pub mod InOrder
+pub mod Laws
+pub mod Marks
+pub mod NamesSeen
+pub mod Naming
+pub mod NoSet
+pub mod OneName
+pub mod OneOfKind
+pub mod Opened

@@ -1,0 +1,15 @@
+use Rattle.std.proofs.Common.{ap, subst}
+use Rattle.std.specs.List.{All}
+use Rattle.merge_sets.specs.declared.node.Entry.{Entry}
+use Rattle.merge_sets.specs.World.{world}
+use Rattle.merge_sets.specs.Kinds.{IsToldOf}
+use Rattle.merge_sets.proofs.NamesSeen.{names_plain}
+use Rattle.merge_sets.proofs.plain_names.mixed_names.Goals as goal
+
+pub returns : goal.returns
+returns g c =
+    let w = world g.J.Judge.judgement c.args.graph.now in
+    let own = c.in_ok-fields.fields.items in
+    let same = ap (λ v. v.items) c.in_ok-set.ensures.own in
+    let told = subst (λ xs. All (λ (a : Entry). IsToldOf w.judgement xs c.in_ok-mixed.mixed a.response) xs) same c.in_ok-mixed.ensures in
+    names_plain w c.in_ok-unlike.unlike c.in_ok-mixed.mixed own c.in_ok-unlike.ensures c.in_ok-fields.ensures told

@@ -1,0 +1,12 @@
+pub mod Judgement
+pub mod Names
+pub mod Kinds
+pub mod Indexed
+pub mod Graph
+pub mod World
+pub mod Merging
+pub mod Clear
+pub mod Plain
+pub mod Firsts
+pub mod Opening
+pub mod Sound
