@@ -6,14 +6,9 @@ pub mod Counting
 pub mod Falls
 pub mod Flips
 pub mod Judging
-pub mod KindNumbers
 pub mod Leading
-pub mod Merged
 pub mod Logs
 pub mod Passed
-pub mod Touching
-pub mod Uniting
-pub mod Nearness
 pub mod Order
 pub mod Rows
 pub mod Spreads

@@ -1,8 +1,6 @@
 -- Two of a list, the first before the second, and what a filter keeps of them.
-use Rattle.std.proofs.Common.{◌≡◌, ◌++◌, ℕ, ◌+◌, ◌<◌, ◌≤◌, List, length, drop, get_or, sym, subst, ap, ◌∙◌, arith, false, Some, slice_get, length-append}
+use Rattle.std.proofs.Common.{◌≡◌, ℕ, ◌+◌, ◌<◌, ◌≤◌, List, length, drop, get_or, sym, subst, ap, ◌∙◌, arith, false, Some}
 use Rattle.std.specs.List.{All, Contains}
-use Rattle.std.proofs.Math.ListN.{get_or-append}
-use Rattle.merge_search.specs.TwoSets.{BeginWith}
 use Rattle.std.proofs.lemmas.List.Elements.{All-contains}
 use Rattle.std.proofs.lemmas.Option.{get_or_from_slice_get, slice_get_within, slice_get-get_or}
 use Rattle.merge_sets.specs.declared.node.Entry.{Entry}
@@ -34,13 +32,6 @@ pub tell_within : (w : World) (s : ℕ) (firsts : List Entry) → AreListed firs
 tell_within w s firsts listed r h =
     let (f, there, is) = listed_in firsts (own_of w s) r.left listed (at_of (own_of w s) h.0.0 r.left h.0.3) in
     (f, there, named_places f.response (own_of w s) r.left r.right h.0 is (sym h.1 ∙ is))
-
--- a list begins with its first part
-pub begin_with : (xs ys zs : List Entry) → zs ≡ xs ++ ys → BeginWith zs xs
-begin_with xs ys zs is k a p =
-    let inside : k < length xs = slice_get_within xs k a p in
-    subst (λ us. slice_get us k ≡ Some a) (sym is)
-    (slice_get-get_or (xs ++ ys) k a (omega (arith, inside, length-append xs ys)) ∙ ap (λ y. Some y) (get_or-append xs ys a k inside ∙ get_or_from_slice_get xs k a a p))
 
 pub row_rest : (xs : List Entry) (k : ℕ) → k < length xs → (r : Root) → AtRest (get_or xs k no_entry) (drop (k + 1) xs) r → AtBefore xs r
 row_rest xs k lt r h =

@@ -7,7 +7,7 @@ use Rattle.merge_search.specs.declared.state.Search.{Search}
 use Rattle.merge_sets.specs.declared.finding.Finding.{Finding}
 use Rattle.merge_sets.specs.Graph.{Falling}
 use Rattle.merge_sets.specs.Merging.{Stands, own, spread, Merges, MergeWritten}
-use Rattle.merge_search.specs.Quiet.{AreQuiet, IsFrom}
+use Rattle.merge_certificates.specs.Quiet.{AreQuiet, IsFrom}
 use Rattle.merge_search.specs.Reports.{Root, AddsAll, AtPlaces}
 use Rattle.merge_search.specs.Tops.{AllBefore, AtTop, Top}
 use Rattle.merge_search.specs.Work as done

@@ -15,7 +15,7 @@ use Rattle.merge_search.specs.Settle.{AgreesWith, AgreeFlatly, IsSpreadless, Set
 use Rattle.merge_search.specs.Work as done
 use Rattle.merge_sets.specs.World.{World, own_of, conflict_of, exclusive_of, Same}
 use Rattle.merge_search.proofs.Adding.{adds_none, all_leaf, all_quiet}
-use Rattle.merge_search.proofs.Clearing.{leaf_below}
+use Rattle.merge_certificates.proofs.ClearLists.{leaf_below}
 use Rattle.merge_sets.proofs.Laws.{same_some}
 use Rattle.merge_search.proofs.Work.{did_kept, did_map, did_none, did_report}
 

@@ -1,10 +1,3 @@
-pub mod Failing
-pub mod Touched
-pub mod Near
-pub mod Below
-pub mod TwoSets
-pub mod Quiet
-pub mod Unions
 pub mod Log
 pub mod Work
 pub mod Repeats

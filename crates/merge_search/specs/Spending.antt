@@ -10,7 +10,7 @@ use Rattle.merge_search.specs.Counts.{greatest, most_repeats}
 use Rattle.merge_search.specs.Log.{covers_of}
 use Rattle.merge_sets.specs.Names.{named}
 use Rattle.merge_sets.specs.Graph.{firsts_at}
-use Rattle.merge_search.specs.TwoSets.{rights_of}
+use Rattle.merge_certificates.specs.TwoSets.{rights_of}
 use Rattle.merge_search.specs.Weight.{weight, below_weight, field_weight, fields_weight, fragment_weight}
 use Rattle.merge_search.specs.Work.{pair_in, search_in}
 use Rattle.merge_sets.specs.World.{World, own_of}

@@ -21,7 +21,7 @@ use Rattle.merge_search.specs.Work.{Did, Owes, Done, Searched, Pair, SetsDone}
 use Rattle.merge_search.specs.Reports.{Root, Finds, FindsAll, AtFields, AtWith, AtNamed, AtOwn, AtSearch, AtFragments}
 use Rattle.merge_search.specs.Reports.{AtFirst, AtBelow}
 use Rattle.merge_search.specs.Inner.{AtLists}
-use Rattle.merge_search.specs.TwoSets.{KnowsRows, rights_of}
+use Rattle.merge_certificates.specs.TwoSets.{KnowsRows, rights_of}
 use Rattle.merge_search.specs.Tops.{AtRest}
 
 -- From old to new D was done, what was found stands at P, and each pair of Q that fails of itself has a report of its

@@ -11,12 +11,12 @@ ghost use Rattle.merge_search.specs.Spending.{Compares, CostsMore, Pays, name_co
 ghost use Rattle.merge_search.specs.Weight.{below_weight, fields_weight, weight};
 ghost use Rattle.merge_search.specs.declared.task.Task.{Task};
 
-use crate::clear::{MANY, are_clear, clear_rows};
 use crate::settle::settle_from;
 use crate::state::{Search, report};
 use crate::task::{Partner, Task, wait};
-use crate::two_sets::{Rows, others_of, rows_of};
 use bit_matrix::set::BitSet;
+use merge_certificates::clear::{MANY, are_clear, clear_rows};
+use merge_certificates::two_sets::{Rows, others_of, rows_of};
 use merge_sets::finding::Finding;
 use merge_sets::graph::Graph;
 use merge_sets::judge::Judge;
@@ -238,7 +238,7 @@ fn wait_wide<J: Judge>(
     ensures costs { let w = world J.judgement graph.now in OnOk result
         (CostsMore w (fields_weight w left.now * fields_weight w right.now) tasks.old.items tasks.new.items) }
 {
-    let rows = rows_of(graph, search, e, left, right, clear)?;
+    let rows = rows_of(search.alloc, graph, e, left, right, clear)?;
     tasks.push(Task::Rows(rows, e, 0))?;
     Ok(())
 }
@@ -265,10 +265,10 @@ fn next_named<J: Judge>(
         return Ok(());
     }
     let others = group(graph, j, name);
-    if are_clear(graph, search, e, fields, others)? {
+    if are_clear(search.alloc, graph, e, fields, others)? {
         return Ok(());
     }
-    let clear = clear_rows(graph, search, e, fields, others)?;
+    let clear = clear_rows(search.alloc, graph, e, fields, others)?;
     if fields.len().saturating_mul(others.len()) < MANY {
         wait_rows(fields, &clear, j, e, tasks)?;
         return Ok(());

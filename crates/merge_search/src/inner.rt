@@ -17,12 +17,12 @@ ghost use Rattle.merge_sets.specs.Clear.{IsSumWithin};
 ghost use Rattle.merge_search.specs.Spending.{Spends, fragments_weight, inner_cost, inner_set_cost, part_in, top_cost};
 ghost use Rattle.merge_search.specs.Weight.{fields_weight, fragment_weight, weight};
 
-use crate::clear::are_clear;
 use crate::opening::opened;
 use crate::pairs::{compare_each, compare_rest};
 use crate::repeats::Seeker;
 use crate::state::{Search, put_opening};
 use bit_matrix::set::BitSet;
+use merge_certificates::clear::are_clear;
 use merge_sets::graph::Graph;
 use merge_sets::groups::{fields_named, first_fields, make_set, sorted_fields};
 use merge_sets::judge::Judge;
@@ -104,7 +104,7 @@ fn compare_groups<J: Judge>(
     ensures spends { let w = world J.judgement graph.now in
         OnOk result (Spends w (fields_weight w left.now * fields_weight w right.now) search.old search.new) }
 {
-    if left.len() > 1 && are_clear(graph, search, false, left, right)? {
+    if left.len() > 1 && are_clear(search.alloc, graph, false, left, right)? {
         return Ok(());
     }
     for a in left {

@@ -12,11 +12,11 @@ ghost use Rattle.merge_search.specs.Spending.{Spends};
 ghost use Rattle.merge_search.specs.Weight.{field_weight, fields_weight};
 ghost use Rattle.merge_search.specs.Tops.{AllBefore, AtBefore, AtRest};
 
-use crate::below::{known_below, others_from};
-use crate::failing::numbered_kinds;
 use crate::search::compare_fields;
 use crate::state::{Search, is_full};
 use bit_matrix::set::BitSet;
+use merge_certificates::below::{known_below, others_from};
+use merge_certificates::failing::numbered_kinds;
 use merge_sets::graph::Graph;
 use merge_sets::judge::Judge;
 use merge_sets::kinds::agreeing_rows;
@@ -133,7 +133,7 @@ fn compare_all<J: Judge>(
 {
     let clear = agreeing_rows(search.alloc, graph, false, fields, fields)?;
     let most = fields.len().saturating_mul(fields.len()) / 4;
-    let below = known_below(graph, search, false, fields, most)?;
+    let below = known_below(search.alloc, graph, false, fields, most)?;
     let kinds = numbered_kinds(search.alloc, graph, fields, &clear)?;
     for k in 0..fields.len() {
         let is_clear = clear.contains(k);

@@ -7,7 +7,7 @@ ghost use Rattle.merge_search.specs.Tasks.{Meets, Waits};
 ghost use Rattle.merge_search.specs.declared.state.Search.{Search};
 
 use crate::state::Search;
-use crate::two_sets::Rows;
+use merge_certificates::two_sets::Rows;
 use merge_sets::node::Entry;
 use merge_sets::opening::Opening;
 use std::alloc::AllocError;

@@ -7,24 +7,24 @@ ghost use Rattle.merge_sets.specs.Opening.{Opens};
 ghost use Rattle.merge_search.specs.Work.{Did, OwnPairs, Pair};
 ghost use Rattle.merge_search.specs.Reports.{Finds, FindsAll, AtFragments, AtPlaces, Judged};
 ghost use Rattle.merge_sets.specs.Plain.{ArePlain};
-ghost use Rattle.merge_search.specs.Quiet.{AreQuiet};
+ghost use Rattle.merge_certificates.specs.Quiet.{AreQuiet};
 ghost use Rattle.merge_search.specs.Tops.{AddsUnmarked, AllBefore, AreAllBut, AtListed, AtSpread, AtSpreads, AtTop};
 ghost use Rattle.merge_search.specs.Tops.{AtTwo, AtWithin, MarkedDone, OwnWithin, OwnWritten, SpreadDone, Together};
 ghost use Rattle.merge_search.specs.Tops.{Top};
 ghost use Rattle.merge_search.specs.Spending.{Spends, fragments_weight, search_cost, set_cost, top_cost};
 ghost use Rattle.merge_search.specs.Weight.{weight};
 
-use crate::clear::MANY;
 use crate::inner::search_inner;
 use crate::opening::opened;
 use crate::pairs::compare_each;
 use crate::passing::{note_merged, note_plain, pass_over};
-use crate::quiet::are_quiet;
 use crate::repeats::Seeker;
 use crate::search::{compare_fragments, compare_own};
 use crate::state::{Search, is_full, no_search, put_opening};
-use crate::unions::Union;
 use bit_matrix::set::BitSet;
+use merge_certificates::clear::MANY;
+use merge_certificates::quiet::are_quiet;
+use merge_certificates::unions::Union;
 use merge_sets::graph::Graph;
 use merge_sets::judge::Judge;
 use merge_sets::plain::{is_plain, passed_over};
@@ -284,7 +284,7 @@ fn is_merged<J: Judge>(graph: &Graph<J>, s: usize, search: &Search) -> Result<bo
     sets.push(s)?;
     let mut unions = Vec::new(search.alloc);
     unions.push(Union { sets, flag: false })?;
-    let is_quiet = are_quiet(graph, search, unions, false, &mut pairs)?;
+    let is_quiet = are_quiet(search.alloc, graph, unions, false, &mut pairs)?;
     Ok(is_quiet)
 }
 

@@ -4,7 +4,7 @@ use Rattle.std.proofs.lemmas.Option.{slice_get-get_or}
 use Rattle.std.proofs.lemmas.Nat.{mul-le}
 use Rattle.merge_search.specs.declared.task.Task.TheVariants.{Listed, Rows}
 use Rattle.merge_sets.specs.declared.node.Entry.{Entry}
-use Rattle.merge_search.specs.TwoSets.{rights_of}
+use Rattle.merge_certificates.specs.TwoSets.{rights_of}
 use Rattle.merge_sets.specs.World.{world}
 use Rattle.merge_search.specs.Tasks.{Meets, MeetsBoth}
 use Rattle.merge_search.specs.Weight.{field_weight, fields_weight}

@@ -1,6 +1,6 @@
 use Rattle.std.proofs.Common.{◌*◌, subst}
 use Rattle.merge_search.specs.declared.task.Task.TheVariants.{Rows}
-use Rattle.merge_search.specs.TwoSets.{rights_of}
+use Rattle.merge_certificates.specs.TwoSets.{rights_of}
 use Rattle.merge_sets.specs.World.{world}
 use Rattle.merge_search.specs.Tasks.{Meets, MeetsBoth}
 use Rattle.merge_search.specs.Spending.{CostsMore}

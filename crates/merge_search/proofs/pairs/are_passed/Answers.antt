@@ -4,7 +4,7 @@ use Rattle.std.specs.List.{All}
 use Rattle.std.proofs.lemmas.List.Elements.{All-contains}
 use Rattle.merge_sets.specs.World.{world}
 use Rattle.merge_sets.specs.Plain.{IsPlainBelow}
-use Rattle.merge_search.proofs.Clearing.{lists_clear}
+use Rattle.merge_certificates.proofs.ClearLists.{lists_clear}
 use Rattle.merge_sets.proofs.Harmless.{below_merges}
 use Rattle.merge_sets.proofs.Laws.{on_true_weaker}
 use Rattle.merge_search.proofs.pairs.are_passed.Goals as goal

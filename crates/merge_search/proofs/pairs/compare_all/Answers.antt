@@ -4,7 +4,7 @@ use Rattle.std.specs.List.{All, Contains}
 use Rattle.std.proofs.lemmas.List.Elements.{All-weaker, Contains-get_or}
 use Rattle.std.proofs.lemmas.Option.{slice_get-get_or}
 use Rattle.merge_sets.specs.declared.node.Entry.{Entry}
-use Rattle.merge_search.specs.Below.{KnowsPairs}
+use Rattle.merge_certificates.specs.Below.{KnowsPairs}
 use Rattle.merge_sets.specs.Clear.{AreOthers, IsSumWithin}
 use Rattle.merge_sets.specs.World.{world}
 use Rattle.merge_search.specs.Work.{Done}
@@ -13,7 +13,7 @@ use Rattle.merge_search.specs.Tops.{AtRest}
 use Rattle.merge_search.proofs.Adding.{all_begin, all_next, all_told, all_change}
 use Rattle.merge_sets.proofs.InOrder.{drop_places, in_drop, rest_is}
 use Rattle.merge_search.proofs.Order.{row_rest, tell_rest, rest_all}
-use Rattle.merge_search.proofs.KindNumbers.{rows_after, rows_agree}
+use Rattle.merge_certificates.proofs.KindNumbers.{rows_after, rows_agree}
 use Rattle.merge_sets.proofs.OneName.{no_entry}
 use Rattle.merge_search.proofs.Work.{did_none, did_map, did_next}
 use Rattle.merge_search.specs.Weight.{field_weight, fields_weight}

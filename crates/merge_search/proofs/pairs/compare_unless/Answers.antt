@@ -2,7 +2,8 @@ use Rattle.std.proofs.Common.{false, subst}
 use Rattle.std.specs.Bool.{OnTrue}
 use Rattle.merge_sets.specs.World.{world}
 use Rattle.merge_sets.specs.Kinds.{NeverFailsWith}
-use Rattle.merge_search.proofs.Clearing.{one_clear, rest_clear}
+use Rattle.merge_certificates.proofs.ClearLists.{one_clear}
+use Rattle.merge_search.proofs.Clearing.{rest_clear}
 use Rattle.merge_sets.proofs.Harmless.{below_merges}
 use Rattle.merge_search.proofs.Costs.{spends_none}
 use Rattle.merge_search.proofs.pairs.compare_unless.Goals as goal

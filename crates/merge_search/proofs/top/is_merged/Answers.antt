@@ -1,9 +1,9 @@
 use Rattle.std.proofs.Common.{◌++◌, ◌∷◌, [], ap, subst, sym, ◌∙◌, false}
 use Rattle.std.proofs.lemmas.List.Elements.{All-contains, Contains-push}
 use Rattle.std.specs.List.{Contains}
-use Rattle.merge_search.specs.Quiet.{AreQuiet}
+use Rattle.merge_certificates.specs.Quiet.{AreQuiet}
 use Rattle.merge_sets.specs.World.{world}
-use Rattle.merge_search.specs.declared.unions.Union.{Union}
+use Rattle.merge_certificates.specs.declared.unions.Union.{Union}
 use Rattle.merge_sets.proofs.Laws.{on_true_weaker}
 use Rattle.merge_search.proofs.top.is_merged.Goals as goal
 

@@ -1,6 +1,6 @@
 use Rattle.std.proofs.Common.{◌∷◌, [], false, subst}
 use Rattle.std.specs.Bool.{OnTrue}
-use Rattle.merge_search.specs.Quiet.{AreQuiet}
+use Rattle.merge_certificates.specs.Quiet.{AreQuiet}
 use Rattle.std.proofs.lemmas.Result.{on_ok_weaker}
 use Rattle.merge_sets.specs.World.{world}
 use Rattle.merge_search.proofs.Adding.{all_full, all_plus}

@@ -1,4 +1,0 @@
-use Rattle.merge_search.proofs.clear.are_agreeing.Goals as goal
-
-pub returns-then-agree_plainly : goal.returns-then-agree_plainly
-returns-then-agree_plainly g c = c.if-agree_plainly.ensures c.args.e

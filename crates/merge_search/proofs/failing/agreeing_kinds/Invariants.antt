@@ -1,5 +1,0 @@
-use Rattle.merge_search.specs.Failing.{AgreeKinds}
-use Rattle.merge_search.proofs.failing.agreeing_kinds.Given as goal
-
-abbrev pub invariant-loop-i : goal.invariant-loop-i
-invariant-loop-i g l = AgreeKinds (g.J.Judge.judgement l.graph.judge) l.e l.one l.kinds l.set

@@ -1,5 +1,0 @@
-use Rattle.merge_sets.proofs.Marks.{stays}
-use Rattle.merge_search.proofs.quiet.set_apart.Goals as goal
-
-pub returns-clause-kept : goal.returns-clause-kept
-returns-clause-kept c = stays _ c.insert.new.self c.args.name c.in_ok-insert.ensures.there c.in_ok-insert.ensures.others

@@ -1,7 +1,0 @@
-use Rattle.std.proofs.Common.{◌≡◌, ℕ, true}
-use Rattle.bit_matrix.specs.Set.{has}
-use Rattle.merge_search.specs.Touched.{IsFreeOf}
-use Rattle.merge_search.proofs.touched.rows_apart.Given as goal
-
-abbrev pub invariant-loop-k : goal.invariant-loop-k
-invariant-loop-k l = (k : ℕ) → has l.rows k ≡ true → IsFreeOf l.touched k l.names
