@@ -12,7 +12,7 @@ use Rattle.meta.specs.declared.kinds.MetaTypeOf.{MetaTypeOf}
 use Rattle.schema.specs.Catalog.{Catalog}
 use Rattle.fragment_graph.proofs.Lists.{same_some, none_some, contains_at}
 use Rattle.merge_sets.specs.World.{World, spreads_of}
-use Rattle.merge_search.specs.Tops.{SamePair, SpreadTogether, Together}
+use Rattle.merge_tops.specs.Tops.{SamePair, SpreadTogether, Together}
 use Rattle.merge_set_table.specs.Table.{Numbered}
 use Rattle.merge_set_table.specs.Parts.{IsPartAt}
 use Rattle.merge_graph.specs.SetsIn.{IsSetIn}

@@ -11,7 +11,7 @@ use Rattle.merge_sets.specs.declared.graph.Graph.{Graph}
 use Rattle.merge_sets.specs.Judgement.{Lawful}
 use Rattle.merge_sets.specs.World.{World, world}
 use Rattle.merge_search.specs.Reports.{Judged}
-use Rattle.merge_search.specs.Tops.{Together}
+use Rattle.merge_tops.specs.Tops.{Together}
 use Rattle.merge_graph.specs.declared.judge.FieldJudge.{FieldJudge}
 use Rattle.merge_graph.specs.Building.{IsFragment}
 use Rattle.merge_graph.specs.Definitions.{fragment_count}

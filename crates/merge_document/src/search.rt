@@ -13,9 +13,9 @@ use merge_field_pairs::entry::Entry;
 use merge_graph::document::graph_of_document;
 use merge_graph::judge::FieldJudge;
 use merge_search::state::Search;
-use merge_search::top::search_all;
 use merge_sets::finding::Finding;
 use merge_sets::graph::Graph;
+use merge_tops::top::search_all;
 use schema::model::SchemaTypeOf;
 use std::alloc::Global;
 

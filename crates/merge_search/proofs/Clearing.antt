@@ -12,9 +12,8 @@ use Rattle.merge_sets.specs.Merging.{Merges, merges}
 use Rattle.merge_sets.specs.Clear.{IsClear, AreClear, AreOthers}
 use Rattle.merge_search.specs.Work as done
 use Rattle.merge_search.specs.Work.{Done}
-use Rattle.merge_search.specs.Reports.{Root, AddsAll, AtNamed}
+use Rattle.merge_search.specs.Reports.{Root, AddsAll, AtNamed, AtRest}
 use Rattle.merge_search.specs.Tasks.{Compares}
-use Rattle.merge_search.specs.Tops.{AtRest}
 use Rattle.merge_search.proofs.Adding.{adds_none, all_map, merges_none}
 use Rattle.merge_sets.proofs.Laws.{clash}
 use Rattle.merge_sets.proofs.OneName.{named_in, named_is}

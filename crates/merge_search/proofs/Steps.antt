@@ -17,10 +17,8 @@ use Rattle.merge_search.specs.State.{Keeps, NotesPair, NotesSearch, CountsList}
 use Rattle.merge_search.specs.Work as done
 use Rattle.merge_sets.specs.Merging.{Merges}
 use Rattle.merge_sets.specs.Clear.{AreOthers, IsClear}
-use Rattle.merge_search.specs.Inner.{AtLists}
-use Rattle.merge_search.specs.Tops.{AtRest}
+use Rattle.merge_search.specs.Reports.{AtLists, AtRest, Root, Adds, AddsAll, AtFields, AtWith, AtNamed, AtOwn, AtSearch, AtFirst}
 use Rattle.merge_search.specs.Work.{pair_in, Did, Owes, Done, Searched, Pair, OwnPairs, AllClosed}
-use Rattle.merge_search.specs.Reports.{Root, Adds, AddsAll, AtFields, AtWith, AtNamed, AtOwn, AtSearch, AtFirst}
 use Rattle.merge_search.specs.declared.task.Partner.TheVariants as partner
 use Rattle.merge_search.specs.declared.task.Task.{Task}
 use Rattle.merge_search.specs.declared.task.Task.TheVariants.{With, Listed, Rows, Own, Close, Opened, Mark, Spreads}

@@ -1,8 +1,9 @@
 -- How much stands in sets and below them.
-use Rattle.std.proofs.Common.{◌≡◌, ◌+◌, ◌<◌, ◌≤◌, ◌∙◌, ◌∷◌, [], ℕ, zero, suc, List, Option, None, Some, ap, arith, length, refl, sym}
+use Rattle.std.proofs.Common.{◌≡◌, ◌⊎◌, ◌+◌, ◌<◌, ◌≤◌, ◌∙◌, ◌∷◌, [], ℕ, zero, suc, List, Option, None, Some, ap, arith, inl, inr, length, refl, sym}
 use Rattle.std.specs.Prelude.{sum_by}
 use Rattle.std.specs.List.{All}
 use Rattle.std.specs.Option.{option_map_or}
+use Rattle.std.proofs.lemmas.Bool.{cases_order}
 use Rattle.std.proofs.lemmas.List.Elements.{All-head, All-tail, All-weaker}
 use Rattle.std.proofs.lemmas.List.Sums.{sum_by-cons}
 use Rattle.std.proofs.lemmas.Option.{slice_get_past}
@@ -60,3 +61,6 @@ nothing_weighs w s past =
 pub length_weight : (w : World) (fields : List Entry) → length fields ≤ fields_weight w fields
 length_weight w [] = omega arith
 length_weight w (x ∷ xs) = omega (arith, length_weight w xs, sum_by-cons (field_weight w) x xs)
+
+pub lt_or_le : (s n : ℕ) → (s < n) ⊎ (n ≤ s)
+lt_or_le s n = elim (cases_order s n) [ inl eq ↦ inr (omega (arith, eq)) | inr o ↦ elim o [ inl l ↦ inl l | inr g ↦ inr (omega (arith, g)) ] ]

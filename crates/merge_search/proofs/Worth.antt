@@ -10,9 +10,8 @@ use Rattle.merge_search.specs.State.{NotesBelow, NotesPair, NotesSearch}
 use Rattle.merge_search.specs.Weight.{fragment_weight, weight}
 use Rattle.merge_search.specs.Work.{pair_in, search_in}
 use Rattle.merge_sets.specs.World.{World}
-use Rattle.merge_search.proofs.Core.{lt_or_le}
+use Rattle.merge_search.proofs.Weights.{lt_or_le, nothing_weighs}
 use Rattle.merge_sets.proofs.Laws.{clash}
-use Rattle.merge_search.proofs.Weights.{nothing_weighs}
 use Rattle.merge_search.proofs.Work.{covers_no}
 
 pub sum_kept : (f g : ℕ → ℕ) (n : ℕ) → ((i : ℕ) → f i ≤ g i) → sum_below f n ≤ sum_below g n

@@ -6,7 +6,5 @@ pub mod Counts
 pub mod State
 pub mod Tasks
 pub mod Settle
-pub mod Tops
 pub mod Weight
 pub mod Spending
-pub mod Inner

@@ -54,6 +54,14 @@ FindsAll w e P Q old new = AddsAll w e P Q old.found.items new.found.items
 abbrev pub AtFields : Entry → Entry → Root → Type 0
 AtFields a b r = (r.left ≡ a) × (r.right ≡ b)
 
+-- A field, and one of some others.
+abbrev pub AtRest : Entry → List Entry → Root → Type 0
+AtRest a rest r = (r.left ≡ a) × Contains rest r.right
+
+-- A field of each list.
+abbrev pub AtLists : List Entry → List Entry → Root → Type 0
+AtLists left right r = Contains left r.left × Contains right r.right
+
 abbrev pub AtWith : World → Entry → ℕ → Root → Type 0
 AtWith w a j r = (r.left ≡ a) × Contains (own_of w j) r.right × Same r.left r.right
 

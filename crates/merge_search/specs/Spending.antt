@@ -1,8 +1,7 @@
 -- How many fields a search compares: what each part of its work may cost, and what pays for it.
-use Rattle.std.specs.Prelude.{ℕ, zero, suc, ◌+◌, ◌*◌, ◌<◌, ◌≤◌, min, List, Bool, true, false, cond, drop, length, nat_lt, slice_get, take, ◌-◌, ◌==◌, sum_by, ◌≡◌, ◌⊎◌}
+use Rattle.std.specs.Prelude.{ℕ, zero, suc, ◌+◌, ◌*◌, ◌<◌, ◌≤◌, min, List, Bool, true, false, cond, drop, length, nat_lt, slice_get, sum_by, ◌≡◌, ◌⊎◌}
 use Rattle.std.specs.Option.{option_map_or}
 use Rattle.merge_sets.specs.declared.node.Entry.{Entry}
-use Rattle.merge_sets.specs.declared.node.InnerSet.{InnerSet}
 use Rattle.merge_search.specs.declared.state.Search.{Search}
 use Rattle.merge_search.specs.declared.task.Task.{Task}
 use Rattle.merge_search.specs.declared.task.Task.TheVariants.{With, Listed, Rows, Own, Close, Opened, Mark, Spreads}
@@ -127,33 +126,6 @@ pub record ComparesUpto (w : World) (a : Entry) (fields : List Entry) (from to m
 abbrev pub fragments_weight : World → ℕ
 fragments_weight w = sum_below (fragment_weight w) (length w.fragments)
 
--- Some fields, with each other and with all fragments.
-abbrev pub top_cost : World → ℕ → ℕ
-top_cost w n = n * (n + fragments_weight w)
-
--- The fields of the set of an inline fragment, as the set round it has them.
-abbrev pub part_in : List Entry → InnerSet → List Entry
-part_in own i = take (i.fields_end - i.first_field) (drop i.first_field own)
-
-abbrev pub part_weight : World → InnerSet → ℕ
-part_weight w i = fields_weight w (part_in (own_of w i.outer) i)
-
--- The set of an inline fragment, if it stands in a set; and all that do, each compared once more.
-abbrev pub inner_set_cost : World → ℕ → InnerSet → ℕ
-inner_set_cost w s i = cond (i.outer == s) (top_cost w (part_weight w i)) 0
-
-abbrev pub inner_cost : World → List InnerSet → ℕ → ℕ
-inner_cost w inner s = sum_by (inner_set_cost w s) inner
-
--- All that is asked of a set, and all sets.
-abbrev pub set_cost : World → List InnerSet → ℕ → ℕ
-set_cost w inner s = top_cost w (weight w s) + inner_cost w inner s
-
+-- All sets.
 abbrev pub sets_weight : World → ℕ
 sets_weight w = sum_below (weight w) (length w.sets)
-
--- The sets of an order, one after the other; each two fragments, and each set and each fragment, with the flag and without
--- it; and what is repeated.
-abbrev pub search_cost : World → List InnerSet → List ℕ → ℕ
-search_cost w inner order =
-    sum_by (set_cost w inner) order + 2 * (fragments_weight w * (fragments_weight w + sets_weight w)) + repeat_cost * most_repeats

@@ -18,11 +18,8 @@ use Rattle.merge_sets.specs.World.{World, own_of, spreads_of, set_of, conflict_o
 use Rattle.merge_sets.specs.Opening.{Reaches}
 use Rattle.merge_search.specs.State.{Keeps, Reports}
 use Rattle.merge_search.specs.Work.{Did, Owes, Done, Searched, Pair, SetsDone}
-use Rattle.merge_search.specs.Reports.{Root, Finds, FindsAll, AtFields, AtWith, AtNamed, AtOwn, AtSearch, AtFragments}
-use Rattle.merge_search.specs.Reports.{AtFirst, AtBelow}
-use Rattle.merge_search.specs.Inner.{AtLists}
+use Rattle.merge_search.specs.Reports.{Root, Finds, FindsAll, AtFields, AtWith, AtNamed, AtOwn, AtSearch, AtFragments, AtFirst, AtBelow, AtLists, AtRest}
 use Rattle.merge_certificates.specs.TwoSets.{KnowsRows, rights_of}
-use Rattle.merge_search.specs.Tops.{AtRest}
 
 -- From old to new D was done, what was found stands at P, and each pair of Q that fails of itself has a report of its
 -- own.

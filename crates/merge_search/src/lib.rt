@@ -1,16 +1,12 @@
-//! The search for fields that can't be merged, over numbered sets of numbered fields.
+//! The machine of the search for fields that can't be merged: its state, its tasks, and what they may cost.
 #![tactic(auto)]
 
 mod fields;
 mod fragments;
-mod inner;
 pub mod log;
 pub mod opening;
-mod pairs;
-mod passing;
 pub mod repeats;
 pub mod search;
 mod settle;
 pub mod state;
 pub mod task;
-pub mod top;

@@ -1,0 +1,9 @@
+pub mod Again
+pub mod Core
+pub mod Counting
+pub mod Judging
+pub mod Order
+pub mod Passed
+pub mod Spends
+pub mod Spreads
+pub mod Unmarked

@@ -1,0 +1,18 @@
+use Rattle.std.proofs.Common.{false, subst}
+use Rattle.std.specs.Bool.{OnTrue}
+use Rattle.merge_sets.specs.World.{world}
+use Rattle.merge_sets.specs.Kinds.{NeverFailsWith}
+use Rattle.merge_certificates.proofs.ClearLists.{one_clear}
+use Rattle.merge_search.proofs.Clearing.{rest_clear}
+use Rattle.merge_sets.proofs.Harmless.{below_merges}
+use Rattle.merge_search.proofs.Costs.{spends_none}
+use Rattle.merge_tops.proofs.pairs.compare_unless.Goals as goal
+
+pub returns-then-is_plain_below : goal.returns-then-is_plain_below
+returns-then-is_plain_below g c =
+    let v = world g.J.Judge.judgement c.args.graph.now in
+    let a = c.args.a in
+    let ys = c.args.rest.now in
+    let never = subst (λ b. OnTrue b (NeverFailsWith v.judgement false a ys)) c.if-is_clear.true c.requires.clear in
+    let d = rest_clear v false a ys c.args.search.now (one_clear v false a ys never (λ k x l. below_merges v c.if-is_plain_below.ensures)) in
+    record { done = d.done; real = d.real; spends = spends_none v _ c.args.search.now }

@@ -1,0 +1,14 @@
+use Rattle.std.proofs.Common.{take, false}
+use Rattle.std.specs.List.{All}
+use Rattle.merge_sets.specs.World.{world}
+use Rattle.merge_search.specs.Work.{Did}
+use Rattle.merge_search.specs.Reports.{Adds}
+use Rattle.merge_tops.specs.Tops.{AtTwo, SpreadDone}
+use Rattle.merge_search.specs.Spending.{Spends}
+use Rattle.merge_tops.proofs.top.compare_pairs.Given as goal
+
+abbrev pub invariant-loop-f : goal.invariant-loop-f
+invariant-loop-f g l =
+    Did (world g.J.Judge.judgement l.graph) (λ M. All (SpreadDone (world g.J.Judge.judgement l.graph) M l.plain l.list) (take l.f-index l.list)) l.fn.search l.search
+    × Adds (world g.J.Judge.judgement l.graph) false (AtTwo (world g.J.Judge.judgement l.graph) l.list) l.fn.search.found.items l.search.found.items
+    × Spends (world g.J.Judge.judgement l.graph) 0 l.fn.search l.search

@@ -1,0 +1,3 @@
+pub mod Inner
+pub mod Tops
+pub mod TopCosts

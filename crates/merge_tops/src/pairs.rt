@@ -1,0 +1,191 @@
+//! Comparing the fields of one response name with each other.
+ghost use Rattle.std.specs.Prelude.{◌*◌, OnOk, false};
+ghost use Rattle.std.specs.Bool.{OnTrue};
+ghost use Rattle.std.specs.List.{All};
+ghost use Rattle.merge_sets.specs.World.{world};
+ghost use Rattle.merge_sets.specs.Clear.{AreClear, AreOthers, IsSumWithin};
+ghost use Rattle.merge_sets.specs.Kinds.{NeverFailsWith};
+ghost use Rattle.merge_sets.specs.Plain.{ArePlain};
+ghost use Rattle.merge_search.specs.Work.{Did, Done};
+ghost use Rattle.merge_search.specs.Reports.{FindsAll, AtRest};
+ghost use Rattle.merge_search.specs.Spending.{Spends};
+ghost use Rattle.merge_search.specs.Weight.{field_weight, fields_weight};
+ghost use Rattle.merge_tops.specs.Tops.{AllBefore, AtBefore};
+
+use bit_matrix::set::BitSet;
+use merge_certificates::below::{known_below, others_from};
+use merge_certificates::failing::numbered_kinds;
+use merge_search::search::compare_fields;
+use merge_search::state::{Search, is_full};
+use merge_sets::graph::Graph;
+use merge_sets::judge::Judge;
+use merge_sets::kinds::agreeing_rows;
+use merge_sets::node::Entry;
+use merge_sets::plain::{are_plain_below, is_plain_below};
+use merge_sets::view::agree_plainly;
+use std::alloc::AllocError;
+
+/// Compares a field with some others.
+///
+/// # Errors
+///
+/// Out of memory.
+pub(crate) fn compare_rest<J: Judge>(
+    graph: &Graph<J>,
+    a: Entry,
+    rest: &[Entry],
+    search: &mut Search,
+) -> Result<(), AllocError>
+    ensures done { let w = world J.judgement graph.now in
+        OnOk result (Did w (λ M. All (λ b. Done w M false a b) rest.now) search.old search.new) }
+    ensures real { let w = world J.judgement graph.now in
+        OnOk result (FindsAll w false (AtRest a rest.now) (AtRest a rest.now) search.old search.new) }
+    ensures spends { let w = world J.judgement graph.now in
+        OnOk result (Spends w (field_weight w a * fields_weight w rest.now) search.old search.new) }
+{
+    if is_full(graph, search) {
+        return Ok(());
+    }
+    for b in rest {
+        compare_fields(graph, a, *b, false, search)?;
+    }
+    Ok(())
+}
+
+// Whether it is plain that there is nothing to find between some fields. Two that have nothing below are compared at
+// once.
+fn are_passed<J: Judge>(graph: &Graph<J>, fields: &[Entry], plain: &BitSet) -> bool
+    requires { ArePlain (world J.judgement graph.now) plain.now }
+    ensures { OnTrue result (AreClear (world J.judgement graph.now) false fields.now fields.now) }
+{
+    let is_wide = fields.len() > 2 || fields.iter().any(|a| a.below.is_some());
+    if !is_wide || !are_plain_below(graph, fields, plain) {
+        return false;
+    }
+    agree_plainly(graph, fields, fields)
+}
+
+// Compares a field with some others, unless it is known to fail with none of them, and what stands below it is plain.
+fn compare_unless<J: Judge>(
+    graph: &Graph<J>,
+    a: Entry,
+    rest: &[Entry],
+    is_clear: bool,
+    plain: &BitSet,
+    search: &mut Search,
+) -> Result<(), AllocError>
+    requires clear { OnTrue is_clear (NeverFailsWith (J.judgement graph.now.judge) false a rest.now) }
+    requires plain { ArePlain (world J.judgement graph.now) plain.now }
+    ensures done { let w = world J.judgement graph.now in
+        OnOk result (Did w (λ M. All (λ b. Done w M false a b) rest.now) search.old search.new) }
+    ensures real { let w = world J.judgement graph.now in
+        OnOk result (FindsAll w false (AtRest a rest.now) (AtRest a rest.now) search.old search.new) }
+    ensures spends { let w = world J.judgement graph.now in
+        OnOk result (Spends w (field_weight w a * fields_weight w rest.now) search.old search.new) }
+{
+    if is_clear && is_plain_below(graph, a, plain) {
+        return Ok(());
+    }
+    compare_rest(graph, a, rest, search)
+}
+
+// Compares a field with some others: with those alone of which it isn't known that they merge with it.
+fn compare_others<J: Judge>(
+    graph: &Graph<J>,
+    a: Entry,
+    rest: &[Entry],
+    others: &[Entry],
+    is_clear: bool,
+    plain: &BitSet,
+    search: &mut Search,
+) -> Result<(), AllocError>
+    requires clear { OnTrue is_clear (NeverFailsWith (J.judgement graph.now.judge) false a rest.now) }
+    requires others { AreOthers (world J.judgement graph.now) false a rest.now others.now }
+    requires once { IsSumWithin others.now rest.now }
+    requires plain { ArePlain (world J.judgement graph.now) plain.now }
+    ensures done { let w = world J.judgement graph.now in
+        OnOk result (Did w (λ M. All (λ b. Done w M false a b) rest.now) search.old search.new) }
+    ensures real { let w = world J.judgement graph.now in
+        OnOk result (FindsAll w false (AtRest a rest.now) (AtRest a rest.now) search.old search.new) }
+    ensures spends { let w = world J.judgement graph.now in
+        OnOk result (Spends w (field_weight w a * fields_weight w rest.now) search.old search.new) }
+{
+    if is_plain_below(graph, a, plain) && is_clear {
+        return compare_unless(graph, a, rest, is_clear, plain, search);
+    }
+    compare_rest(graph, a, others, search)
+}
+
+// Compares each field with those after it, but for those of which it is known, of many at once, that they merge.
+fn compare_all<J: Judge>(
+    graph: &Graph<J>,
+    fields: &[Entry],
+    plain: &BitSet,
+    search: &mut Search,
+) -> Result<(), AllocError>
+    requires { ArePlain (world J.judgement graph.now) plain.now }
+    ensures done { let w = world J.judgement graph.now in
+        OnOk result (Did w (λ M. AllBefore (Done w M false) fields.now) search.old search.new) }
+    ensures real { let w = world J.judgement graph.now in
+        OnOk result (FindsAll w false (AtBefore fields.now) (AtBefore fields.now) search.old search.new) }
+    ensures spends { let w = world J.judgement graph.now in let f = fields_weight w fields.now in
+        OnOk result (Spends w (f * f) search.old search.new) }
+{
+    let clear = agreeing_rows(search.alloc, graph, false, fields, fields)?;
+    let most = fields.len().saturating_mul(fields.len()) / 4;
+    let below = known_below(search.alloc, graph, false, fields, most)?;
+    let kinds = numbered_kinds(search.alloc, graph, fields, &clear)?;
+    for k in 0..fields.len() {
+        let is_clear = clear.contains(k);
+        let others = others_from(
+            search.alloc,
+            graph,
+            false,
+            fields,
+            k,
+            k + 1,
+            is_clear,
+            &below,
+            &kinds,
+        )?;
+        compare_others(
+            graph,
+            fields[k],
+            &fields[k + 1..],
+            others.as_slice(),
+            is_clear,
+            plain,
+            search,
+        )?;
+    }
+    Ok(())
+}
+
+/// Compares each field with those after it. Where what stands below is plain, or merges, many that are alike are passed
+/// at once, and so is each that fails with none of the others, by their kinds: there is nothing to find.
+///
+/// # Errors
+///
+/// Out of memory.
+pub(crate) fn compare_each<J: Judge>(
+    graph: &Graph<J>,
+    fields: &[Entry],
+    plain: &BitSet,
+    search: &mut Search,
+) -> Result<(), AllocError>
+    requires { ArePlain (world J.judgement graph.now) plain.now }
+    ensures done { let w = world J.judgement graph.now in
+        OnOk result (Did w (λ M. AllBefore (Done w M false) fields.now) search.old search.new) }
+    ensures real { let w = world J.judgement graph.now in
+        OnOk result (FindsAll w false (AtBefore fields.now) (AtBefore fields.now) search.old search.new) }
+    ensures spends { let w = world J.judgement graph.now in let f = fields_weight w fields.now in
+        OnOk result (Spends w (f * f) search.old search.new) }
+{
+    if fields.len() < 2 {
+        return Ok(());
+    }
+    if are_passed(graph, fields, plain) {
+        return Ok(());
+    }
+    compare_all(graph, fields, plain, search)
+}
