@@ -4,4 +4,6 @@ pub mod Transfer
 pub mod Trees
 pub mod Finding
 pub mod Counting
+pub mod Sums
+pub mod Comparing
 pub mod Searching

@@ -54,6 +54,7 @@ limited_is schema document g limit is = record {
   sets = is.sets;
   origins = is.origins;
   size = is.size;
+  nests = λ known. let n = is.nests known in record { count = n.count; few = n.few; fragments = n.fragments };
 }
 
 module _ {S C : Type 0} (E : S → S → Bool) (schema : Catalog S C) (document : List (Definition S)) (g : Graph (FieldJudge S C)) (is : IsGraphOf schema document g) where

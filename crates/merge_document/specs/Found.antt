@@ -1,5 +1,5 @@
 -- What a search of a document has found.
-use Rattle.std.specs.Prelude.{◌≡◌, ◌<◌, ◌⊎◌, ℕ, List, Bool, Option, Some, length, map, slice_get}
+use Rattle.std.specs.Prelude.{◌≡◌, ◌<◌, ◌⊎◌, ◌+◌, ◌*◌, ℕ, List, Bool, Option, Some, length, map, slice_get}
 use Rattle.std.specs.List.{All, Contains}
 use Rattle.language.specs.declared.tree.Selection.{Selection}
 use Rattle.language.specs.declared.tree.Definition.{Definition}
@@ -10,10 +10,16 @@ use Rattle.merge_field_pairs.specs.Entries.{PlainEntry, plain}
 use Rattle.merge_field_pairs.specs.OwnFields.{own_spreads}
 use Rattle.merge_sets.specs.declared.node.Entry.{Entry}
 use Rattle.merge_graph.specs.SetsIn.{IsSetIn, HasKnownConditions}
+use Rattle.merge_graph.specs.Sizes.{selection_count, document_depths}
 use Rattle.merge_conflicts.specs.Reports.{Reports, postfix, AreReportsOf}
 use Rattle.merge_document.specs.Conflicts.{AreReal, AreTold, AreAll, IsTidyDocument}
 use Rattle.merge_document.specs.Merging.{DocumentMerges}
 use Rattle.merge_document.specs.declared.search.FoundConflicts.{FoundConflicts}
+
+-- The most pairs of fields that a search compares one by one: by the selections of the document, at any depth, and the
+-- sum of their depths.
+abbrev pub most_compared : {S : Type 0} → List (Definition S) → ℕ
+most_compared document = 24 * (selection_count document * document_depths document) + 250000
 
 -- the search didn't stop because it had found enough
 abbrev pub IsFinished : {S C : Type 0} → FoundConflicts S C → Type 0

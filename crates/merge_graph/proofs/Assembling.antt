@@ -1,6 +1,7 @@
 -- How a document's sets are put together.
 use Rattle.std.proofs.Common.{◌≡◌, ◌==◌, ◌<◌, ◌≤◌, ◌+◌, ℕ, List, [], ◌∷◌, length, length-append, map, get_or, Option, Some, None, is_some, true, cond, slice_get, option_and_then, refl, sym, ap, subst, ◌∙◌, inl, inr, arith}
-use Rattle.std.specs.List.{Contains}
+use Rattle.std.specs.List.{Contains, sum_by}
+use Rattle.std.proofs.lemmas.List.{nil_from_length}
 use Rattle.std.proofs.lemmas.Bool.{cases_order, eqb-true}
 use Rattle.std.proofs.lemmas.Map.Views.{Contains-from_any}
 use Rattle.std.proofs.lemmas.List.Elements.{All-nil}
@@ -31,7 +32,8 @@ use Rattle.merge_graph.specs.Assembly.{AreRanked, KnowsAll, AreInPlaces, joined_
 use Rattle.merge_graph.proofs.Renumbering.{AgreeOn, in_flat, part_more}
 use Rattle.merge_graph.proofs.Growing.{built_definition, extends, kept_order, new_sets}
 use Rattle.merge_graph.proofs.Stretches.{among_all, among_some}
-use Rattle.merge_graph.specs.Sizes.{graph_size}
+use Rattle.merge_set_table.specs.Nesting.{inner_measure}
+use Rattle.merge_graph.specs.Sizes.{graph_size, share_of, selections_share, depths_share}
 use Rattle.merge_graph.proofs.Shares.{nothing_joined, taken_few}
 use Rattle.merge_graph.proofs.Few.{few_numbers}
 use Rattle.merge_graph.proofs.Lasts.{last_inside}
@@ -107,6 +109,14 @@ module _ {S C : Type 0} where
         sets_from = λ k p among. absurd (nothing_at b.order.items (slice_get b.stretches.items p) (h.free p) k among);
         fields_from = λ k a at. absurd (none_some a (subst (λ fs. slice_get (map plain fs) k ≡ Some a) h.fields at));
         size = λ known. let none = h.size in omega (arith, none, ap length (nothing_joined b.order.items b.stretches.items h.free));
+        nests = λ known.
+            let none = nothing_joined b.order.items b.stretches.items h.free in
+            let inner : b.table.inner.items ≡ [] = nil_from_length b.table.inner.items (omega (arith, h.size)) in
+            record {
+              count = ap length h.sets ∙ sym (ap length none);
+              few = λ f g m. omega (arith, ap (sum_by f) none, ap (inner_measure g) inner);
+              fragments = λ f g m. omega (arith, ap (sum_by f) h.fragments);
+            };
       }
 
   -- at first each place is free
@@ -203,8 +213,8 @@ module _ {S C : Type 0} where
 
   pub graph_is : (schema : Catalog S C) (document : List (Definition S)) (c : DocumentCycles) (b : Building S C) (g : Graph (FieldJudge S C))
       → AreRanked document c → IsComplete schema document (rank_in c) b → IsGraphOfTable schema (numbered b.table) b.fragments.items (joined_order b) g
-      → graph_size g + length b.table.order.items ≡ table_size b.table + length (joined_order b) → IsGraphOf schema document g
-  graph_is schema document c b g ranked done is size = record {
+      → graph_size g + length b.table.order.items ≡ table_size b.table + length (joined_order b) → g.inner.items ≡ b.table.inner.items → IsGraphOf schema document g
+  graph_is schema document c b g ranked done is size inner = record {
     table = numbered b.table;
     numbers = rank_in c;
     fragment_sets = b.fragments.items;
@@ -221,5 +231,10 @@ module _ {S C : Type 0} where
       few = few_numbers document c ranked.searched b.fragments.items done.built.named;
       whole = λ known k l. let at = done.built.whole known k l in joined_contains b at.0 k at.1;
     };
-    size = λ known. let taken = done.built.size known in omega (arith, taken, size, taken_few b.stretches.items document);
+    size = λ known. let taken = done.built.size known in omega (arith, taken, size, taken_few share_of b.stretches.items document);
+    nests = λ known. let n = done.built.nests known in record {
+      count = n.count;
+      few = λ f parts m. omega (arith, n.few f parts m, ap (inner_measure parts) inner, taken_few depths_share b.stretches.items document);
+      fragments = λ f parts m. omega (arith, n.fragments f parts m, taken_few selections_share b.stretches.items document);
+    };
   }

@@ -1,6 +1,7 @@
 -- What was built stays right where a definition's set is added.
-use Rattle.std.proofs.Common.{◌≡◌, ◌<◌, ◌≤◌, ◌+◌, ℕ, List, ◌++◌, length, map, get_or, Option, Some, true, slice_get, slice_set, length-set, sym, ap, subst, ◌∙◌, inl, inr, ◌⊎◌, arith}
-use Rattle.std.specs.List.{Contains, flat_map}
+use Rattle.std.proofs.Common.{◌≡◌, ◌<◌, ◌≤◌, ◌+◌, ℕ, List, ◌++◌, length, map, get_or, Option, Some, true, slice_get, slice_set, length-set, length-append, sym, ap, subst, ◌∙◌, inl, inr, ◌⊎◌, arith}
+use Rattle.std.specs.List.{Contains, flat_map, sum_by}
+use Rattle.std.proofs.lemmas.List.Sums.{sum_by-append}
 use Rattle.std.proofs.lemmas.Option.{slice_get_within}
 use Rattle.std.proofs.lemmas.Bool.{cases_order, cases_eq}
 use Rattle.language.specs.declared.tree.Definition.{Definition}
@@ -13,12 +14,14 @@ use Rattle.merge_set_table.specs.Once.{is_among}
 use Rattle.merge_set_table.specs.Table.{Numbered, numbered, Extends, Falling}
 use Rattle.merge_set_table.specs.Represents.{IsSetOf}
 use Rattle.merge_set_table.specs.Adding.{AreWithin}
+use Rattle.merge_set_table.specs.Nesting.{inner_measure, Measures}
+use Rattle.merge_set_table.proofs.Nesting.{measures_less}
 use Rattle.merge_set_table.proofs.Origins.{kept_field}
 use Rattle.merge_graph.specs.declared.building.Building.{Building}
 use Rattle.merge_graph.specs.Definitions.{type_round, selections_of}
-use Rattle.merge_graph.specs.Sizes.{share_of, share_taken}
+use Rattle.merge_graph.specs.Sizes.{share_of, selections_share, depths_share, taken}
 use Rattle.merge_graph.specs.SetsIn.{IsNodeIn, HasKnownConditions}
-use Rattle.merge_graph.specs.Building.{stretch_of, order_at, AreStretches, AreSetsAt, IsSetOfDefinition, IsFragment, HasOrigin, AreKnown, AddsDefinition, Built}
+use Rattle.merge_graph.specs.Building.{stretch_of, order_at, AreStretches, AreSetsAt, IsSetOfDefinition, IsFragment, HasOrigin, AreKnown, AddsDefinition, AreNested, Built}
 use Rattle.merge_graph.proofs.Stretches.{stretch_at, new_stretch, same_stretch, stays, still_within}
 use Rattle.merge_graph.proofs.Shares.{joined_more, taken_more}
 use Rattle.merge_graph.proofs.Renumbering.{AgreeOn, set_renumbered, set_more, part_more, spreads_inside}
@@ -164,6 +167,37 @@ module _ {S C : Type 0} (schema : Catalog S C) (document : List (Definition S)) 
             | inr low ↦ (let f = a.adds.from.fields k x low now in (f.type, f.inner, (d, stands, f.inside), f.stands))
           ]
 
+      pub more_taken : (share : Definition S → ℕ) → taken share b'.stretches.items document ≡ taken share b.stretches.items document + share d
+      more_taken share =
+          ap (λ os. taken share os document) a.notes.stretches ∙ taken_more share b.stretches.items document place (length b.order.items, length b'.order.items) d a.notes.free at
+
+      joined : (F : List ℕ → ℕ) → ((xs ys : List ℕ) → F (xs ++ ys) ≡ F xs + F ys)
+          → F (flat_map (stretch_of b'.order.items) b'.stretches.items) ≡ F (flat_map (stretch_of b.order.items) b.stretches.items) + F a.adds.more
+      joined F joins =
+          by_order (λ xs os. F (flat_map (stretch_of xs) os) ≡ F (flat_map (stretch_of b.order.items) b.stretches.items) + F a.grown.order.items)
+          (joined_more F joins b.order.items a.grown.order.items b.stretches.items place a.notes.free built.within)
+          ∙ ap (λ xs. F (flat_map (stretch_of b.order.items) b.stretches.items) + F xs) order_is
+
+      measures : (f : ℕ → ℕ) (g : ℕ → ℕ → ℕ → ℕ) → Measures schema (numbered b'.table) f g → Measures schema (numbered b.table) f g
+      measures f g m = measures_less schema (numbered b.table) (numbered b'.table) f g extends m
+
+      nested : HasKnownConditions schema document → AreNested schema document b'
+      nested known =
+          let had = built.nests known in
+          let new = a.adds.nests (known d stands) in
+          record {
+            count = omega (arith, had.count, new.count, ap length sets_are, joined length length-append);
+            few = λ f g m. omega (
+              arith,
+              had.few f g (measures f g m),
+              new.few f g (subst (λ n. Measures schema n f g) a.notes.same m),
+              joined (sum_by f) (sum_by-append f),
+              ap (inner_measure g) a.notes.inner,
+              more_taken depths_share,
+            );
+            fragments = λ f g m. omega (arith, had.fragments f g (measures f g m), ap (sum_by f) fragments_are, more_taken selections_share);
+          }
+
       pub built_definition : Built schema document numbers b'
       built_definition = record {
         apart = subst AreApart (sym (ap (λ (m : Numbered S C). m.responses) a.notes.same)) (a.adds.has.keeps.apart built.apart);
@@ -191,8 +225,7 @@ module _ {S C : Type 0} (schema : Catalog S C) (document : List (Definition S)) 
             let noted = a.notes.size in
             let joined : length (flat_map (stretch_of b'.order.items) b'.stretches.items) ≡ length (flat_map (stretch_of b.order.items) b.stretches.items) + length a.grown.order.items =
             by_order (λ xs os. length (flat_map (stretch_of xs) os) ≡ length (flat_map (stretch_of b.order.items) b.stretches.items) + length a.grown.order.items)
-            (joined_more b.order.items a.grown.order.items b.stretches.items place a.notes.free built.within) in
-            let taken : share_taken b'.stretches.items document ≡ share_taken b.stretches.items document + share_of d =
-            ap (λ os. share_taken os document) a.notes.stretches ∙ taken_more b.stretches.items document place (length b.order.items, length b'.order.items) d a.notes.free at in
-            omega (arith, had, grown, noted, joined, taken);
+            (joined_more length length-append b.order.items a.grown.order.items b.stretches.items place a.notes.free built.within) in
+            omega (arith, had, grown, noted, joined, more_taken share_of);
+        nests = nested;
       }

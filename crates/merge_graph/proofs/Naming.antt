@@ -1,7 +1,9 @@
 -- What was built stays right where a fragment gets its number.
 use Rattle.std.proofs.Common.{◌≡◌, ◌<◌, ℕ, List, [], ◌∷◌, ◌++◌, length, length-append, get_or, Option, Some, true, refl, sym, ap, subst, ◌∙◌, inl, inr, ◌⊎◌, arith}
 use Rattle.std.proofs.Math.Seq.{get_or-append_seam}
+use Rattle.std.specs.List.{sum_by}
 use Rattle.std.proofs.lemmas.List.{get_or_append_left}
+use Rattle.std.proofs.lemmas.List.Sums.{sum_by_push}
 use Rattle.std.proofs.lemmas.List.Elements.{All-weaker}
 use Rattle.std.proofs.lemmas.Bool.{cases_order}
 use Rattle.language.specs.declared.tree.Definition.{Definition}
@@ -10,12 +12,14 @@ use Rattle.fragment_graph.specs.Spreads.{placed_spreads_of_all}
 use Rattle.fragment_graph.proofs.Lists.{get_more, get_end}
 use Rattle.merge_set_table.specs.declared.table.NumberedSet.{NumberedSet}
 use Rattle.merge_set_table.specs.Once.{is_among}
-use Rattle.merge_set_table.specs.Table.{numbered, spreads_at, IsWithin, Falling}
+use Rattle.merge_set_table.specs.Table.{numbered, spreads_at, IsWithin, Extends, Falling}
+use Rattle.merge_set_table.proofs.Nesting.{measures_less}
 use Rattle.merge_graph.specs.declared.building.Building.{Building}
-use Rattle.merge_graph.specs.Definitions.{selections_of, IsLast}
+use Rattle.merge_graph.specs.Definitions.{type_round, selections_of, IsLast}
+use Rattle.merge_graph.specs.Sizes.{selections_share}
 use Rattle.merge_graph.specs.Building.{order_at, IsFragment, AreKnown, AddsFragment, Built}
 use Rattle.merge_graph.proofs.Renumbering.{AgreeOn}
-use Rattle.merge_graph.proofs.Growing.{built_definition, is_set, is_low, new_listed}
+use Rattle.merge_graph.proofs.Growing.{built_definition, more_taken, extends, is_set, is_low, new_listed}
 
 -- a number below the end of a list with one element more
 last_or_below : (xs : List ℕ) (x g : ℕ) → g < length (xs ++ x ∷ []) → (g ≡ length xs) ⊎ (g < length xs)
@@ -44,6 +48,9 @@ module _ {S C : Type 0} (schema : Catalog S C) (document : List (Definition S)) 
 
   middle_built : Built schema document numbers a.middle
   middle_built = built_definition schema document numbers names last.is place a.set b a.middle built a.adds last.stands are_known agree
+
+  middle_extends : Extends (numbered b.table) (numbered a.middle.table)
+  middle_extends = extends schema document numbers names last.is place a.set b a.middle built a.adds
 
   same_fragments : a.middle.fragments.items ≡ b.fragments.items
   same_fragments = ap (λ v. v.items) a.adds.notes.fragments
@@ -120,6 +127,18 @@ module _ {S C : Type 0} (schema : Catalog S C) (document : List (Definition S)) 
     sets_from = middle_built.sets_from;
     fields_from = middle_built.fields_from;
     size = middle_built.size;
+    nests = λ known. let n = middle_built.nests known in let had = built.nests known in record {
+      count = n.count;
+      few = n.few;
+      fragments = λ f g m. omega (
+        arith,
+        had.fragments f g (measures_less schema (numbered b.table) (numbered a.middle.table) f g middle_extends m),
+        m.sets numbers (type_round schema last.is) (selections_of last.is) a.set (is_set schema document numbers names last.is place a.set b a.middle built a.adds agree),
+        ap (sum_by f) a.pushed,
+        sum_by_push f b.fragments.items a.set,
+        more_taken schema document numbers names last.is place a.set b a.middle built a.adds last.stands are_known agree selections_share,
+      );
+    };
   }
 
   pub built_fragment : Built schema document numbers b'

@@ -1,5 +1,5 @@
 -- What the definitions take whose sets are there.
-use Rattle.std.proofs.Common.{◌≡◌, ◌≤◌, ℕ, ◌+◌, zero, suc, List, [], ◌∷◌, ◌++◌, length, map, length-append, Option, Some, None, slice_get, slice_set, refl, sym, ap, ◌∙◌, arith}
+use Rattle.std.proofs.Common.{◌≡◌, ◌≤◌, ℕ, ◌+◌, zero, suc, List, [], ◌∷◌, ◌++◌, length, map, Option, Some, None, slice_get, slice_set, refl, sym, ap, ◌∙◌, arith}
 use Rattle.std.specs.List.{flat_map, sum_by}
 use Rattle.std.proofs.lemmas.List.Sums.{sum_by-cons}
 use Rattle.language.specs.declared.tree.Definition.{Definition}
@@ -9,9 +9,9 @@ use Rattle.merge_sets.specs.declared.node.SetNode.{SetNode}
 use Rattle.merge_set_table.specs.declared.table.NumberedSet.{NumberedSet}
 use Rattle.merge_set_table.specs.Sizes.{row_size}
 use Rattle.merge_graph.specs.Sets.{plain_row, plain_node}
-use Rattle.merge_graph.specs.Sizes.{share_of, document_share, share_taken, set_size}
+use Rattle.merge_graph.specs.Sizes.{taken, set_size}
 use Rattle.merge_graph.specs.Building.{stretch_of, AreStretches}
-use Rattle.merge_graph.proofs.Stretches.{range_kept, range_new}
+use Rattle.merge_set_table.proofs.Nesting.{range_kept, range_new}
 
 abbrev Ends : Type 0
 Ends = ℕ × ℕ
@@ -31,46 +31,47 @@ joined_kept xs ys (o ∷ os) within =
     ap (λ zs. zs ++ flat_map (stretch_of (xs ++ ys)) os) (stretch_kept xs ys o (λ start end e. within 0 start end (ap (λ z. Some z) e)))
     ∙ ap (λ zs. stretch_of xs o ++ zs) (joined_kept xs ys os (λ p start end h. within (suc p) start end h))
 
--- a free place got the end of an order that grew
-pub joined_more : (xs ys : List ℕ) (os : List (Option Ends)) (place : ℕ) → slice_get os place ≡ Some None → AreStretches xs os
-    → length (flat_map (stretch_of (xs ++ ys)) (slice_set os place (Some (length xs, length (xs ++ ys))))) ≡ length (flat_map (stretch_of xs) os) + length ys
-joined_more xs ys [] place free within = cc
-joined_more xs ys (o ∷ os) zero free within =
-    let none : o ≡ None = same_some o None free in
-    let new : List ℕ = stretch_of (xs ++ ys) (Some (length xs, length (xs ++ ys))) in
-    omega (
-      arith,
-      length-append new (flat_map (stretch_of (xs ++ ys)) os),
-      ap length (range_new xs ys),
-      ap length (joined_kept xs ys os (λ p start end h. within (suc p) start end h)),
-      ap (λ (e : Option Ends). length (stretch_of xs e ++ flat_map (stretch_of xs) os)) none,
-    )
-joined_more xs ys (o ∷ os) (suc place) free within =
-    let rest : List (Option Ends) = slice_set os place (Some (length xs, length (xs ++ ys))) in
-    let more = joined_more xs ys os place free (λ p start end h. within (suc p) start end h) in
-    omega (
-      arith,
-      more,
-      length-append (stretch_of (xs ++ ys) o) (flat_map (stretch_of (xs ++ ys)) rest),
-      length-append (stretch_of xs o) (flat_map (stretch_of xs) os),
-      ap length (stretch_kept xs ys o (λ start end e. within 0 start end (ap (λ z. Some z) e))),
-    )
+-- what is added up of orders: a free place got the end of one that grew
+module _ (F : List ℕ → ℕ) (joins : (xs ys : List ℕ) → F (xs ++ ys) ≡ F xs + F ys) where
+  pub joined_more : (xs ys : List ℕ) (os : List (Option Ends)) (place : ℕ) → slice_get os place ≡ Some None → AreStretches xs os
+      → F (flat_map (stretch_of (xs ++ ys)) (slice_set os place (Some (length xs, length (xs ++ ys))))) ≡ F (flat_map (stretch_of xs) os) + F ys
+  joined_more xs ys [] place free within = cc
+  joined_more xs ys (o ∷ os) zero free within =
+      let none : o ≡ None = same_some o None free in
+      let new : List ℕ = stretch_of (xs ++ ys) (Some (length xs, length (xs ++ ys))) in
+      omega (
+        arith,
+        joins new (flat_map (stretch_of (xs ++ ys)) os),
+        ap F (range_new xs ys),
+        ap F (joined_kept xs ys os (λ p start end h. within (suc p) start end h)),
+        ap (λ (e : Option Ends). F (stretch_of xs e ++ flat_map (stretch_of xs) os)) none,
+      )
+  joined_more xs ys (o ∷ os) (suc place) free within =
+      let rest : List (Option Ends) = slice_set os place (Some (length xs, length (xs ++ ys))) in
+      let more = joined_more xs ys os place free (λ p start end h. within (suc p) start end h) in
+      omega (
+        arith,
+        more,
+        joins (stretch_of (xs ++ ys) o) (flat_map (stretch_of (xs ++ ys)) rest),
+        joins (stretch_of xs o) (flat_map (stretch_of xs) os),
+        ap F (stretch_kept xs ys o (λ start end e. within 0 start end (ap (λ z. Some z) e))),
+      )
 
-module _ {S : Type 0} where
+module _ {S : Type 0} (share : Definition S → ℕ) where
   pub taken_more : (os : List (Option Ends)) (ds : List (Definition S)) (place : ℕ) (ends : Ends) (d : Definition S)
-      → slice_get os place ≡ Some None → slice_get ds place ≡ Some d → share_taken (slice_set os place (Some ends)) ds ≡ share_taken os ds + share_of d
+      → slice_get os place ≡ Some None → slice_get ds place ≡ Some d → taken share (slice_set os place (Some ends)) ds ≡ taken share os ds + share d
   taken_more [] ds place ends d free at = cc
   taken_more (o ∷ os) [] place ends d free at = cc
-  taken_more (None ∷ os) (x ∷ ds) zero ends d free at = let same = ap share_of (same_some x d at) in omega (arith, same)
+  taken_more (None ∷ os) (x ∷ ds) zero ends d free at = let same = ap share (same_some x d at) in omega (arith, same)
   taken_more (Some e ∷ os) (x ∷ ds) zero ends d free at = cc
   taken_more (None ∷ os) (x ∷ ds) (suc place) ends d free at = taken_more os ds place ends d free at
   taken_more (Some e ∷ os) (x ∷ ds) (suc place) ends d free at = let more = taken_more os ds place ends d free at in omega (arith, more)
 
-  pub taken_few : (os : List (Option Ends)) (ds : List (Definition S)) → share_taken os ds ≤ document_share ds
+  pub taken_few : (os : List (Option Ends)) (ds : List (Definition S)) → taken share os ds ≤ sum_by share ds
   taken_few [] ds = omega arith
   taken_few (o ∷ os) [] = omega arith
-  taken_few (None ∷ os) (d ∷ ds) = let few = taken_few os ds in omega (arith, few, sum_by-cons share_of d ds)
-  taken_few (Some ends ∷ os) (d ∷ ds) = let few = taken_few os ds in omega (arith, few, sum_by-cons share_of d ds)
+  taken_few (None ∷ os) (d ∷ ds) = let few = taken_few os ds in omega (arith, few, sum_by-cons share d ds)
+  taken_few (Some ends ∷ os) (d ∷ ds) = let few = taken_few os ds in omega (arith, few, sum_by-cons share d ds)
 
 -- a search's sets are as large as the table's
 pub equally_large : (nodes : List SetNode) (rows : List NumberedSet) → map plain_node nodes ≡ map plain_row rows → sum_by (λ n. set_size (plain_node n)) nodes ≡ sum_by row_size rows

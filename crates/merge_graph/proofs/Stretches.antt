@@ -1,28 +1,15 @@
 -- The stretches of a list that grows at its end stay what they are.
-use Rattle.std.proofs.Common.{◌≡◌, ◌≤◌, ◌-◌, ◌==◌, ℕ, List, [], ◌∷◌, ◌++◌, length, length-append, length-drop, take, drop, take_all, Option, Some, None, true, zero, suc, slice_get, slice_set, slice_range, option_and_then, refl, sym, ap, subst, ◌∙◌, inl, inr, ◌⊎◌, arith}
+use Rattle.std.proofs.Common.{◌≡◌, ◌≤◌, ◌-◌, ◌==◌, ℕ, List, [], ◌∷◌, ◌++◌, length, length-append, Option, Some, None, true, zero, suc, slice_get, slice_set, option_and_then, refl, sym, ap, subst, ◌∙◌, inl, inr, ◌⊎◌, arith}
 use Rattle.std.specs.List.{flat_map}
-use Rattle.std.proofs.Math.Seq.{drop-append_seam}
 use Rattle.std.proofs.lemmas.Bool.{cases_eq, or_left, or_right, or_cases}
-use Rattle.std.proofs.lemmas.List.{take-append-le, drop-append-le}
 use Rattle.std.proofs.lemmas.List.Folds.{list_any-append}
 use Rattle.fragment_graph.proofs.Lists.{same_some, set_same, set_other}
 use Rattle.merge_set_table.specs.Once.{is_among}
+use Rattle.merge_set_table.proofs.Nesting.{range_kept, range_new}
 use Rattle.merge_graph.specs.Building.{stretch_of, AreStretches}
 
 abbrev Ends : Type 0
 Ends = ℕ × ℕ
-
--- what stands in an order that grew
-pub range_kept : (xs ys : List ℕ) (start end : ℕ) → start ≤ end → end ≤ length xs → slice_range (xs ++ ys) start end ≡ slice_range xs start end
-range_kept xs ys start end low high =
-    let long = length-drop start xs in
-    ap (take (end - start)) (drop-append-le start xs ys (omega (arith, low, high)))
-    ∙ take-append-le (end - start) (drop start xs) ys (omega (arith, low, high, long))
-
-pub range_new : (xs ys : List ℕ) → slice_range (xs ++ ys) (length xs) (length (xs ++ ys)) ≡ ys
-range_new xs ys =
-    let long = length-append xs ys in
-    ap (take (length (xs ++ ys) - length xs)) (drop-append_seam xs ys) ∙ take_all (length (xs ++ ys) - length xs) ys (omega (arith, long))
 
 abbrev stretch_found : List ℕ → Option (Option Ends) → List ℕ
 stretch_found order found = stretch_of order (option_and_then (λ o. o) found)

@@ -1,7 +1,7 @@
 -- How the sets of a document are added, definition by definition.
 use Rattle.std.specs.Prelude.{◌≡◌, ◌<◌, ◌≤◌, ◌+◌, ℕ, List, [], ◌∷◌, ◌++◌, map, Option, Some, None, length, get_or}
 use Rattle.std.specs.Prelude.{slice_get, slice_set, slice_range, true, option_and_then}
-use Rattle.std.specs.List.{flat_map}
+use Rattle.std.specs.List.{flat_map, sum_by}
 use Rattle.std.specs.declared.vec.Vec.{Vec}
 use Rattle.std.specs.declared.alloc.Global.{Global}
 use Rattle.language.specs.declared.tree.Definition.{Definition}
@@ -19,9 +19,10 @@ use Rattle.merge_set_table.specs.Represents.{IsSetOf}
 use Rattle.merge_set_table.specs.Inside.{IsInside}
 use Rattle.merge_set_table.specs.Parts.{IsPartAt}
 use Rattle.merge_set_table.specs.Sizes.{table_size}
+use Rattle.merge_set_table.specs.Nesting.{inner_measure, Measures}
 use Rattle.merge_set_table.specs.Adding.{AddsSet}
 use Rattle.merge_graph.specs.declared.building.Building.{Building}
-use Rattle.merge_graph.specs.Sizes.{share_taken}
+use Rattle.merge_graph.specs.Sizes.{share_of, selections_share, depths_share, taken}
 use Rattle.merge_graph.specs.SetsIn.{IsSetIn, IsNodeIn, HasKnownConditions}
 use Rattle.merge_graph.specs.Definitions.{type_round, selections_of, IsLast}
 
@@ -77,6 +78,7 @@ module _ {S C : Type 0} where
     pub order : b'.order.items ≡ b.order.items ++ b.table.order.items
     pub stretches : b'.stretches.items ≡ slice_set b.stretches.items place (Some (length b.order.items, length b'.order.items))
     pub same : numbered b'.table ≡ numbered b.table
+    pub inner : b'.table.inner.items ≡ b.table.inner.items
     pub empty : b'.table.order.items ≡ []
     pub fragments : b'.fragments ≡ b.fragments
     pub size : table_size b'.table + length b.table.order.items ≡ table_size b.table
@@ -115,6 +117,16 @@ module _ {S C : Type 0} where
       (p : Option (MetaTypeOf S C)) × (set : List (Selection S)) × IsSetIn schema document p set
       × IsSetOf schema numbers m k p set
 
+  -- All sets are in the order of some place. However they are measured, those of the order and the parts of sets measure
+  -- no more than the depths of the selections that were added, and those of the fragments no more than their selections.
+  pub record AreNested (schema : Catalog S C) (document : List (Definition S)) (b : Building S C) : Type 0 where
+    pub count : length b.table.sets.items ≡ length (flat_map (stretch_of b.order.items) b.stretches.items)
+    pub few : (f : ℕ → ℕ) (g : ℕ → ℕ → ℕ → ℕ) → Measures schema (numbered b.table) f g
+        → sum_by f (flat_map (stretch_of b.order.items) b.stretches.items) + inner_measure g b.table.inner.items
+        ≤ taken depths_share b.stretches.items document
+    pub fragments : (f : ℕ → ℕ) (g : ℕ → ℕ → ℕ → ℕ) → Measures schema (numbered b.table) f g
+        → sum_by f b.fragments.items ≤ taken selections_share b.stretches.items document
+
   -- What was added is right: each place with a stretch has the sets of its definition, and each set stands at some
   -- place where conditions are known. The fragments that are there have their numbers and their sets, which stand at
   -- some place.
@@ -139,4 +151,5 @@ module _ {S C : Type 0} where
     -- where conditions are known, they take no more than their share
     pub size : HasKnownConditions schema document
         → table_size b.table + length (flat_map (stretch_of b.order.items) b.stretches.items)
-        ≤ share_taken b.stretches.items document
+        ≤ taken share_of b.stretches.items document
+    pub nests : HasKnownConditions schema document → AreNested schema document b

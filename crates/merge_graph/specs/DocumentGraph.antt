@@ -1,6 +1,6 @@
 -- The graph of a document.
-use Rattle.std.specs.Prelude.{◌≡◌, ◌<◌, ◌≤◌, ◌↔◌, ℕ, List, Option, Some, length, slice_get}
-use Rattle.std.specs.List.{Contains}
+use Rattle.std.specs.Prelude.{◌≡◌, ◌<◌, ◌≤◌, ◌↔◌, ◌+◌, ℕ, List, Option, Some, length, slice_get}
+use Rattle.std.specs.List.{Contains, sum_by}
 use Rattle.language.specs.declared.tree.Definition.{Definition}
 use Rattle.language.specs.declared.tree.Selection.{Selection}
 use Rattle.meta.specs.declared.kinds.MetaTypeOf.{MetaTypeOf}
@@ -11,11 +11,12 @@ use Rattle.merge_sets.specs.declared.graph.Graph.{Graph}
 use Rattle.merge_set_table.specs.Names.{AreApart}
 use Rattle.merge_set_table.specs.Table.{Numbered}
 use Rattle.merge_set_table.specs.Parts.{IsPartAt}
+use Rattle.merge_set_table.specs.Nesting.{inner_measure, Measures}
 use Rattle.merge_graph.specs.Definitions.{fragment_count}
 use Rattle.merge_graph.specs.SetsIn.{IsSetIn, IsNodeIn, HasKnownConditions}
 use Rattle.merge_graph.specs.declared.judge.FieldJudge.{FieldJudge}
 use Rattle.merge_graph.specs.Building.{IsFragment, HasOrigin}
-use Rattle.merge_graph.specs.Sizes.{graph_size, document_share}
+use Rattle.merge_graph.specs.Sizes.{graph_size, document_share, document_depths, selection_count}
 use Rattle.merge_graph.specs.TableGraph.{IsGraphOfTable}
 
 -- Where sets and fields of the graph come from, and how many fragments it has.
@@ -29,6 +30,15 @@ pub record AreOrigins {S C : Type 0} (schema : Catalog S C) (document : List (De
   pub few : length fragment_sets ≤ fragment_count document
   -- each set stands in the order where conditions are known
   pub whole : HasKnownConditions schema document → (k : ℕ) → k < length table.sets → Contains order k
+
+-- All sets are in the order, each once. However sets are measured, all of them and the sets of inline fragments measure no
+-- more than the depths of the document's selections, and those of the fragments no more than its selections.
+pub record AreNested {S C : Type 0} (schema : Catalog S C) (document : List (Definition S)) (table : Numbered S C)
+    (fragment_sets order : List ℕ) (g : Graph (FieldJudge S C)) : Type 0 where
+  pub count : length table.sets ≡ length order
+  pub few : (f : ℕ → ℕ) (parts : ℕ → ℕ → ℕ → ℕ) → Measures schema table f parts
+      → sum_by f order + inner_measure parts g.inner.items ≤ document_depths document
+  pub fragments : (f : ℕ → ℕ) (parts : ℕ → ℕ → ℕ → ℕ) → Measures schema table f parts → sum_by f fragment_sets ≤ selection_count document
 
 -- Each fragment has a number of its own and the set of its last definition, and each set of the document stands in the
 -- order, or is a part of one there.
@@ -47,3 +57,4 @@ pub record IsGraphOf {S C : Type 0} (schema : Catalog S C) (document : List (Def
   pub origins : AreOrigins schema document numbers table fragment_sets order
   -- where conditions are known it is linear in the document
   pub size : HasKnownConditions schema document → graph_size g ≤ document_share document
+  pub nests : HasKnownConditions schema document → AreNested schema document table fragment_sets order g

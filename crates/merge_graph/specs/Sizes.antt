@@ -1,10 +1,11 @@
--- How much the sets of a document take: the entries of their lists.
+-- How much the sets of a document take: the entries of their lists. And how many selections it has, and how deep.
 use Rattle.std.specs.Prelude.{ℕ, ◌+◌, ◌*◌, List, [], ◌∷◌, Option, Some, None, length}
 use Rattle.std.specs.List.{sum_by}
 use Rattle.language.specs.declared.tree.Definition.{Definition}
 use Rattle.language.specs.SelectionsInside.{all_inside}
 use Rattle.merge_sets.specs.declared.graph.Graph.{Graph}
 use Rattle.merge_graph.specs.declared.judge.FieldJudge.{FieldJudge}
+use Rattle.merge_set_table.specs.Depths.{depths}
 use Rattle.merge_graph.specs.Sets.{PlainSet, plain_node}
 use Rattle.merge_graph.specs.Definitions.{selections_of}
 
@@ -16,12 +17,25 @@ module _ {S : Type 0} where
   abbrev pub document_share : List (Definition S) → ℕ
   document_share document = sum_by share_of document
 
-  -- What those may take whose sets are there.
-  abbrev pub share_taken : List (Option (ℕ × ℕ)) → List (Definition S) → ℕ
-  share_taken [] ds = 0
-  share_taken (o ∷ os) [] = 0
-  share_taken (None ∷ os) (d ∷ ds) = share_taken os ds
-  share_taken (Some ends ∷ os) (d ∷ ds) = share_of d + share_taken os ds
+  -- The selections of a definition, at any depth, and their depths; of a document, those of its definitions.
+  abbrev pub selections_share : Definition S → ℕ
+  selections_share d = all_inside (selections_of d)
+
+  abbrev pub selection_count : List (Definition S) → ℕ
+  selection_count document = sum_by selections_share document
+
+  abbrev pub depths_share : Definition S → ℕ
+  depths_share d = depths (selections_of d) 1
+
+  abbrev pub document_depths : List (Definition S) → ℕ
+  document_depths document = sum_by depths_share document
+
+  -- What those definitions have whose sets are there.
+  abbrev pub taken : (Definition S → ℕ) → List (Option (ℕ × ℕ)) → List (Definition S) → ℕ
+  taken share [] ds = 0
+  taken share (o ∷ os) [] = 0
+  taken share (None ∷ os) (d ∷ ds) = taken share os ds
+  taken share (Some ends ∷ os) (d ∷ ds) = share d + taken share os ds
 
 abbrev pub set_size : PlainSet → ℕ
 set_size s = 1 + (length s.own + length s.spreads)

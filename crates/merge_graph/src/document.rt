@@ -198,6 +198,7 @@ fn graph_of_building<'a, S: ScalarValue, C>(
         (joined_order building.entry)) }
     ensures size { IfOk result (λ g. graph_size g + length building.entry.table.order.items
         ≡ table_size building.entry.table + length (joined_order building.entry)) }
+    ensures inner { IfOk result (λ g. g.inner.items ≡ building.entry.table.inner.items) }
 {
     let order = joined_orders(
         alloc,

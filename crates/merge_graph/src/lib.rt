@@ -1,5 +1,5 @@
 //! The graph of a document: its selection sets by number, with the judgement of its fields, as the search of
-//! `merge_search` needs them.
+//! `merge_tops` needs them.
 #![tactic(auto)]
 
 mod building;

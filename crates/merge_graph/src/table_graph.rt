@@ -52,6 +52,7 @@ pub fn graph_of_table<'a, S: ScalarValue, C>(
     ensures is { IfOk result (IsGraphOfTable schema.now (numbered table.entry) fragments.items order.items) }
     ensures size { IfOk result (λ g. graph_size g + length table.entry.order.items ≡ table_size table.entry
         + length order.items) }
+    ensures inner { IfOk result (λ g. g.inner.items ≡ table.entry.inner.items) }
 {
     let sets = searched_sets(alloc, table.sets)?;
     Ok(Graph {

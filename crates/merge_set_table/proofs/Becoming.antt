@@ -24,7 +24,7 @@ use Rattle.merge_set_table.specs.declared.tasks.BegunInline.{BegunInline}
 use Rattle.merge_set_table.specs.declared.tasks.Task.{Task}
 use Rattle.merge_set_table.specs.declared.tasks.Task.TheVariants as task
 use Rattle.merge_set_table.specs.Inside.{type_entered}
-use Rattle.merge_set_table.specs.Adding.{IsEmptySet, AddsSpread, HasSame, PushesField, OpensSet, Adds, AddsFor}
+use Rattle.merge_set_table.specs.Adding.{IsEmptySet, AddsSpread, BeginsPart, EndsPart, PushesField, OpensSet, Adds, AddsFor}
 use Rattle.merge_set_table.specs.Tasks.{IsPlaced, StoresAt, EndsField, EndsInline, AddsAs, Meets, MeetsAll, Becomes}
 use Rattle.merge_set_table.proofs.Building.{adds_none, adds_then, adds_leaf, adds_field, adds_spread, adds_inline, adds_lost, for_none, for_then, for_leaf, for_field, for_spread, for_inline}
 use Rattle.merge_set_table.proofs.Closing.{adds_set, adds_set_for}
@@ -139,18 +139,18 @@ module _ {S C : Type 0} (schema : Catalog S C) (numbers : List ℕ → Option �
     -- as a part of the set round it
     pub part_begun : (m : Members S C) (place : ℕ) (us ts : List (Task S C)) (a b : NumberedSet) (s : Table S C)
         → (not (is_some e) && is_some p) ≡ false → m.role ≡ Searched → option_copied m.parent ≡ option_copied e → m.set.now ≡ i.item.selection_set.items
-        → HasSame 1 a b → us ≡ task.Members m ∷ task.Part place ∷ ts
+        → BeginsPart place a b → us ≡ task.Members m ∷ task.Part place ∷ ts
         → Becomes schema numbers us b s ts (λ c v. Adds schema numbers (option_copied p) (selection.InlineFragment i ∷ []) a c s v)
     part_begun m place us ts a b s kept role parent all same waits part' t' meets =
         let h : MeetsAll schema numbers (task.Members m ∷ task.Part place ∷ ts) b part' s t' = subst (λ xs. MeetsAll schema numbers xs b part' s t') waits meets in
-        let ends : HasSame 0 h.0 h.3.0 × (h.1 ≡ h.3.1) = h.3.2 in
+        let ends : EndsPart place h.0 h.3.0 × (h.1 ≡ h.3.1) = h.3.2 in
         let inside : Adds schema numbers (option_copied e) m.set.now b h.0 s h.1 =
         subst (λ x. Adds schema numbers x m.set.now b h.0 s h.1) parent
         (subst (λ r. AddsAs schema numbers r (option_copied m.parent) m.set.now b h.0 s h.1) role h.2) in (
           h.3.0,
           h.3.1,
           subst (λ x. Adds schema numbers (option_copied p) (selection.InlineFragment i ∷ []) a h.3.0 s x) ends.1
-              (adds_inline schema numbers (option_copied p) (option_copied e) i m.set.now type all s h.1 a b h.0 h.3.0 same ends.0 (same_type schema e p i.item.type_condition type kept) inside),
+              (adds_inline schema numbers (option_copied p) (option_copied e) i m.set.now type all place s h.1 a b h.0 h.3.0 same ends.0 (same_type schema e p i.item.type_condition type kept) inside),
           h.3.3,
         )
 

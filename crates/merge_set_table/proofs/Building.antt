@@ -24,8 +24,11 @@ use Rattle.merge_set_table.specs.declared.table.Table.{Table}
 use Rattle.merge_set_table.specs.Once.{is_among}
 use Rattle.merge_set_table.specs.Table.{numbered, IsOwnField, IsWithin, Falling, height}
 use Rattle.merge_set_table.specs.Represents.{Represents, nothing, join, leaf, field, spread, unknown, inline}
-use Rattle.merge_set_table.specs.Adding.{AreWithin, AddsSpread, HasSame, PushesField, ComesFrom, Keeps, AddsParts, HasSet, AddsFor, AddsSetFor, IsHeld, Adds, AddsSet}
+use Rattle.merge_set_table.specs.Adding.{AreWithin, AddsSpread, HasSame, BeginsPart, EndsPart, PushesField, ComesFrom, Keeps, AddsParts, HasSet, AddsFor, AddsSetFor, IsHeld, Adds, AddsSet}
 use Rattle.merge_set_table.proofs.Counts.{count_leaf, count_field, count_spread, count_inline, count_append, one_more}
+use Rattle.merge_set_table.proofs.Depths.{depths_field, depths_inline}
+use Rattle.merge_set_table.proofs.Nesting.{nests_none, nests_then, nests_alone, nests_field, nests_part}
+use Rattle.merge_set_table.specs.Depths.{depths}
 use Rattle.merge_set_table.proofs.Lists.{get_front, get_last, same_some}
 use Rattle.merge_set_table.specs.Inside.{IsInside, below_field, of_inline, type_entered, IsDeeper, of_field, of_fragment, IsConditionKnown}
 use Rattle.merge_set_table.specs.Parts.{IsPartOf}
@@ -245,6 +248,7 @@ module _ {S C : Type 0} (schema : Catalog S C) (numbers : List ℕ → Option �
     found = nothing_deeper;
     from = λ p0 set0 whole i sub. comes_none schema numbers p0 set0 t t refl (fields_none schema p0 set0 t t refl);
     size = λ p0 set0 whole i sub known. omega arith;
+    nests = λ p0 set0 whole i sub known. nests_none schema part t;
   }
     where
       nothing_deeper : (q : Option (MetaTypeOf S C)) (inner : List (Selection S)) → IsDeeper schema p [] q inner → IsHeld schema numbers t [] (IsDeeper schema p []) q inner ⊎ IsPartOf schema q inner p []
@@ -263,6 +267,8 @@ module _ {S C : Type 0} (schema : Catalog S C) (numbers : List ℕ → Option �
         let first = d.size p0 set0 whole i (λ x c. sub x (Contains-append_left xs ys x c)) known in
         let second = e.size p0 set0 whole i (λ x c. sub x (Contains-append_right xs ys x c)) known in
         omega (arith, first, second, count_append xs ys);
+    nests = λ p0 set0 whole i sub known. nests_then schema xs ys d.more e.more a b c s t u e.parts.own_more e.parts.keeps.extends e.parts.own
+        (d.nests p0 set0 whole i (λ x c. sub x (Contains-append_left xs ys x c)) known) (e.nests p0 set0 whole i (λ x c. sub x (Contains-append_right xs ys x c)) known);
   }
     where
       Found : Option (MetaTypeOf S C) → List (Selection S) → Type 0
@@ -316,6 +322,7 @@ module _ {S C : Type 0} (schema : Catalog S C) (numbers : List ℕ → Option �
     from = λ p0 set0 whole i sub. comes_none schema numbers p0 set0 s t pushed.sets
         (fields_pushed schema p0 set0 p whole f o None a b s t i (sub (selection.Field f) (Contains-push [] (selection.Field f))) (ap (λ z. z.field) is) pushed);
     size = λ p0 set0 whole i sub known. omega (arith, pushed.size, count_leaf f none);
+    nests = λ p0 set0 whole i sub known. nests_alone schema (selection.Field f ∷ []) a b s t pushed.parts pushed.sets pushed.inner;
   }
     where
       nothing_deeper : (q : Option (MetaTypeOf S C)) (inner : List (Selection S)) → IsDeeper schema p (selection.Field f ∷ []) q inner → IsHeld schema numbers t [] (IsDeeper schema p (selection.Field f ∷ [])) q inner ⊎ IsPartOf schema q inner p (selection.Field f ∷ [])
@@ -342,6 +349,9 @@ module _ {S C : Type 0} (schema : Catalog S C) (numbers : List ℕ → Option �
         let inside = inside_below i (sub (selection.Field f) (Contains-push [] (selection.Field f))) in
         let below = added.size (known_inside schema inside known) in
         omega (arith, below, pushed.size, count_field f w some, ap all_inside all);
+    nests = λ p0 set0 whole i sub known.
+        let inside = inside_below i (sub (selection.Field f) (Contains-push [] (selection.Field f))) in
+        nests_field schema (selection.Field f ∷ []) set' added.more o (Some n) a b s t u (depths_field f w some ∙ ap (λ z. depths z 1) (sym all)) (added.nests (known_inside schema inside known)) pushed;
   }
     where
       inside_below : {p0 : Option (MetaTypeOf S C)} {set0 whole : List (Selection S)} → IsInside schema p0 set0 p whole → Contains whole (selection.Field f) → IsInside schema p0 set0 q set'
@@ -379,6 +389,7 @@ module _ {S C : Type 0} (schema : Catalog S C) (numbers : List ℕ → Option �
     found = nothing_deeper;
     from = λ p0 set0 whole i sub. comes_none schema numbers p0 set0 t t refl (fields_none schema p0 set0 t t refl);
     size = λ p0 set0 whole i sub known. omega (arith, ap length added.own, ap length added.spreads, one_more number a.spreads.items, ap length added.inner, count_spread f);
+    nests = λ p0 set0 whole i sub known. nests_alone schema (selection.FragmentSpread f ∷ []) a b t t added.inner refl refl;
   }
     where
       nothing_deeper : (q : Option (MetaTypeOf S C)) (inner : List (Selection S)) → IsDeeper schema p (selection.FragmentSpread f ∷ []) q inner → IsHeld schema numbers t [] (IsDeeper schema p (selection.FragmentSpread f ∷ [])) q inner ⊎ IsPartOf schema q inner p (selection.FragmentSpread f ∷ [])
@@ -407,7 +418,7 @@ module _ {S C : Type 0} (schema : Catalog S C) (numbers : List ℕ → Option �
         (subst (λ z. IsInside schema p0 set0 (type_entered schema p i.item.type_condition) z) (sym all) (of_inline i j stands))
 
     -- its set is a part of the set round it
-    module _ (s t : Table S C) (a b c d : NumberedSet) (first : HasSame 1 a b) (last : HasSame 0 c d) (agree : type_entered schema p i.item.type_condition ≡ type_inside schema p i.item.type_condition)
+    module _ (place : ℕ) (s t : Table S C) (a b c d : NumberedSet) (first : BeginsPart place a b) (last : EndsPart place c d) (agree : type_entered schema p i.item.type_condition ≡ type_inside schema p i.item.type_condition)
         (added : Adds schema numbers q set' b c s t) where
       as_part : (r : Option (MetaTypeOf S C)) (inner : List (Selection S)) → IsPartOf schema r inner q set' → IsPartOf schema r inner p (selection.InlineFragment i ∷ [])
       as_part r inner h = part_inline schema r p inner i
@@ -430,7 +441,7 @@ module _ {S C : Type 0} (schema : Catalog S C) (numbers : List ℕ → Option �
 
       pub adds_inline : Adds schema numbers p (selection.InlineFragment i ∷ []) a d s t
       adds_inline = record {
-        parts = parts_as p (selection.InlineFragment i ∷ []) 1 0 a b c d s t first last (parts_opened p q i set' b c s s t (type ∙ agree) all (keeps_self s) added.parts);
+        parts = parts_as p (selection.InlineFragment i ∷ []) 1 0 a b c d s t first.same last.same (parts_opened p q i set' b c s s t (type ∙ agree) all (keeps_self s) added.parts);
         more = added.more;
         order = added.order;
         found = λ r inner d. in_part r inner (front schema (inside_fragment r inner d));
@@ -440,15 +451,19 @@ module _ {S C : Type 0} (schema : Catalog S C) (numbers : List ℕ → Option �
             omega (
               arith,
               inside,
-              ap length first.own,
-              ap length first.spreads,
-              first.inner,
-              ap length last.own,
-              ap length last.spreads,
-              last.inner,
+              ap length first.same.own,
+              ap length first.same.spreads,
+              first.same.inner,
+              ap length last.same.own,
+              ap length last.same.spreads,
+              last.same.inner,
               count_inline i,
               ap all_inside all,
             );
+        nests = λ p0 set0 whole j sub known.
+            let inside = entered_inside j (sub (selection.InlineFragment i) (Contains-push [] (selection.InlineFragment i))) in
+            nests_part schema (selection.InlineFragment i ∷ []) set' place a b c d s t first last numbers q added.more (depths_inline i ∙ ap (λ z. depths z 1) (sym all)) added.parts
+            (added.nests p0 set0 set' inside (λ x c. c) known);
       }
 
     -- its set was stored, and its fields added once more
@@ -477,4 +492,5 @@ module _ {S C : Type 0} (schema : Catalog S C) (numbers : List ℕ → Option �
             whole = λ known. absurd (lost (known p whole j i stands));
           };
       size = λ p0 set0 whole j sub known. absurd (lost (known p whole j i (sub (selection.InlineFragment i) (Contains-push [] (selection.InlineFragment i)))));
+      nests = λ p0 set0 whole j sub known. absurd (lost (known p whole j i (sub (selection.InlineFragment i) (Contains-push [] (selection.InlineFragment i)))));
     }

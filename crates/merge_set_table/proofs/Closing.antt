@@ -20,6 +20,8 @@ use Rattle.merge_set_table.specs.Adding.{AreWithin, IsEmptySet, OpensSet, Stores
 use Rattle.merge_set_table.proofs.Lists.{get_more, get_last, All-among}
 use Rattle.merge_set_table.proofs.Representing.{extends_self, extends_then, represents_more, set_more}
 use Rattle.merge_set_table.specs.Parts.{IsPartOf}
+use Rattle.merge_set_table.specs.Nesting.{inner_measure}
+use Rattle.merge_set_table.proofs.Nesting.{nests_set}
 use Rattle.merge_set_table.proofs.Partial.{part_itself}
 use Rattle.merge_set_table.proofs.Building.{Low, low_more, within_more, falling_push, keeps_then}
 use Rattle.merge_set_table.proofs.Origins.{deeper_inside, front, Front, here, there}
@@ -123,6 +125,10 @@ module _ {S C : Type 0} where
       has = has_between n t t1 closed.middle t3 (keeps_same t t1 opened.same) (keeps_same closed.middle t3 closed.same)
           (has_set n empty part t1 t2 closed.middle none added.parts closed.stores)
 
+      has_own : has.is.row.own.items ≡ part.own.items
+      unfolding has has_between has_set
+      has_own = closed.stores.own
+
       extends_end : Extends (numbered t2) (numbered t3)
       extends_end = extends_then (stored_extends part n t2 closed.middle closed.stores) (same_extends closed.middle t3 closed.same)
 
@@ -198,4 +204,6 @@ module _ {S C : Type 0} where
         size = λ known.
             let inside = added.size p selections selections itself (λ x c. c) known in
             omega (arith, opened.size, inside, closed.size, ap length none.own, ap length none.spreads, ap length none.inner);
+        nests = λ known. nests_set schema numbers p selections added.more n empty part t t1 t2 t3 has.is has_own none.inner as_long opened.inner one_more extends_end
+            (λ g. ap (inner_measure g) closed.inner ∙ closed.stores.inner g) (added.nests p selections selections itself (λ x c. c) known);
       }

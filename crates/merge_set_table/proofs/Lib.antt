@@ -7,6 +7,8 @@ pub mod Representing
 pub mod Origins
 pub mod Partial
 pub mod Counts
+pub mod Depths
+pub mod Nesting
 pub mod Building
 pub mod Entering
 pub mod Closing

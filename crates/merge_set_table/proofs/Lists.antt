@@ -1,5 +1,5 @@
 -- Lists with one element more.
-use Rattle.std.proofs.Common.{◌≡◌, ℕ, zero, suc, ◌<◌, List, [], ◌∷◌, ◌++◌, length, Some, slice_get, refl, sym, ap, subst, arith, ◌⊎◌, inl, inr, true}
+use Rattle.std.proofs.Common.{◌≡◌, ℕ, zero, suc, ◌<◌, ◌≤◌, List, [], ◌∷◌, ◌++◌, length, Some, slice_get, slice_set, refl, sym, ap, subst, arith, ◌⊎◌, inl, inr, true}
 use Rattle.std.specs.List.{All}
 use Rattle.std.proofs.lemmas.List.Elements.{All-nil, All-cons, All-head, All-tail}
 use Rattle.std.proofs.lemmas.Bool.{or_left, or_right, or_cases, eq-eqb, eqb-true}
@@ -18,6 +18,17 @@ get_front (x ∷ xs) ys (suc n) l = get_front xs ys n (omega (arith, l))
 pub get_last : {X : Type 0} (xs : List X) (x : X) → slice_get (xs ++ x ∷ []) (length xs) ≡ Some x
 get_last [] x = refl
 get_last (y ∷ xs) x = get_last xs x
+
+-- nothing is put past the end
+pub set_past : {X : Type 0} (xs : List X) (k : ℕ) (x : X) → length xs ≤ k → slice_set xs k x ≡ xs
+set_past [] k x l = refl
+set_past (y ∷ ys) zero x l = absurd (omega (arith, l))
+set_past (y ∷ ys) (suc k) x l = ap (λ zs. y ∷ zs) (set_past ys k x (omega (arith, l)))
+
+pub set_length : {X : Type 0} (xs : List X) (k : ℕ) (x : X) → length (slice_set xs k x) ≡ length xs
+set_length [] k x = refl
+set_length (y ∷ ys) zero x = refl
+set_length (y ∷ ys) (suc k) x = ap suc (set_length ys k x)
 
 pub same_some : {X : Type 0} (x y : X) → Some x ≡ Some y → x ≡ y
 same_some x y e = cc

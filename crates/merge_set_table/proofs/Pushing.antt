@@ -36,6 +36,7 @@ module _ {S C : Type 0} where
         below_is = refl;
         own = own;
         spreads = spreads;
+        parts = parts;
         extends = record {
           fields = λ k x h. ap (λ xs. slice_get xs k) fields_are ∙ get_more (map plain s.fields.items) (plain e ∷ []) k x h;
           responses = kept;
@@ -43,6 +44,7 @@ module _ {S C : Type 0} where
           longer = omega (arith, ap length sets);
         };
         sets = sets;
+        inner = inner;
         order = order;
         apart = apart;
         size = omega (

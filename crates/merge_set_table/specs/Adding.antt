@@ -8,6 +8,7 @@ use Rattle.meta.specs.declared.kinds.MetaTypeOf.{MetaTypeOf}
 use Rattle.schema.specs.Catalog.{Catalog}
 use Rattle.merge_field_pairs.specs.Entries.{PlainEntry, plain}
 use Rattle.merge_sets.specs.declared.node.Entry.{Entry as OwnField}
+use Rattle.merge_sets.specs.declared.node.InnerSet.{InnerSet}
 use Rattle.merge_set_table.specs.declared.table.NumberedSet.{NumberedSet}
 use Rattle.merge_set_table.specs.declared.table.Table.{Table}
 use Rattle.merge_set_table.specs.Names.{AreApart}
@@ -17,6 +18,7 @@ use Rattle.merge_set_table.specs.Represents.{Represents, IsSetOf}
 use Rattle.merge_set_table.specs.Inside.{IsInside, IsFieldInside, AreConditionsKnown, IsDeeper}
 use Rattle.merge_set_table.specs.Parts.{IsPartOf}
 use Rattle.merge_set_table.specs.Sizes.{part_size, table_size}
+use Rattle.merge_set_table.specs.Nesting.{parts_measure, inner_measure, Nests, NestsSet}
 
 -- Every fragment that has a number is there, and its set has a number below the bound.
 abbrev pub AreWithin : (List ℕ → Option ℕ) → List ℕ → ℕ → Type 0
@@ -39,6 +41,22 @@ pub record HasSame (more : ℕ) (old new : NumberedSet) : Type 0 where
   pub spreads : new.spreads.items ≡ old.spreads.items
   pub inner : length new.inner.items ≡ length old.inner.items + more
 
+-- The set of an inline fragment was begun as a part, at the place.
+pub record BeginsPart (place : ℕ) (old new : NumberedSet) : Type 0 where
+  pub same : HasSame 1 old new
+  pub at : place ≡ length old.inner.items
+  pub part : InnerSet
+  pub first : part.first_field ≡ length old.own.items
+  pub inner : new.inner.items ≡ old.inner.items ++ part ∷ []
+
+-- The part at the place was ended: it has all own fields since it was begun.
+pub record EndsPart (place : ℕ) (old new : NumberedSet) : Type 0 where
+  pub same : HasSame 0 old new
+  pub part : InnerSet
+  pub first : (begun : InnerSet) → slice_get old.inner.items place ≡ Some begun → part.first_field ≡ begun.first_field
+  pub end : part.fields_end ≡ length old.own.items
+  pub inner : new.inner.items ≡ slice_set old.inner.items place part
+
 module _ {S C : Type 0} where
   pub record IsEmptyTable (t : Table S C) : Type 0 where
     pub fields : t.fields.items ≡ []
@@ -54,25 +72,30 @@ module _ {S C : Type 0} where
     pub below_is : own_field.below ≡ below
     pub own : part'.own.items ≡ part.own.items ++ own_field ∷ []
     pub spreads : part'.spreads.items ≡ part.spreads.items
+    pub parts : part'.inner.items ≡ part.inner.items
     pub extends : Extends (numbered t) (numbered t')
     pub sets : t'.sets.items ≡ t.sets.items
+    pub inner : t'.inner.items ≡ t.inner.items
     pub order : t'.order.items ≡ t.order.items
     pub apart : AreApart t.responses → AreApart t'.responses
     pub size : table_size t' + part_size part' ≡ table_size t + part_size part + 2
 
-  -- Its fields, names, sets and order stayed the same, and it keeps at most so many inner sets and spreads more.
-  pub record IsSameTable (more : ℕ) (t t' : Table S C) : Type 0 where
+  -- Its fields, names, sets and order stayed the same. It keeps these inner sets of the set of the number, and at most
+  -- so many inner sets and spreads more.
+  pub record IsSameTable (number : ℕ) (parts : List InnerSet) (more : ℕ) (t t' : Table S C) : Type 0 where
     pub fields : t'.fields.items ≡ t.fields.items
     pub responses : t'.responses ≡ t.responses
     pub sets : t'.sets.items ≡ t.sets.items
     pub order : t'.order.items ≡ t.order.items
     pub few : length t'.inner.items + length t'.written.items ≤ length t.inner.items + length t.written.items + more
+    pub inner : (g : ℕ → ℕ → ℕ → ℕ) → inner_measure g t'.inner.items ≡ inner_measure g t.inner.items + parts_measure (g number) parts
 
   -- A place in the order was kept.
   pub record OpensSet (place : ℕ) (t t' : Table S C) : Type 0 where
     pub at : place ≡ length t.order.items
     pub same : numbered t' ≡ numbered t
     pub order : t'.order.items ≡ t.order.items ++ 0 ∷ []
+    pub inner : t'.inner.items ≡ t.inner.items
     pub size : table_size t' ≡ table_size t + 1
 
   -- The set was stored, each fragment once.
@@ -85,6 +108,7 @@ module _ {S C : Type 0} where
     pub responses : t'.responses ≡ t.responses
     pub sets : t'.sets.items ≡ t.sets.items ++ row ∷ []
     pub order : t'.order.items ≡ t.order.items
+    pub inner : (g : ℕ → ℕ → ℕ → ℕ) → inner_measure g t'.inner.items ≡ inner_measure g t.inner.items + parts_measure (g n) part.inner.items
     pub size : table_size t' ≤ table_size t + part_size part + 1
 
   -- The set was stored, and its number put at its place.
@@ -93,6 +117,7 @@ module _ {S C : Type 0} where
     pub stores : StoresSet part n t middle
     pub same : numbered t' ≡ numbered middle
     pub order : t'.order.items ≡ slice_set t.order.items place n
+    pub inner : t'.inner.items ≡ middle.inner.items
     pub size : table_size t' ≤ table_size t + part_size part + 1
 
   -- What holds whatever was added.
@@ -180,6 +205,9 @@ module _ {S C : Type 0} where
     pub size : (p0 : Option (MetaTypeOf S C)) (set0 whole : List (Selection S)) → IsInside schema p0 set0 p whole
         → ((x : Selection S) → Contains xs x → Contains whole x) → AreConditionsKnown schema p0 set0
         → table_size t' + part_size part' ≤ table_size t + part_size part + 4 * all_inside xs
+    pub nests : (p0 : Option (MetaTypeOf S C)) (set0 whole : List (Selection S)) → IsInside schema p0 set0 p whole
+        → ((x : Selection S) → Contains xs x → Contains whole x) → AreConditionsKnown schema p0 set0
+        → Nests schema xs more part part' t t'
 
   -- The set was added, and all sets in it, each with its place in the order or as a part of one.
   pub record AddsSet (schema : Catalog S C) (numbers : List ℕ → Option ℕ) (p : Option (MetaTypeOf S C))
@@ -192,3 +220,4 @@ module _ {S C : Type 0} where
         → IsHeld schema numbers t' more (IsInside schema p set) q inner
     pub from : ComesFrom schema numbers p set more t t'
     pub size : AreConditionsKnown schema p set → table_size t' ≤ table_size t + 4 * all_inside set + 2
+    pub nests : AreConditionsKnown schema p set → NestsSet schema set more t t'

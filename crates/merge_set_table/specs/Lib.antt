@@ -8,6 +8,8 @@ pub mod Represents
 pub mod Inside
 pub mod Parts
 pub mod Sizes
+pub mod Depths
+pub mod Nesting
 pub mod Adding
 pub mod OwnParts
 pub mod Tasks

@@ -12,7 +12,7 @@ use Rattle.merge_set_table.specs.declared.tasks.BegunField.{BegunField}
 use Rattle.merge_set_table.specs.declared.tasks.BegunInline.{BegunInline}
 use Rattle.merge_set_table.specs.declared.tasks.Task.{Task}
 use Rattle.merge_set_table.specs.declared.tasks.Task.TheVariants as task
-use Rattle.merge_set_table.specs.Adding.{Adds, AddsFor, HasSame, PushesField, OpensSet, StoresSet, ClosesSet}
+use Rattle.merge_set_table.specs.Adding.{Adds, AddsFor, EndsPart, PushesField, OpensSet, StoresSet, ClosesSet}
 
 module _ {S C : Type 0} where
   -- Only a set that is searched has a place in the order.
@@ -50,7 +50,7 @@ module _ {S C : Type 0} (schema : Catalog S C) (numbers : List ℕ → Option �
   Meets (task.Members m) part part' t t' = AddsAs m.role (option_copied m.parent) m.set.now part part' t t'
   Meets (task.Field begun) part part' t t' = EndsField begun part part' t t'
   Meets (task.Inline begun) part part' t t' = EndsInline begun part part' t t'
-  Meets (task.Part place) part part' t t' = HasSame 0 part part' × (t ≡ t')
+  Meets (task.Part place) part part' t t' = EndsPart place part part' × (t ≡ t')
 
   -- The tasks were done one after the other.
   abbrev pub MeetsAll : List (Task S C) → NumberedSet → NumberedSet → Table S C → Table S C → Type 0

@@ -1,8 +1,9 @@
 //! The steps by which a table grows.
-ghost use Rattle.std.specs.Prelude.{◌≡◌, ◌+◌, OnOk, IfOk, length};
+ghost use Rattle.std.specs.Prelude.{◌≡◌, ◌+◌, ℕ, OnOk, IfOk, length};
 ghost use Rattle.merge_field_pairs.specs.Entries.{plain};
-ghost use Rattle.merge_set_table.specs.Adding.{AddsSpread, PushesField, OpensSet, StoresSet, ClosesSet, HasSame};
-ghost use Rattle.merge_set_table.specs.Adding.{IsEmptySet, IsSameTable};
+ghost use Rattle.merge_set_table.specs.Adding.{AddsSpread, BeginsPart, EndsPart, PushesField, OpensSet, StoresSet};
+ghost use Rattle.merge_set_table.specs.Adding.{ClosesSet, IsEmptySet, IsSameTable};
+ghost use Rattle.merge_set_table.specs.Nesting.{inner_measure, parts_measure};
 ghost use Rattle.merge_set_table.specs.Known.{known_rank};
 
 use crate::known::{KnownFragments, rank_of_name};
@@ -77,7 +78,7 @@ pub fn add_spread(
 ///
 /// Out of memory.
 pub fn begin_part(part: &mut NumberedSet) -> Result<usize, OutOfMemory>
-    ensures { OnOk result (HasSame 1 part.old part.new) }
+    ensures { IfOk result (λ place. BeginsPart place part.old part.new) }
 {
     let place = part.inner.len();
     part.inner.push(InnerSet {
@@ -93,7 +94,7 @@ pub fn begin_part(part: &mut NumberedSet) -> Result<usize, OutOfMemory>
 
 /// Ends the set of an inline fragment at its place.
 pub fn end_part(place: usize, part: &mut NumberedSet)
-    ensures { HasSame 0 part.old part.new }
+    ensures { EndsPart place part.old part.new }
 {
     if place >= part.inner.len() {
         return;
@@ -116,7 +117,9 @@ fn add_parts(
     start: usize,
     all: &mut Vec<InnerSet>,
 ) -> Result<(), OutOfMemory>
-    ensures { OnOk result (length all.new.items ≡ length all.old.items + length inner.now) }
+    ensures count { OnOk result (length all.new.items ≡ length all.old.items + length inner.now) }
+    ensures measure { OnOk result ((g : ℕ → ℕ → ℕ → ℕ) → inner_measure g all.new.items
+        ≡ inner_measure g all.old.items + parts_measure (g number) inner.now) }
 {
     for part in inner {
         all.push(InnerSet {
@@ -138,7 +141,8 @@ fn keep_parts<S, C>(
     number: usize,
     table: &mut Table<'_, S, C>,
 ) -> Result<(), OutOfMemory>
-    ensures { OnOk result (IsSameTable (length inner.now + length spreads.now) table.old table.new) }
+    ensures { let most = length inner.now + length spreads.now in
+        OnOk result (IsSameTable number inner.now most table.old table.new) }
 {
     if inner.is_empty() {
         return Ok(());

@@ -15,7 +15,8 @@ use Rattle.merge_sets.specs.declared.node.Entry.{Entry}
 use Rattle.merge_sets.specs.declared.finding.Finding.TheVariants.{Nested}
 use Rattle.merge_conflicts.specs.Texts.{errors_of}
 use Rattle.merge_document.specs.Conflicts.{true_none}
-use Rattle.merge_document.specs.Found.{IsFinished, IsJudged, AreTogether}
+use Rattle.merge_graph.specs.SetsIn.{HasKnownConditions}
+use Rattle.merge_document.specs.Found.{IsFinished, IsJudged, AreTogether, most_compared}
 use Rattle.merge_document.specs.declared.search.FoundConflicts.{FoundConflicts}
 use Rattle.rules_merge.specs.declared.overlapping_fields_can_be_merged.OverlappingFieldsCanBeMerged.{OverlappingFieldsCanBeMerged}
 use Rattle.rules_merge.specs.OverlappingFieldsCanBeMerged.{ErrorsWithin, IsToldOfSearch, MergeErrors, StoppedErrors, error_value, stop_error}
@@ -23,8 +24,8 @@ use Rattle.walk.specs.ErrorValue.{ErrorValue}
 
 module _ {S C : Type 0} (E : S → S → Bool) (schema : Catalog S C) (document : List (Definition S)) where
   -- where some fragment leads back to itself there is nothing
-  pub of_none : (o : Option (FoundConflicts S C)) → o ≡ None → (IsSome o ↔ HasNoCycle document) → (end : OverlappingFieldsCanBeMerged) → end.compared ≡ 0 → end.opened ≡ 0 → MergeErrors E schema document end []
-  of_none o is none_where end compared opened =
+  pub of_none : (o : Option (FoundConflicts S C)) → o ≡ None → (IsSome o ↔ HasNoCycle document) → (end : OverlappingFieldsCanBeMerged) → end.compared ≡ 0 → end.opened ≡ 0 → end.judged ≡ 0 → MergeErrors E schema document end []
+  of_none o is none_where end compared opened judged =
       let cyclic : HasNoCycle document → ⊥ = λ acyclic. true≢false (sym (none_where.1 acyclic) ∙ ap is_some is) in
       record {
         reports = none;
@@ -36,16 +37,17 @@ module _ {S C : Type 0} (E : S → S → Bool) (schema : Catalog S C) (document 
         few = subst (λ (k : ℕ). k ≤ fragment_count document * (fragment_count document - 1)) (sym compared) (omega arith);
         enough = λ acyclic. absurd (cyclic acyclic);
         opened = subst (λ (k : ℕ). k ≤ fragment_count document * end.lists) (sym opened) (omega arith);
+        compares = λ known. omega (arith, judged);
       }
 
   -- elsewhere what was found, if the search was finished
   pub of_some : (o : Option (FoundConflicts S C)) (f : FoundConflicts S C) → o ≡ Some f → (IsSome o ↔ HasNoCycle document) → (j : IsJudged E schema document f)
       → IsFinished f → f.compared ≤ fragment_count document * (fragment_count document - 1)
       → (IsFinished f → (ps : List (List ℕ × List ℕ)) → AreTogether schema document ps → length ps ≤ f.compared)
-      → f.opened ≤ fragment_count document * f.lists
-      → (end : OverlappingFieldsCanBeMerged) → end.compared ≡ f.compared → end.opened ≡ f.opened → end.lists ≡ f.lists
+      → f.opened ≤ fragment_count document * f.lists → (HasKnownConditions schema document → f.judged ≤ most_compared document)
+      → (end : OverlappingFieldsCanBeMerged) → end.compared ≡ f.compared → end.opened ≡ f.opened → end.lists ≡ f.lists → end.judged ≡ f.judged
       → MergeErrors E schema document end (map error_value (errors_of E schema j.reports))
-  of_some o f is none_where j done few enough opens end compared opened lists =
+  of_some o f is none_where j done few enough opens few_fields end compared opened lists judged =
       let acyclic : HasNoCycle document = none_where.0 (ap is_some is) in
       record {
         reports = j.reports;
@@ -57,6 +59,7 @@ module _ {S C : Type 0} (E : S → S → Bool) (schema : Catalog S C) (document 
         few = subst (λ (k : ℕ). k ≤ fragment_count document * (fragment_count document - 1)) (sym compared) few;
         enough = λ h ps together. let l = enough done ps together in omega (arith, l, compared);
         opened = subst (λ (k : ℕ). k ≤ fragment_count document * end.lists) (sym opened) (subst (λ (k : ℕ). f.opened ≤ fragment_count document * k) (sym lists) opens);
+        compares = λ known. let most = few_fields known in omega (arith, most, judged);
       }
 
   -- conflicts are as many as what a search finds of them
@@ -69,10 +72,10 @@ module _ {S C : Type 0} (E : S → S → Bool) (schema : Catalog S C) (document 
 
   -- and what a search had found that stopped
   pub of_stopped : (f : FoundConflicts S C) (j : IsJudged E schema document f) → 0 < f.limit → f.limit ≤ length f.found.items
-      → f.compared ≤ fragment_count document * (fragment_count document - 1) → f.opened ≤ fragment_count document * f.lists
-      → (end : OverlappingFieldsCanBeMerged) → end.compared ≡ f.compared → end.opened ≡ f.opened → end.lists ≡ f.lists
+      → f.compared ≤ fragment_count document * (fragment_count document - 1) → f.opened ≤ fragment_count document * f.lists → (HasKnownConditions schema document → f.judged ≤ most_compared document)
+      → (end : OverlappingFieldsCanBeMerged) → end.compared ≡ f.compared → end.opened ≡ f.opened → end.lists ≡ f.lists → end.judged ≡ f.judged
       → StoppedErrors E f.limit schema document end (map error_value (errors_of E schema j.reports) ++ stop_error ∷ [])
-  of_stopped f j limited full few opens end compared opened lists = record {
+  of_stopped f j limited full few opens few_fields end compared opened lists judged = record {
     reports = j.reports;
     enough = omega (arith, full, ap length j.found, counted _ j.numbered j.reports j.are);
     told = refl;
@@ -80,21 +83,22 @@ module _ {S C : Type 0} (E : S → S → Bool) (schema : Catalog S C) (document 
     refuses = j.refuses (omega (arith, limited, full));
     few = subst (λ (k : ℕ). k ≤ fragment_count document * (fragment_count document - 1)) (sym compared) few;
     opened = subst (λ (k : ℕ). k ≤ fragment_count document * end.lists) (sym opened) (subst (λ (k : ℕ). f.opened ≤ fragment_count document * k) (sym lists) opens);
+    compares = λ known. let most = few_fields known in omega (arith, most, judged);
   }
 
   -- as the search has told it
   pub of_search : (enough : ℕ) (o : Option (FoundConflicts S C)) (f : FoundConflicts S C) → o ≡ Some f → f.limit ≡ enough → (IsSome o ↔ HasNoCycle document) → (j : IsJudged E schema document f)
       → f.compared ≤ fragment_count document * (fragment_count document - 1)
       → (IsFinished f → (ps : List (List ℕ × List ℕ)) → AreTogether schema document ps → length ps ≤ f.compared)
-      → f.opened ≤ fragment_count document * f.lists
-      → (end : OverlappingFieldsCanBeMerged) → end.compared ≡ f.compared → end.opened ≡ f.opened → end.lists ≡ f.lists
+      → f.opened ≤ fragment_count document * f.lists → (HasKnownConditions schema document → f.judged ≤ most_compared document)
+      → (end : OverlappingFieldsCanBeMerged) → end.compared ≡ f.compared → end.opened ≡ f.opened → end.lists ≡ f.lists → end.judged ≡ f.judged
       → (es : List ErrorValue) → IsToldOfSearch f (map error_value (errors_of E schema j.reports)) es
       → ErrorsWithin E enough schema document end es
-  of_search enough o f is bound none_where j few together opens end compared opened lists es (inl (done, told)) =
-      inl (subst (MergeErrors E schema document end) (sym told) (of_some o f is none_where j done few together opens end compared opened lists))
-  of_search enough o f is bound none_where j few together opens end compared opened lists es (inr (limited, full, told)) =
+  of_search enough o f is bound none_where j few together opens few_fields end compared opened lists judged es (inl (done, told)) =
+      inl (subst (MergeErrors E schema document end) (sym told) (of_some o f is none_where j done few together opens few_fields end compared opened lists judged))
+  of_search enough o f is bound none_where j few together opens few_fields end compared opened lists judged es (inr (limited, full, told)) =
       inr (
         subst (λ (n : ℕ). 0 < n) bound limited,
         subst (λ (n : ℕ). StoppedErrors E n schema document end es) bound
-            (subst (StoppedErrors E f.limit schema document end) (sym told) (of_stopped f j limited full few opens end compared opened lists)),
+            (subst (StoppedErrors E f.limit schema document end) (sym told) (of_stopped f j limited full few opens few_fields end compared opened lists judged)),
       )

@@ -31,13 +31,16 @@ use walk::{Event, Fresh, Machine, Rule, ValidatorContext, Visitor};
 /// Reports, where the document is left, fields of one response name that can't be merged. The error of a conflict has
 /// all its places.
 ///
-/// No fragment is written out: with `n` definitions of fragments at most `n (n - 1)` pairs are compared.
+/// No fragment is written out: with `n` definitions of fragments at most `n (n - 1)` pairs are compared. Fields are compared
+/// one by one at most `24 s d + 250,000` times where the types of inline fragments are known: `s` counts the selections of
+/// the document, at any depth, and `d` is the sum of their depths.
 #[derive(Drop)]
 pub struct OverlappingFieldsCanBeMerged {
     alloc: Global,
     compared: u128,
     opened: u128,
     lists: u128,
+    judged: u128,
 }
 
 /// The rule, made ready for one document.
@@ -49,6 +52,7 @@ pub fn factory(alloc: Global) -> OverlappingFieldsCanBeMerged
         compared: 0,
         opened: 0,
         lists: 0,
+        judged: 0,
     }
 }
 
@@ -72,6 +76,13 @@ impl OverlappingFieldsCanBeMerged {
         ensures { result ≡ self.now.lists }
     {
         self.lists
+    }
+
+    /// How many pairs of fields were compared one by one, in the document that was left last.
+    pub fn judged(&self) -> u128
+        ensures { result ≡ self.now.judged }
+    {
+        self.judged
     }
 
     /// Reports the conflicts of a document whose fragments were searched for cycles.
@@ -116,12 +127,14 @@ impl OverlappingFieldsCanBeMerged {
                 self.compared = found.compared;
                 self.opened = found.opened;
                 self.lists = found.lists;
+                self.judged = found.judged;
                 report_found(self.alloc, ctx, &found)
             }
             None => {
                 self.compared = 0;
                 self.opened = 0;
                 self.lists = 0;
+                self.judged = 0;
                 Ok(())
             }
         }

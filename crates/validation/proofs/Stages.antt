@@ -141,6 +141,7 @@ merge_permuted E schema document end fs gs es m none_else p =
       few = m.few;
       enough = m.enough;
       opened = m.opened;
+      compares = m.compares;
     }
 
 -- no more pairs than two for each two definitions of fragments
@@ -177,4 +178,5 @@ fewer_asked less s = record {
   refuses = s.refuses;
   few = s.few;
   opened = s.opened;
+  compares = s.compares;
 }

@@ -9,6 +9,7 @@ use Rattle.merge_search.specs.Reports.{Judged}
 use Rattle.merge_graph.specs.Definitions.{fragment_count}
 use Rattle.merge_graph.specs.DocumentGraph.{IsGraphOf}
 use Rattle.merge_graph.specs.Judging.{judgement_of}
+use Rattle.merge_document.proofs.Comparing.{cost_few}
 use Rattle.merge_document.proofs.Searching.{at_some, judged, few, enough, limited_is, opens}
 use Rattle.merge_document.proofs.search.search_fields.Goals as goal
 
@@ -58,3 +59,13 @@ returns-in_ok-search-in-Some-clause-opened g c =
     (subst (λ (k : ℕ). search.opened ≤ many * k) (sym c.found_in.ensures.lists)
     (opens g.S.PartialEq.eq c.args.schema.now c.args.document.now c.limited-graph.result (graph_is g c) search.opened search.lists
     c.in_ok-search-in-Some.ensures.opened))
+
+pub returns-in_ok-search-in-Some-clause-compares : goal.returns-in_ok-search-in-Some-clause-compares
+returns-in_ok-search-in-Some-clause-compares g c = λ known.
+    let graph = c.limited-graph.result in
+    omega (
+      arith,
+      cost_few c.args.schema.now c.args.document.now known graph (graph_is g c) (judgement_of g.S.PartialEq.eq graph.judge),
+      c.in_ok-search-in-Some.ensures.compares,
+      c.found_in.ensures.judged,
+    )

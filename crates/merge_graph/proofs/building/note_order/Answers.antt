@@ -9,6 +9,7 @@ returns g c = record {
       (let e = c.len-start.ensures in let long = c.args.building.now.order.ok.0 in omega (arith, e, long))
       (let e = c.len.ensures in let long = c.extend_from_slice.new.self.ok.0 in omega (arith, e, long));
   same = refl;
+  inner = refl;
   empty = c.clear.ensures.items;
   fragments = refl;
   size = let none = ap length c.clear.ensures.items in omega (arith, none);

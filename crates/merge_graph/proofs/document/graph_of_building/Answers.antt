@@ -23,4 +23,5 @@ returns g c =
       size = IfOk-weaker c.graph_of_table.result _ _
           (λ x h. h ∙ ap (λ xs. table_size c.args.building.table + length xs) joined)
           c.graph_of_table.ensures.size;
+      inner = c.graph_of_table.ensures.inner;
     }
