@@ -88,10 +88,12 @@ fn limited<J>(graph: Graph<J>, limit: usize) -> Graph<J>
 ///
 /// What is found is true. The search stops once it has `limit` findings; 0 asks for all. Unless it stops, nothing is
 /// missed where no field repeats an argument, nor a key in one. Of `n` definitions of fragments at most `n (n - 1)`
-/// pairs are compared, and unless it stops at least those of which some set spreads both. It opens at most `n` at a time.
+/// pairs are compared, and unless it stops at least those of which some set spreads both. It opens at most `n` at a
+/// time.
 ///
-/// Where the type conditions of inline fragments are known, at most `24 s d + 250,000` pairs of fields are compared one by
-/// one: the document has `s` selections, at any depth, and `d` is the sum of their depths, those of a definition at 1.
+/// Where the type conditions of inline fragments are known, at most `24 s d + 250,000` pairs of fields are compared one
+/// by one: the document has `s` selections, at any depth, and `d` is the sum of their depths. Those of a definition are
+/// at depth 1.
 ///
 /// # Errors
 ///

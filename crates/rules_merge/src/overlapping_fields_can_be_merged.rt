@@ -31,9 +31,9 @@ use walk::{Event, Fresh, Machine, Rule, ValidatorContext, Visitor};
 /// Reports, where the document is left, fields of one response name that can't be merged. The error of a conflict has
 /// all its places.
 ///
-/// No fragment is written out: with `n` definitions of fragments at most `n (n - 1)` pairs are compared. Fields are compared
-/// one by one at most `24 s d + 250,000` times where the types of inline fragments are known: `s` counts the selections of
-/// the document, at any depth, and `d` is the sum of their depths.
+/// No fragment is written out: with `n` definitions of fragments at most `n (n - 1)` pairs are compared. Where the types
+/// of inline fragments are known, at most `24 s d + 250,000` pairs of fields are compared one by one: the document has
+/// `s` selections, at any depth, and `d` is the sum of their depths.
 #[derive(Drop)]
 pub struct OverlappingFieldsCanBeMerged {
     alloc: Global,
@@ -105,7 +105,8 @@ impl OverlappingFieldsCanBeMerged {
     }
 
     /// Reports the conflicts of a document whose fragments were searched for cycles. The search stops once it has
-    /// `enough` findings, nested conflicts included, or never for 0. That it stopped is one more error, without a place.
+    /// `enough` findings, nested conflicts included, or never for 0. That it stopped is one more error, without a
+    /// place.
     ///
     /// # Errors
     ///
