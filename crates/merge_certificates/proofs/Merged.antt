@@ -29,14 +29,14 @@ module _ (w : World) where
   written_holds some sets fields out owns s a i p = stands_in some sets fields out owns s a (All-contains (λ t. Contains sets t) some s out.first i) p
 
   -- the sets of all fragments that some sets reach
-  pub opened_out : (some starts order sets : List ℕ) → All (λ s. All (λ f. Contains starts f) (spreads_of w s)) some → Opens w (λ h. ⊥) starts order
+  pub opened_out : (some starts order sets : List ℕ) → All (λ s. All (λ f. Contains starts f) (spreads_of w s)) some → Opens w starts order
       → ((s : ℕ) → Contains some s → Contains sets s) → All (λ f. Contains sets (set_of w f)) order
       → ((s : ℕ) → Contains sets s → Contains some s ⊎ ((f : ℕ) × Contains order f × (s ≡ set_of w f))) → AreWrittenOut w some sets
   opened_out some starts order sets spreads opens kept added only = record {
     first = λ k d l. kept (get_or some k d) (Contains-get_or some k d l);
     closed = λ s f i v. All-contains (λ h. Contains sets (set_of w h)) order f added (elim (only s i) [
       | inl at ↦ All-contains (λ g. Contains order g) starts f opens.first (All-contains (λ h. Contains starts h) (spreads_of w s) f (All-contains (λ t. All (λ h. Contains starts h) (spreads_of w t)) some s spreads at) v)
-      | inr of ↦ elim (opens.followed of.0 f of.1 (subst (λ (t : ℕ). Contains (spreads_of w t) f) of.2 v)) [ inl there ↦ there | inr never ↦ absurd never ]
+      | inr of ↦ opens.followed of.0 f of.1 (subst (λ (t : ℕ). Contains (spreads_of w t) f) of.2 v)
     ]);
   }
 

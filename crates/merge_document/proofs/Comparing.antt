@@ -127,7 +127,7 @@ module _ {S C : Type 0} (schema : Catalog S C) (document : List (Definition S)) 
       omega (arith, below_places (weight w) g.fragments.items, ap (sum_by (weight w)) (is.is).fragments_are, (is.nests known).fragments (weight w) part measures)
 
   -- what is summed up of all sets is summed up in their order
-  of_all : (f : ℕ → ℕ) → sum_by f g.order.items ≡ sum_below f (length w.sets)
+  pub of_all : (f : ℕ → ℕ) → sum_by f g.order.items ≡ sum_below f (length w.sets)
   of_all f =
       let nests = is.nests known in
       ap (sum_by f) (is.is).order_is ∙ sum_by_all f (length w.sets) is.order (omega (arith, nests.count, many)) (λ k l. (is.origins).whole known k (omega (arith, l, many)))

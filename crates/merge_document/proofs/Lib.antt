@@ -7,3 +7,4 @@ pub mod Counting
 pub mod Sums
 pub mod Comparing
 pub mod Searching
+pub mod Opening

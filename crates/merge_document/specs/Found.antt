@@ -21,6 +21,10 @@ use Rattle.merge_document.specs.declared.search.FoundConflicts.{FoundConflicts}
 abbrev pub most_compared : {S : Type 0} → List (Definition S) → ℕ
 most_compared document = 24 * (selection_count document * document_depths document) + 250000
 
+-- How often one fragment is opened at most: by the selections of the document, at any depth, and its definitions.
+abbrev pub most_opened : {S : Type 0} → List (Definition S) → ℕ
+most_opened document = 8 * selection_count document + 4 * length document + 100
+
 -- the search didn't stop because it had found enough
 abbrev pub IsFinished : {S C : Type 0} → FoundConflicts S C → Type 0
 IsFinished f = (f.limit ≡ 0) ⊎ (length f.found.items < f.limit)

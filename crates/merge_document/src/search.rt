@@ -4,7 +4,8 @@ ghost use Rattle.std.specs.Bool.{OnFalse, OnTrue};
 ghost use Rattle.fragment_graph.specs.DocumentCycles.{HasNoCycle, SearchedDocument};
 ghost use Rattle.merge_graph.specs.Definitions.{fragment_count};
 ghost use Rattle.merge_graph.specs.SetsIn.{HasKnownConditions};
-ghost use Rattle.merge_document.specs.Found.{IsFinished, IsJudged, AreTogether, most_compared};
+ghost use Rattle.merge_graph.specs.Sizes.{selection_count};
+ghost use Rattle.merge_document.specs.Found.{IsFinished, IsJudged, AreTogether, most_compared, most_opened};
 
 use fragment_graph::cycles::DocumentCycles;
 use language::error::OutOfMemory;
@@ -33,6 +34,8 @@ pub struct FoundConflicts<'a, S, C> {
     pub compared: u128,
     /// How many fragments the searches opened.
     pub opened: u128,
+    /// How many spreads of opened fragments the searches looked at.
+    pub looked: u128,
     /// How many searches there were.
     pub lists: u128,
     /// How many pairs of fields were compared one by one.
@@ -59,6 +62,7 @@ fn found_in<'a, S, C>(
     ensures limit { result.limit ≡ graph.entry.limit }
     ensures compared { result.compared ≡ search.compared }
     ensures opened { result.opened ≡ search.opened }
+    ensures looked { result.looked ≡ search.looked }
     ensures lists { result.lists ≡ search.lists }
     ensures judged { result.judged ≡ search.judged }
 {
@@ -68,6 +72,7 @@ fn found_in<'a, S, C>(
         limit: graph.limit,
         compared: search.compared,
         opened: search.opened,
+        looked: search.looked,
         lists: search.lists,
         judged: search.judged,
     }
@@ -91,9 +96,10 @@ fn limited<J>(graph: Graph<J>, limit: usize) -> Graph<J>
 /// pairs are compared, and unless it stops at least those of which some set spreads both. It opens at most `n` at a
 /// time.
 ///
-/// Where the type conditions of inline fragments are known, at most `24 s d + 250,000` pairs of fields are compared one
-/// by one: the document has `s` selections, at any depth, and `d` is the sum of their depths. Those of a definition are
-/// at depth 1.
+/// A document may have `s` selections, at any depth, and `d` may be the sum of their depths. Those of a definition are at
+/// depth 1. Where the type conditions of inline fragments are known, at most `24 s d + 250,000` pairs of fields are
+/// compared one by one. Then each fragment is opened at most `8 s + 4 m + 100` times, with `m` definitions of any kind, and
+/// at most `s` times as many spreads are looked at.
 ///
 /// # Errors
 ///
@@ -113,6 +119,10 @@ pub fn search_fields<'a, S: ScalarValue, C>(
     ensures enough { IfOk result (λ r. IfSome r (λ f. IsFinished f → (ps : List (List ℕ × List ℕ))
         → AreTogether schema.now document.now ps → length ps ≤ f.compared)) }
     ensures opened { IfOk result (λ r. IfSome r (λ f. f.opened ≤ fragment_count document.now * f.lists)) }
+    ensures linear { IfOk result (λ r. IfSome r (λ f. HasKnownConditions schema.now document.now
+        → f.opened ≤ fragment_count document.now * most_opened document.now)) }
+    ensures looked { IfOk result (λ r. IfSome r (λ f. HasKnownConditions schema.now document.now
+        → f.looked ≤ selection_count document.now * most_opened document.now)) }
     ensures compares { IfOk result (λ r. IfSome r (λ f. HasKnownConditions schema.now document.now
         → f.judged ≤ most_compared document.now)) }
 {

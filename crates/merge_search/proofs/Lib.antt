@@ -1,4 +1,5 @@
 pub mod Adding
+pub mod Asking
 pub mod Clearing
 pub mod Falls
 pub mod Flips

@@ -64,5 +64,7 @@ kept_twice a b = record {
   found = b.found ∙ a.found;
   compared = b.compared ∙ a.compared;
   opened = b.opened ∙ a.opened;
+  looked = b.looked ∙ a.looked;
   lists = b.lists ∙ a.lists;
+  repeated = b.repeated ∙ a.repeated;
 }

@@ -1,31 +1,31 @@
 -- What the pieces of a step make of the state together.
-use Rattle.std.proofs.Common.{◌≡◌, ℕ, ◌+◌, ◌<◌, ◌≤◌, List, [], ◌∷◌, length, drop, get_or, refl, sym, subst, ◌∙◌, arith, Bool, true, false, None, Some, Option, inl, inr, ◌⊎◌}
+use Rattle.std.proofs.Common.{◌≡◌, ℕ, ◌+◌, ◌<◌, ◌≤◌, List, [], ◌∷◌, length, drop, get_or, refl, sym, subst, ◌∙◌, Bool, true, false, None, Some, Option, inl, inr, ◌⊎◌}
 use Rattle.std.specs.Prelude.{slice_get}
 use Rattle.std.specs.Option.{option_map_or}
 use Rattle.std.specs.List.{All, Contains}
 use Rattle.std.proofs.lemmas.List.{drop_more}
 use Rattle.std.proofs.Math.ListN.{drop_of_length-le}
-use Rattle.std.proofs.lemmas.List.Elements.{All-nil, All-cons, All-contains, Contains-append_cases, Contains-get_or, Contains-push}
+use Rattle.std.proofs.lemmas.List.Elements.{All-nil, All-cons, All-contains, Contains-append_cases, Contains-get_or}
 use Rattle.merge_sets.specs.declared.node.Entry.{Entry}
 use Rattle.merge_sets.specs.declared.node.SetNode.{SetNode}
 use Rattle.merge_search.specs.declared.state.Search.{Search}
 use Rattle.merge_sets.specs.Names.{named, AreListed}
 use Rattle.merge_sets.specs.Indexed.{firsts_of}
 use Rattle.merge_sets.specs.World.{World, HasRoom, own_of, spreads_of, set_of, conflict_of, exclusive_of}
-use Rattle.merge_sets.specs.Opening.{Opens}
-use Rattle.merge_search.specs.State.{Keeps, NotesPair, NotesSearch, CountsList}
+use Rattle.merge_search.specs.Opened.{OpensCounted}
+use Rattle.merge_search.specs.State.{Keeps, NotesPair}
 use Rattle.merge_search.specs.Work as done
 use Rattle.merge_sets.specs.Merging.{Merges}
 use Rattle.merge_sets.specs.Clear.{AreOthers, IsClear}
 use Rattle.merge_search.specs.Reports.{AtLists, AtRest, Root, Adds, AddsAll, AtFields, AtWith, AtNamed, AtOwn, AtSearch, AtFirst}
-use Rattle.merge_search.specs.Work.{pair_in, Did, Owes, Done, Searched, Pair, OwnPairs, AllClosed}
+use Rattle.merge_search.specs.Work.{pair_in, Did, Done, SearchDone, Pair, OwnPairs}
 use Rattle.merge_search.specs.declared.task.Partner.TheVariants as partner
 use Rattle.merge_search.specs.declared.task.Task.{Task}
 use Rattle.merge_search.specs.declared.task.Task.TheVariants.{With, Listed, Rows, Own, Close, Opened, Mark, Spreads}
-use Rattle.merge_search.specs.Tasks.{Meets, AtPartners, Compares, Searches, SearchesOwing, ComparesEach, MeetsNested, MeetsBelow, MeetsBoth, MeetsFields, MeetsList, MeetsNamed, MeetsRows, MeetsOne, MeetsSearch, MeetsFragments, RowDone, WithDone, NameDone, SpreadsSearched, Closes}
+use Rattle.merge_search.specs.Tasks.{Meets, AtPartners, Compares, Searches, ComparesEach, MeetsNested, MeetsBelow, MeetsBoth, MeetsFields, MeetsList, MeetsNamed, MeetsRows, MeetsOne, MeetsSearch, MeetsFragments, RowDone, WithDone, NameDone, Closes}
 use Rattle.merge_sets.specs.Graph.{firsts_at}
 use Rattle.merge_sets.proofs.OneName.{no_entry, named_in, named_is, named_own}
-use Rattle.merge_search.proofs.Work.{did_none, did_full, owes_full, did_then, did_map, did_list, did_opened, did_fragments, did_report, did_kept, owes_search, grows_then}
+use Rattle.merge_search.proofs.Work.{did_none, did_full, did_then, did_map, did_opened, did_fragments, did_report, did_kept}
 use Rattle.merge_sets.proofs.Laws.{clash}
 use Rattle.merge_search.proofs.Adding.{all_full, merges_none, adds_none, adds_map, adds_then, adds_from, adds_node, adds_same, all_both, all_map, all_told}
 use Rattle.merge_search.proofs.Clearing.{others_done, others_told}
@@ -152,8 +152,8 @@ module _ (w : World) (e : Bool) where
   -- the four parts of two sets
   pub below_whole : (i j : ℕ) (s t u v z : Search)
       → ComparesEach w e (NameDone w e i j) (AtOwn w i j) (λ f. AtNamed w i j f.response) (firsts_at w.sets i) s t
-      → Searches w e (λ M. All (λ h. Searched M e i h) (spreads_of w j)) (AtPartners w j (partner.Own i)) t u
-      → Searches w e (λ M. All (λ h. Searched M e j h) (spreads_of w i)) (AtPartners w i (partner.Own j)) u v
+      → Searches w e (λ M. All (λ h. SearchDone w M e i h) (spreads_of w j)) (AtPartners w j (partner.Own i)) t u
+      → Searches w e (λ M. All (λ h. SearchDone w M e j h) (spreads_of w i)) (AtPartners w i (partner.Own j)) u v
       → Searches w e (λ M. All (λ g. All (λ h. Pair M e g h) (spreads_of w j)) (spreads_of w i)) (AtPartners w i (partner.Each j)) v z
       → MeetsBelow w e i j s z
   below_whole i j s t u v z own forth back both =
@@ -167,66 +167,27 @@ module _ (w : World) (e : Bool) where
             (adds_map w e _ _ (row_below_spreads w i j) both.real);
       }
 
-  -- a fragment that a search opens, noted first
-  pub one_noted : (i g : ℕ) (s t u v : Search) → NotesSearch i g e s t
-      → ComparesEach w e (NameDone w e i (set_of w g)) (AtOwn w i (set_of w g)) (λ f. AtNamed w i (set_of w g) f.response) (firsts_at w.sets i) t u
-      → Keeps u v → MeetsOne w e i g s v
-  one_noted i g s t u v n own k =
-      let all = own_whole i (set_of w g) t u own in
-      record {
-        done = owes_search w e i g n (did_kept w _ k all.done);
-        real = subst (λ zs. Adds w e (AtOwn w i (set_of w g)) s.found.items zs) (sym k.found) (adds_from w e _ n.found all.real.adds);
-      }
+  -- a fragment that a search has opened
+  pub one_whole : (i g : ℕ) (s t u : Search)
+      → ComparesEach w e (NameDone w e i (set_of w g)) (AtOwn w i (set_of w g)) (λ f. AtNamed w i (set_of w g) f.response) (firsts_at w.sets i) s t
+      → Keeps t u → MeetsOne w e i g s u
+  one_whole i g s t u own k =
+      let all = own_whole i (set_of w g) s t own in
+      record { done = did_kept w _ k all.done; real = subst (λ zs. Adds w e (AtOwn w i (set_of w g)) s.found.items zs) (sym k.found) all.real.adds }
 
-  owes_of : (O D : Search → Type 0) {s t : Search} → Did w D s t → Owes w O D s t
-  owes_of O D d = record { grows = d.grows; holds = d.holds; closes = λ M g r o c. d.closes M g r c; keeps = d.keeps }
-
-  -- no fragment is left that a search opens
-  pub opened_end : (O : Search → Type 0) (D : ℕ → Search → Type 0) (P : Root → Type 0) (items : List ℕ) (s t : Search) → items ≡ [] → Keeps s t
-      → SearchesOwing w e O (λ M. All (λ h. D h M) items) P s t
-  opened_end O D P items s t h k = record {
-    done = owes_of O _ (did_kept w _ k (searches_none D P items s h).done);
+  -- no fragment is left that a search opened
+  pub opened_end : (D : ℕ → Search → Type 0) (P : Root → Type 0) (items : List ℕ) (s t : Search) → items ≡ [] → Keeps s t → Searches w e (λ M. All (λ h. D h M) items) P s t
+  opened_end D P items s t h k = record {
+    done = did_kept w _ k (searches_none D P items s h).done;
     real = subst (λ zs. Adds w e P s.found.items zs) (sym k.found) (adds_none w e P s.found.items);
   }
 
-  -- one of them, and then the rest
-  pub opened_next : (O Q : Search → Type 0) (D : ℕ → Search → Type 0) (P R : Root → Type 0) (x : ℕ) (rest items : List ℕ) (s t u : Search) → items ≡ x ∷ rest
-      → ((M : Search) → O M → Q M) → ((r : Root) → R r → P r) → SearchesOwing w e Q (D x) R s t → SearchesOwing w e O (λ M. All (λ h. D h M) rest) P t u
-      → SearchesOwing w e O (λ M. All (λ h. D h M) items) P s u
-  opened_next O Q D P R x rest items s t u h o f one more = record {
-    done = record {
-      grows = grows_then one.done.grows more.done.grows;
-      holds = λ M g r. subst (λ xs. All (λ y. D y M) xs) (sym h) (All-cons (λ y. D y M) x rest (one.done.holds M (grows_then more.done.grows g) r) (more.done.holds M g r));
-      closes = λ M g r owed c. more.done.closes M g r owed (one.done.closes M (grows_then more.done.grows g) r (o M owed) c);
-      keeps = λ z. more.done.keeps (one.done.keeps z);
-    };
-    real = adds_then w e P (adds_map w e R P f one.real) more.real;
-  }
-
-  -- what was asked under a flag that was asked itself
-  asked_again : (M : Search) (x : Bool) (i g : ℕ) → (x ≡ e) ⊎ (x ≡ false) → Searched M x i g → Searched M e i g
-  asked_again M x i g (inl is) h = subst (λ (y : Bool). Searched M y i g) is h
-  asked_again M x i g (inr is) h = (h.0, inr (elim h.1 [ inl same ↦ same ∙ is | inr plain ↦ plain ]), h.2)
-
-  -- what is spread by one that is open is open, or was searched before
-  spreads_searched : (M s : Search) (i : ℕ) (gs order : List ℕ) → Opens w (λ h. Searched s e i h) gs order → AllClosed w M s → All (λ h. Searched M e i h) order
-      → All (SpreadsSearched w M e i) order
-  spreads_searched M s i gs order opens closed all k d l n c m =
-      let h = get_or order k d in
-      let x = get_or (spreads_of w (set_of w h)) n c in
-      let there : Contains (spreads_of w (set_of w h)) x = Contains-get_or (spreads_of w (set_of w h)) n c m in
-      elim (opens.followed h x (Contains-get_or order k d l) there) [
-        | inl there_too ↦ All-contains (λ h. Searched M e i h) order x all there_too
-        | inr was ↦ asked_again M was.0 i x was.1 (All-contains (λ h. Searched M was.0 i h) (spreads_of w (set_of w h)) x (closed.searches_closed was.0 i h was.2).1 there)
-      ]
-
-  -- all of them, counted first
-  pub search_counted : (i g : ℕ) (order : List ℕ) (s t u : Search) → g < length w.fragments → Opens w (λ h. Searched s e i h) (g ∷ []) order → CountsList (length order) s t
-      → SearchesOwing w e (λ M. All (SpreadsSearched w M e i) order) (λ M. All (λ h. Searched M e i h) order) (AtSearch w i g) t u → MeetsSearch w e i g s u
-  search_counted i g order s t u l opens n d = record {
-    done = did_map w _ _ (λ M z. All-contains (λ h. Searched M e i h) order g z (All-contains (λ h. Contains order h) (g ∷ []) g opens.first (Contains-push [] g)))
-        (did_opened w _ _ (λ M closed all. spreads_searched M s i (g ∷ []) order opens closed all) (did_list w n opens.few (omega (arith, l))) d.done);
-    real = adds_from w e _ n.found d.real;
+  -- all of them, noted and counted first
+  pub search_opened : (i g : ℕ) (hs : List ℕ) (s t u : Search) → OpensCounted w e i g hs s t → Searches w e (λ M. All (λ h. OwnPairs w M e i (set_of w h)) hs) (AtSearch w i g) t u
+      → MeetsSearch w e i g s u
+  search_opened i g hs s t u o d = record {
+    done = did_map w _ _ (λ M z. inr z) (did_opened w e i g hs o d.done);
+    real = adds_from w e _ (o.counts.found ∙ o.opens.asks.found) d.real;
   }
 
   -- two fragments, noted first
@@ -245,7 +206,7 @@ module _ (w : World) (e : Bool) where
             (adds_map w e _ _ (row_second w f g ne) (second lg).real));
       }
 
-  did_before : (D : Search → Type 0) {s t u : Search} → Keeps s t → Did w D t u → Did w D s u
+  pub did_before : (D : Search → Type 0) {s t u : Search} → Keeps s t → Did w D t u → Did w D s u
   did_before D {s} k d = did_map w _ _ (λ M z. z.1) (did_then w (λ M. Unit {0}) D (did_kept w (λ M. Unit {0}) k (did_none w (λ M. Unit {0}) s (λ M g. tt))) d)
 
   -- nothing that is spoken of changed before and after
@@ -268,11 +229,8 @@ module _ (w : World) (e : Bool) where
   pub searches_full : (D : Search → Type 0) (P : Root → Type 0) (s : Search) → (HasRoom w s.found.items → ⊥) → Searches w e D P s s
   searches_full D P s full = record { done = did_full w D s full; real = adds_none w e P s.found.items }
 
-  pub owing_full : (O D : Search → Type 0) (P : Root → Type 0) (s : Search) → (HasRoom w s.found.items → ⊥) → SearchesOwing w e O D P s s
-  owing_full O D P s full = record { done = owes_full w O D s full; real = adds_none w e P s.found.items }
-
 keeps_self : (s : Search) → Keeps s s
-keeps_self s = record { pairs = refl; searched = refl; found = refl; compared = refl; opened = refl; lists = refl }
+keeps_self s = record { pairs = refl; searched = refl; found = refl; compared = refl; opened = refl; looked = refl; lists = refl; repeated = refl }
 
 -- a field and one of a list
 pub listed_row : (a : Entry) (list : List Entry) (b : Entry) (r : Root) → Contains list b → AtFields a b r → AtRest a list r
@@ -345,6 +303,6 @@ skipped w (Listed a list e n) s full close mark = compares_full w e _ _ _ s full
 skipped w (Rows rows e k) s full close mark = λ knows. compares_full w e _ _ _ s full
 skipped w (Own i j e k) s full close mark = compares_full w e _ _ _ s full
 skipped w (Close a b n) s full close mark = absurd (close a b n refl)
-skipped w (Opened i g e opening k) s full close mark = λ reached. owing_full w e _ _ _ s full
+skipped w (Opened i g e opening k) s full close mark = λ reached. searches_full w e _ _ s full
 skipped w (Mark i n) s full close mark = absurd (mark i n refl)
 skipped w (Spreads i p e k) s full close mark = λ there. searches_full w e _ _ s full

@@ -1,13 +1,19 @@
 -- How counts grow.
-use Rattle.std.proofs.Common.{◌≡◌, ℕ, ◌+◌, ◌*◌, ◌<◌, ◌≤◌, List, [], ◌∷◌, ◌++◌, length, min, refl, sym, subst, arith, Bool, true, false, Some, inl, inr, ◌⊎◌, zero, suc, Option, slice_get, ◌∙◌, length-append}
+use Rattle.std.proofs.Common.{◌≡◌, ℕ, ◌+◌, ◌*◌, ◌<◌, ◌≤◌, List, [], ◌∷◌, ◌++◌, length, min, refl, sym, subst, ap, arith, Bool, true, false, Some, inl, inr, ◌⊎◌, zero, suc, Option, slice_get, ◌∙◌, length-append}
+use Rattle.std.specs.Prelude.{sum_by}
 use Rattle.std.specs.List.{Contains}
 use Rattle.std.proofs.lemmas.Option.{slice_get_within, get_or_from_slice_get}
 use Rattle.std.proofs.lemmas.Bool.{cases_order}
+use Rattle.std.proofs.lemmas.List.Sums.{sum_by-cons}
 use Rattle.std.proofs.lemmas.List.Elements.{All-contains, All-push, All-nil, All-weaker, Contains-push, Contains-append_left}
+use Rattle.merge_sets.specs.World.{World}
+use Rattle.merge_search.specs.declared.log.Log.{Log}
 use Rattle.merge_search.specs.declared.state.Search.{Search}
+use Rattle.merge_search.specs.Questions.{sum_below, worth}
+use Rattle.merge_search.specs.Opened.{OpensBelow}
 use Rattle.merge_search.specs.Log.{in_log}
 use Rattle.merge_search.specs.Work.{pair_in}
-use Rattle.merge_search.specs.Counts.{Compared, Repeats, Distinct, Tally, greatest}
+use Rattle.merge_search.specs.Counts.{Compared, Repeats, Distinct, Tally, asked, greatest, most_repeats, spread_count}
 use Rattle.merge_search.specs.State.{NotesPair, CountsList, Begins}
 use Rattle.merge_search.proofs.Flips.{flip_in}
 use Rattle.merge_sets.proofs.Laws.{clash}
@@ -46,32 +52,62 @@ distinct_push log new d ne fresh = record {
       ];
 }
 
-pub no_tally : (n : ℕ) (s : Search) → Begins s → Tally (pair_in s) n s
-no_tally n s b = record {
+-- what the searches below fields come to, by what was asked
+abbrev asked_of : World → (ℕ → ℕ) → Log → ℕ → ℕ
+asked_of w g l k =
+    worth (length w.sets) (length w.fragments) (λ i. 1) g (λ i h. in_log l false i h) + worth (length w.sets) (length w.fragments) (λ i. 1) g (λ i h. in_log l true i h)
+    + sum_below g (length w.fragments) * min k most_repeats
+
+pub asked_same : (w : World) (g : ℕ → ℕ) (s t : Search) → t.searched ≡ s.searched → t.repeated ≡ s.repeated → asked w g t ≡ asked w g s
+asked_same w g s t p r = ap (λ (l : Log). asked_of w g l t.repeated) p ∙ ap (λ (k : ℕ). asked_of w g s.searched k) r
+
+pub no_tally : (w : World) (s : Search) → Begins s → Tally w s
+no_tally w s b = record {
   log = [];
   distinct = record { apart = λ k l r q lt p h same. cc; different = All-nil (λ r. r.first ≡ r.second → ⊥) };
-  within = All-nil (λ r. (r.first < n) × (r.second < n));
+  within = All-nil (λ r. (r.first < length w.fragments) × (r.second < length w.fragments));
   counted = subst (λ (k : ℕ). k ≡ min 0 greatest) (sym b.compared) refl;
   recorded = All-nil (λ r. pair_in s r.flag r.first r.second ≡ true);
   listed = λ x f g h. absurd (clash (pair_in s x f g) h (b.pairs x f g));
   opened = omega (arith, b.opened);
+  linear = omega (arith, b.opened);
+  looked = omega (arith, b.looked);
 }
 
--- The counts of the pairs stay, and the others may grow.
-pub tally_same : {n : ℕ} {s t : Search} → t.pairs ≡ s.pairs → t.compared ≡ s.compared → (s.opened ≤ n * s.lists → t.opened ≤ n * t.lists)
-    → Tally (pair_in s) n s → Tally (pair_in t) n t
-tally_same {n} {s} {t} ps cs opened h =
-    let asked : (x : Bool) (f g : ℕ) → pair_in s x f g ≡ true → pair_in t x f g ≡ true =
+at_most_same : (a b c d : ℕ) → a ≡ b → c ≡ d → b ≤ d → a ≤ c
+at_most_same a b c d p q le = omega (arith, p, q, le)
+
+-- The counts of the pairs stay, and what searches opened is bounded still.
+pub tally_with : {w : World} {s t : Search} → t.pairs ≡ s.pairs → t.compared ≡ s.compared → (s.opened ≤ length w.fragments * s.lists → t.opened ≤ length w.fragments * t.lists)
+    → (s.opened ≤ asked w (λ h. 1) s → t.opened ≤ asked w (λ h. 1) t) → (s.looked ≤ asked w (spread_count w) s → t.looked ≤ asked w (spread_count w) t) → Tally w s → Tally w t
+tally_with {w} {s} {t} ps cs opened linear looked h =
+    let known : (x : Bool) (f g : ℕ) → pair_in s x f g ≡ true → pair_in t x f g ≡ true =
     λ x f g z. subst (λ l. in_log l x (Rattle.std.proofs.Common.max f g) (min f g) ≡ true) (sym ps) z in
     record {
       log = h.log;
       distinct = h.distinct;
       within = h.within;
       counted = cs ∙ h.counted;
-      recorded = All-weaker (λ r. pair_in s r.flag r.first r.second ≡ true) (λ r. pair_in t r.flag r.first r.second ≡ true) (λ r z. asked r.flag r.first r.second z) h.log h.recorded;
+      recorded = All-weaker (λ r. pair_in s r.flag r.first r.second ≡ true) (λ r. pair_in t r.flag r.first r.second ≡ true) (λ r z. known r.flag r.first r.second z) h.log h.recorded;
       listed = λ x f g z. h.listed x f g (subst (λ l. in_log l x (Rattle.std.proofs.Common.max f g) (min f g) ≡ true) ps z);
       opened = opened h.opened;
+      linear = linear h.linear;
+      looked = looked h.looked;
     }
+
+-- What is counted stays.
+module _ (w : World) (s t : Search) (searched : t.searched ≡ s.searched) (repeated : t.repeated ≡ s.repeated) (opened : t.opened ≡ s.opened) where
+  pub opened_same : t.lists ≡ s.lists → s.opened ≤ length w.fragments * s.lists → t.opened ≤ length w.fragments * t.lists
+  opened_same lists o = subst (λ (k : ℕ). k ≤ length w.fragments * t.lists) (sym opened) (subst (λ (k : ℕ). s.opened ≤ length w.fragments * k) (sym lists) o)
+
+  pub linear_same : s.opened ≤ asked w (λ h. 1) s → t.opened ≤ asked w (λ h. 1) t
+  linear_same o = at_most_same t.opened s.opened (asked w (λ h. 1) t) (asked w (λ h. 1) s) opened (asked_same w (λ h. 1) s t searched repeated) o
+
+  pub looked_same : t.looked ≡ s.looked → s.looked ≤ asked w (spread_count w) s → t.looked ≤ asked w (spread_count w) t
+  looked_same looked o = at_most_same t.looked s.looked (asked w (spread_count w) t) (asked w (spread_count w) s) looked (asked_same w (spread_count w) s t searched repeated) o
+
+  pub tally_same : t.pairs ≡ s.pairs → t.compared ≡ s.compared → t.lists ≡ s.lists → t.looked ≡ s.looked → Tally w s → Tally w t
+  tally_same ps cs lists looked h = tally_with ps cs (opened_same lists) linear_same (looked_same looked) h
 
 capped_more : (l g : ℕ) → min (min l g + 1) g ≡ min (l + 1) g
 capped_more l g = omega arith
@@ -104,34 +140,59 @@ pub listed_more : (log : List Compared) (e x : Bool) (f g i j : ℕ)
 listed_more log e x f g i j (inl c) = either_more log (record { first = f; second = g; flag = e }) (record { first = i; second = j; flag = x }) (record { first = j; second = i; flag = x }) c
 listed_more log e x f g i j (inr p) = listed_new log e x f g i j p
 
-pub tally_pair : {n f g : ℕ} {e : Bool} {s t : Search} → NotesPair f g e s t → (f ≡ g → ⊥) → f < n → g < n → (pair_in s e f g ≡ true → ⊥)
-    → Tally (pair_in s) n s → Tally (pair_in t) n t
-tally_pair {n} {f} {g} {e} {s} {t} d ne lf lg fresh h =
+pub tally_pair : {w : World} {f g : ℕ} {e : Bool} {s t : Search} → NotesPair f g e s t → (f ≡ g → ⊥) → f < length w.fragments → g < length w.fragments
+    → (pair_in s e f g ≡ true → ⊥) → Tally w s → Tally w t
+tally_pair {w} {f} {g} {e} {s} {t} d ne lf lg fresh h =
     let new : Compared = record { first = f; second = g; flag = e } in
     record {
       log = h.log ++ new ∷ [];
       distinct = distinct_push h.log new h.distinct ne
           (λ r c same. not_repeated s e f g r fresh (All-contains (λ q. pair_in s q.flag q.first q.second ≡ true) h.log r h.recorded c) same);
-      within = All-push (λ r. (r.first < n) × (r.second < n)) h.log new h.within (lf, lg);
+      within = All-push (λ r. (r.first < length w.fragments) × (r.second < length w.fragments)) h.log new h.within (lf, lg);
       counted = d.compared ∙ (subst (λ (k : ℕ). min (k + 1) greatest ≡ min (min (length h.log) greatest + 1) greatest) (sym h.counted) refl
           ∙ (capped_more (length h.log) greatest ∙ subst (λ (k : ℕ). min (length h.log + 1) greatest ≡ min k greatest) (sym (length-append h.log (new ∷ []))) refl));
       recorded = All-push (λ r. pair_in t r.flag r.first r.second ≡ true) h.log new
           (All-weaker (λ r. pair_in s r.flag r.first r.second ≡ true) (λ r. pair_in t r.flag r.first r.second ≡ true) (λ r z. d.notes.kept r.flag r.first r.second z) h.log h.recorded) d.notes.noted;
       listed = λ x i j z. listed_more h.log e x f g i j (elim (d.notes.only x i j z) [ inl old ↦ inl (h.listed x i j old) | inr p ↦ inr p ]);
-      opened = subst (λ (k : ℕ). k ≤ n * t.lists) (sym d.opened) (subst (λ (k : ℕ). s.opened ≤ n * k) (sym d.lists) h.opened);
+      opened = opened_same w s t d.searched d.repeated d.opened d.lists h.opened;
+      linear = linear_same w s t d.searched d.repeated d.opened h.linear;
+      looked = looked_same w s t d.searched d.repeated d.opened d.looked h.looked;
     }
 
-lists_more : (n k o l o' l' : ℕ) → k ≤ n → 0 < n → o' ≡ min (o + k) greatest → l' ≡ min (l + 1) greatest → o ≤ n * l → o' ≤ n * l'
-lists_more n k o l o' l' le pos p q h = elim (cases_order (l + 1) greatest) [
-  | inl eq ↦ full (omega (arith, q, eq))
+-- one list more, of so many at most
+pub lists_more : (n k o l p m : ℕ) → k ≤ n → p ≡ min (o + k) greatest → m ≡ min (l + 1) greatest → o ≤ n * l → p ≤ n * m
+lists_more n k o l p m le po ml h = elim (cases_order (l + 1) greatest) [
+  | inl eq ↦ full (omega (arith, ml, eq))
   | inr c ↦ elim c [
-    | inl less ↦ let is : l' ≡ l + 1 = omega (arith, q, less) in subst (λ (z : ℕ). o' ≤ n * z) (sym is) (omega (arith, p, h, le))
-    | inr more ↦ full (omega (arith, q, more))
+    | inl less ↦ let is : m ≡ l + 1 = omega (arith, ml, less) in subst (λ (z : ℕ). p ≤ n * z) (sym is) (omega (arith, po, h, le))
+    | inr more ↦ full (omega (arith, ml, more))
   ]
 ]
   where
-    full : l' ≡ greatest → o' ≤ n * l'
-    full is = subst (λ (z : ℕ). o' ≤ n * z) (sym is) (omega (arith, p, pos))
+    some : 0 < n → p ≤ n * greatest
+    some pos = omega (arith, po, pos)
 
-pub tally_list : {n k : ℕ} {s t : Search} → CountsList k s t → k ≤ n → 0 < n → Tally (pair_in s) n s → Tally (pair_in t) n t
-tally_list {n} {k} {s} {t} d le pos h = tally_same d.pairs d.compared (λ o. lists_more n k s.opened s.lists t.opened t.lists le pos d.opened d.lists o) h
+    none : n ≡ 0 → p ≤ n * greatest
+    none is = let nothing : o ≤ 0 * l = subst (λ (z : ℕ). o ≤ z * l) is h in omega (arith, po, nothing, le, is)
+
+    full : m ≡ greatest → p ≤ n * m
+    full is = subst (λ (z : ℕ). p ≤ n * z) (sym is) (elim (cases_order n 0) [
+      | inl zero_is ↦ none zero_is
+      | inr c ↦ elim c [ inl less ↦ absurd (omega (arith, less)) | inr more ↦ some more ]
+    ])
+
+ones : (hs : List ℕ) → sum_by (λ (h : ℕ). 1) hs ≡ length hs
+ones [] = refl
+ones (h ∷ hs) = omega (arith, sum_by-cons (λ (x : ℕ). 1) h hs, ones hs)
+
+-- a search below a field opened fragments, and was counted
+pub tally_opened : {w : World} {e : Bool} {i g : ℕ} {hs : List ℕ} {s t u : Search} → OpensBelow w e i g hs s t → CountsList (length hs) (min (sum_by (spread_count w) hs) greatest) t u
+    → Tally w s → Tally w u
+tally_opened {w} {e} {i} {g} {hs} {s} {t} {u} o c h =
+    let a = o.asks in
+    let same : (m : ℕ → ℕ) → asked w m u ≡ asked w m t = λ m. asked_same w m t u c.searched c.repeated in
+    tally_with (c.pairs ∙ a.pairs) (c.compared ∙ a.compared)
+    (λ old. lists_more (length w.fragments) (length hs) t.opened t.lists u.opened u.lists o.few c.opened c.lists
+    (subst (λ (k : ℕ). k ≤ length w.fragments * t.lists) (sym a.opened) (subst (λ (k : ℕ). s.opened ≤ length w.fragments * k) (sym a.lists) old)))
+    (λ old. omega (arith, c.opened, a.opened, old, a.counts (λ k. 1), ones hs, same (λ k. 1)))
+    (λ old. omega (arith, c.looked, a.looked, old, a.counts (spread_count w), same (spread_count w))) h

@@ -1,16 +1,17 @@
 -- How counts grow where many pairs are noted at once.
-use Rattle.std.proofs.Common.{◌≡◌, ℕ, zero, suc, ◌+◌, ◌*◌, ◌<◌, ◌≤◌, List, [], ◌∷◌, ◌++◌, length, min, max, refl, sym, subst, ap, ◌∙◌, arith, Bool, true, false, not, ◌&&◌, cond, inl, inr, ◌⊎◌, length-append}
+use Rattle.std.proofs.Common.{◌≡◌, ℕ, zero, suc, ◌+◌, ◌<◌, ◌≤◌, List, [], ◌∷◌, ◌++◌, length, min, max, refl, sym, subst, ap, ◌∙◌, arith, Bool, true, false, not, ◌&&◌, cond, inl, inr, ◌⊎◌, length-append}
 use Rattle.std.specs.List.{All, Contains}
 use Rattle.std.proofs.lemmas.Bool.{cases_eq, cases_lt}
 use Rattle.std.proofs.lemmas.List.Elements.{All-contains, All-push, All-weaker, Contains-push}
 use Rattle.bit_matrix.specs.Count.{count_below}
+use Rattle.merge_sets.specs.World.{World}
 use Rattle.merge_search.specs.declared.state.Search.{Search}
 use Rattle.merge_search.specs.Log.{in_log}
 use Rattle.merge_search.specs.Work.{pair_in}
 use Rattle.merge_search.specs.Counts.{Compared, Repeats, Distinct, Tally, greatest}
 use Rattle.merge_search.specs.State.{NotesBelow}
 use Rattle.merge_sets.proofs.Laws.{clash}
-use Rattle.merge_search.proofs.Tallying.{distinct_push, either_more}
+use Rattle.merge_search.proofs.Tallying.{distinct_push, either_more, linear_same, looked_same, opened_same}
 
 -- a log of the pairs that were asked for, each once
 record Logged (A : Bool → ℕ → ℕ → Type 0) (n : ℕ) (log : List Compared) : Type 0 where
@@ -127,8 +128,9 @@ module _ (n f : ℕ) (s t : Search) (short : f < n) (kept : (x : Bool) (i j : �
 capped : (c l k g : ℕ) → c ≡ min l g → min (c + k) g ≡ min (l + k) g
 capped c l k g h = omega (arith, h)
 
-pub tally_below : {n : ℕ} (f : ℕ) (among : ℕ → Bool) {s t : Search} → NotesBelow f among s t → f < n → Tally (pair_in s) n s → Tally (pair_in t) n t
-tally_below {n} f among {s} {t} d short h =
+pub tally_below : {w : World} (f : ℕ) (among : ℕ → Bool) {s t : Search} → NotesBelow f among s t → f < length w.fragments → Tally w s → Tally w t
+tally_below {w} f among {s} {t} d short h =
+    let n = length w.fragments in
     let start : Logged (Upto n f s t short d.kept 0) n h.log = record {
       distinct = h.distinct;
       within = h.within;
@@ -150,5 +152,7 @@ tally_below {n} f among {s} {t} d short h =
         | inl old ↦ inl old
         | inr new ↦ inr (new.0, new.1, new.2, sym (at_ends n f s t short d.kept t i j new.1 new.2) ∙ subst (λ (y : Bool). pair_in t y i j ≡ true) new.0 z)
       ]);
-      opened = subst (λ (k : ℕ). k ≤ n * t.lists) (sym d.opened) (subst (λ (k : ℕ). s.opened ≤ n * k) (sym d.lists) h.opened);
+      opened = opened_same w s t d.searched d.repeated d.opened d.lists h.opened;
+      linear = linear_same w s t d.searched d.repeated d.opened h.linear;
+      looked = looked_same w s t d.searched d.repeated d.opened d.looked h.looked;
     }

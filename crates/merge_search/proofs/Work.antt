@@ -1,16 +1,17 @@
 -- How pieces of work join.
-use Rattle.std.proofs.Common.{◌≡◌, ap, ◌∙◌, length-append, ℕ, ◌+◌, ◌*◌, ◌<◌, ◌≤◌, List, [], ◌∷◌, length, take, get_or, refl, sym, subst, arith, Bool, true, false, inl, inr, ◌⊎◌, min, max, ◌||◌, ◌&&◌, below_more}
+use Rattle.std.proofs.Common.{◌≡◌, ap, ◌∙◌, length-append, ℕ, ◌+◌, ◌<◌, ◌≤◌, List, [], ◌∷◌, length, take, get_or, refl, sym, subst, arith, Bool, true, false, inl, inr, ◌⊎◌, min, max, ◌||◌, ◌&&◌, below_more}
 use Rattle.std.specs.List.{All, Contains}
 use Rattle.std.proofs.lemmas.List.{take_all, length-take}
-use Rattle.std.proofs.lemmas.List.Elements.{All-more, Contains-push, Contains-append_left}
+use Rattle.std.proofs.lemmas.List.Elements.{All-contains, All-more, All-weaker, Contains-push, Contains-append_left}
 use Rattle.merge_search.specs.declared.state.Search.{Search}
 use Rattle.merge_sets.specs.declared.finding.Finding.{Finding}
 use Rattle.merge_sets.specs.World.{World, HasRoom, spreads_of, set_of}
 use Rattle.merge_search.specs.Log.{in_log, covers_of, Covers}
-use Rattle.merge_search.specs.Work.{pair_in, search_in, Searched, Pair, OwnPairs, ClosedSearch, ClosedPair, AllClosed, Grows, Did, Owes}
+use Rattle.merge_search.specs.Work.{pair_in, search_in, Searched, Pair, OwnPairs, ClosedSearch, ClosedPair, Grows, Did}
+use Rattle.merge_search.specs.Opened.{OpensCounted}
 use Rattle.merge_sets.specs.Merging.{MergeEither}
-use Rattle.merge_search.specs.State.{NotesBelow, NotesPair, NotesSearch, Reports, CountsList, Keeps}
-use Rattle.merge_search.proofs.Tallying.{tally_same, tally_pair, tally_list}
+use Rattle.merge_search.specs.State.{NotesBelow, NotesPair, Reports, Keeps}
+use Rattle.merge_search.proofs.Tallying.{tally_same, tally_pair, tally_opened}
 use Rattle.merge_search.proofs.TallyingBelow.{tally_below}
 
 pub grows_same : (s : Search) → Grows s s
@@ -70,9 +71,6 @@ module _ (w : World) where
   pub did_full : (P : Search → Type 0) (s : Search) → (HasRoom w s.found.items → ⊥) → Did w P s s
   did_full P s full = record { grows = grows_same s; holds = λ M g r. absurd (full (room_before g r)); closes = λ M g r c. c; keeps = λ h. h }
 
-  pub owes_full : (O P : Search → Type 0) (s : Search) → (HasRoom w s.found.items → ⊥) → Owes w O P s s
-  owes_full O P s full = record { grows = grows_same s; holds = λ M g r. absurd (full (room_before g r)); closes = λ M g r o c. c; keeps = λ h. h }
-
   pub did_start : {A : Type 0} (P : A → Search → Type 0) (xs : List A) (s : Search) → Did w (λ M. All (λ x. P x M) (take 0 xs)) s s
   did_start P xs s = did_none _ s (λ M g i d l. absurd (omega (arith, length-take 0 xs, l)))
 
@@ -96,44 +94,9 @@ module _ (w : World) where
       → Did w (λ M. All (λ x. P x M) (take k xs)) s t → Did w (λ M. All (λ x. P x M) ys) s t
   did_all P xs ys k l eq d = did_map _ _ (λ M h. subst (λ zs. All (λ x. P x M) zs) eq (subst (λ zs. All (λ x. P x M) zs) (take_all k xs l) h)) d
 
-  -- a list of searches is counted
-  pub did_list : {n : ℕ} {s t : Search} → CountsList n s t → n ≤ length w.fragments → 0 < length w.fragments → Did w (λ M. Unit {0}) s t
-  did_list {n} {s} {t} d le pos = record {
-    grows = record {
-      more_pairs = pair_from s t d.pairs;
-      more_searched = search_from s t d.searched;
-      more_found = λ y h. subst (λ zs. Contains zs y) (sym d.found) h;
-      longer = omega (arith, ap length d.found);
-    };
-    holds = λ M g r. tt;
-    closes = λ M g r c. record {
-      pairs_closed = λ x f h z. c.pairs_closed x f h (pair_back s t d.pairs x f h z);
-      searches_closed = λ x i h z. c.searches_closed x i h (search_back s t d.searched x i h z);
-    };
-    keeps = tally_list d le pos;
-  }
-
   closed_search : (M : Search) (e x : Bool) (i g j h : ℕ) → (x ≡ e) × (j ≡ i) × (h ≡ g) → ClosedSearch w M e i g → ClosedSearch w M x j h
   closed_search M e x i g j h is z = subst (λ (y : Bool). ClosedSearch w M y j h) (sym is.0)
       (subst (λ (k : ℕ). ClosedSearch w M e k h) (sym is.1) (subst (λ (k : ℕ). ClosedSearch w M e i k) (sym is.2) z))
-
-  -- a fragment that was recorded first, and compared; its spreads are owed
-  pub owes_search : (e : Bool) (i g : ℕ) {s t u : Search} → NotesSearch i g e s t → Did w (λ M. OwnPairs w M e i (set_of w g)) t u
-      → Owes w (λ M. All (λ h. Searched M e i h) (spreads_of w (set_of w g))) (λ M. Searched M e i g) s u
-  owes_search e i g {s} {t} {u} n d =
-      let up : Grows s t = record { more_pairs = pair_from s t n.pairs; more_searched = n.notes.kept; more_found = λ y h. subst (λ zs. Contains zs y) (sym n.found) h; longer = omega (arith, ap length n.found) } in
-      record {
-        keeps = λ h. d.keeps (tally_same n.pairs n.compared (λ o. subst (λ (k : ℕ). k ≤ length w.fragments * t.lists) (sym n.opened) (subst (λ (k : ℕ). s.opened ≤ length w.fragments * k) (sym n.lists) o)) h);
-        grows = grows_then up d.grows;
-        holds = λ M k r. (e, inl refl, k.more_searched e i g (d.grows.more_searched e i g n.notes.noted));
-        closes = λ M k r owed c. d.closes M k r record {
-          pairs_closed = λ x f h z. c.pairs_closed x f h (pair_back s t n.pairs x f h z);
-          searches_closed = λ x j h z. elim (n.notes.only x j h z) [ inl old ↦ c.searches_closed x j h old | inr is ↦ closed_search M e x i g j h is (d.holds M k r, owed) ];
-        };
-      }
-
-  pub owes_none : (O P : Search → Type 0) (s : Search) → ((M : Search) → Grows s M → P M) → Owes w O P s s
-  owes_none O P s f = record { grows = grows_same s; holds = λ M g r. f M g; closes = λ M g r o c. c; keeps = λ h. h }
 
   closed_pair : (M : Search) (e x : Bool) (f g i j : ℕ) → (x ≡ e) × (((i ≡ f) × (j ≡ g)) ⊎ ((i ≡ g) × (j ≡ f))) → ClosedPair w M e f g → ClosedPair w M x i j ⊎ ClosedPair w M x j i
   closed_pair M e x f g i j (is, inl p) z = inl (subst (λ (y : Bool). ClosedPair w M y i j) (sym is)
@@ -198,7 +161,7 @@ module _ (w : World) where
         longer = omega (arith, ap length n.found ∙ length-append t.found.items (y ∷ []));
       } in
       record {
-        keeps = λ h. tally_same n.pairs n.compared (λ o. subst (λ (k : ℕ). k ≤ length w.fragments * u.lists) (sym n.opened) (subst (λ (k : ℕ). t.opened ≤ length w.fragments * k) (sym n.lists) o)) (d.keeps h);
+        keeps = λ h. tally_same w t u n.searched n.repeated n.opened n.pairs n.compared n.lists n.looked (d.keeps h);
         grows = grows_then d.grows up;
         holds = λ M k r. (d.holds M (grows_then up k) r, k.more_found y (subst (λ zs. Contains zs y) (sym n.found) (Contains-push t.found.items y)));
         closes = λ M k r c. let had = d.closes M (grows_then up k) r c in record {
@@ -212,7 +175,7 @@ module _ (w : World) where
   did_kept P {s} {t} {u} n d =
       let up : Grows t u = record { more_pairs = pair_from t u n.pairs; more_searched = search_from t u n.searched; more_found = λ z h. subst (λ zs. Contains zs z) (sym n.found) h; longer = omega (arith, ap length n.found) } in
       record {
-        keeps = λ h. tally_same n.pairs n.compared (λ o. subst (λ (k : ℕ). k ≤ length w.fragments * u.lists) (sym n.opened) (subst (λ (k : ℕ). t.opened ≤ length w.fragments * k) (sym n.lists) o)) (d.keeps h);
+        keeps = λ h. tally_same w t u n.searched n.repeated n.opened n.pairs n.compared n.lists n.looked (d.keeps h);
         grows = grows_then d.grows up;
         holds = λ M k r. d.holds M (grows_then up k) r;
         closes = λ M k r c. let had = d.closes M (grows_then up k) r c in record {
@@ -221,14 +184,36 @@ module _ (w : World) where
         };
       }
 
-  -- what is owed is done itself
-  pub did_opened : (O P : Search → Type 0) {s t u : Search} → ((M : Search) → AllClosed w M s → P M → O M) → Did w (λ M. Unit {0}) s t → Owes w O P t u → Did w P s u
-  did_opened O P f d e = record {
-    grows = grows_then d.grows e.grows;
-    holds = e.holds;
-    closes = λ M g r c. e.closes M g r (f M c (e.holds M g r)) (d.closes M (grows_then e.grows g) r c);
-    keeps = λ h. e.keeps (d.keeps h);
-  }
+  -- the fragments that a search opened were noted first, counted, and compared with the set
+  pub did_opened : (e : Bool) (i g : ℕ) (hs : List ℕ) {s u v : Search} → OpensCounted w e i g hs s u → Did w (λ M. All (λ h. OwnPairs w M e i (set_of w h)) hs) u v
+      → Did w (λ M. Searched M e i g) s v
+  did_opened e i g hs {s} {u} {v} o d =
+      let t : Search = o.mid in
+      let a = o.opens.asks in
+      let c = o.counts in
+      let searched : (x : Bool) (j h : ℕ) → search_in t x j h ≡ true → search_in u x j h ≡ true = search_from t u c.searched in
+      let up : Grows s u = record {
+        more_pairs = pair_from s u (c.pairs ∙ a.pairs);
+        more_searched = λ x j h z. searched x j h (a.kept x j h z);
+        more_found = λ y h. subst (λ zs. Contains zs y) (sym (c.found ∙ a.found)) h;
+        longer = omega (arith, ap length c.found, ap length a.found);
+      } in
+      record {
+        keeps = λ h. d.keeps (tally_opened o.opens c h);
+        grows = grows_then up d.grows;
+        holds = λ M k r. let z = o.opens.first in (z.0, z.1, k.more_searched z.0 i g (d.grows.more_searched z.0 i g (searched z.0 i g z.2)));
+        closes = λ M k r old. d.closes M k r record {
+          pairs_closed = λ x f h z. old.pairs_closed x f h (pair_back s u (c.pairs ∙ a.pairs) x f h z);
+          searches_closed = λ x j h z. elim (a.only x j h (search_back t u c.searched x j h z)) [
+            | inl was ↦ old.searches_closed x j h was
+            | inr is ↦ closed_search M e x i h j h (is.0, is.1, refl) (
+              All-contains (λ b. OwnPairs w M e i (set_of w b)) hs h (d.holds M k r) is.2,
+              All-weaker (λ b. Searched t e i b) (λ b. Searched M e i b) (λ b y. (y.0, y.1, k.more_searched y.0 i b (d.grows.more_searched y.0 i b (searched y.0 i b y.2))))
+                  (spreads_of w (set_of w h)) (All-contains (λ b. All (λ n. Searched t e i n) (spreads_of w (set_of w b))) hs h o.opens.followed is.2),
+            )
+          ];
+        };
+      }
 
   pub did_next : (P : ℕ → Search → Type 0) (k : ℕ) {s t u : Search}
       → Did w (λ M. (i : ℕ) → i < k → P i M) s t → Did w (P k) t u → Did w (λ M. (i : ℕ) → i < k + 1 → P i M) s u

@@ -1,16 +1,16 @@
 -- What the questions of a search pay.
-use Rattle.std.proofs.Common.{◌≡◌, ◌+◌, ◌*◌, ◌-◌, ◌<◌, ◌≤◌, ℕ, zero, suc, Bool, true, false, cond, inl, inr, ap, arith, length, max, min, refl, subst, sym}
+use Rattle.std.proofs.Common.{◌≡◌, ◌⊎◌, ◌+◌, ◌*◌, ◌-◌, ◌<◌, ◌≤◌, ℕ, zero, suc, Bool, true, false, cond, inl, inr, ap, arith, length, max, min, refl, subst, sym}
 use Rattle.std.proofs.lemmas.Bool.{cases_order}
 use Rattle.std.proofs.lemmas.Nat.{mul-le}
 use Rattle.merge_search.specs.declared.state.Search.{Search}
-use Rattle.merge_search.specs.Counts.{most_repeats}
+use Rattle.merge_search.specs.Counts.{asked, most_repeats}
 use Rattle.merge_search.specs.Log.{covers_of, in_log}
 use Rattle.merge_search.specs.Spending.{MayAsk, Spends, credit, fragments_weight, pairs_worth, repeat_cost, searches_worth, sets_weight, sum_below, worth}
 use Rattle.merge_search.specs.State.{NotesBelow, NotesPair, NotesSearch}
 use Rattle.merge_search.specs.Weight.{fragment_weight, weight}
 use Rattle.merge_search.specs.Work.{pair_in, search_in}
 use Rattle.merge_sets.specs.World.{World}
-use Rattle.merge_search.proofs.Weights.{lt_or_le, nothing_weighs}
+use Rattle.merge_search.proofs.Weights.{lt_or_le}
 use Rattle.merge_sets.proofs.Laws.{clash}
 use Rattle.merge_search.proofs.Work.{covers_no}
 
@@ -72,47 +72,67 @@ not_asked asked e i g h = flat (asked e i g) (covers_no asked e i g h)
     flat true h = absurd (h refl)
     flat false h = refl
 
+-- one of some is no more than all
+pub sum_at : (g : ℕ → ℕ) (n k : ℕ) → k < n → g k ≤ sum_below g n
+sum_at g zero k less = absurd (omega (arith, less))
+sum_at g (suc n) k less = elim (cases_order k n) [
+  | inl eq ↦ omega (arith, ap g eq)
+  | inr o ↦ elim o [
+    | inl l ↦ omega (arith, sum_at g n k l)
+    | inr l ↦ absurd (omega (arith, less, l))
+  ]
+]
+
+one_more : (r a b c : ℕ) → b ≡ a + 1 → c ≤ r → r * a + c ≤ r * b
+one_more r a b c is le = omega (arith, ap (λ (k : ℕ). r * k) is, le)
+
 module _ (w : World) (s t : Search) where
-  module _ (i g : ℕ) (e : Bool) (n : NotesSearch i g e s t) where
+  -- a search that is noted is worth as much as its set and its fragment are, and what is repeated as much as a repetition
+  module _ (f g : ℕ → ℕ) (i h : ℕ) (e : Bool) (n : NotesSearch i h e s t) (there : i < length w.sets) (known : h < length w.fragments) where
+    abbrev Noted : Search → Bool → ℕ
+    Noted u x = worth (length w.sets) (length w.fragments) f g (search_in u x)
+
+    still : (x : Bool) → Noted s x ≤ Noted t x
+    still x = worth_kept (length w.sets) (length w.fragments) f g (search_in s x) (search_in t x) (n.notes.kept x)
+
+    more : (x : Bool) → x ≡ e → covers_of (search_in s) e i h ≡ false → Noted s x + f i * g h ≤ Noted t x
+    more x is fresh = worth_more (length w.sets) (length w.fragments) f g (search_in s x) (search_in t x) (n.notes.kept x) i h there known
+        (subst (λ y. search_in s y i h ≡ false) (sym is) (not_asked (search_in s) e i h fresh)) (subst (λ y. search_in t y i h ≡ true) (sym is) n.notes.noted)
+
+    fresh_more : (x : Bool) → x ≡ e → covers_of (search_in s) e i h ≡ false → Noted s false + Noted s true + f i * g h ≤ Noted t false + Noted t true
+    fresh_more true is fresh = omega (arith, more true is fresh, still false)
+    fresh_more false is fresh = omega (arith, more false is fresh, still true)
+
+    more_by : (r : ℕ) (b : Bool) → covers_of (search_in s) e i h ≡ b → (covers_of (search_in s) e i h ≡ false) ⊎ ((s.repeated < most_repeats) × (f i * g h ≤ r))
+        → Noted s false + Noted s true + r * min s.repeated most_repeats + f i * g h ≤ Noted t false + Noted t true + r * min t.repeated most_repeats
+    more_by r false is may = omega (arith, fresh_more e refl is, ap (λ (k : ℕ). r * min k most_repeats) (n.first is))
+    more_by r true is (inl fresh) = absurd (clash (covers_of (search_in s) e i h) is fresh)
+    more_by r true is (inr again) =
+        let once : min t.repeated most_repeats ≡ min s.repeated most_repeats + 1 = omega (arith, n.repeats is again.0, again.0) in
+        omega (arith, still true, still false, one_more r (min s.repeated most_repeats) (min t.repeated most_repeats) (f i * g h) once again.1)
+
+    noted_more : (r : ℕ) → (covers_of (search_in s) e i h ≡ false) ⊎ ((s.repeated < most_repeats) × (f i * g h ≤ r))
+        → Noted s false + Noted s true + r * min s.repeated most_repeats + f i * g h ≤ Noted t false + Noted t true + r * min t.repeated most_repeats
+    noted_more r may = more_by r (covers_of (search_in s) e i h) refl may
+
+  module _ (i h : ℕ) (e : Bool) (n : NotesSearch i h e s t) (there : i < length w.sets) (known : h < length w.fragments) (may : MayAsk w s e i h) where
     same_pairs : (x : Bool) → pairs_worth w t x ≡ pairs_worth w s x
     same_pairs x = ap (λ l. worth (length w.fragments) (length w.fragments) (fragment_weight w) (fragment_weight w) (λ f g. in_log l x (max f g) (min f g))) n.pairs
 
-    still : (x : Bool) → searches_worth w s x ≤ searches_worth w t x
-    still x = worth_kept (length w.sets) (length w.fragments) (weight w) (fragment_weight w) (search_in s x) (search_in t x) (n.notes.kept x)
-
-    more : (x : Bool) → x ≡ e → covers_of (search_in s) e i g ≡ false → g < length w.fragments → searches_worth w s x + weight w i * fragment_weight w g ≤ searches_worth w t x
-    more x is fresh there = elim (lt_or_le i (length w.sets)) [
-      | inl l ↦ worth_more (length w.sets) (length w.fragments) (weight w) (fragment_weight w) (search_in s x) (search_in t x) (n.notes.kept x) i g l there
-          (subst (λ y. search_in s y i g ≡ false) (sym is) (not_asked (search_in s) e i g fresh)) (subst (λ y. search_in t y i g ≡ true) (sym is) n.notes.noted)
-      | inr past ↦ omega (arith, still x, ap (λ (k : ℕ). k * fragment_weight w g) (nothing_weighs w i past))
-    ]
-
-    fresh_pays : (x : Bool) → x ≡ e → covers_of (search_in s) e i g ≡ false → g < length w.fragments → credit w s + weight w i * fragment_weight w g ≤ credit w t
-    fresh_pays true is fresh there = omega (arith, same_pairs true, same_pairs false, more true is fresh there, still false, n.first fresh)
-    fresh_pays false is fresh there = omega (arith, same_pairs true, same_pairs false, more false is fresh there, still true, n.first fresh)
-
-    again_pays : covers_of (search_in s) e i g ≡ true → s.repeated < most_repeats → weight w i + fragment_weight w g < 50
-        → credit w s + weight w i * fragment_weight w g ≤ credit w t
-    again_pays was few less =
-        omega (arith, same_pairs true, same_pairs false, still true, still false, small (weight w i) (fragment_weight w g) less, n.repeats was few, few)
-
-    pays_by : (b : Bool) → covers_of (search_in s) e i g ≡ b → MayAsk w s e i g → g < length w.fragments → credit w s + weight w i * fragment_weight w g ≤ credit w t
-    pays_by false is may there = fresh_pays e refl is there
-    pays_by true is (inl fresh) there = absurd (clash (covers_of (search_in s) e i g) is fresh)
-    pays_by true is (inr again) there = again_pays is again.0 again.1
-
     -- a search that is noted pays for the two sets
-    pub search_pays : MayAsk w s e i g → g < length w.fragments → credit w s + weight w i * fragment_weight w g ≤ credit w t
-    search_pays may there = pays_by (covers_of (search_in s) e i g) refl may there
+    pub search_pays : credit w s + weight w i * fragment_weight w h ≤ credit w t
+    search_pays =
+        let more = noted_more (weight w) (fragment_weight w) i h e n there known repeat_cost
+        (elim may [ inl fresh ↦ inl fresh | inr again ↦ inr (again.0, small (weight w i) (fragment_weight w h) again.1) ]) in
+        omega (arith, same_pairs true, same_pairs false, more)
 
-    kept_by : (b : Bool) → covers_of (search_in s) e i g ≡ b → MayAsk w s e i g → credit w s ≤ credit w t
-    kept_by false is may = omega (arith, same_pairs true, same_pairs false, still true, still false, n.first is)
-    kept_by true is (inl fresh) = absurd (clash (covers_of (search_in s) e i g) is fresh)
-    kept_by true is (inr again) = omega (arith, same_pairs true, same_pairs false, still true, still false, n.repeats is again.0, again.0)
-
-    -- and costs nothing
-    pub search_kept : MayAsk w s e i g → credit w s ≤ credit w t
-    search_kept may = kept_by (covers_of (search_in s) e i g) refl may
+    -- and however fragments are measured, it counts as one more
+    pub search_counts : (g : ℕ → ℕ) → asked w g s + g h ≤ asked w g t
+    search_counts g =
+        let at = sum_at g (length w.fragments) h known in
+        let one : 1 * g h ≤ sum_below g (length w.fragments) = omega (arith, at) in
+        let more = noted_more (λ k. 1) g i h e n there known (sum_below g (length w.fragments)) (elim may [ inl fresh ↦ inl fresh | inr again ↦ inr (again.0, one) ]) in
+        omega (arith, more)
 
   module _ (f g : ℕ) (e : Bool) (n : NotesPair f g e s t) where
     same_searches : (x : Bool) → searches_worth w t x ≡ searches_worth w s x
@@ -177,3 +197,19 @@ credit_most w s =
       worth_most m n (weight w) (fragment_weight w) (search_in s false),
       worth_most m n (weight w) (fragment_weight w) (search_in s true),
     )
+
+pub asked_most : (w : World) (g : ℕ → ℕ) (s : Search) → asked w g s ≤ (2 * length w.sets + most_repeats) * sum_below g (length w.fragments)
+asked_most w g s =
+    let m = length w.sets in
+    let n = length w.fragments in
+    omega (
+      arith,
+      worth_most m n (λ i. 1) g (search_in s false),
+      worth_most m n (λ i. 1) g (search_in s true),
+      ap (λ (k : ℕ). k * sum_below g n) (ones m),
+      mul-le (sum_below g n) (min s.repeated most_repeats) (sum_below g n) most_repeats (omega arith) (omega arith),
+    )
+  where
+    ones : (m : ℕ) → sum_below (λ i. 1) m ≡ m
+    ones zero = refl
+    ones (suc m) = omega (arith, ones m)

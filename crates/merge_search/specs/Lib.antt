@@ -1,6 +1,7 @@
 pub mod Log
 pub mod Work
-pub mod Repeats
+pub mod Questions
+pub mod Opened
 pub mod Reports
 pub mod Counts
 pub mod State

@@ -1,5 +1,5 @@
 -- How many fields a search compares: what each part of its work may cost, and what pays for it.
-use Rattle.std.specs.Prelude.{ℕ, zero, suc, ◌+◌, ◌*◌, ◌<◌, ◌≤◌, min, List, Bool, true, false, cond, drop, length, nat_lt, slice_get, sum_by, ◌≡◌, ◌⊎◌}
+use Rattle.std.specs.Prelude.{ℕ, ◌+◌, ◌*◌, ◌<◌, ◌≤◌, min, List, Bool, true, false, drop, length, slice_get, sum_by, ◌≡◌, ◌⊎◌}
 use Rattle.std.specs.Option.{option_map_or}
 use Rattle.merge_sets.specs.declared.node.Entry.{Entry}
 use Rattle.merge_search.specs.declared.state.Search.{Search}
@@ -11,17 +11,8 @@ use Rattle.merge_sets.specs.Names.{named}
 use Rattle.merge_sets.specs.Graph.{firsts_at}
 use Rattle.merge_certificates.specs.TwoSets.{rights_of}
 use Rattle.merge_search.specs.Weight.{weight, below_weight, field_weight, fields_weight, fragment_weight}
-use Rattle.merge_search.specs.Work.{pair_in, search_in}
+pub use Rattle.merge_search.specs.Questions.{pair_in, search_in, sum_below, worth}
 use Rattle.merge_sets.specs.World.{World, own_of}
-
--- The sum of the first so many.
-abbrev pub sum_below : (ℕ → ℕ) → ℕ → ℕ
-sum_below f zero = 0
-sum_below f (suc n) = sum_below f n + f n
-
--- What was asked of two numbers, one below each bound: the sum of their products.
-abbrev pub worth : ℕ → ℕ → (ℕ → ℕ) → (ℕ → ℕ) → (ℕ → ℕ → Bool) → ℕ
-worth m n f g asked = sum_below (λ i. sum_below (λ k. cond (asked i k) (f i * g k) 0) n) m
 
 -- What fragments that were compared pay, under a flag.
 abbrev pub pairs_worth : World → Search → Bool → ℕ
@@ -52,10 +43,6 @@ sets_cost w i j firsts = sum_by (λ f. name_cost w i j f.response) firsts
 abbrev pub row_cost : World → ℕ → Entry → ℕ
 row_cost w j a = field_weight w a * fields_weight w (named a.response (own_of w j))
 
--- A fragment that isn't there pays nothing.
-abbrev pub stray_weight : World → ℕ → ℕ
-stray_weight w f = cond (nat_lt f (length w.fragments)) 0 (fragment_weight w f)
-
 -- What a task may cost, but for what pays.
 abbrev pub task_cost : World → Task → ℕ
 task_cost w (With a j e n) = field_weight w a * fields_weight w (drop n (named a.response (own_of w j)))
@@ -63,7 +50,7 @@ task_cost w (Listed a list e n) = field_weight w a * fields_weight w (drop n lis
 task_cost w (Rows rows e k) = fields_weight w (drop k rows.left.items) * fields_weight w (rights_of rows)
 task_cost w (Own i j e k) = sets_cost w i j (drop k (firsts_at w.sets i))
 task_cost w (Close a b start) = 0
-task_cost w (Opened i g e opening k) = weight w i * sum_by (stray_weight w) (drop k opening.order.items)
+task_cost w (Opened i g e opening k) = weight w i * sum_by (fragment_weight w) (drop k opening.order.items)
 task_cost w (Mark i start) = 0
 task_cost w (Spreads s p e k) = 0
 

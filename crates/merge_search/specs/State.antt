@@ -5,7 +5,7 @@ use Rattle.merge_search.specs.declared.state.Search.{Search}
 use Rattle.merge_sets.specs.declared.finding.Finding.{Finding}
 use Rattle.merge_search.specs.Log.{covers_of, Notes, NotesBoth}
 use Rattle.merge_search.specs.Counts.{greatest, most_repeats}
-use Rattle.merge_search.specs.Work.{pair_in, search_in}
+use Rattle.merge_search.specs.Questions.{pair_in, search_in}
 
 pub record Begins (s : Search) : Type 0 where
   pub pairs : (e : Bool) (f g : ℕ) → pair_in s e f g ≡ false
@@ -13,6 +13,7 @@ pub record Begins (s : Search) : Type 0 where
   pub found : s.found.items ≡ []
   pub compared : s.compared ≡ 0
   pub opened : s.opened ≡ 0
+  pub looked : s.looked ≡ 0
   pub judged : s.judged ≡ 0
   pub repeated : s.repeated ≡ 0
 
@@ -22,6 +23,7 @@ pub record NotesPair (f g : ℕ) (e : Bool) (old new : Search) : Type 0 where
   pub searched : new.searched ≡ old.searched
   pub found : new.found.items ≡ old.found.items
   pub opened : new.opened ≡ old.opened
+  pub looked : new.looked ≡ old.looked
   pub lists : new.lists ≡ old.lists
   pub judged : new.judged ≡ old.judged
   pub repeated : new.repeated ≡ old.repeated
@@ -36,6 +38,7 @@ pub record NotesBelow (f : ℕ) (among : ℕ → Bool) (old new : Search) : Type
   pub searched : new.searched ≡ old.searched
   pub found : new.found.items ≡ old.found.items
   pub opened : new.opened ≡ old.opened
+  pub looked : new.looked ≡ old.looked
   pub lists : new.lists ≡ old.lists
   pub judged : new.judged ≡ old.judged
   pub repeated : new.repeated ≡ old.repeated
@@ -46,6 +49,7 @@ pub record NotesSearch (i g : ℕ) (e : Bool) (old new : Search) : Type 0 where
   pub found : new.found.items ≡ old.found.items
   pub compared : new.compared ≡ old.compared
   pub opened : new.opened ≡ old.opened
+  pub looked : new.looked ≡ old.looked
   pub lists : new.lists ≡ old.lists
   pub judged : new.judged ≡ old.judged
   pub repeats : covers_of (search_in old) e i g ≡ true → old.repeated < most_repeats → new.repeated ≡ old.repeated + 1
@@ -57,13 +61,16 @@ pub record Reports (y : Finding) (old new : Search) : Type 0 where
   pub searched : new.searched ≡ old.searched
   pub compared : new.compared ≡ old.compared
   pub opened : new.opened ≡ old.opened
+  pub looked : new.looked ≡ old.looked
   pub lists : new.lists ≡ old.lists
   pub judged : new.judged ≡ old.judged
   pub repeated : new.repeated ≡ old.repeated
 
-pub record CountsList (n : ℕ) (old new : Search) : Type 0 where
+-- A search was counted that opened so many fragments, and looked at so many spreads.
+pub record CountsList (n l : ℕ) (old new : Search) : Type 0 where
   pub lists : new.lists ≡ min (old.lists + 1) greatest
   pub opened : new.opened ≡ min (old.opened + n) greatest
+  pub looked : new.looked ≡ min (old.looked + l) greatest
   pub pairs : new.pairs ≡ old.pairs
   pub searched : new.searched ≡ old.searched
   pub found : new.found.items ≡ old.found.items
@@ -71,15 +78,16 @@ pub record CountsList (n : ℕ) (old new : Search) : Type 0 where
   pub judged : new.judged ≡ old.judged
   pub repeated : new.repeated ≡ old.repeated
 
--- Nothing changed but which searches may be made once more, how many fields were compared, and which room is used
--- again.
+-- Nothing changed but which sets conflict, how many fields were compared, and which room is used again.
 pub record Keeps (old new : Search) : Type 0 where
   pub pairs : new.pairs ≡ old.pairs
   pub searched : new.searched ≡ old.searched
   pub found : new.found.items ≡ old.found.items
   pub compared : new.compared ≡ old.compared
   pub opened : new.opened ≡ old.opened
+  pub looked : new.looked ≡ old.looked
   pub lists : new.lists ≡ old.lists
+  pub repeated : new.repeated ≡ old.repeated
 
 -- How many fields were compared, and which searches may be repeated, stayed as it was.
 pub record CountsStay (old new : Search) : Type 0 where

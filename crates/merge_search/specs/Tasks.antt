@@ -17,7 +17,7 @@ use Rattle.merge_sets.specs.Graph.{firsts_at}
 use Rattle.merge_sets.specs.World.{World, own_of, spreads_of, set_of, conflict_of, exclusive_of}
 use Rattle.merge_sets.specs.Opening.{Reaches}
 use Rattle.merge_search.specs.State.{Keeps, Reports}
-use Rattle.merge_search.specs.Work.{Did, Owes, Done, Searched, Pair, SetsDone}
+use Rattle.merge_search.specs.Work.{Did, Done, OwnPairs, Pair, SearchDone, SetsDone}
 use Rattle.merge_search.specs.Reports.{Root, Finds, FindsAll, AtFields, AtWith, AtNamed, AtOwn, AtSearch, AtFragments, AtFirst, AtBelow, AtLists, AtRest}
 use Rattle.merge_certificates.specs.TwoSets.{KnowsRows, rights_of}
 
@@ -30,11 +30,6 @@ pub record Compares (w : World) (e : Bool) (D : Search → Type 0) (P Q : Root �
 -- D was done, and what was found stands at P.
 pub record Searches (w : World) (e : Bool) (D : Search → Type 0) (P : Root → Type 0) (old new : Search) : Type 0 where
   pub done : Did w D old new
-  pub real : Finds w e P old new
-
--- The same where what was recorded is followed up only if the later state has O.
-pub record SearchesOwing (w : World) (e : Bool) (O D : Search → Type 0) (P : Root → Type 0) (old new : Search) : Type 0 where
-  pub done : Owes w O D old new
   pub real : Finds w e P old new
 
 -- The same of each of some fields.
@@ -89,15 +84,12 @@ abbrev pub AreClearWith : World → Bool → ℕ → List Entry → BitSet → T
 AreClearWith w e j fields rows =
     (k : ℕ) (a : Entry) → slice_get fields k ≡ Some a → has rows k ≡ true → IsClear w e a (named a.response (own_of w j))
 
--- What a fragment spreads was compared with the set.
-abbrev pub SpreadsSearched : World → Search → Bool → ℕ → ℕ → Type 0
-SpreadsSearched w M e i g = All (λ h. Searched M e i h) (spreads_of w (set_of w g))
-
+-- The own fields of a set, and those of a fragment; and the fragment written out.
 abbrev pub MeetsOne : World → Bool → ℕ → ℕ → Search → Search → Type 0
-MeetsOne w e i g = SearchesOwing w e (λ M. SpreadsSearched w M e i g) (λ M. Searched M e i g) (AtOwn w i (set_of w g))
+MeetsOne w e i g = Searches w e (λ M. OwnPairs w M e i (set_of w g)) (AtOwn w i (set_of w g))
 
 abbrev pub MeetsSearch : World → Bool → ℕ → ℕ → Search → Search → Type 0
-MeetsSearch w e i g = Searches w e (λ M. Searched M e i g) (AtSearch w i g)
+MeetsSearch w e i g = Searches w e (λ M. SearchDone w M e i g) (AtSearch w i g)
 
 abbrev pub MeetsFragments : World → Bool → ℕ → ℕ → Search → Search → Type 0
 MeetsFragments w e f g old new =
@@ -112,7 +104,7 @@ IsThere w (partner.Each j) = Unit {0}
 
 -- What is done of a fragment and its partner, and where what was found stands.
 abbrev pub PartnerDone : World → Bool → Partner → ℕ → Search → Type 0
-PartnerDone w e (partner.Own i) h M = Searched M e i h
+PartnerDone w e (partner.Own i) h M = SearchDone w M e i h
 PartnerDone w e (partner.First g) h M = Pair M e g h
 PartnerDone w e (partner.Second g) h M = Pair M e h g
 PartnerDone w e (partner.Each j) h M = All (λ k. Pair M e h k) (spreads_of w j)
@@ -146,8 +138,7 @@ Meets w (Own i j e k) old new =
 Meets w (Close a b start) old new = Closes a b start old new
 Meets w (Opened i g e opening k) old new =
     All (Reaches w g) opening.order.items
-    → SearchesOwing w e (λ M. All (SpreadsSearched w M e i) opening.order.items)
-    (λ M. All (λ h. Searched M e i h) (drop k opening.order.items)) (AtSearch w i g) old new
+    → Searches w e (λ M. All (λ h. OwnPairs w M e i (set_of w h)) (drop k opening.order.items)) (AtSearch w i g) old new
 Meets w (Mark i start) old new = Keeps old new
 Meets w (Spreads s p e k) old new =
     IsThere w p → Searches w e (λ M. All (λ h. PartnerDone w e p h M) (drop k (spreads_of w s)))

@@ -1,33 +1,30 @@
 -- What a search has done, seen from any later state M.
-use Rattle.std.specs.Prelude.{ℕ, ◌≤◌, min, max, length, Some, None, Bool, true, false, ◌≡◌, ◌⊎◌}
+use Rattle.std.specs.Prelude.{ℕ, ◌≤◌, [], length, Some, None, Bool, true, false, ◌≡◌, ◌⊎◌}
 use Rattle.std.specs.List.{All, Contains}
 use Rattle.merge_sets.specs.declared.node.Entry.{Entry}
 use Rattle.merge_search.specs.declared.state.Search.{Search}
 use Rattle.merge_sets.specs.declared.finding.Finding.{Finding}
 use Rattle.merge_sets.specs.declared.finding.Finding.TheVariants.{Direct}
 use Rattle.merge_sets.specs.World.{World, HasRoom, own_of, spreads_of, set_of, conflict_of, exclusive_of, Same}
-use Rattle.merge_search.specs.Log.{in_log, Covers}
+use Rattle.merge_search.specs.Log.{Covers}
+pub use Rattle.merge_search.specs.Questions.{pair_in, search_in}
 use Rattle.merge_sets.specs.Merging.{Merges, MergeEither}
 use Rattle.merge_search.specs.Counts.{Tally}
 
--- Two fragments were compared under the flag, in either order.
-abbrev pub pair_in : Search → Bool → ℕ → ℕ → Bool
-pair_in M x f g = in_log M.pairs x (max f g) (min f g)
-
--- The own fields of a set were compared with a fragment's, below a field.
-abbrev pub search_in : Search → Bool → ℕ → ℕ → Bool
-search_in M x i g = in_log M.searched x i g
-
 abbrev pub Searched : Search → Bool → ℕ → ℕ → Type 0
 Searched M e i g = Covers (search_in M) e i g
+
+-- So they were, unless the set has no own field.
+abbrev pub SearchDone : World → Search → Bool → ℕ → ℕ → Type 0
+SearchDone w M e i g = (own_of w i ≡ []) ⊎ Searched M e i g
 
 abbrev pub Pair : Search → Bool → ℕ → ℕ → Type 0
 Pair M e f g = (f ≡ g) ⊎ Covers (pair_in M) e f g
 
 abbrev pub Asked : World → Search → Bool → ℕ → ℕ → Type 0
 Asked w M x s t =
-    All (λ h. Searched M x s h) (spreads_of w t)
-    × All (λ h. Searched M x t h) (spreads_of w s)
+    All (λ h. SearchDone w M x s h) (spreads_of w t)
+    × All (λ h. SearchDone w M x t h) (spreads_of w s)
     × All (λ g. All (λ h. Pair M x g h) (spreads_of w t)) (spreads_of w s)
 
 -- The pair was compared: its fault is in the list, or all that stands below was asked for. Or it is known that the two
@@ -70,17 +67,9 @@ pub record Grows (old new : Search) : Type 0 where
   pub more_found : (y : Finding) → Contains old.found.items y → Contains new.found.items y
   pub longer : length old.found.items ≤ length new.found.items
 
--- A piece of work from old to new, after which P holds at any later state that has room for more; what it recorded is
--- followed up where the later state has O.
-pub record Owes (w : World) (O P : Search → Type 0) (old new : Search) : Type 0 where
-  pub grows : Grows old new
-  pub holds : (M : Search) → Grows new M → HasRoom w M.found.items → P M
-  pub closes : (M : Search) → Grows new M → HasRoom w M.found.items → O M → AllClosed w M old → AllClosed w M new
-  pub keeps : Tally (pair_in old) (length w.fragments) old → Tally (pair_in new) (length w.fragments) new
-
 -- A piece of work from old to new, after which P holds at any later state that has room for more.
 pub record Did (w : World) (P : Search → Type 0) (old new : Search) : Type 0 where
   pub grows : Grows old new
   pub holds : (M : Search) → Grows new M → HasRoom w M.found.items → P M
   pub closes : (M : Search) → Grows new M → HasRoom w M.found.items → AllClosed w M old → AllClosed w M new
-  pub keeps : Tally (pair_in old) (length w.fragments) old → Tally (pair_in new) (length w.fragments) new
+  pub keeps : Tally w old → Tally w new

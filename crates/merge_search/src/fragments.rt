@@ -2,23 +2,22 @@
 ghost use Rattle.std.specs.Prelude.{◌≡◌, ◌*◌, ◌<◌, OnOk, length};
 ghost use Rattle.merge_sets.specs.World.{world};
 ghost use Rattle.merge_search.specs.Tasks.{Meets, MeetsFragments, MeetsOne, MeetsPartner, MeetsSearch, Turns};
-ghost use Rattle.merge_search.specs.Spending.{Pays, stray_weight, task_cost};
-ghost use Rattle.merge_search.specs.Weight.{weight};
+ghost use Rattle.merge_search.specs.Spending.{Pays, task_cost};
+ghost use Rattle.merge_search.specs.Weight.{fragment_weight, weight};
 ghost use Rattle.merge_search.specs.declared.task.Task.{Task};
 
 use crate::fields::next_own;
 use crate::opening::opened;
-use crate::repeats::{Seeker, is_settled};
-use crate::state::{Search, is_compared, note_pair, note_search, put_opening};
+use crate::repeats::is_settled;
+use crate::state::{Search, is_compared, note_pair, put_opening};
 use crate::task::{Partner, Task, wait};
 use merge_sets::graph::Graph;
 use merge_sets::judge::Judge;
 use merge_sets::opening::Opening;
-use merge_sets::view::{set, spreads};
+use merge_sets::view::{own, set, spreads};
 use std::alloc::AllocError;
-use std::slice;
 
-/// Compares the own fields of `i` with those of one fragment that a search opens.
+/// Compares the own fields of `i` with those of one fragment that a search has opened.
 fn begin_one<J: Judge>(
     graph: &Graph<J>,
     i: usize,
@@ -29,13 +28,9 @@ fn begin_one<J: Judge>(
 ) -> Result<(), AllocError>
     ensures turns { let w = world J.judgement graph.now in
         OnOk result (Turns w (MeetsOne w e i g) tasks.old.items tasks.new.items search.old search.new) }
-    ensures pays { let w = world J.judgement graph.now in let cost = weight w i * stray_weight w g in
+    ensures pays { let w = world J.judgement graph.now in let cost = weight w i * fragment_weight w g in
         OnOk result (Pays w cost tasks.old.items tasks.new.items search.old search.new) }
 {
-    if is_settled(graph, search, i, g, e) {
-        return Ok(());
-    }
-    note_search(search, i, g, e)?;
     tasks.push(Task::Mark(i, search.found.len()))?;
     next_own(graph, i, set(graph, g), e, 0, tasks, search)?;
     Ok(())
@@ -71,7 +66,7 @@ pub(crate) fn next_opened<J: Judge>(
     Ok(())
 }
 
-/// Compares the own fields of `i` with the fragment `g` written out.
+/// Compares the own fields of `i` with the fragment `g` written out. A set without fields has nothing to compare.
 fn begin_search<J: Judge>(
     graph: &Graph<J>,
     i: usize,
@@ -86,10 +81,10 @@ fn begin_search<J: Judge>(
     ensures pays { let w = world J.judgement graph.now in
         OnOk result (Pays w 0 tasks.old.items tasks.new.items search.old search.new) }
 {
-    if is_settled(graph, search, i, g, e) {
+    if own(graph, i).is_empty() || is_settled(graph, search, i, g, e) {
         return Ok(());
     }
-    let opening = opened(graph, slice::from_ref(&g), Seeker::Below(i, e), search)?;
+    let opening = opened(graph, i, g, e, search)?;
     next_opened(graph, i, g, e, opening, 0, tasks, search)?;
     Ok(())
 }

@@ -5,7 +5,6 @@
 //! taking long.
 ghost use Rattle.std.specs.Prelude.{◌≡◌, ◌+◌, ◌<◌, ◌≤◌, false, true};
 ghost use Rattle.merge_search.specs.Log.{covers_of};
-ghost use Rattle.merge_search.specs.Repeats.{WasSearched};
 ghost use Rattle.merge_search.specs.Counts.{most_repeats};
 ghost use Rattle.merge_search.specs.Spending.{MayAsk};
 ghost use Rattle.merge_search.specs.Weight.{field_weight, weight};
@@ -30,31 +29,6 @@ pub fn is_settled<J: Judge>(graph: &Graph<J>, search: &Search, i: usize, g: usiz
     ensures no { result ≡ false → MayAsk (world J.judgement graph.now) search.now e i g }
 {
     is_searched(search, i, g, e) && !may_repeat(graph, search, i, set(graph, g))
-}
-
-/// Who opens fragments: a set at the top, or the own fields of a set below a field, under a flag.
-#[derive(Clone, Copy)]
-pub enum Seeker {
-    Top,
-    Below(usize, bool),
-}
-
-/// Whether a search need not go on with what a fragment spreads: the same set was compared with all of that before,
-/// under the flag or without one, and nothing of it is repeated. At the top each set is compared with all anew.
-pub fn is_passed(search: &Search, seeker: Seeker, g: usize) -> bool
-    ensures { result ≡ true → WasSearched search.now seeker g }
-{
-    match seeker {
-        Seeker::Top => false,
-        Seeker::Below(i, e) => is_closed(search, i, g, e),
-    }
-}
-
-// Whether a set was compared with a fragment, under the flag or without one, and nothing of it is repeated.
-fn is_closed(search: &Search, i: usize, g: usize, e: bool) -> bool
-    ensures { result ≡ true → covers_of (search_in search.now) e i g ≡ true }
-{
-    is_searched(search, i, g, e) && !are_repeated(search, i)
 }
 
 // Whether searches of a set are repeated, where the fields are few.

@@ -34,6 +34,8 @@ pub struct Search {
     pub compared: u128,
     /// How many fragments the searches opened.
     pub opened: u128,
+    /// How many spreads of opened fragments the searches looked at.
+    pub looked: u128,
     /// How many searches there were.
     pub lists: u128,
     /// How many pairs of fields were compared one by one.
@@ -57,6 +59,7 @@ pub fn no_search(alloc: Global) -> Search
         found: Vec::new(alloc),
         compared: 0,
         opened: 0,
+        looked: 0,
         lists: 0,
         judged: 0,
         openings: Vec::new(alloc),
@@ -178,12 +181,13 @@ pub fn count_fields(search: &mut Search, pairs: usize)
     search.judged = search.judged.saturating_add(pairs as u128);
 }
 
-/// Counts a search that opens some fragments.
-pub fn count_list(search: &mut Search, opened: usize)
-    ensures { CountsList opened search.old search.new }
+/// Counts a search that opens some fragments, and looks at their spreads.
+pub fn count_list(search: &mut Search, opened: usize, looked: u128)
+    ensures { CountsList opened looked search.old search.new }
 {
     search.lists = search.lists.saturating_add(1);
     search.opened = search.opened.saturating_add(opened as u128);
+    search.looked = search.looked.saturating_add(looked);
 }
 
 /// Whether enough was found.

@@ -10,7 +10,7 @@ use Rattle.bit_matrix.specs.Set.{has}
 use Rattle.merge_sets.specs.Graph.{Falling}
 use Rattle.merge_sets.specs.World.{World, spreads_of, set_of}
 use Rattle.merge_sets.specs.Opening.{Reaches, start, step, ReachedFrom, Opens, NoRepeats}
-use Rattle.merge_sets.specs.Sound.{Once, Gains, GoesOn, Sound}
+use Rattle.merge_sets.specs.Sound.{Once, Gains, Sound}
 use Rattle.merge_sets.specs.declared.opening.Opening.{Opening}
 use Rattle.merge_sets.proofs.Distinct.{few_below, repeats_push}
 use Rattle.merge_sets.proofs.Laws.{clash}
@@ -111,9 +111,9 @@ pub gains_all : (xs ys : List ℕ) (k : ℕ) {s t : Opening} → length xs ≤ k
 gains_all xs ys k {s} {t} l eq a = subst (λ zs. Gains zs zs s t) eq (subst (λ zs. Gains zs xs s t) (take_all k xs l) a)
 
 -- the first fragments
-pub sound_start : (w : World) (IsPassed : ℕ → Type 0) (gs : List ℕ) (s t : Opening) → All (λ g. g < length w.fragments) gs → ((h : ℕ) → has s.seen h ≡ false) → s.order.items ≡ [] → s.waiting.items ≡ []
-    → Gains gs gs s t → Sound w IsPassed gs t
-sound_start w IsPassed gs s t lt none os ws a =
+pub sound_start : (w : World) (gs : List ℕ) (s t : Opening) → All (λ g. g < length w.fragments) gs → ((h : ℕ) → has s.seen h ≡ false) → s.order.items ≡ [] → s.waiting.items ≡ []
+    → Gains gs gs s t → Sound w gs t
+sound_start w gs s t lt none os ws a =
     let empty : (h : ℕ) → Contains s.order.items h → ⊥ = λ h c. omega (arith, c.1, ap length os) in
     let once : Once s = record { seen = λ h z. absurd (clash (has s.seen h) z (none h)); noted = λ h c. absurd (empty h c); distinct = λ k l x less p q. absurd (empty x (k, slice_get_within s.order.items k x p, get_or_from_slice_get s.order.items k x x p)) } in
     let is : (h : ℕ) → Contains t.order.items h → Contains gs h × Contains t.waiting.items h = λ h c. elim (a.only h c) [ inl old ↦ absurd (empty h old) | inr z ↦ z ] in
@@ -131,9 +131,9 @@ pub reached_one : (w : World) (g : ℕ) (hs : List ℕ) → All (ReachedFrom w (
 reached_one w g hs all = All-weaker (ReachedFrom w (g ∷ [])) (Reaches w g) (λ h z. subst (λ (x : ℕ). Reaches w x h) (sym (same_one g z.0 z.1)) z.2) hs all
 
 -- a fragment that waited is followed
-sound_gained : (w : World) (IsPassed : ℕ → Type 0) (gs : List ℕ) (f : ℕ) (s m t : Opening) → Falling w.sets w.fragments → Sound w IsPassed gs s → m.seen ≡ s.seen → m.order ≡ s.order → s.waiting.items ≡ m.waiting.items ++ f ∷ []
-    → Gains (spreads_of w (set_of w f)) (spreads_of w (set_of w f)) m t → Sound w IsPassed gs t
-sound_gained w IsPassed gs f s m t falling o se os ws a =
+pub sound_gained : (w : World) (gs : List ℕ) (f : ℕ) (s m t : Opening) → Falling w.sets w.fragments → Sound w gs s → m.seen ≡ s.seen → m.order ≡ s.order → s.waiting.items ≡ m.waiting.items ++ f ∷ []
+    → Gains (spreads_of w (set_of w f)) (spreads_of w (set_of w f)) m t → Sound w gs t
+sound_gained w gs f s m t falling o se os ws a =
     let once : Once m = record {
       seen = λ h z. subst (λ v. Contains v.items h) (sym os) (o.once.seen h (subst (λ v. has v h ≡ true) se z));
       noted = λ h c. subst (λ v. has v h ≡ true) (sym se) (o.once.noted h (subst (λ v. Contains v.items h) os c));
@@ -164,87 +164,34 @@ sound_gained w IsPassed gs f s m t falling o se os ws a =
         | inl old ↦ elim (o.followed h (back h old)) [
           | inl waits ↦ elim (Contains-push_cases m.waiting.items f h (subst (λ zs. Contains zs h) ws waits)) [
             | inl still ↦ inl (a.waits h still)
-            | inr is ↦ inr (inl (subst (λ (x : ℕ). All (λ k. Contains t.order.items k) (spreads_of w (set_of w x))) is done))
+            | inr is ↦ inr (subst (λ (x : ℕ). All (λ k. Contains t.order.items k) (spreads_of w (set_of w x))) is done)
           ]
-          | inr rest ↦ elim rest [
-            | inl all ↦ inr (inl (All-weaker (λ k. Contains s.order.items k) (λ k. Contains t.order.items k) fwd (spreads_of w (set_of w h)) all))
-            | inr passed ↦ inr (inr passed)
-          ]
+          | inr all ↦ inr (All-weaker (λ k. Contains s.order.items k) (λ k. Contains t.order.items k) fwd (spreads_of w (set_of w h)) all)
         ]
         | inr z ↦ inl z.1
       ];
     }
 
--- one that is passed is not
-sound_passed : (w : World) (IsPassed : ℕ → Type 0) (gs : List ℕ) (f : ℕ) (s m : Opening) → Sound w IsPassed gs s → m.seen ≡ s.seen → m.order ≡ s.order → s.waiting.items ≡ m.waiting.items ++ f ∷ []
-    → IsPassed f → Sound w IsPassed gs m
-sound_passed w IsPassed gs f s m o se os ws passed =
-    let fwd : (h : ℕ) → Contains s.order.items h → Contains m.order.items h = λ h c. subst (λ v. Contains v.items h) (sym os) c in
-    let back : (h : ℕ) → Contains m.order.items h → Contains s.order.items h = λ h c. subst (λ v. Contains v.items h) os c in
-    record {
-      once = record {
-        seen = λ h z. fwd h (o.once.seen h (subst (λ v. has v h ≡ true) se z));
-        noted = λ h c. subst (λ v. has v h ≡ true) (sym se) (o.once.noted h (back h c));
-        distinct = subst (λ v. NoRepeats v.items) (sym os) o.once.distinct;
-      };
-      first = All-weaker (λ g. Contains s.order.items g) (λ g. Contains m.order.items g) fwd gs o.first;
-      reached = subst (λ v. All (ReachedFrom w gs) v.items) (sym os) o.reached;
-      below = subst (λ v. All (λ h. h < length w.fragments) v.items) (sym os) o.below;
-      waiting = λ k d l. fwd (get_or m.waiting.items k d) (All-contains (λ h. Contains s.order.items h) s.waiting.items (get_or m.waiting.items k d) o.waiting
-          (subst (λ zs. Contains zs (get_or m.waiting.items k d)) (sym ws) (Contains-append_left m.waiting.items (f ∷ []) (get_or m.waiting.items k d) (Contains-get_or m.waiting.items k d l))));
-      followed = λ h c. elim (o.followed h (back h c)) [
-        | inl waits ↦ elim (Contains-push_cases m.waiting.items f h (subst (λ zs. Contains zs h) ws waits)) [
-          | inl still ↦ inl still
-          | inr is ↦ inr (inr (subst IsPassed is passed))
-        ]
-        | inr rest ↦ elim rest [
-          | inl all ↦ inr (inl (All-weaker (λ k. Contains s.order.items k) (λ k. Contains m.order.items k) fwd (spreads_of w (set_of w h)) all))
-          | inr old ↦ inr (inr old)
-        ]
-      ];
-    }
+pub few_open : (w : World) (gs : List ℕ) (o : Opening) → Sound w gs o → length o.order.items ≤ length w.fragments
+few_open w gs o s = few_below o.order.items (length w.fragments) s.once.distinct s.below
 
-pub sound_next : (w : World) (IsPassed : ℕ → Type 0) (gs : List ℕ) (f : ℕ) (s m t : Opening) → Falling w.sets w.fragments → Sound w IsPassed gs s → m.seen ≡ s.seen → m.order ≡ s.order → s.waiting.items ≡ m.waiting.items ++ f ∷ []
-    → GoesOn w IsPassed f m t → Sound w IsPassed gs t
-sound_next w IsPassed gs f s m t falling o se os ws (inl (passed, same)) = subst (λ (z : Opening). Sound w IsPassed gs z) (sym same) (sound_passed w IsPassed gs f s m o se os ws passed)
-sound_next w IsPassed gs f s m t falling o se os ws (inr a) = sound_gained w IsPassed gs f s m t falling o se os ws a
-
-pub few_open : (w : World) (IsPassed : ℕ → Type 0) (gs : List ℕ) (o : Opening) → Sound w IsPassed gs o → length o.order.items ≤ length w.fragments
-few_open w IsPassed gs o s = few_below o.order.items (length w.fragments) s.once.distinct s.below
-
-pub opens_end : (w : World) (IsPassed : ℕ → Type 0) (gs : List ℕ) (o : Opening) → Sound w IsPassed gs o → o.waiting.items ≡ [] → Opens w IsPassed gs o.order.items
-opens_end w IsPassed gs o s none = record {
+pub opens_end : (w : World) (gs : List ℕ) (o : Opening) → Sound w gs o → o.waiting.items ≡ [] → Opens w gs o.order.items
+opens_end w gs o s none = record {
   first = s.first;
   followed = λ h k c d. elim (s.followed h c) [
     | inl waits ↦ absurd (omega (arith, waits.1, ap length none))
-    | inr rest ↦ elim rest [
-      | inl all ↦ inl (All-contains (λ i. Contains o.order.items i) (spreads_of w (set_of w h)) k all d)
-      | inr passed ↦ inr passed
-    ]
+    | inr all ↦ All-contains (λ i. Contains o.order.items i) (spreads_of w (set_of w h)) k all d
   ];
   reached = s.reached;
-  few = few_open w IsPassed gs o s;
+  few = few_open w gs o s;
   there = s.below;
   once = s.once.distinct;
 }
 
--- what is passed in one state is in another
-pub opens_where : (w : World) (P Q : ℕ → Type 0) (gs hs : List ℕ) → ((h : ℕ) → P h → Q h) → Opens w P gs hs → Opens w Q gs hs
-opens_where w P Q gs hs f o = record {
-  first = o.first;
-  followed = λ h k c d. elim (o.followed h k c d) [ inl there ↦ inl there | inr passed ↦ inr (f h passed) ];
-  reached = o.reached;
-  few = o.few;
-  there = o.there;
-  once = o.once;
-}
-
 -- each step leaves less to do
-pub less_left : (w : World) (IsPassed : ℕ → Type 0) (n f : ℕ) (s m t : Opening) → m.order ≡ s.order → s.waiting.items ≡ m.waiting.items ++ f ∷ [] → GoesOn w IsPassed f m t → length t.order.items ≤ n
+pub less_left : (w : World) (n f : ℕ) (fs gs : List ℕ) (s m t : Opening) → m.order ≡ s.order → s.waiting.items ≡ m.waiting.items ++ f ∷ [] → Gains fs gs m t → length t.order.items ≤ n
     → (2 * n + length t.waiting.items) - 2 * length t.order.items < (2 * n + length s.waiting.items) - 2 * length s.order.items
-less_left w IsPassed n f s m t os ws (inl (passed, same)) top =
-    omega (arith, ap length ws, length-append m.waiting.items (f ∷ []), ap (λ v. length v.items) os, ap (λ (v : Opening). length v.order.items) same, ap (λ (v : Opening). length v.waiting.items) same, top)
-less_left w IsPassed n f s m t os ws (inr a) top =
+less_left w n f fs gs s m t os ws a top =
     omega (arith, ap length ws, length-append m.waiting.items (f ∷ []), ap (λ v. length v.items) os, a.left, a.longer, top)
 
 pub flag_new : (r b : Bool) → r ≡ not b → r ≡ true → b ≡ false

@@ -1,5 +1,5 @@
 -- The fragments that a search opens.
-use Rattle.std.specs.Prelude.{ℕ, ◌<◌, ◌≤◌, ◌≡◌, List, Some, length, slice_get, ◌⊎◌}
+use Rattle.std.specs.Prelude.{ℕ, ◌<◌, ◌≤◌, ◌≡◌, List, Some, length, slice_get}
 use Rattle.std.specs.List.{All, Contains}
 use Rattle.merge_sets.specs.World.{World, spreads_of, set_of}
 
@@ -16,11 +16,10 @@ ReachedFrom w gs h = (g : ℕ) × Contains gs g × Reaches w g h
 abbrev pub NoRepeats : List ℕ → Type 0
 NoRepeats xs = (k l x : ℕ) → k < l → slice_get xs k ≡ Some x → slice_get xs l ≡ Some x → ⊥
 
--- Fragments that some reach, these among them, and no more of them than there are; all of them but for what is passed
--- and what that spreads.
-pub record Opens (w : World) (IsPassed : ℕ → Type 0) (gs hs : List ℕ) : Type 0 where
+-- All fragments that some reach, these among them, and no more of them than there are.
+pub record Opens (w : World) (gs hs : List ℕ) : Type 0 where
   pub first : All (λ g. Contains hs g) gs
-  pub followed : (h k : ℕ) → Contains hs h → Contains (spreads_of w (set_of w h)) k → Contains hs k ⊎ IsPassed h
+  pub followed : (h k : ℕ) → Contains hs h → Contains (spreads_of w (set_of w h)) k → Contains hs k
   pub reached : All (ReachedFrom w gs) hs
   pub few : length hs ≤ length w.fragments
   pub there : All (λ h. h < length w.fragments) hs

@@ -23,16 +23,12 @@ pub record Gains (fs gs : List ℕ) (old new : Opening) : Type 0 where
   pub longer : length old.order.items ≤ length new.order.items
   pub left : length new.waiting.items + length old.order.items ≡ length old.waiting.items + length new.order.items
 
--- What a fragment spreads was opened, unless it is passed.
-abbrev pub GoesOn : World → (ℕ → Type 0) → ℕ → Opening → Opening → Type 0
-GoesOn w IsPassed f old new = (IsPassed f × (new ≡ old)) ⊎ Gains (spreads_of w (set_of w f)) (spreads_of w (set_of w f)) old new
-
--- What is open is reached, and what an open one spreads is open, unless it waits or is passed.
-pub record Sound (w : World) (IsPassed : ℕ → Type 0) (gs : List ℕ) (o : Opening) : Type 0 where
+-- What is open is reached, and what an open one spreads is open, unless it waits.
+pub record Sound (w : World) (gs : List ℕ) (o : Opening) : Type 0 where
   pub once : Once o
   pub first : All (λ g. Contains o.order.items g) gs
   pub reached : All (ReachedFrom w gs) o.order.items
   pub below : All (λ h. h < length w.fragments) o.order.items
   pub waiting : All (λ h. Contains o.order.items h) o.waiting.items
   pub followed : (h : ℕ) → Contains o.order.items h → Contains o.waiting.items h
-      ⊎ (All (λ k. Contains o.order.items k) (spreads_of w (set_of w h)) ⊎ IsPassed h)
+      ⊎ All (λ k. Contains o.order.items k) (spreads_of w (set_of w h))

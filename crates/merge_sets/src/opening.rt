@@ -92,7 +92,7 @@ pub fn open_reached<J: Judge>(
     opening: &mut Opening,
 ) -> Result<(), AllocError>
     requires { All (λ g. g < length graph.now.fragments.items) starts.now }
-    ensures { OnOk result (Opens (world J.judgement graph.now) (λ f. ⊥) starts.now opening.new.order.items) }
+    ensures { OnOk result (Opens (world J.judgement graph.now) starts.now opening.new.order.items) }
 {
     close_all(opening);
     open_all(starts, opening)?;

@@ -12,7 +12,7 @@ use Rattle.merge_sets.specs.Judgement.{Lawful}
 use Rattle.merge_sets.specs.Graph.{Falling, IsWhole, height}
 use Rattle.merge_sets.specs.World.{World, own_of, spreads_of, set_of, conflict_of, exclusive_of, Same}
 use Rattle.merge_search.specs.Log.{Covers}
-use Rattle.merge_search.specs.Work.{pair_in, Searched, Pair, Asked, Done, stood, shallow, deep, merged, OwnPairs, FollowedUp, AllClosed}
+use Rattle.merge_search.specs.Work.{pair_in, SearchDone, Searched, Pair, Asked, Done, stood, shallow, deep, merged, OwnPairs, FollowedUp, AllClosed}
 use Rattle.merge_sets.specs.Merging.{Stands, own, spread, Below, below, Merges, merges, MergeEither, Way, here, down, Good, Passes}
 use Rattle.merge_tops.specs.Tops.{Top}
 use Rattle.merge_search.specs.Reports.{Told}
@@ -122,6 +122,11 @@ module _ (w : World) (M : Search) (falling : Falling w.sets w.fragments) (closed
   searched : (e : Bool) (s g : ℕ) (c d : Entry) → Searched M e s g → Contains (own_of w s) c → Stands w (set_of w g) d → Same c d → DoneW e c d
   searched e s g c d k p q same = searched_in e s g (set_of w g) c d refl k p q same
 
+  -- a set without fields has none to compare
+  search_done : (e : Bool) (s g : ℕ) (c d : Entry) → SearchDone w M e s g → Contains (own_of w s) c → Stands w (set_of w g) d → Same c d → DoneW e c d
+  search_done e s g c d (inl empty) p q same = absurd (omega (arith, p.1, ap length empty))
+  search_done e s g c d (inr k) p q same = searched e s g c d k p q same
+
   top_own : (s : ℕ) (a b : Entry) → Contains order s → Contains (own_of w s) a → Contains (own_of w s) b → Same a b → (a ≡ b) ⊎ DoneW false a b
   top_own s a b o p q same = elim (cases_order p.0 q.0) [
     | inl eq ↦ inl (same_some a b (slice_get (own_of w s) p.0) (place_of (own_of w s) a p) (subst (λ k. slice_get (own_of w s) k ≡ Some b) (sym eq) (place_of (own_of w s) b q)))
@@ -197,9 +202,9 @@ module _ (w : World) (M : Search) (falling : Falling w.sets w.fragments) (closed
   pub nested : {x : Bool} {s t : ℕ} {c d : Entry} → OwnPairs w M x s t → Asked w M x s t → Stands w s c → Stands w t d → Same c d → (c ≡ d) ⊎ DoneW x c d
   nested {c = c} {d = d} oo asked (own p) (own q) same = inr (forth (oo c d p q same))
   nested {x} {s} {t} {c} {d} oo asked (own p) (spread {f = u} v q) same =
-      inr (searched x s u c d (All-contains (λ h. Searched M x s h) (spreads_of w t) u asked.0 v) p q same)
+      inr (search_done x s u c d (All-contains (λ h. SearchDone w M x s h) (spreads_of w t) u asked.0 v) p q same)
   nested {x} {s} {t} {c} {d} oo asked (spread {f = u} v p) (own q) same =
-      inr (flip (searched x t u d c (All-contains (λ h. Searched M x t h) (spreads_of w s) u asked.1 v) q p (sym same)))
+      inr (flip (search_done x t u d c (All-contains (λ h. SearchDone w M x t h) (spreads_of w s) u asked.1 v) q p (sym same)))
   nested {x} {s} {t} {c} {d} oo asked (spread {f = u} v p) (spread {f = z} y q) same =
       elim (All-contains (λ h. Pair M x u h) (spreads_of w t) z (All-contains (λ g. All (λ h. Pair M x g h) (spreads_of w t)) (spreads_of w s) u asked.2 v) y) [
         | inl eq ↦ weaken (within (suc (set_of w u)) (omega arith) (in_order s u v) p (subst (λ i. Stands w (set_of w i) d) (sym eq) q) same)

@@ -118,8 +118,8 @@ pub small_square : (n : ℕ) → n < 2 ^ 63 → n * (n - 1) ≤ greatest
 small_square n l = let up : n - 1 ≤ 2 ^ 63 = omega (arith, l) in omega (arith, mul-le-mul_left n up, l)
 
 -- The upper bound.
-pub at_most : (n : ℕ) (s : Search) → Tally (pair_in s) n s → s.compared ≤ n * (n - 1)
-at_most n s t = omega (arith, t.counted, few_pairs n t.log t.distinct t.within)
+pub at_most : (w : World) (s : Search) → Tally w s → s.compared ≤ length w.fragments * (length w.fragments - 1)
+at_most w s t = omega (arith, t.counted, few_pairs (length w.fragments) t.log t.distinct t.within)
 
 abbrev pub IsPair : Compared → ℕ × ℕ → Type 0
 IsPair r p = SamePair (r.first, r.second) p
@@ -178,9 +178,9 @@ placed log (p ∷ ps) once h =
       ];
     }
 
-in_log_pair : (s : Search) (n : ℕ) (t : Tally (pair_in s) n s) (f g : ℕ) → (f ≡ g → ⊥) → Pair s false f g → InLog t.log (f, g)
-in_log_pair s n t f g ne (inl eq) = absurd (ne eq)
-in_log_pair s n t f g ne (inr c) = elim (t.listed c.0 f g c.2) [
+in_log_pair : (w : World) (s : Search) (t : Tally w s) (f g : ℕ) → (f ≡ g → ⊥) → Pair s false f g → InLog t.log (f, g)
+in_log_pair w s t f g ne (inl eq) = absurd (ne eq)
+in_log_pair w s t f g ne (inr c) = elim (t.listed c.0 f g c.2) [
   | inl x ↦ (record { first = f; second = g; flag = c.0 }, x, inl (refl, refl))
   | inr x ↦ (record { first = g; second = f; flag = c.0 }, x, inr (refl, refl))
 ]
@@ -199,9 +199,10 @@ spread_pair w s order top i f g c p q ne = elim (cases_order p.0 q.0) [
     at {x} c = slice_get-get_or (spreads_of w i) c.0 x c.1 ∙ ap (λ y. Some y) c.2
 
 -- The lower bound.
-pub at_least : (w : World) (n : ℕ) (s : Search) (order : List ℕ) → ((i : ℕ) → Contains order i → Top w s i) → (t : Tally (pair_in s) n s) → n * (n - 1) ≤ greatest → (ps : List (ℕ × ℕ)) → Together w order ps → length ps ≤ s.compared
-at_least w n s order top t small ps h =
+pub at_least : (w : World) (s : Search) (order : List ℕ) → ((i : ℕ) → Contains order i → Top w s i) → (t : Tally w s) → length w.fragments * (length w.fragments - 1) ≤ greatest → (ps : List (ℕ × ℕ)) → Together w order ps → length ps ≤ s.compared
+at_least w s order top t small ps h =
+    let n = length w.fragments in
     let z : Placed t.log ps = placed t.log ps h.once (λ k d l.
     let p = get_or ps k d in let u = h.spread k d l in
-    in_log_pair s n t (p.0) (p.1) u.0 (spread_pair w s order top u.1.0 (p.0) (p.1) u.1.1 u.1.2 u.1.3 u.0)) in
+    in_log_pair w s t (p.0) (p.1) u.0 (spread_pair w s order top u.1.0 (p.0) (p.1) u.1.1 u.1.2 u.1.3 u.0)) in
     omega (arith, z.as_many, few_below z.places (length t.log) z.once z.inside, t.counted, few_pairs n t.log t.distinct t.within, small)

@@ -152,13 +152,9 @@ own_in w M s t g hs is followed all c a b p (own q) same =
 own_in w M s t g hs is followed all c a b p (spread {f = h} v q) same =
     own_in w M s (set_of w h) h hs refl followed all (followed g h c (subst (λ u. Contains (spreads_of w u) h) is v)) a b p q same
 
--- where nothing is passed
-all_followed : (w : World) (gs hs : List ℕ) → Opens w (λ h. ⊥) gs hs → (h k : ℕ) → Contains hs h → Contains (spreads_of w (set_of w h)) k → Contains hs k
-all_followed w gs hs o h k c d = elim (o.followed h k c d) [ inl there ↦ there | inr never ↦ absurd never ]
-
-pub own_written : (w : World) (M : Search) (s : ℕ) (gs hs : List ℕ) → Opens w (λ h. ⊥) gs hs → All (λ h. OwnPairs w M false s (set_of w h)) hs → All (λ g. OwnWritten w M s g) gs
+pub own_written : (w : World) (M : Search) (s : ℕ) (gs hs : List ℕ) → Opens w gs hs → All (λ h. OwnPairs w M false s (set_of w h)) hs → All (λ g. OwnWritten w M s g) gs
 own_written w M s gs hs o all =
-    All-weaker (λ g. Contains hs g) (λ g. OwnWritten w M s g) (λ g c a b p q same. own_in w M s (set_of w g) g hs refl (all_followed w gs hs o) all c a b p q same) gs o.first
+    All-weaker (λ g. Contains hs g) (λ g. OwnWritten w M s g) (λ g c a b p q same. own_in w M s (set_of w g) g hs refl o.followed all c a b p q same) gs o.first
 
 -- what stands in a fragment is an own field of one that a search opens
 tell_in : (w : World) (t g : ℕ) (hs : List ℕ) → t ≡ set_of w g → ((h k : ℕ) → Contains hs h → Contains (spreads_of w (set_of w h)) k → Contains hs k)
@@ -166,9 +162,9 @@ tell_in : (w : World) (t g : ℕ) (hs : List ℕ) → t ≡ set_of w g → ((h k
 tell_in w t g hs is followed c b (own q) = (g, c, subst (λ u. Contains (own_of w u) b) is q)
 tell_in w t g hs is followed c b (spread {f = h} v q) = tell_in w (set_of w h) h hs refl followed (followed g h c (subst (λ u. Contains (spreads_of w u) h) is v)) b q
 
-pub tell_written : (w : World) (s : ℕ) (gs hs : List ℕ) → Opens w (λ h. ⊥) gs hs → (r : Root) → AtSpreads w s gs r → (h : ℕ) × Contains hs h × AtOwn w s (set_of w h) r
+pub tell_written : (w : World) (s : ℕ) (gs hs : List ℕ) → Opens w gs hs → (r : Root) → AtSpreads w s gs r → (h : ℕ) × Contains hs h × AtOwn w s (set_of w h) r
 tell_written w s gs hs o r at =
-    let z = tell_in w (set_of w at.0) at.0 hs refl (all_followed w gs hs o) (All-contains (λ g. Contains hs g) gs at.0 o.first at.1) r.right at.2.1 in
+    let z = tell_in w (set_of w at.0) at.0 hs refl o.followed (All-contains (λ g. Contains hs g) gs at.0 o.first at.1) r.right at.2.1 in
     (z.0, z.1, (at.2.0, z.2, at.2.2))
 
 -- what was opened from some stands in one of them

@@ -2,6 +2,7 @@ pub mod Again
 pub mod Core
 pub mod Counting
 pub mod Judging
+pub mod Opening
 pub mod Order
 pub mod Passed
 pub mod Spends

@@ -13,10 +13,8 @@ use Rattle.merge_search.specs.declared.state.Search.{Search}
 use Rattle.merge_sets.specs.Opening.{NoRepeats}
 use Rattle.merge_search.specs.Spending.{Spends, fragments_weight, sum_below}
 use Rattle.merge_tops.specs.TopCosts.{search_cost, set_cost, top_cost}
-use Rattle.merge_search.specs.State.{CountsList, CountsStay, Keeps}
 use Rattle.merge_search.specs.Weight.{field_weight, fields_weight, fragment_weight}
 use Rattle.merge_sets.specs.World.{World}
-use Rattle.merge_search.proofs.Costs.{credit_same}
 use Rattle.merge_sets.proofs.Distinct.{repeats_tail}
 use Rattle.merge_sets.proofs.OneName.{no_entry}
 use Rattle.merge_search.proofs.Worth.{credit_most, sum_kept, sum_more}
@@ -119,12 +117,6 @@ module _ (w : World) where
   pub fragments_cost : (m : ℕ) (hs : List ℕ) → NoRepeats hs → All (λ h. h < length w.fragments) hs → sum_by (λ h. m * fragment_weight w h) hs ≤ m * fragments_weight w
   fragments_cost m hs once there =
       omega (arith, times_left (fragment_weight w) m hs, mul-le m (sum_by (fragment_weight w) hs) m (fragments_weight w) (omega arith) (distinct_sum (fragment_weight w) (length w.fragments) hs once there))
-
-  -- a list was counted first, and what was used is kept
-  pub listed_spends : (m n : ℕ) (s t u v : Search) → CountsList n s t → Spends w m t u → Keeps u v → CountsStay u v → Spends w m s v
-  listed_spends m n s t u v c p k d = record {
-    paid = omega (arith, p.paid, c.judged, d.judged, credit_same w s t c.pairs c.searched c.repeated, credit_same w u v k.pairs k.searched d.repeated);
-  }
 
   pub spends_after_none : (n : ℕ) (s t u : Search) → Spends w n s t → Spends w 0 t u → Spends w n s u
   spends_after_none n s t u p q = record { paid = omega (arith, p.paid, q.paid) }

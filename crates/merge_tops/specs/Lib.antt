@@ -1,3 +1,4 @@
 pub mod Inner
 pub mod Tops
 pub mod TopCosts
+pub mod TopCounts

@@ -16,13 +16,13 @@ ghost use Rattle.merge_sets.specs.Plain.{ArePlain};
 ghost use Rattle.merge_sets.specs.Clear.{IsSumWithin};
 ghost use Rattle.merge_search.specs.Spending.{Spends, fragments_weight};
 ghost use Rattle.merge_tops.specs.TopCosts.{inner_cost, inner_set_cost, part_in, top_cost};
+ghost use Rattle.merge_tops.specs.TopCounts.{OpensAtTop, inner_list};
 ghost use Rattle.merge_search.specs.Weight.{fields_weight, fragment_weight, weight};
 
+use crate::counts::{TopCounts, open_counted};
 use crate::pairs::{compare_each, compare_rest};
 use bit_matrix::set::BitSet;
 use merge_certificates::clear::are_clear;
-use merge_search::opening::opened;
-use merge_search::repeats::Seeker;
 use merge_search::state::{Search, put_opening};
 use merge_sets::graph::Graph;
 use merge_sets::groups::{fields_named, first_fields, make_set, sorted_fields};
@@ -165,6 +165,7 @@ fn write_part<J: Judge>(
     part: &SetNode,
     starts: &[usize],
     search: &mut Search,
+    counts: &mut TopCounts,
 ) -> Result<(), AllocError>
     requires { All (λ g. g < length graph.now.fragments.items) starts.now }
     ensures done { OnOk result (Did (world J.judgement graph.now) (λ M. Unit {0}) search.old search.new) }
@@ -172,11 +173,12 @@ fn write_part<J: Judge>(
         OnOk result (Finds w false (AtParts w part.now.own.items starts.now) search.old search.new) }
     ensures spends { let w = world J.judgement graph.now in
         OnOk result (Spends w (fields_weight w part.now.own.items * fragments_weight w) search.old search.new) }
+    ensures counts { OnOk result (OpensAtTop (world J.judgement graph.now) 1 counts.old counts.new) }
 {
     if starts.is_empty() {
         return Ok(());
     }
-    let opening = opened(graph, starts, Seeker::Top, search)?;
+    let opening = open_counted(graph, starts, search, counts)?;
     compare_opened(graph, part, starts, opening.order.as_slice(), search)?;
     put_opening(search, opening)
 }
@@ -245,6 +247,7 @@ fn compare_inner<J: Judge>(
     listed: &BitSet,
     plain: &BitSet,
     search: &mut Search,
+    counts: &mut TopCounts,
 ) -> Result<(), AllocError>
     requires listed { (g : ℕ) → has listed.now g ≡ true → Contains (spreads_of (world J.judgement graph.now) s) g }
     requires plain { ArePlain (world J.judgement graph.now) plain.now }
@@ -254,6 +257,7 @@ fn compare_inner<J: Judge>(
     ensures spends { let w = world J.judgement graph.now in
         let cost = top_cost w (fields_weight w (part_in (own_of w s) inner)) in
         OnOk result (Spends w cost search.old search.new) }
+    ensures counts { OnOk result (OpensAtTop (world J.judgement graph.now) 1 counts.old counts.new) }
 {
     let fields = part_of(own(graph, s), inner);
     if fields.is_empty() {
@@ -269,7 +273,7 @@ fn compare_inner<J: Judge>(
         plain,
     )?;
     compare_own_part(graph, s, &part, plain, search)?;
-    write_part(graph, &part, starts.as_slice(), search)
+    write_part(graph, &part, starts.as_slice(), search, counts)
 }
 
 // Compares the inner set at a place, unless the next to be compared stands behind it; returns the next. Where nothing
@@ -283,6 +287,7 @@ fn compare_next<J: Judge>(
     listed: &BitSet,
     plain: &BitSet,
     search: &mut Search,
+    counts: &mut TopCounts,
 ) -> Result<usize, AllocError>
     requires listed { (g : ℕ) → has listed.now g ≡ true → Contains (spreads_of (world J.judgement graph.now) s) g }
     requires plain { ArePlain (world J.judgement graph.now) plain.now }
@@ -291,12 +296,13 @@ fn compare_next<J: Judge>(
         OnOk result (Finds w false (AtPlaces w s) search.old search.new) }
     ensures spends { let w = world J.judgement graph.now in
         OnOk result (Spends w (inner_set_cost w s inner) search.old search.new) }
+    ensures counts { OnOk result (OpensAtTop (world J.judgement graph.now) (inner_list s inner) counts.old counts.new) }
 {
     if place < next || inner.outer != s {
         return Ok(next);
     }
     let start = search.found.len();
-    compare_inner(graph, s, inner, listed, plain, search)?;
+    compare_inner(graph, s, inner, listed, plain, search, counts)?;
     if search.found.len() == start {
         Ok(inner.next)
     } else {
@@ -311,6 +317,7 @@ fn compare_each_inner<J: Judge>(
     inner: &[InnerSet],
     plain: &BitSet,
     search: &mut Search,
+    counts: &mut TopCounts,
 ) -> Result<(), AllocError>
     requires { ArePlain (world J.judgement graph.now) plain.now }
     ensures done { OnOk result (Did (world J.judgement graph.now) (λ M. Unit {0}) search.old search.new) }
@@ -318,11 +325,23 @@ fn compare_each_inner<J: Judge>(
         OnOk result (Finds w false (AtPlaces w s) search.old search.new) }
     ensures spends { let w = world J.judgement graph.now in
         OnOk result (Spends w (inner_cost w inner.now s) search.old search.new) }
+    ensures counts { let w = world J.judgement graph.now in
+        OnOk result (OpensAtTop w (sum_by (inner_list s) inner.now) counts.old counts.new) }
 {
     let listed = set_of_numbers(search.alloc, spreads(graph, s))?;
     let mut next = 0;
     for place in 0..inner.len() {
-        next = compare_next(graph, s, inner[place], place, next, &listed, plain, search)?;
+        next = compare_next(
+            graph,
+            s,
+            inner[place],
+            place,
+            next,
+            &listed,
+            plain,
+            search,
+            counts,
+        )?;
     }
     Ok(())
 }
@@ -338,6 +357,7 @@ pub(crate) fn search_inner<J: Judge>(
     s: usize,
     plain: &BitSet,
     search: &mut Search,
+    counts: &mut TopCounts,
 ) -> Result<(), AllocError>
     requires { ArePlain (world J.judgement graph.now) plain.now }
     ensures done { OnOk result (Did (world J.judgement graph.now) (λ M. Unit {0}) search.old search.new) }
@@ -345,10 +365,12 @@ pub(crate) fn search_inner<J: Judge>(
         OnOk result (Finds w false (AtPlaces w s) search.old search.new) }
     ensures spends { let w = world J.judgement graph.now in
         OnOk result (Spends w (inner_cost w graph.now.inner.items s) search.old search.new) }
+    ensures counts { let w = world J.judgement graph.now in
+        OnOk result (OpensAtTop w (sum_by (inner_list s) graph.now.inner.items) counts.old counts.new) }
 {
     let inner = inner_sets(graph, s);
     if inner.is_empty() {
         return Ok(());
     }
-    compare_each_inner(graph, s, inner, plain, search)
+    compare_each_inner(graph, s, inner, plain, search, counts)
 }

@@ -12,8 +12,11 @@ ghost use Rattle.merge_tops.specs.Tops.{AddsUnmarked, AllBefore, AreAllBut, AtLi
 ghost use Rattle.merge_tops.specs.Tops.{AtTwo, AtWithin, MarkedDone, OwnWithin, OwnWritten, SpreadDone, Together};
 ghost use Rattle.merge_search.specs.Spending.{Spends, fragments_weight};
 ghost use Rattle.merge_tops.specs.TopCosts.{search_cost, set_cost, top_cost};
+ghost use Rattle.merge_tops.specs.TopCounts.{OpensAtTop, most_openings, set_lists};
+ghost use Rattle.merge_search.specs.Counts.{all_spreads};
 ghost use Rattle.merge_search.specs.Weight.{weight};
 
+use crate::counts::{TopCounts, add_counts, no_counts, open_counted};
 use crate::inner::search_inner;
 use crate::pairs::compare_each;
 use crate::passing::{note_merged, note_plain, pass_over};
@@ -21,8 +24,6 @@ use bit_matrix::set::BitSet;
 use merge_certificates::clear::MANY;
 use merge_certificates::quiet::are_quiet;
 use merge_certificates::unions::Union;
-use merge_search::opening::opened;
-use merge_search::repeats::Seeker;
 use merge_search::search::{compare_fragments, compare_own};
 use merge_search::state::{Search, is_full, no_search, put_opening};
 use merge_sets::graph::Graph;
@@ -60,7 +61,7 @@ fn write_all<J: Judge>(
     opening: &[usize],
     search: &mut Search,
 ) -> Result<(), AllocError>
-    requires { Opens (world J.judgement graph.now) (λ h. ⊥) starts.now opening.now }
+    requires { Opens (world J.judgement graph.now) starts.now opening.now }
     ensures done { let w = world J.judgement graph.now in
         OnOk result (Did w (λ M. All (λ h. OwnPairs w M false s (set_of w h)) opening.now) search.old search.new) }
     ensures real { let w = world J.judgement graph.now in
@@ -80,17 +81,18 @@ fn write_out<J: Judge>(
     s: usize,
     starts: &[usize],
     search: &mut Search,
+    counts: &mut TopCounts,
 ) -> Result<(), AllocError>
-    requires some { 0 < length graph.now.fragments.items }
-    requires starts { All (λ g. g < length graph.now.fragments.items) starts.now }
+    requires { All (λ g. g < length graph.now.fragments.items) starts.now }
     ensures done { let w = world J.judgement graph.now in
         OnOk result (Did w (λ M. All (λ g. OwnWritten w M s g) starts.now) search.old search.new) }
     ensures real { let w = world J.judgement graph.now in
         OnOk result (FindsAll w false (AtSpreads w s starts.now) (AtSpreads w s starts.now) search.old search.new) }
     ensures spends { let w = world J.judgement graph.now in
         OnOk result (Spends w (weight w s * fragments_weight w) search.old search.new) }
+    ensures counts { OnOk result (OpensAtTop (world J.judgement graph.now) 1 counts.old counts.new) }
 {
-    let opening = opened(graph, starts, Seeker::Top, search)?;
+    let opening = open_counted(graph, starts, search, counts)?;
     write_all(graph, s, starts, opening.order.as_slice(), search)?;
     put_opening(search, opening)
 }
@@ -137,8 +139,8 @@ fn write_own<J: Judge>(
     list: &[usize],
     plain: &BitSet,
     search: &mut Search,
+    counts: &mut TopCounts,
 ) -> Result<(), AllocError>
-    requires some { 0 < length graph.now.fragments.items }
     requires list { All (λ g. g < length graph.now.fragments.items) list.now }
     requires plain { ArePlain (world J.judgement graph.now) plain.now }
     ensures done { let w = world J.judgement graph.now in
@@ -147,12 +149,13 @@ fn write_own<J: Judge>(
         OnOk result (FindsAll w false (AtSpreads w s list.now) (AtSpreads w s list.now) search.old search.new) }
     ensures spends { let w = world J.judgement graph.now in
         OnOk result (Spends w (weight w s * fragments_weight w) search.old search.new) }
+    ensures counts { OnOk result (OpensAtTop (world J.judgement graph.now) 1 counts.old counts.new) }
 {
     if firsts(graph, s).is_empty() {
         return Ok(());
     }
     let others = unmarked(search.alloc, graph, list, plain)?;
-    write_out(graph, s, others.as_slice(), search)
+    write_out(graph, s, others.as_slice(), search, counts)
 }
 
 // Compares two fragments.
@@ -233,6 +236,7 @@ fn compare_spreads<J: Judge>(
     s: usize,
     plain: &BitSet,
     search: &mut Search,
+    counts: &mut TopCounts,
 ) -> Result<(), AllocError>
     requires { ArePlain (world J.judgement graph.now) plain.now }
     ensures done { let w = world J.judgement graph.now in
@@ -242,12 +246,13 @@ fn compare_spreads<J: Judge>(
         OnOk result (FindsAll w false (AtPlaces w s) (AtSpread w s) search.old search.new) }
     ensures spends { let w = world J.judgement graph.now in
         OnOk result (Spends w (weight w s * fragments_weight w) search.old search.new) }
+    ensures counts { OnOk result (OpensAtTop (world J.judgement graph.now) 1 counts.old counts.new) }
 {
     let list = spreads(graph, s);
     if list.is_empty() {
         return Ok(());
     }
-    write_own(graph, s, list, plain, search)?;
+    write_own(graph, s, list, plain, search, counts)?;
     compare_pairs(graph, list, plain, search)
 }
 
@@ -257,6 +262,7 @@ fn compare_set<J: Judge>(
     s: usize,
     plain: &BitSet,
     search: &mut Search,
+    counts: &mut TopCounts,
 ) -> Result<(), AllocError>
     requires { ArePlain (world J.judgement graph.now) plain.now }
     ensures done { let w = world J.judgement graph.now in
@@ -265,9 +271,10 @@ fn compare_set<J: Judge>(
         OnOk result (FindsAll w false (AtPlaces w s) (AtTop w s) search.old search.new) }
     ensures spends { let w = world J.judgement graph.now in
         OnOk result (Spends w (top_cost w (weight w s)) search.old search.new) }
+    ensures counts { OnOk result (OpensAtTop (world J.judgement graph.now) 1 counts.old counts.new) }
 {
     compare_within(graph, s, plain, search)?;
-    compare_spreads(graph, s, plain, search)
+    compare_spreads(graph, s, plain, search, counts)
 }
 
 // Whether all that stands in a set is known to merge. It takes no longer than comparing its spreads with all that it
@@ -307,6 +314,7 @@ fn search_set<J: Judge>(
     s: usize,
     plain: &BitSet,
     search: &mut Search,
+    counts: &mut TopCounts,
 ) -> Result<(), AllocError>
     requires { ArePlain (world J.judgement graph.now) plain.now }
     ensures done { let w = world J.judgement graph.now in
@@ -315,6 +323,8 @@ fn search_set<J: Judge>(
         OnOk result (FindsAll w false (AtPlaces w s) (AtTop w s) search.old search.new) }
     ensures spends { let w = world J.judgement graph.now in
         OnOk result (Spends w (set_cost w graph.now.inner.items s) search.old search.new) }
+    ensures counts { let w = world J.judgement graph.now in
+        OnOk result (OpensAtTop w (set_lists graph.now.inner.items s) counts.old counts.new) }
 {
     if is_full(graph, search) {
         return Ok(());
@@ -323,11 +333,11 @@ fn search_set<J: Judge>(
         return pass_set(graph, s, search);
     }
     let start = search.found.len();
-    compare_set(graph, s, plain, search)?;
+    compare_set(graph, s, plain, search, counts)?;
     if search.found.len() == start {
         return Ok(());
     }
-    search_inner(graph, s, plain, search)
+    search_inner(graph, s, plain, search, counts)
 }
 
 /// Searches the sets of the graph's order, one after the other.
@@ -336,8 +346,9 @@ fn search_set<J: Judge>(
 /// order, what stands below one field alone may be. A search that has found enough only ends what it has begun.
 ///
 /// Of `n` fragments at most `n (n - 1)` pairs are compared, and at least those that some set spreads together, unless
-/// it found enough. No search opens more than `n` fragments. Fields are compared one by one at most four times as often
-/// as `search_cost` says: by the numbers of fields in and below the sets.
+/// it found enough. No search opens more than `n` fragments, and all together open each no more often than
+/// `most_openings` says: three times for each set, once for each inline fragment, and a hundred times. Fields are compared
+/// one by one at most four times as often as `search_cost` says: by the numbers of fields in and below the sets.
 ///
 /// # Errors
 ///
@@ -349,13 +360,21 @@ pub fn search_all<J: Judge>(alloc: Global, graph: &Graph<J>) -> Result<Search, A
         IfOk result (λ m. HasRoom w m.found.items → (ps : List (ℕ × ℕ)) → Together w graph.now.order.items ps
         → length ps ≤ m.compared) }
     ensures opened { IfOk result (λ m. m.opened ≤ length graph.now.fragments.items * m.lists) }
+    ensures linear { let w = world J.judgement graph.now in
+        let most = most_openings w graph.now.inner.items graph.now.order.items in
+        IfOk result (λ m. m.opened ≤ length graph.now.fragments.items * most) }
+    ensures looked { let w = world J.judgement graph.now in
+        let most = most_openings w graph.now.inner.items graph.now.order.items in
+        IfOk result (λ m. m.looked ≤ all_spreads w * most) }
     ensures compares { let w = world J.judgement graph.now in
         IfOk result (λ m. m.judged ≤ 4 * search_cost w graph.now.inner.items graph.now.order.items) }
 {
     let plain = passed_over(alloc, graph)?;
     let mut search = no_search(alloc);
+    let mut counts = no_counts();
     for s in order(graph) {
-        search_set(graph, *s, &plain, &mut search)?;
+        search_set(graph, *s, &plain, &mut search, &mut counts)?;
     }
+    add_counts(&mut search, &counts);
     Ok(search)
 }

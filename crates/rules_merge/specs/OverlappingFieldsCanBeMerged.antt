@@ -6,11 +6,12 @@ use Rattle.fragment_graph.specs.DocumentCycles.{HasNoCycle}
 use Rattle.merge_field_pairs.specs.Entries.{PlainEntry}
 use Rattle.merge_graph.specs.Definitions.{fragment_count}
 use Rattle.merge_graph.specs.SetsIn.{HasKnownConditions}
+use Rattle.merge_graph.specs.Sizes.{selection_count}
 use Rattle.merge_conflicts.specs.Reports.{Reports, count_of, none}
 use Rattle.merge_conflicts.specs.Texts.{ConflictValue, errors_of}
 use Rattle.merge_document.specs.Conflicts.{AreReal, AreTold, AreAll, IsTidyDocument}
 use Rattle.merge_document.specs.Merging.{DocumentMerges}
-use Rattle.merge_document.specs.Found.{AreTogether, IsFinished, most_compared}
+use Rattle.merge_document.specs.Found.{AreTogether, IsFinished, most_compared, most_opened}
 use Rattle.merge_document.specs.declared.search.FoundConflicts.{FoundConflicts}
 use Rattle.walk.specs.ContextState.{DocumentScope}
 use Rattle.walk.specs.ErrorValue.{ErrorValue}
@@ -23,7 +24,7 @@ error_value c = record { locations = c.places; message = c.message }
 -- compared. If they form no cycle, and no field repeats an argument or a key in one, what two fields of one set have
 -- between them is told; and no conflict is missed if the conditions of inline fragments are known, too. At most n (n -
 -- 1) pairs of n definitions of fragments were compared, and at least those that some set spreads both of. No search
--- opened more than n. And few fields were compared one by one.
+-- opened more than n; all together they opened few, and looked at few spreads. And few fields were compared one by one.
 pub record MergeErrors {S C : Type 0} (E : S → S → Bool) (schema : Catalog S C) (document : List (Definition S))
     (end : OverlappingFieldsCanBeMerged) (es : List ErrorValue) : Type 0 where
   pub reports : Reports (PlainEntry S C)
@@ -35,6 +36,8 @@ pub record MergeErrors {S C : Type 0} (E : S → S → Bool) (schema : Catalog S
   pub few : end.compared ≤ fragment_count document * (fragment_count document - 1)
   pub enough : HasNoCycle document → (ps : List (List ℕ × List ℕ)) → AreTogether schema document ps → length ps ≤ end.compared
   pub opened : end.opened ≤ fragment_count document * end.lists
+  pub linear : HasKnownConditions schema document → end.opened ≤ fragment_count document * most_opened document
+  pub looked : HasKnownConditions schema document → end.looked ≤ selection_count document * most_opened document
   pub compares : HasKnownConditions schema document → end.judged ≤ most_compared document
 
 -- a search has stopped
@@ -57,6 +60,8 @@ pub record StoppedErrors {S C : Type 0} (E : S → S → Bool) (asked : ℕ) (sc
   pub refuses : IsTidyDocument schema document → DocumentMerges E schema document → ⊥
   pub few : end.compared ≤ fragment_count document * (fragment_count document - 1)
   pub opened : end.opened ≤ fragment_count document * end.lists
+  pub linear : HasKnownConditions schema document → end.opened ≤ fragment_count document * most_opened document
+  pub looked : HasKnownConditions schema document → end.looked ≤ selection_count document * most_opened document
   pub compares : HasKnownConditions schema document → end.judged ≤ most_compared document
 
 -- all errors, or those of a search that stopped at so many findings; 0 asks for all

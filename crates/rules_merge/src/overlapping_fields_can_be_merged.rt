@@ -31,14 +31,16 @@ use walk::{Event, Fresh, Machine, Rule, ValidatorContext, Visitor};
 /// Reports, where the document is left, fields of one response name that can't be merged. The error of a conflict has
 /// all its places.
 ///
-/// No fragment is written out: with `n` definitions of fragments at most `n (n - 1)` pairs are compared. Where the types
-/// of inline fragments are known, at most `24 s d + 250,000` pairs of fields are compared one by one: the document has
-/// `s` selections, at any depth, and `d` is the sum of their depths.
+/// No fragment is written out: with `n` definitions of fragments at most `n (n - 1)` pairs are compared. A document may
+/// have `s` selections, at any depth, and `d` may be the sum of their depths. Where the types of inline fragments are
+/// known, at most `24 s d + 250,000` pairs of fields are compared one by one. Then each fragment is opened at most
+/// `8 s + 4 m + 100` times, with `m` definitions of any kind, and at most `s` times as many spreads are looked at.
 #[derive(Drop)]
 pub struct OverlappingFieldsCanBeMerged {
     alloc: Global,
     compared: u128,
     opened: u128,
+    looked: u128,
     lists: u128,
     judged: u128,
 }
@@ -51,6 +53,7 @@ pub fn factory(alloc: Global) -> OverlappingFieldsCanBeMerged
         alloc,
         compared: 0,
         opened: 0,
+        looked: 0,
         lists: 0,
         judged: 0,
     }
@@ -69,6 +72,13 @@ impl OverlappingFieldsCanBeMerged {
         ensures { result ≡ self.now.opened }
     {
         self.opened
+    }
+
+    /// How many spreads of opened fragments its searches looked at, in the document that was left last.
+    pub fn looked(&self) -> u128
+        ensures { result ≡ self.now.looked }
+    {
+        self.looked
     }
 
     /// How many searches there were of a set's fields against a spread fragment, in the document that was left last.
@@ -127,6 +137,7 @@ impl OverlappingFieldsCanBeMerged {
             Some(found) => {
                 self.compared = found.compared;
                 self.opened = found.opened;
+                self.looked = found.looked;
                 self.lists = found.lists;
                 self.judged = found.judged;
                 report_found(self.alloc, ctx, &found)
@@ -134,6 +145,7 @@ impl OverlappingFieldsCanBeMerged {
             None => {
                 self.compared = 0;
                 self.opened = 0;
+                self.looked = 0;
                 self.lists = 0;
                 self.judged = 0;
                 Ok(())

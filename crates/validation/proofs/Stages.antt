@@ -141,6 +141,8 @@ merge_permuted E schema document end fs gs es m none_else p =
       few = m.few;
       enough = m.enough;
       opened = m.opened;
+      linear = m.linear;
+      looked = m.looked;
       compares = m.compares;
     }
 
@@ -178,5 +180,7 @@ fewer_asked less s = record {
   refuses = s.refuses;
   few = s.few;
   opened = s.opened;
+  linear = s.linear;
+  looked = s.looked;
   compares = s.compares;
 }

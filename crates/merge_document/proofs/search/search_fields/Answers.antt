@@ -9,7 +9,10 @@ use Rattle.merge_search.specs.Reports.{Judged}
 use Rattle.merge_graph.specs.Definitions.{fragment_count}
 use Rattle.merge_graph.specs.DocumentGraph.{IsGraphOf}
 use Rattle.merge_graph.specs.Judging.{judgement_of}
+use Rattle.merge_graph.specs.Sizes.{selection_count}
+use Rattle.merge_document.specs.Found.{most_opened}
 use Rattle.merge_document.proofs.Comparing.{cost_few}
+use Rattle.merge_document.proofs.Opening.{looked_few, opened_few}
 use Rattle.merge_document.proofs.Searching.{at_some, judged, few, enough, limited_is, opens}
 use Rattle.merge_document.proofs.search.search_fields.Goals as goal
 
@@ -19,6 +22,11 @@ graph_is g c =
     subst document_is (sym c.limited-graph.ensures)
     (limited_is c.args.schema.now c.args.document.now c.in-Some.all c.args.limit
     (at_some document_is c.in_ok-all.field-0 c.in-Some.all c.in-Some.is c.in_ok-all.ensures.graph))
+
+fragments_few : (g : _) (c : goal.After-found_in g) → length c.limited-graph.result.fragments.items ≤ fragment_count c.args.document.now
+fragments_few g c =
+    let is = graph_is g c in
+    subst (λ zs. length zs ≤ fragment_count c.args.document.now) (sym (is.is).fragments_are) (is.origins).few
 
 pub returns-in_ok-search-in-Some-clause-none : goal.returns-in_ok-search-in-Some-clause-none
 returns-in_ok-search-in-Some-clause-none g c = subst (λ o. IsSome o ↔ HasNoCycle c.args.document.now) c.in-Some.is c.in_ok-all.ensures.none
@@ -69,3 +77,19 @@ returns-in_ok-search-in-Some-clause-compares g c = λ known.
       c.in_ok-search-in-Some.ensures.compares,
       c.found_in.ensures.judged,
     )
+
+pub returns-in_ok-search-in-Some-clause-linear : goal.returns-in_ok-search-in-Some-clause-linear
+returns-in_ok-search-in-Some-clause-linear g c = λ known.
+    let graph = c.limited-graph.result in
+    let search = c.in_ok-search-in-Some.search in
+    let many = fragment_count c.args.document.now in
+    subst (λ (k : ℕ). k ≤ many * most_opened c.args.document.now) (sym c.found_in.ensures.opened)
+    (opened_few c.args.schema.now c.args.document.now known graph (graph_is g c) (judgement_of g.S.PartialEq.eq graph.judge) search.opened c.in_ok-search-in-Some.ensures.linear
+    many (fragments_few g c))
+
+pub returns-in_ok-search-in-Some-clause-looked : goal.returns-in_ok-search-in-Some-clause-looked
+returns-in_ok-search-in-Some-clause-looked g c = λ known.
+    let graph = c.limited-graph.result in
+    let search = c.in_ok-search-in-Some.search in
+    subst (λ (k : ℕ). k ≤ selection_count c.args.document.now * most_opened c.args.document.now) (sym c.found_in.ensures.looked)
+    (looked_few c.args.schema.now c.args.document.now known graph (graph_is g c) (judgement_of g.S.PartialEq.eq graph.judge) search.looked c.in_ok-search-in-Some.ensures.looked)

@@ -3,7 +3,7 @@ use Rattle.std.specs.List.{All}
 use Rattle.merge_search.specs.declared.task.Task.TheVariants.{Own, Spreads}
 use Rattle.merge_search.specs.declared.task.Partner.TheVariants as partner
 use Rattle.merge_sets.specs.World.{world, spreads_of}
-use Rattle.merge_search.specs.Work.{Searched, Pair}
+use Rattle.merge_search.specs.Work.{SearchDone, Pair}
 use Rattle.merge_search.specs.Reports.{AtOwn, AtNamed}
 use Rattle.merge_search.specs.Tasks.{AtPartners, Meets, MeetsBelow, NameDone}
 use Rattle.merge_sets.specs.Graph.{firsts_at}
@@ -23,8 +23,8 @@ returns-clause-waits g c =
     waits_four v (Meets v (Own i j e 0)) (Meets v (Spreads j (partner.Own i) e 0)) (Meets v (Spreads i (partner.Own j) e 0)) (Meets v (Spreads i (partner.Each j) e 0)) (MeetsBelow v e i j) _ _ _ _ _
     (λ s t u x z own forth back both. below_whole v e i j s t u x z own (forth tt) (back tt) (both tt))
     (c.in_ok-wait-4.ensures.waits v (λ none s. each_none v e (NameDone v e i j) (AtOwn v i j) (λ f. AtNamed v i j f.response) _ s (drop_end _ (firsts_at v.sets i) 0 firsts_are (omega (arith, none)))))
-    (c.in_ok-wait-3.ensures.waits v (λ none s there. searches_none v e (λ h M. Searched M e i h) (AtPartners v j (partner.Own i)) _ s (drop_end _ (spreads_of v j) 0 c.spreads-right.ensures (omega (arith, none)))))
-    (c.in_ok-wait-2.ensures.waits v (λ none s there. searches_none v e (λ h M. Searched M e j h) (AtPartners v i (partner.Own j)) _ s (drop_end _ (spreads_of v i) 0 c.spreads-left.ensures (omega (arith, none)))))
+    (c.in_ok-wait-3.ensures.waits v (λ none s there. searches_none v e (λ h M. SearchDone v M e i h) (AtPartners v j (partner.Own i)) _ s (drop_end _ (spreads_of v j) 0 c.spreads-right.ensures (omega (arith, none)))))
+    (c.in_ok-wait-2.ensures.waits v (λ none s there. searches_none v e (λ h M. SearchDone v M e j h) (AtPartners v i (partner.Own j)) _ s (drop_end _ (spreads_of v i) 0 c.spreads-left.ensures (omega (arith, none)))))
     (c.in_ok-wait.ensures.waits v (λ none s there. searches_none v e (λ k M. All (λ h. Pair M e k h) (spreads_of v j)) (AtPartners v i (partner.Each j)) _ s (drop_end _ (spreads_of v i) 0 c.spreads-left.ensures (omega (arith, none)))))
 
 pub returns-clause-costs : goal.returns-clause-costs

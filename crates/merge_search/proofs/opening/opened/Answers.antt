@@ -1,20 +1,22 @@
-use Rattle.std.proofs.Common.{◌≡◌, ℕ, true, subst}
-use Rattle.merge_search.specs.declared.repeats.Seeker.{Seeker}
-use Rattle.merge_search.specs.declared.repeats.Seeker.TheVariants.{Top, Below}
-use Rattle.merge_search.specs.declared.state.Search.{Search}
-use Rattle.merge_search.specs.State.{Keeps}
+use Rattle.std.proofs.Common.{◌≡◌, ◌∙◌, ℕ, ap, length, min, rules, subst}
+use Rattle.std.specs.Prelude.{sum_by}
 use Rattle.merge_sets.specs.World.{world}
-use Rattle.merge_search.specs.Log.{in_log}
-use Rattle.merge_search.specs.Repeats.{WasSearched}
-use Rattle.merge_sets.proofs.Opened.{opens_where}
+use Rattle.merge_search.specs.Counts.{greatest, spread_count}
+use Rattle.merge_search.specs.State.{CountsList}
+use Rattle.merge_search.proofs.Asking.{below_kept}
 use Rattle.merge_search.proofs.opening.opened.Goals as goal
 
--- what was searched is so in a state that has the same searches
-was_before : (s t : Search) (k : Seeker) (h : ℕ) → Keeps s t → WasSearched t k h → WasSearched s k h
-was_before s t Top h keeps was = was
-was_before s t (Below i e) h keeps was = (was.0, was.1, subst (λ l. in_log l was.0 i h ≡ true) keeps.searched was.2)
-
-pub returns-clause-opens : goal.returns-clause-opens
-returns-clause-opens g c =
-    opens_where (world g.J.Judge.judgement c.args.graph.now) _ _ c.args.starts.now c.open_from.new.opening.order.items
-    (λ h was. was_before c.args.search.now c.take_opening-opening.new.search c.args.seeker h c.take_opening-opening.ensures.keeps was) c.in_ok-open_from.ensures
+pub returns : goal.returns
+returns g c =
+    let v = world g.J.Judge.judgement c.args.graph.now in
+    let hs = c.open_from.new.opening.order.items in
+    let looked : c.spreads_of_all-looked.result ≡ min (sum_by (spread_count v) hs) greatest =
+    c.spreads_of_all-looked.ensures ∙ ap (λ xs. min (sum_by (spread_count v) xs) greatest) c.as_slice.ensures.value in
+    let is : c.len.result ≡ length hs = search rules in
+    record {
+      mid = c.open_from.new.search;
+      opens = below_kept v c.args.e c.args.i c.args.g hs c.args.search.now c.take_opening-opening.new.search c.open_from.new.search c.take_opening-opening.ensures.keeps
+          c.take_opening-opening.ensures.counts c.in_ok-open_from.ensures;
+      counts = subst (λ l. CountsList (length hs) l c.open_from.new.search c.count_list.new.search) looked
+          (subst (λ (k : ℕ). CountsList k c.spreads_of_all-looked.result c.open_from.new.search c.count_list.new.search) is c.count_list.ensures);
+    }

@@ -53,4 +53,5 @@ returns g c =
           c.write_part.ensures.real;
       spends = on_ok_weaker c.write_part.result (inner_spends v (fields_weight v part) (fields_weight v (part_in (own_of v c.args.s) c.args.inner)) _ _ _ less c.in_ok-compare_own_part.ensures.spends)
           c.write_part.ensures.spends;
+      counts = c.write_part.ensures.counts;
     }

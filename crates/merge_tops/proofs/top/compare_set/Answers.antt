@@ -15,4 +15,5 @@ returns g c =
       done = on_ok_weaker c.compare_spreads.result (λ d. did_map v _ _ (λ M h. (h.0, h.1.0, h.1.1)) (did_then v _ _ c.in_ok-compare_within.ensures.done d)) c.compare_spreads.ensures.done;
       real = on_ok_weaker c.compare_spreads.result (λ d. all_both v false _ _ _ (all_map v false _ _ _ (places_within v c.args.s) c.in_ok-compare_within.ensures.real) d) c.compare_spreads.ensures.real;
       spends = on_ok_weaker c.compare_spreads.result (λ p. set_spends v (weight v c.args.s) _ _ _ c.in_ok-compare_within.ensures.spends p) c.compare_spreads.ensures.spends;
+      counts = c.compare_spreads.ensures.counts;
     }

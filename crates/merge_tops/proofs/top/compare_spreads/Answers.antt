@@ -1,4 +1,4 @@
-use Rattle.std.proofs.Common.{◌≡◌, ℕ, ◌<◌, [], length, sym, subst, false, arith, ap, ◌∙◌}
+use Rattle.std.proofs.Common.{◌≡◌, ℕ, [], length, sym, subst, false, arith, ap, ◌∙◌}
 use Rattle.std.specs.List.{All, Contains}
 use Rattle.std.proofs.lemmas.List.{nil_from_length}
 use Rattle.std.proofs.lemmas.List.Elements.{All-nil}
@@ -10,11 +10,11 @@ use Rattle.merge_search.specs.Work.{Pair}
 use Rattle.merge_search.specs.Reports.{AtPlaces}
 use Rattle.merge_tops.specs.Tops.{AllBefore, AtSpread, AtSpreads, AtTwo, OwnWritten}
 use Rattle.merge_search.proofs.Adding.{adds_none, all_map, all_told, all_plus}
-use Rattle.merge_search.proofs.Falls.{spread_falls}
 use Rattle.merge_tops.proofs.Judging.{places_written, places_listed}
 use Rattle.merge_tops.proofs.Passed.{are_there}
 use Rattle.merge_search.proofs.Work.{did_none, did_then, did_map}
 use Rattle.merge_search.proofs.Costs.{spends_none}
+use Rattle.merge_tops.proofs.Opening.{opens_none}
 use Rattle.merge_tops.proofs.Spends.{spends_after_none}
 use Rattle.merge_tops.proofs.top.compare_spreads.Goals as goal
 
@@ -35,18 +35,13 @@ returns-then-is_empty g c =
         tells = λ room r at fails. absurd (omega (arith, at.1.1, ap length none));
       };
       spends = spends_none v _ c.args.search.now;
+      counts = opens_none v _ c.args.counts.now;
     }
 
 pub write_own-requires : goal.write_own-requires
 write_own-requires g c =
     let v = world g.J.Judge.judgement c.args.graph.now in
-    let list = c.spreads-list.result.now in
-    let some : 0 < length list = grind (arith, c.is_empty.ensures, c.if-is_empty.false) in
-    record {
-      some = omega (arith, (spread_falls v c.args.s list 0 c.args.graph.now.falling c.spreads-list.ensures some).0);
-      list = are_there v c.args.s list c.args.graph.now.falling c.spreads-list.ensures;
-      plain = c.requires;
-    }
+    record { list = are_there v c.args.s c.spreads-list.result.now c.args.graph.now.falling c.spreads-list.ensures; plain = c.requires }
 
 pub compare_pairs-requires : goal.compare_pairs-requires
 compare_pairs-requires g c =
@@ -66,4 +61,5 @@ returns g c =
           (all_told v false (AtPlaces v s) (AtSpreads v s list) (AtSpread v s) (λ r z. (z.0, subst (λ zs. Contains zs z.0) (sym is) z.1, z.2))
           (all_map v false (AtSpreads v s list) (AtPlaces v s) (AtSpreads v s list) (λ r z. places_written v s z.0 (subst (λ zs. Contains zs z.0) is z.1) r z.2) c.in_ok-write_own.ensures.real)) d) c.compare_pairs.ensures.real;
       spends = on_ok_weaker c.compare_pairs.result (λ p. spends_after_none v _ _ _ _ c.in_ok-write_own.ensures.spends p) c.compare_pairs.ensures.spends;
+      counts = on_ok_weaker c.compare_pairs.result (λ p. c.in_ok-write_own.ensures.counts) c.compare_pairs.ensures.spends;
     }

@@ -1,7 +1,8 @@
-use Rattle.std.proofs.Common.{◌≤◌, ◌*◌, ◌^◌, ◌<◌, [], length, get_or, sym, subst, arith, false}
+use Rattle.std.proofs.Common.{◌≤◌, ◌-◌, ◌*◌, ◌^◌, ◌<◌, [], ℕ, length, get_or, sym, subst, arith, false}
 use Rattle.std.proofs.lemmas.List.Elements.{Contains-get_or}
-use Rattle.merge_sets.specs.World.{world}
-use Rattle.merge_search.specs.Reports.{AddsAll, AtSearched}
+use Rattle.merge_sets.specs.World.{HasRoom, world}
+use Rattle.merge_search.specs.Counts.{all_spreads}
+use Rattle.merge_search.specs.Reports.{AddsAll, AtSearched, Judged}
 use Rattle.merge_tops.specs.Tops.{AtTop, Together}
 use Rattle.merge_search.proofs.Adding.{Upto, all_start, all_more}
 use Rattle.merge_tops.proofs.Counting.{at_most, at_least, small_square}
@@ -9,6 +10,8 @@ use Rattle.merge_tops.proofs.Judging.{next_tops, no_tops, judged_at, all_tops}
 use Rattle.merge_search.proofs.Tallying.{no_tally}
 use Rattle.merge_search.proofs.Work.{grows_same}
 use Rattle.merge_tops.specs.TopCosts.{search_cost, set_cost}
+use Rattle.merge_tops.specs.TopCounts.{most_openings, set_lists, top_lists}
+use Rattle.merge_tops.proofs.Opening.{looked_linear, opened_by_lists, opened_linear, opens_list, opens_next, opens_start}
 use Rattle.merge_tops.proofs.Spends.{all_compared, spends_list, spends_next, spends_start}
 use Rattle.merge_tops.proofs.top.search_all.Goals as goal
 
@@ -19,8 +22,9 @@ loop-s-init g c =
       c.order-s-items.ensures,
       no_tops v c.order-s-items.result.now c.no_search-search.result b,
       subst (λ ys. AddsAll v false (AtSearched v c.order-s-items.result.now) (Upto c.order-s-items.result.now 0 0 (λ s. AtTop v s)) [] ys) (sym b.found) (all_start v false _ (λ s. AtTop v s) c.order-s-items.result.now 0 []),
-      no_tally (length v.fragments) c.no_search-search.result b,
+      no_tally v c.no_search-search.result b,
       spends_start v (set_cost v c.args.graph.now.inner.items) c.order-s-items.result.now 0 c.no_search-search.result,
+      opens_start v (set_lists c.args.graph.now.inner.items) c.order-s-items.result.now 0 c.no_counts-counts.result,
     )
 
 pub loop-s-preserved : goal.loop-s-preserved
@@ -31,19 +35,34 @@ loop-s-preserved g c =
       all_more v false _ _ (λ s. AtTop v s) c.order-s-items.result.now c.loop-s.s-index 0 (λ r z. (get_or c.order-s-items.result.now c.loop-s.s-index 0, Contains-get_or c.order-s-items.result.now c.loop-s.s-index 0 c.loop-s-test.true, z)) c.loop-s.invariant.2 c.in_ok-search_set.ensures.real,
       c.in_ok-search_set.ensures.done.keeps c.loop-s.invariant.3,
       spends_next v (set_cost v c.args.graph.now.inner.items) c.order-s-items.result.now 0 c.loop-s.s-index _ _ _ c.loop-s-test.true c.loop-s.invariant.4 c.in_ok-search_set.ensures.spends,
+      opens_next v (set_lists c.args.graph.now.inner.items) c.order-s-items.result.now 0 c.loop-s.s-index _ _ _ c.loop-s-test.true c.loop-s.invariant.5 c.in_ok-search_set.ensures.counts,
     )
 
 pub returns : goal.returns
 returns g c =
     let v = world g.J.Judge.judgement c.args.graph.now in
-    let m = c.loop-s.search in
+    let s = c.loop-s.search in
+    let m = c.add_counts.new.search in
+    let inner = c.args.graph.now.inner.items in
+    let order = c.order-s-items.result.now in
     let n : length v.fragments < 2 ^ 63 = omega (arith, c.args.graph.now.fragments.ok.0, c.args.graph.now.fragments.ok.1, c.args.graph.now.fragments.small) in
+    let added = c.add_counts.ensures in
+    let none = c.no_counts-counts.ensures in
+    let tops = opens_list v (set_lists inner) order 0 c.loop-s.s-index (top_lists inner order) _ _ c.loop-s-test.false (omega arith) c.loop-s.invariant.5 in
     record {
-      judged = judged_at v m c.args.graph.now.order.items c.order-s-items.result.now c.loop-s.s-index c.loop-s.invariant.0 c.loop-s-test.false c.args.graph.now.falling c.args.graph.now.listed c.loop-s.invariant.1 c.loop-s.invariant.2;
-      few = at_most (length v.fragments) m c.loop-s.invariant.3;
-      enough = λ room ps h. at_least v (length v.fragments) m c.order-s-items.result.now (all_tops v m c.order-s-items.result.now c.loop-s.s-index c.loop-s-test.false (c.loop-s.invariant.1 m (grows_same m) room).1) c.loop-s.invariant.3 (small_square (length v.fragments) n) ps (subst (λ zs. Together v zs ps) (sym c.loop-s.invariant.0) h);
-      opened = c.loop-s.invariant.3.opened;
-      compares = subst (λ order. m.judged ≤ 4 * search_cost v c.args.graph.now.inner.items order) c.loop-s.invariant.0
-          (all_compared v c.args.graph.now.inner.items c.order-s-items.result.now c.no_search-search.result m c.no_search-search.ensures.judged
-          (spends_list v (set_cost v c.args.graph.now.inner.items) c.order-s-items.result.now 0 c.loop-s.s-index _ _ _ c.loop-s-test.false (omega arith) c.loop-s.invariant.4));
+      judged = subst (λ f. Judged v c.args.graph.now.order.items f.items) (sym added.found)
+          (judged_at v s c.args.graph.now.order.items order c.loop-s.s-index c.loop-s.invariant.0 c.loop-s-test.false c.args.graph.now.falling c.args.graph.now.listed c.loop-s.invariant.1 c.loop-s.invariant.2);
+      few = subst (λ (k : ℕ). k ≤ length v.fragments * (length v.fragments - 1)) (sym added.compared) (at_most v s c.loop-s.invariant.3);
+      enough = λ room ps h. subst (λ (k : ℕ). length ps ≤ k) (sym added.compared)
+          (at_least v s order (all_tops v s order c.loop-s.s-index c.loop-s-test.false (c.loop-s.invariant.1 s (grows_same s) (subst (λ f. HasRoom v f.items) added.found room)).1)
+          c.loop-s.invariant.3 (small_square (length v.fragments) n) ps (subst (λ zs. Together v zs ps) (sym c.loop-s.invariant.0) h));
+      opened = opened_by_lists v inner order _ _ s m none.lists none.opened none.looked tops c.loop-s.invariant.3 added.lists added.opened added.looked;
+      linear = subst (λ zs. m.opened ≤ length v.fragments * most_openings v inner zs) c.loop-s.invariant.0
+          (opened_linear v inner order _ _ s m none.lists none.opened none.looked tops c.loop-s.invariant.3 added.lists added.opened added.looked);
+      looked = subst (λ zs. m.looked ≤ all_spreads v * most_openings v inner zs) c.loop-s.invariant.0
+          (looked_linear v inner order _ _ s m none.lists none.opened none.looked tops c.loop-s.invariant.3 added.lists added.opened added.looked);
+      compares = subst (λ (k : ℕ). k ≤ 4 * search_cost v inner c.args.graph.now.order.items) (sym added.judged)
+          (subst (λ zs. s.judged ≤ 4 * search_cost v inner zs) c.loop-s.invariant.0
+          (all_compared v inner order c.no_search-search.result s c.no_search-search.ensures.judged
+          (spends_list v (set_cost v inner) order 0 c.loop-s.s-index _ _ _ c.loop-s-test.false (omega arith) c.loop-s.invariant.4)));
     }

@@ -36,11 +36,8 @@ returns-then-is_empty-clause-real g c =
 pub write_out-requires : goal.write_out-requires
 write_out-requires g c =
     let n = length c.args.graph.now.fragments.items in
-    record {
-      some = c.requires.some;
-      starts = subst (λ zs. All (λ k. k < n) zs) (sym c.as_slice.ensures.value)
-          (All-weaker (λ k. Contains c.args.list.now k) (λ k. k < n) (λ k there. All-contains (λ k. k < n) c.args.list.now k c.requires.list there) c.in_ok-others.others.items c.in_ok-others.ensures.only);
-    }
+    subst (λ zs. All (λ k. k < n) zs) (sym c.as_slice.ensures.value)
+    (All-weaker (λ k. Contains c.args.list.now k) (λ k. k < n) (λ k there. All-contains (λ k. k < n) c.args.list.now k c.requires.list there) c.in_ok-others.others.items c.in_ok-others.ensures.only)
 
 pub returns : goal.returns
 returns g c =
@@ -52,4 +49,5 @@ returns g c =
       done = on_ok_weaker c.write_out.result (λ d. did_map v _ _ (λ M all. all_written v M s list c.as_slice.result.now but all) d) c.write_out.ensures.done;
       real = on_ok_weaker c.write_out.result (λ d. told_written v s list c.as_slice.result.now but d) c.write_out.ensures.real;
       spends = c.write_out.ensures.spends;
+      counts = c.write_out.ensures.counts;
     }
