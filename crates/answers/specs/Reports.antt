@@ -4,8 +4,8 @@ use Rattle.std.specs.Str.{IsValidUpTo}
 use Rattle.error_report.specs.Json.{report_text}
 use Rattle.language.specs.declared.position.SourcePosition.{SourcePosition}
 use Rattle.language.specs.Position.{index_of, line_of, column_of}
-use Rattle.lint_report.specs.Lines.{line_ends}
-use Rattle.lint_report.specs.ShownLines.{column_after}
+use Rattle.lint_sources.specs.Lines.{line_ends}
+use Rattle.lint_sources.specs.ShownLines.{column_after}
 
 -- the report has one error of the text, at this place
 pub record IsRefusal (text : List ℕ) (position : SourcePosition) (report : List ℕ) : Type 0 where

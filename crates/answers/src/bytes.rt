@@ -6,7 +6,7 @@ ghost use Rattle.answers.specs.Reports.{IsNotUtf8};
 
 use crate::reports::{Answer, Verdict, refusal};
 use language::error::OutOfMemory;
-use lint_report::text_places::position_at;
+use lint_sources::text_places::position_at;
 use std::alloc::Global;
 use std::str::{self, Utf8Error};
 

@@ -8,7 +8,7 @@ ghost use Rattle.lint_report.specs.Json.{number_member, text_member};
 use json::{Pretty, Token};
 use language::error::OutOfMemory;
 use language::position::SourcePosition;
-use lint_report::text_places::characters_before;
+use lint_sources::text_places::characters_before;
 use std::alloc::{AllocError, Global};
 use walk::RuleError;
 

@@ -7,7 +7,7 @@ use Rattle.std.specs.Io.KnownBytes.{Appends, Keeps}
 use Rattle.lint_app.specs.Ended.{EndsEarly, IsFaultReport, WritesPart, WritesSome}
 use Rattle.lint_args.specs.declared.task.Form.{Form}
 use Rattle.lint_args.specs.declared.task.Form.TheVariants as form
-use Rattle.lint_report.specs.declared.faults.Fault.{Fault}
+use Rattle.lint_sources.specs.declared.faults.Fault.{Fault}
 
 pub slice-end : (bytes : List ℕ) (from : ℕ) → take (length bytes - from) (drop from bytes) ≡ drop from bytes
 slice-end bytes from = let len = length-drop from bytes in take_all (length bytes - from) (drop from bytes) (omega arith)

@@ -1,8 +1,8 @@
 -- The text of a report on no file, and on some.
 use Rattle.std.proofs.Common.{◌≡◌, ◌≢◌, ℕ, ◌-◌, zero, suc, Bool, List, codes, refl, sym, subst}
 use Rattle.lint_app.specs.Tasks.{IsTextOn}
-use Rattle.lint_report.specs.declared.issues.Issue.{Issue}
-use Rattle.lint_report.specs.declared.sources.Source.{Source}
+use Rattle.lint_sources.specs.declared.issues.Issue.{Issue}
+use Rattle.lint_sources.specs.declared.sources.Source.{Source}
 use Rattle.lint_report.specs.Texts.{IsTextReport}
 
 pub on_none : (files : ℕ) (coloured : Bool) (sources : List Source) (issues : List Issue) (judged : ℕ) (text : List ℕ) → files ≡ 0 → text ≡ codes "no errors in the schema\n"

@@ -21,10 +21,10 @@ use Rattle.lint_app.specs.Paths.{AddsEach, Paths, StandsFor}
 use Rattle.lint_app.specs.Told.{Adds, AddsIf, AreErrorsOf, AreFaultsOf, AreToldAs, Document, FaultsAt, FaultsIn, FurtherOf, GivenValues, IsErrorFree, IsFileOf, IsReadOf, Root, TellsDocument, TellsFaultsAt, TellsFaultsIn, TellsFile, TellsFiles, issues_of, limit_notes, limit_text}
 use Rattle.lint_args.proofs.Distinct.{distinct-append}
 use Rattle.lint_args.specs.Asks.{added_once, distinct, word_texts}
-use Rattle.lint_report.specs.declared.issues.Issue.{Issue}
-use Rattle.lint_report.specs.declared.sources.Joined.{Joined}
-use Rattle.lint_report.specs.declared.sources.Source.{Source}
-use Rattle.lint_report.specs.Issues.{IsIssueIn}
+use Rattle.lint_sources.specs.declared.issues.Issue.{Issue}
+use Rattle.lint_sources.specs.declared.sources.Joined.{Joined}
+use Rattle.lint_sources.specs.declared.sources.Source.{Source}
+use Rattle.lint_sources.specs.Issues.{IsIssueIn}
 use Rattle.sdl_scalars.specs.Checks.{MayAnswer}
 use Rattle.sdl_scalars.specs.declared.scalar.SourceScalar.{SourceScalar}
 use Rattle.sdl_scalars.specs.SourceScalar.{source_str, source_text}

@@ -14,7 +14,7 @@ use Rattle.lint_args.specs.Asks.{AsksFor, IsRefusal, IsRequest, input_count, wor
 use Rattle.lint_args.specs.declared.task.Form.{Form}
 use Rattle.lint_args.specs.declared.task.Form.TheVariants as form
 use Rattle.lint_args.specs.declared.task.Task.{Task}
-use Rattle.lint_report.specs.declared.faults.Fault.{Fault}
+use Rattle.lint_sources.specs.declared.faults.Fault.{Fault}
 use Rattle.lint_report.specs.Github.{github_text}
 use Rattle.lint_report.specs.Json.{json_text}
 

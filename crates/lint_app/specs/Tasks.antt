@@ -8,9 +8,9 @@ use Rattle.lint_app.specs.Host.{Host}
 use Rattle.lint_app.specs.Paths.{ArePathsOf, Paths}
 use Rattle.lint_app.specs.Told.{AreReadOf, GivenValues, IsReport, Root}
 use Rattle.lint_app.specs.Rules.{SourceRules}
-use Rattle.lint_report.specs.declared.faults.Fault.{Fault}
-use Rattle.lint_report.specs.declared.issues.Issue.{Issue}
-use Rattle.lint_report.specs.declared.sources.Source.{Source}
+use Rattle.lint_sources.specs.declared.faults.Fault.{Fault}
+use Rattle.lint_sources.specs.declared.issues.Issue.{Issue}
+use Rattle.lint_sources.specs.declared.sources.Source.{Source}
 use Rattle.lint_report.specs.Github.{github_text}
 use Rattle.lint_report.specs.Json.{json_text}
 use Rattle.lint_report.specs.Texts.{IsTextReport}

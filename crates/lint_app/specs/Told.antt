@@ -14,11 +14,11 @@ use Rattle.lint_app.specs.declared.documents.Report.{Report}
 use Rattle.lint_app.specs.Host.{Host}
 use Rattle.lint_app.specs.Paths.{Paths}
 use Rattle.lint_app.specs.Rules.{SourceRules}
-use Rattle.lint_report.specs.declared.issues.Issue.{Issue}
-use Rattle.lint_report.specs.declared.sources.Joined.{Joined}
-use Rattle.lint_report.specs.declared.sources.Source.{Source}
-use Rattle.lint_report.specs.Issues.{IsIssueIn}
-use Rattle.lint_report.specs.Places.{HasNoFile, JoinsFile, text_of}
+use Rattle.lint_sources.specs.declared.issues.Issue.{Issue}
+use Rattle.lint_sources.specs.declared.sources.Joined.{Joined}
+use Rattle.lint_sources.specs.declared.sources.Source.{Source}
+use Rattle.lint_sources.specs.Issues.{IsIssueIn}
+use Rattle.lint_sources.specs.Places.{HasNoFile, JoinsFile, text_of}
 use Rattle.sdl_scalars.specs.declared.check.SourceCheck.{SourceCheck}
 use Rattle.sdl_scalars.specs.declared.scalar.SourceScalar.{SourceScalar}
 use Rattle.sdl_scalars.specs.Checks.{MayAnswer}

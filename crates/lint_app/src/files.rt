@@ -5,9 +5,9 @@ ghost use Rattle.lint_app.specs.Told.{AreReadOf, HasText, IsFileOf, IsJoined};
 
 use crate::colours::Colours;
 use crate::failure::Failure;
-use lint_report::faults::Fault;
-use lint_report::sources::{Joined, Place, Source};
-use lint_report::text_places::position_at;
+use lint_sources::faults::Fault;
+use lint_sources::sources::{Joined, Place, Source};
+use lint_sources::text_places::position_at;
 use std::alloc::{AllocError, Global};
 use std::{fmt, io, str};
 use validation::OutOfMemory;

@@ -8,9 +8,9 @@ use crate::files::{Inputs, read_sources};
 use crate::paths::paths_of;
 use graphql_reader::SourceScalar;
 use lint_args::task::Task;
-use lint_report::faults::Fault;
-use lint_report::sources::Source;
 use lint_schema::schema_of;
+use lint_sources::faults::Fault;
+use lint_sources::sources::Source;
 use std::alloc::Global;
 use validation::{Dialect, RootNode, SchemaType};
 

@@ -2,10 +2,10 @@
 use crate::failure::Failure;
 use crate::files::{Inputs, read_file, told_fault};
 use graphql_reader::SourceScalar;
-use lint_report::faults::Fault;
-use lint_report::json_text::JsonError;
-use lint_report::sources::{Place, Source};
-use lint_report::variables::read_variables;
+use lint_sources::faults::Fault;
+use lint_sources::json_text::JsonError;
+use lint_sources::sources::{Place, Source};
+use lint_sources::variables::read_variables;
 use std::alloc::Global;
 use std::slice;
 use validation::Variables;

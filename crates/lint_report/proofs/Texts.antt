@@ -3,11 +3,11 @@ use Rattle.std.proofs.Common.{◌≡◌, ◌∙◌, ◌+◌, ◌<◌, ◌≤◌,
 use Rattle.std.proofs.lemmas.List.{take_all, take_more}
 use Rattle.std.proofs.lemmas.List.Folds.{concat-append}
 use Rattle.std.specs.List.{AllZip, concat}
-use Rattle.lint_report.specs.declared.issues.Issue.{Issue}
-use Rattle.lint_report.specs.declared.sources.Place.{Place}
-use Rattle.lint_report.specs.declared.sources.Source.{Source}
+use Rattle.lint_sources.specs.declared.issues.Issue.{Issue}
+use Rattle.lint_sources.specs.declared.sources.Place.{Place}
+use Rattle.lint_sources.specs.declared.sources.Source.{Source}
+use Rattle.lint_sources.specs.Issues.{file_count}
 use Rattle.lint_report.specs.Colours.{error_word}
-use Rattle.lint_report.specs.Issues.{file_count}
 use Rattle.lint_report.specs.Texts.{Adds, AreNotes, AreTexts, IsErrorText, IsIssueText, IsNoteText, IsTextAt, IsTextReport, ShowsLine, last_line, line, told_place}
 
 -- one item more

@@ -2,11 +2,12 @@
 use Rattle.std.specs.Prelude.{◌==◌, ℕ, List, [], ◌∷◌, ◌++◌, chars, codes, flat_map, if◌then◌else◌, string_bytes}
 use Rattle.std.specs.Char.{encode_utf8}
 use Rattle.std.specs.Fmt.{decimal}
-use Rattle.lint_report.specs.declared.faults.Fault.{Fault}
-use Rattle.lint_report.specs.declared.issues.Issue.{Issue}
-use Rattle.lint_report.specs.declared.sources.Place.{Place}
-use Rattle.lint_report.specs.declared.sources.Source.{Source}
-use Rattle.lint_report.specs.Texts.{line, path_in, told_column, told_line}
+use Rattle.lint_sources.specs.declared.faults.Fault.{Fault}
+use Rattle.lint_sources.specs.declared.issues.Issue.{Issue}
+use Rattle.lint_sources.specs.declared.sources.Place.{Place}
+use Rattle.lint_sources.specs.declared.sources.Source.{Source}
+use Rattle.lint_sources.specs.Sources.{path_in}
+use Rattle.lint_report.specs.Texts.{line, told_column, told_line}
 
 -- what stands for a character of a message, and of a property
 abbrev pub message_character : ℕ → List ℕ

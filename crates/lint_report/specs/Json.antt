@@ -4,11 +4,12 @@ use Rattle.std.specs.Fmt.{decimal}
 use Rattle.std.specs.Str.{bytes_eq}
 use Rattle.json.specs.Layout.{pretty}
 use Rattle.json.specs.Token.{Token, begin_array, begin_object, end_array, end_object, key, number, string}
-use Rattle.lint_report.specs.declared.faults.Fault.{Fault}
-use Rattle.lint_report.specs.declared.issues.Issue.{Issue}
-use Rattle.lint_report.specs.declared.sources.Place.{Place}
-use Rattle.lint_report.specs.declared.sources.Source.{Source}
-use Rattle.lint_report.specs.Texts.{line, path_in, told_column, told_line}
+use Rattle.lint_sources.specs.declared.faults.Fault.{Fault}
+use Rattle.lint_sources.specs.declared.issues.Issue.{Issue}
+use Rattle.lint_sources.specs.declared.sources.Place.{Place}
+use Rattle.lint_sources.specs.declared.sources.Source.{Source}
+use Rattle.lint_sources.specs.Sources.{path_in}
+use Rattle.lint_report.specs.Texts.{line, told_column, told_line}
 
 -- a member with a text, and one with a number
 abbrev pub text_member : List ℕ → List ℕ → List Token

@@ -1,10 +1,5 @@
 pub mod Colours
-pub mod Faults
 pub mod Github
-pub mod Issues
 pub mod Json
-pub mod Lines
-pub mod Places
-pub mod ShownLines
 pub mod Texts
 pub mod Windows

@@ -1,17 +1,18 @@
 -- Errors as text.
-use Rattle.std.specs.Prelude.{◌≡◌, ◌==◌, ◌+◌, ◌-◌, ◌^◌, ℕ, Bool, List, [], ◌∷◌, ◌++◌, chars, codes, length, min}
-use Rattle.std.specs.Prelude.{slice_get, string_bytes, if◌then◌else◌}
+use Rattle.std.specs.Prelude.{◌≡◌, ◌==◌, ◌+◌, ◌-◌, ◌^◌, ℕ, Bool, List, [], ◌∷◌, ◌++◌, chars, codes, drop, length, min}
+use Rattle.std.specs.Prelude.{string_bytes, take, if◌then◌else◌}
 use Rattle.std.specs.Fmt.{decimal}
 use Rattle.std.specs.List.{AllZip, concat}
-use Rattle.std.specs.Option.{option_map_or}
+use Rattle.std.specs.Str.{IsCharBoundary}
 use Rattle.language.specs.Position.{line_of, column_of}
-use Rattle.lint_report.specs.declared.faults.Fault.{Fault}
-use Rattle.lint_report.specs.declared.issues.Issue.{Issue}
-use Rattle.lint_report.specs.declared.sources.Place.{Place}
-use Rattle.lint_report.specs.declared.sources.Source.{Source}
+use Rattle.lint_sources.specs.declared.faults.Fault.{Fault}
+use Rattle.lint_sources.specs.declared.issues.Issue.{Issue}
+use Rattle.lint_sources.specs.declared.sources.Place.{Place}
+use Rattle.lint_sources.specs.declared.sources.Source.{Source}
+use Rattle.lint_sources.specs.Issues.{file_count}
+use Rattle.lint_sources.specs.ShownLines.{IsLineOf, characters_before}
+use Rattle.lint_sources.specs.Sources.{path_in, text_in}
 use Rattle.lint_report.specs.Colours.{bold, error_word, plain}
-use Rattle.lint_report.specs.Issues.{file_count}
-use Rattle.lint_report.specs.ShownLines.{IsLineOf, IsSplitAt, characters_before}
 use Rattle.lint_report.specs.Windows.{window}
 
 -- a text and the end of its line
@@ -21,13 +22,6 @@ line text = text ++ 10 ∷ []
 -- a 0-based number counted from 1, up to the largest number
 abbrev pub from_one : ℕ → ℕ
 from_one n = min (n + 1) (2 ^ 64 - 1)
-
--- the path and the text of a file; empty if there is no such file
-abbrev pub path_in : List Source → ℕ → List ℕ
-path_in sources file = option_map_or (λ s. string_bytes s.path) (slice_get sources file) []
-
-abbrev pub text_in : List Source → ℕ → List ℕ
-text_in sources file = option_map_or (λ s. string_bytes s.text) (slice_get sources file) []
 
 -- line and column of a place, counted from 1, the column in characters
 abbrev pub told_line : Place → ℕ
@@ -41,6 +35,11 @@ abbrev pub told_place : Bool → List Source → Place → List ℕ
 told_place coloured sources place =
     bold coloured ++ path_in sources place.file ++ plain coloured ++ codes ":" ++ decimal (told_line place) ++ codes ":"
     ++ decimal (told_column sources place) ++ codes ": "
+
+-- what comes before a column of a line, and the rest; nothing is left if no character begins there
+pub record IsSplitAt (line : List ℕ) (column : ℕ) (before rest : List ℕ) : Type 0 where
+  pub begun : IsCharBoundary line column → (before ≡ take column line) × (rest ≡ drop column line)
+  pub all : ¬ (IsCharBoundary line column) → (before ≡ line) × (rest ≡ [])
 
 -- a window of the line of a place, and a mark below the place
 pub record ShowsLine (coloured : Bool) (sources : List Source) (place : Place) (text : List ℕ) : Type 0 where

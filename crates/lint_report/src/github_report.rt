@@ -3,11 +3,11 @@ ghost use Rattle.std.specs.Prelude.{◌≡◌, ◌++◌, IfOk, OnOk, flat_map, s
 ghost use Rattle.lint_report.specs.Github.{fault_command, github_text, issue_command, message_character, message_text};
 ghost use Rattle.lint_report.specs.Github.{place_properties, property_character, property_text};
 
-use crate::faults::Fault;
-use crate::issues::Issue;
-use crate::sources::{Place, Source};
-use crate::text_report::{path_of, told_column, told_line};
+use crate::text_report::{told_column, told_line};
 use language::error::OutOfMemory;
+use lint_sources::faults::Fault;
+use lint_sources::issues::Issue;
+use lint_sources::sources::{Place, Source, path_of};
 use std::alloc::{AllocError, Global};
 
 /// The faults and then the errors, each in order and each in a line as `::error file=path,line=1,col=1::message`. Of an

@@ -5,12 +5,12 @@ ghost use Rattle.json.specs.Layout.{pretty};
 ghost use Rattle.lint_report.specs.Json.{fault_tokens, issue_tokens, json_text, location_tokens, locations_tokens};
 ghost use Rattle.lint_report.specs.Json.{number_member, report_tokens, text_member, told_locations};
 
-use crate::faults::Fault;
-use crate::issues::Issue;
-use crate::sources::{Place, Source};
-use crate::text_report::{path_of, told_column, told_line};
+use crate::text_report::{told_column, told_line};
 use json::{Pretty, Token};
 use language::error::OutOfMemory;
+use lint_sources::faults::Fault;
+use lint_sources::issues::Issue;
+use lint_sources::sources::{Place, Source, path_of};
 use std::alloc::{AllocError, Global};
 
 /// The faults and then the errors, each in order, as a list of objects with `path`, `message` and `locations`. One with

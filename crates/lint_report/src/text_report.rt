@@ -1,17 +1,16 @@
 //! Errors as text: each with its place, a window of its line, and a mark below the place.
 ghost use Rattle.std.specs.Prelude.{◌≡◌, ◌++◌, IfOk, OnOk, Some, string_bytes};
-ghost use Rattle.lint_report.specs.ShownLines.{IsSplitAt};
 ghost use Rattle.lint_report.specs.Texts.{Adds, AreFaultTexts, AreNotes, IsErrorText, IsIssueText, IsNoteText};
-ghost use Rattle.lint_report.specs.Texts.{IsTextReport, ShowsLine, count_text, counts_text, last_line, path_in};
-ghost use Rattle.lint_report.specs.Texts.{summary_text, text_in, told_column, told_line, told_place, unjudged_text};
+ghost use Rattle.lint_report.specs.Texts.{IsSplitAt, IsTextReport, ShowsLine, count_text, counts_text, last_line};
+ghost use Rattle.lint_report.specs.Texts.{summary_text, told_column, told_line, told_place, unjudged_text};
 
 use crate::colours::{bold, error_word, plain};
-use crate::faults::Fault;
-use crate::issues::{Issue, files_of};
-use crate::sources::{Place, Source};
-use crate::text_places::{characters_before, line_of};
 use crate::windows::write_window;
 use language::error::OutOfMemory;
+use lint_sources::faults::Fault;
+use lint_sources::issues::{Issue, files_of};
+use lint_sources::sources::{Place, Source, path_of, text_of};
+use lint_sources::text_places::{characters_before, line_of};
 use std::alloc::{AllocError, Global};
 use std::fmt;
 
@@ -196,26 +195,6 @@ pub fn told_column(sources: &[Source], place: Place) -> usize
     ensures { result ≡ told_column sources.now place }
 {
     characters_before(text_of(sources, place.file), place.position).saturating_add(1)
-}
-
-/// The path of a file, or an empty one if there is no such file.
-pub fn path_of(sources: &[Source], file: usize) -> &str
-    ensures { result.now ≡ path_in sources.now file }
-{
-    match sources.get(file) {
-        Some(source) => source.path.as_str(),
-        None => "",
-    }
-}
-
-/// The text of a file, or an empty one if there is no such file.
-pub fn text_of(sources: &[Source], file: usize) -> &str
-    ensures { result.now ≡ text_in sources.now file }
-{
-    match sources.get(file) {
-        Some(source) => source.text.as_str(),
-        None => "",
-    }
 }
 
 // A window of the line of a place, and a mark below the place.

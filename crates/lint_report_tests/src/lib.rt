@@ -1,5 +1,5 @@
-//! Tests of the crate `lint_report`: positions of joined texts, errors in each form, windows of lines, and values of
-//! variables from JSON.
+//! Tests of the crates `lint_sources` and `lint_report`: positions of joined texts, errors in each form, windows of
+//! lines, and values of variables from JSON.
 #![tactic(auto)]
 
 #[cfg(test)]

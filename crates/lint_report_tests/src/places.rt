@@ -1,7 +1,7 @@
 //! The places of joined texts in their files, and lines of texts.
 use language::error::OutOfMemory;
-use lint_report::sources::Joined;
-use lint_report::text_places::{line_of, position_at};
+use lint_sources::sources::Joined;
+use lint_sources::text_places::{line_of, position_at};
 use std::alloc::{AllocError, Global};
 
 // The second file begins with the end of a line, and ends with half of one, which the line feed between the files

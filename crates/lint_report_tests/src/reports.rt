@@ -1,13 +1,13 @@
 //! Errors as text, as JSON and for GitHub.
 use language::error::OutOfMemory;
 use language::position::SourcePosition;
-use lint_report::faults::Fault;
 use lint_report::github_report::github_report;
-use lint_report::issues::Issue;
 use lint_report::json_report::json_report;
-use lint_report::sources::{Joined, Source};
-use lint_report::text_places::position_at;
 use lint_report::text_report::{faults_text, text_report};
+use lint_sources::faults::Fault;
+use lint_sources::issues::Issue;
+use lint_sources::sources::{Joined, Source};
+use lint_sources::text_places::position_at;
 use std::alloc::Global;
 
 const FILES: &[(&str, &str)] = &[

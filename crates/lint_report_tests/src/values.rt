@@ -1,7 +1,7 @@
 //! JSON as values of variables.
 use language::value::{InputValue, Variables};
-use lint_report::json_text::is_object_text;
-use lint_report::variables::read_variables;
+use lint_sources::json_text::is_object_text;
+use lint_sources::variables::read_variables;
 use sdl_scalars::scalar::SourceScalar;
 use std::alloc::{AllocError, Global};
 

@@ -5,10 +5,10 @@ use Rattle.std.proofs.lemmas.List.{append-nil, take_more}
 use Rattle.std.proofs.lemmas.Slice.Zip.{all_zipped_more}
 use Rattle.graphql_reader.specs.declared.type_system.TypeSystemDefinition.{TypeSystemDefinition}
 use Rattle.language.specs.declared.position.SourcePosition.{SourcePosition}
-use Rattle.lint_report.specs.declared.faults.Fault.{Fault}
-use Rattle.lint_report.specs.declared.sources.Joined.{Joined}
-use Rattle.lint_report.specs.declared.sources.Source.{Source}
-use Rattle.lint_report.specs.Places.{place_in}
+use Rattle.lint_sources.specs.declared.faults.Fault.{Fault}
+use Rattle.lint_sources.specs.declared.sources.Joined.{Joined}
+use Rattle.lint_sources.specs.declared.sources.Source.{Source}
+use Rattle.lint_sources.specs.Places.{place_in}
 use Rattle.lint_schema.specs.Judged.{AddsLocated, AddsMendedFaults, AddsRest, IsJudged, IsToldLocated, IsTouchedBy}
 use Rattle.lint_schema.specs.Told.{AddsFault, AddsFaultsOf, HasAllFurther, HasFurther, IsToldAt}
 use Rattle.sdl_faults.specs.Schema.{SourceSchema}

@@ -3,13 +3,13 @@ use Rattle.std.proofs.Common.{◌≡◌, ◌∙◌, ℕ, ◌+◌, ◌<◌, arith
 use Rattle.std.specs.List.{AllZip}
 use Rattle.std.proofs.lemmas.List.{take_more}
 use Rattle.std.proofs.lemmas.Slice.Zip.{all_zipped_more}
-use Rattle.lint_report.specs.declared.faults.Fault.{Fault}
-use Rattle.lint_report.specs.declared.sources.Joined.{Joined}
-use Rattle.lint_report.specs.declared.sources.Source.{Source}
-use Rattle.lint_report.specs.Places.{place_in}
-use Rattle.lint_report.specs.declared.sources.Place.{Place}
-use Rattle.lint_report.specs.Faults.{IsFault}
-use Rattle.lint_report.specs.Texts.{path_in}
+use Rattle.lint_sources.specs.declared.faults.Fault.{Fault}
+use Rattle.lint_sources.specs.declared.sources.Joined.{Joined}
+use Rattle.lint_sources.specs.declared.sources.Source.{Source}
+use Rattle.lint_sources.specs.Places.{place_in}
+use Rattle.lint_sources.specs.declared.sources.Place.{Place}
+use Rattle.lint_sources.specs.Faults.{IsFault}
+use Rattle.lint_sources.specs.Sources.{path_in}
 use Rattle.lint_schema.specs.Told.{AddsFault, AddsFaults, AddsFaultsOf, AreToldAt, IsToldAt, IsToldInLine}
 use Rattle.sdl_index.specs.declared.error.PlacedFault.{PlacedFault}
 use Rattle.sdl_index.specs.declared.error.SchemaReadError.{SchemaReadError}

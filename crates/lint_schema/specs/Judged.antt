@@ -4,12 +4,12 @@ use Rattle.std.specs.List.{AllZip}
 use Rattle.graphql_reader.specs.declared.type_system.TypeSystemDefinition.{TypeSystemDefinition}
 use Rattle.language.specs.Names.{is_among}
 use Rattle.language.specs.declared.position.SourcePosition.{SourcePosition}
-use Rattle.lint_report.specs.declared.faults.Fault.{Fault}
-use Rattle.lint_report.specs.declared.sources.Joined.{Joined}
-use Rattle.lint_report.specs.declared.sources.Source.{Source}
-use Rattle.lint_report.specs.Faults.{IsFault}
-use Rattle.lint_report.specs.Places.{place_in}
-use Rattle.lint_report.specs.Texts.{path_in}
+use Rattle.lint_sources.specs.declared.faults.Fault.{Fault}
+use Rattle.lint_sources.specs.declared.sources.Joined.{Joined}
+use Rattle.lint_sources.specs.declared.sources.Source.{Source}
+use Rattle.lint_sources.specs.Faults.{IsFault}
+use Rattle.lint_sources.specs.Places.{place_in}
+use Rattle.lint_sources.specs.Sources.{path_in}
 use Rattle.lint_schema.specs.Told.{AddsFaultsOf, HasAllFurther, IsToldAt}
 use Rattle.sdl_index.specs.declared.error.SchemaReadError.{SchemaReadError}
 use Rattle.sdl_index.specs.declared.error.SchemaReadError.TheVariants as read

@@ -3,14 +3,14 @@ use Rattle.std.specs.Prelude.{◌≡◌, ◌<◌, ◌⊎◌, ◌++◌, ℕ, List
 use Rattle.std.specs.List.{AllZip}
 use Rattle.language.specs.declared.position.SourcePosition.{SourcePosition}
 use Rattle.language.specs.Position.{index_of, line_of, column_of}
-use Rattle.lint_report.specs.declared.faults.Fault.{Fault}
-use Rattle.lint_report.specs.declared.sources.Joined.{Joined}
-use Rattle.lint_report.specs.declared.sources.Place.{Place}
-use Rattle.lint_report.specs.declared.sources.Source.{Source}
-use Rattle.lint_report.specs.Faults.{HasPlaceMore, IsFault}
-use Rattle.lint_report.specs.Places.{place_in}
-use Rattle.lint_report.specs.ShownLines.{IsLineOf}
-use Rattle.lint_report.specs.Texts.{path_in, text_in}
+use Rattle.lint_sources.specs.declared.faults.Fault.{Fault}
+use Rattle.lint_sources.specs.declared.sources.Joined.{Joined}
+use Rattle.lint_sources.specs.declared.sources.Place.{Place}
+use Rattle.lint_sources.specs.declared.sources.Source.{Source}
+use Rattle.lint_sources.specs.Faults.{HasPlaceMore, IsFault}
+use Rattle.lint_sources.specs.Places.{place_in}
+use Rattle.lint_sources.specs.ShownLines.{IsLineOf}
+use Rattle.lint_sources.specs.Sources.{path_in, text_in}
 use Rattle.sdl_index.specs.declared.error.PlacedFault.{PlacedFault}
 use Rattle.sdl_index.specs.declared.error.SchemaReadError.{SchemaReadError}
 use Rattle.sdl_index.specs.declared.error.SchemaReadError.TheVariants as read

@@ -3,10 +3,9 @@ use crate::faults::add_file_fault;
 use graphql_reader::{ReadError, read_type_system};
 use introspection::{IntrospectionError, schema_text};
 use language::error::OutOfMemory;
-use lint_report::faults::Fault;
-use lint_report::json_text::{check_syntax, is_object_text, without_mark};
-use lint_report::sources::{Joined, Place, Source};
-use lint_report::text_report::{path_of, text_of};
+use lint_sources::faults::Fault;
+use lint_sources::json_text::{check_syntax, is_object_text, without_mark};
+use lint_sources::sources::{Joined, Place, Source, path_of, text_of};
 use std::alloc::Global;
 use std::fmt;
 

@@ -1,16 +1,15 @@
 //! Faults of a schema's files.
 ghost use Rattle.std.specs.Prelude.{◌≡◌, [], IfOk, None, OnOk};
-ghost use Rattle.lint_report.specs.Faults.{IsFault};
+ghost use Rattle.lint_sources.specs.Faults.{IsFault};
 ghost use Rattle.lint_schema.specs.Told.{AddsFault, AddsFaults, AddsFaultsOf, HasFurther, IsInLine, IsToldAt};
 ghost use Rattle.lint_schema.specs.Told.{IsToldInLine};
 
 use language::error::OutOfMemory;
 use language::position::SourcePosition;
-use lint_report::faults::Fault;
-use lint_report::json_text::is_object_text;
-use lint_report::sources::{Joined, Place, Source};
-use lint_report::text_places::line_of;
-use lint_report::text_report::{path_of, text_of};
+use lint_sources::faults::Fault;
+use lint_sources::json_text::is_object_text;
+use lint_sources::sources::{Joined, Place, Source, path_of, text_of};
+use lint_sources::text_places::line_of;
 use sdl_reader::{PlacedFault, SchemaReadError};
 use std::alloc::Global;
 use std::fmt;

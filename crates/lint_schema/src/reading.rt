@@ -9,8 +9,8 @@ use crate::judging::{add_mended_faults, add_plain_faults, add_type_system_faults
 use graphql_reader::type_system::TypeSystemDefinition;
 use graphql_reader::{ReadError, SourceScalar, read_type_system};
 use language::error::OutOfMemory;
-use lint_report::faults::Fault;
-use lint_report::sources::{Joined, Source};
+use lint_sources::faults::Fault;
+use lint_sources::sources::{Joined, Source};
 use schema::model::{Dialect, SchemaTypeOf};
 use sdl_directives::STANDARD_DIRECTIVES;
 use sdl_mending::{Mended, Touched, mended_text};

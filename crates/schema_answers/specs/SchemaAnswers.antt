@@ -2,7 +2,7 @@
 use Rattle.std.specs.Prelude.{◌≡◌, ◌<◌, ℕ, List, [], length, string_bytes}
 use Rattle.std.specs.Str.{IsUtf8}
 use Rattle.answers.specs.Reports.{IsNotUtf8}
-use Rattle.lint_report.specs.declared.faults.Fault.{Fault}
+use Rattle.lint_sources.specs.declared.faults.Fault.{Fault}
 use Rattle.lint_report.specs.Json.{json_text}
 use Rattle.schema.specs.declared.model.dialect.Dialect.{Dialect}
 use Rattle.schema_answers.specs.declared.schemas.SchemaAnswer.{SchemaAnswer}

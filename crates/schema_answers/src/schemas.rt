@@ -5,10 +5,10 @@ ghost use Rattle.schema_answers.specs.SchemaAnswers.{HasFaults, IsSchemaAnswer, 
 use answers::not_utf8_report;
 use graphql_reader::SourceScalar;
 use language::error::OutOfMemory;
-use lint_report::faults::Fault;
 use lint_report::json_report::json_report;
-use lint_report::sources::Source;
 use lint_schema::schema_of;
+use lint_sources::faults::Fault;
+use lint_sources::sources::Source;
 use schema::model::{Dialect, SchemaType};
 use std::alloc::Global;
 use std::str;

@@ -2,7 +2,7 @@ use Rattle.std.proofs.Common.{subst}
 use Rattle.std.proofs.lemmas.List.{take_all}
 use Rattle.lint_app.specs.Told.{Adds, AreToldAs}
 use Rattle.lint_app.proofs.Telling.{told_more}
-use Rattle.lint_report.specs.Issues.{IsIssueIn}
+use Rattle.lint_sources.specs.Issues.{IsIssueIn}
 use Rattle.lint_app.proofs.documents.add_errors.Goals as goal
 
 -- one more error

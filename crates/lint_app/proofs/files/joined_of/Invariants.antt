@@ -1,6 +1,6 @@
 use Rattle.std.proofs.Common.{drop}
 use Rattle.lint_app.specs.Told.{JoinsFiles}
-use Rattle.lint_report.specs.declared.sources.Joined.{Joined}
+use Rattle.lint_sources.specs.declared.sources.Joined.{Joined}
 use Rattle.lint_app.proofs.files.joined_of.Given as goal
 
 -- what joins the other files behind these joins all

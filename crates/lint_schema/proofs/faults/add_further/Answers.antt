@@ -1,7 +1,7 @@
 use Rattle.std.proofs.Common.{inl, inr, refl, subst}
 use Rattle.std.proofs.lemmas.Result.{on_ok_weaker}
-use Rattle.lint_report.specs.Faults.{HasPlaceMore}
-use Rattle.lint_report.specs.ShownLines.{IsLineOf}
+use Rattle.lint_sources.specs.Faults.{HasPlaceMore}
+use Rattle.lint_sources.specs.ShownLines.{IsLineOf}
 use Rattle.lint_schema.proofs.faults.add_further.Goals as goal
 
 -- no place in an introspection result

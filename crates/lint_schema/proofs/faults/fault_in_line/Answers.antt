@@ -1,7 +1,7 @@
 use Rattle.std.proofs.Common.{Some, subst}
 use Rattle.std.proofs.lemmas.Result.{IfOk-weaker}
-use Rattle.lint_report.specs.Faults.{IsFault}
-use Rattle.lint_report.specs.ShownLines.{IsLineOf}
+use Rattle.lint_sources.specs.Faults.{IsFault}
+use Rattle.lint_sources.specs.ShownLines.{IsLineOf}
 use Rattle.lint_schema.proofs.faults.fault_in_line.Goals as goal
 
 -- the fault has the line of the place

@@ -1,6 +1,6 @@
 use Rattle.std.proofs.Common.{IfOk, [], None, inl, inr, subst}
 use Rattle.std.proofs.lemmas.Result.{IfOk-weaker}
-use Rattle.lint_report.specs.Faults.{IsFault}
+use Rattle.lint_sources.specs.Faults.{IsFault}
 use Rattle.lint_schema.proofs.faults.placed_fault.Goals as goal
 
 -- without a place

@@ -1,5 +1,5 @@
 use Rattle.std.proofs.Common.{IfOk, [], None, Some, string_bytes, subst, sym}
-use Rattle.lint_report.specs.Faults.{IsFault}
+use Rattle.lint_sources.specs.Faults.{IsFault}
 use Rattle.lint_schema.specs.Judged.{IsToldIn}
 use Rattle.lint_schema.specs.Told.{IsToldAt}
 use Rattle.lint_schema.proofs.judging.first_told.Goals as goal

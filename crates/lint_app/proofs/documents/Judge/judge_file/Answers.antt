@@ -1,6 +1,6 @@
 use Rattle.std.proofs.Common.{refl, subst}
 use Rattle.lint_app.proofs.Telling.{some_as}
-use Rattle.lint_report.specs.Places.{JoinsFile}
+use Rattle.lint_sources.specs.Places.{JoinsFile}
 use Rattle.lint_app.proofs.documents.Judge.judge_file.Goals as goal
 
 -- the text has this file alone
