@@ -5,9 +5,7 @@ use Rattle.meta.specs.declared.kinds.MetaTypeOf.{MetaTypeOf}
 use Rattle.schema_validation.specs.declared.directives.DirectiveType.{DirectiveType}
 use Rattle.schema.specs.Catalog.{Catalog}
 use Rattle.type_system_report.specs.Fault.{FaultValue}
-use Rattle.type_system.specs.Ancestors.{wrong_ancestors}
-use Rattle.type_system.specs.ImplementedTypes.{wrong_interfaces}
-use Rattle.type_system.specs.InterfaceFields.{unmet_interfaces}
+use Rattle.type_system_interfaces.specs.All.{interface_faults}
 use Rattle.type_system.specs.OutputTypes.{wrong_output_types}
 use Rattle.type_system.specs.RequiredMembers.{deprecated_directive_arguments, deprecated_members}
 use Rattle.type_system.specs.ReservedNames.{reserved_directive, reserved_names}
@@ -29,13 +27,9 @@ module _ {S C : Type 0} (schema : Catalog S C) where
   abbrev pub own_faults : MetaTypeOf S C → List FaultValue
   own_faults t = reserved_names schema t ++ missing_fields schema t ++ missing_values t ++ missing_members t
 
-  -- what a type implements that it may not, what it must implement besides, and what it does not meet of that
-  abbrev pub interface_faults : MetaTypeOf S C → List FaultValue
-  interface_faults t = wrong_interfaces schema t ++ wrong_ancestors t schema ++ unmet_interfaces schema t
-
   -- the faults of a type
   abbrev pub type_faults : MetaTypeOf S C → List FaultValue
-  type_faults t = own_faults t ++ wrong_output_types schema t ++ interface_faults t ++ member_faults t
+  type_faults t = own_faults t ++ wrong_output_types schema t ++ interface_faults schema t ++ member_faults t
 
   -- those of the roots, and then those of each type in the order of the schema
   abbrev pub all_faults : List FaultValue

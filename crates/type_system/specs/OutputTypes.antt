@@ -11,7 +11,7 @@ use Rattle.schema.specs.Catalog.{Catalog, type_in}
 use Rattle.type_system_report.specs.declared.fault.CoordinateOf.TheVariants as c
 use Rattle.type_system_report.specs.declared.fault.FaultKindOf.TheVariants as k
 use Rattle.type_system_report.specs.Fault.{FaultValue, fault_if}
-use Rattle.type_system.specs.Members.{name_in}
+use Rattle.type_system_interfaces.specs.Members.{name_in}
 
 module _ {S C : Type 0} where
   -- an input object, the only kind that is no output type

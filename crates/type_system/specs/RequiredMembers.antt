@@ -11,8 +11,8 @@ use Rattle.schema_validation.specs.declared.directives.DirectiveType.{DirectiveT
 use Rattle.type_system_report.specs.declared.fault.CoordinateOf.TheVariants as c
 use Rattle.type_system_report.specs.declared.fault.FaultKindOf.TheVariants as k
 use Rattle.type_system_report.specs.Fault.{FaultValue, fault_if}
-use Rattle.type_system.specs.Arguments.{is_required}
-use Rattle.type_system.specs.Members.{name_in}
+use Rattle.type_system_interfaces.specs.Arguments.{is_required}
+use Rattle.type_system_interfaces.specs.Members.{name_in}
 
 module _ {S : Type 0} where
   -- non-null, with no default value, and deprecated

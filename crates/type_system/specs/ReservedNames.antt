@@ -13,7 +13,7 @@ use Rattle.type_system_report.specs.declared.fault.CoordinateOf.TheVariants as c
 use Rattle.type_system_report.specs.declared.fault.FaultKindOf.TheVariants as k
 use Rattle.type_system_report.specs.Fault.{CoordinateValue, FaultValue, fault_if, last_name}
 use Rattle.type_system.specs.Introspected.{is_introspection_field, is_introspection_type, is_reserved}
-use Rattle.type_system.specs.Members.{name_in, values_of}
+use Rattle.type_system_interfaces.specs.Members.{name_in, values_of}
 
 -- the last name of a coordinate, if it is reserved
 abbrev pub reserved_name : CoordinateValue → List FaultValue

@@ -7,7 +7,7 @@ use Rattle.meta.specs.declared.kinds.MetaTypeOf.{MetaTypeOf}
 use Rattle.type_system_report.specs.declared.fault.CoordinateOf.TheVariants as c
 use Rattle.type_system_report.specs.declared.fault.FaultKindOf.TheVariants as k
 use Rattle.type_system_report.specs.Fault.{FaultValue, fault_if}
-use Rattle.type_system.specs.Members.{name_in, values_of}
+use Rattle.type_system_interfaces.specs.Members.{name_in, values_of}
 
 -- `true`, `false` and `null`
 abbrev pub is_reserved_value : List ℕ → Bool

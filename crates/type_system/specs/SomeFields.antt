@@ -9,7 +9,7 @@ use Rattle.type_system_report.specs.declared.fault.CoordinateOf.TheVariants as c
 use Rattle.type_system_report.specs.declared.fault.FaultKindOf.TheVariants as k
 use Rattle.type_system_report.specs.Fault.{FaultValue, fault_if}
 use Rattle.type_system.specs.Introspected.{is_introspection_field}
-use Rattle.type_system.specs.Members.{name_in}
+use Rattle.type_system_interfaces.specs.Members.{name_in}
 
 module _ {S C : Type 0} (schema : Catalog S C) where
   -- all fields of the type of this name are those of introspection

@@ -6,8 +6,8 @@ use Rattle.schema_validation.specs.Names.{members_of}
 use Rattle.type_system_report.specs.declared.fault.CoordinateOf.TheVariants as c
 use Rattle.type_system_report.specs.declared.fault.FaultKindOf.TheVariants as k
 use Rattle.type_system_report.specs.Fault.{FaultValue, fault_if}
-use Rattle.type_system.specs.Entries.{each_entry}
-use Rattle.type_system.specs.Members.{name_in}
+use Rattle.type_system_interfaces.specs.Entries.{each_entry}
+use Rattle.type_system_interfaces.specs.Members.{name_in}
 
 module _ {S C : Type 0} (t : MetaTypeOf S C) where
   -- a member that is also one of those after it

@@ -5,13 +5,9 @@ ghost use Rattle.std.specs.List.Sorted.{IsPermutation, IsSorted};
 ghost use Rattle.language.specs.References.{list_copied};
 ghost use Rattle.schema.specs.Ordered.{directive_cmp};
 ghost use Rattle.schema_validation.specs.declared.directives.DirectiveType.{DirectiveType};
-ghost use Rattle.type_system.specs.All.{all_faults, directive_faults, interface_faults, member_faults, own_faults};
-ghost use Rattle.type_system.specs.All.{type_faults};
+ghost use Rattle.type_system.specs.All.{all_faults, directive_faults, member_faults, own_faults, type_faults};
 ghost use Rattle.type_system_report.specs.Fault.{reported};
 
-use crate::ancestors::report_wrong_ancestors;
-use crate::implemented_types::report_wrong_interfaces;
-use crate::interface_fields::report_unmet_interfaces;
 use crate::output_types::report_wrong_output_types;
 use crate::required_members::{report_deprecated_directive, report_deprecated_members};
 use crate::reserved_names::{report_reserved_directive, report_reserved_names};
@@ -26,6 +22,7 @@ use language::error::OutOfMemory;
 use schema::meta::MetaTypeOf;
 use schema::model::{DirectiveType, SchemaTypeOf};
 use std::alloc::Global;
+use type_system_interfaces::report_interface_faults;
 use type_system_report::Fault;
 
 /// The faults of a schema: first those of its roots and types, as [`type_system_faults`] has them, and then those of
@@ -132,19 +129,6 @@ fn report_type<'a, S, C>(
     report_wrong_output_types(faults, schema, meta)?;
     report_interface_faults(faults, schema, meta)?;
     report_member_faults(faults, meta)
-}
-
-// Reports the faults of what a type implements.
-fn report_interface_faults<'a, S, C>(
-    faults: &mut Vec<Fault<'a>>,
-    schema: &'a SchemaTypeOf<S, C>,
-    meta: &'a MetaTypeOf<S, C>,
-) -> Result<(), OutOfMemory>
-    ensures { OnOk result (reported faults.new ≡ reported faults.old ++ interface_faults schema.now meta.now) }
-{
-    report_wrong_interfaces(faults, schema, meta)?;
-    report_wrong_ancestors(faults, schema, meta)?;
-    report_unmet_interfaces(faults, schema, meta)
 }
 
 // Reports the faults of members that are there.

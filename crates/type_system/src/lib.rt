@@ -1,19 +1,9 @@
 //! Faults of a type system: where a schema is other than GraphQL, October 2021, section 3 asks.
 #![tactic(auto)]
 
-mod added_arguments;
 pub mod all;
-mod ancestors;
-mod field_types;
-mod implemented_types;
-mod interface_arguments;
-mod interface_fields;
 mod introspected;
-mod layers;
-mod listed;
-mod members;
 mod output_types;
-mod pair;
 mod required_members;
 mod reserved_names;
 mod reserved_values;

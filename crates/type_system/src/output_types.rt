@@ -4,10 +4,10 @@ ghost use Rattle.type_system_report.specs.Fault.{reported};
 ghost use Rattle.type_system.specs.OutputTypes.{is_input_object, is_input_object_named, wrong_output_type};
 ghost use Rattle.type_system.specs.OutputTypes.{wrong_output_types};
 
-use crate::members::{fields, type_name};
 use language::error::OutOfMemory;
 use schema::meta::{Field, MetaTypeOf};
 use schema::model::SchemaTypeOf;
+use type_system_interfaces::members::{fields, type_name};
 use type_system_report::report::report;
 use type_system_report::{CoordinateOf, Fault, FaultKindOf};
 

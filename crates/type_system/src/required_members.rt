@@ -6,11 +6,10 @@ ghost use Rattle.type_system.specs.RequiredMembers.{deprecated_argument, depreca
 ghost use Rattle.type_system.specs.RequiredMembers.{deprecated_directive_argument, deprecated_directive_arguments};
 ghost use Rattle.type_system.specs.RequiredMembers.{deprecated_input_field, deprecated_members, is_required_deprecated};
 
-use crate::added_arguments::is_required;
-use crate::members::{arguments, fields, input_fields, type_name};
 use language::error::OutOfMemory;
 use schema::meta::{Argument, Field, MetaTypeOf};
 use schema::model::DirectiveType;
+use type_system_interfaces::members::{arguments, fields, input_fields, is_required, type_name};
 use type_system_report::report::report;
 use type_system_report::{CoordinateOf, Fault, FaultKindOf};
 

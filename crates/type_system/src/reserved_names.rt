@@ -7,10 +7,10 @@ ghost use Rattle.type_system.specs.ReservedNames.{reserved_field, reserved_input
 ghost use Rattle.type_system.specs.ReservedNames.{reserved_value};
 
 use crate::introspected::{is_introspection_field, is_introspection_type, is_reserved};
-use crate::members::{arguments, enum_values, fields, input_fields, type_name};
 use language::error::OutOfMemory;
 use schema::meta::{Argument, EnumValue, Field, MetaTypeOf};
 use schema::model::{DirectiveType, SchemaTypeOf};
+use type_system_interfaces::members::{arguments, enum_values, fields, input_fields, type_name};
 use type_system_report::report::report;
 use type_system_report::{Coordinate, CoordinateOf, Fault, FaultKindOf};
 

@@ -3,9 +3,9 @@ ghost use Rattle.std.specs.Prelude.{◌≡◌, ◌++◌, OnOk};
 ghost use Rattle.type_system_report.specs.Fault.{reported};
 ghost use Rattle.type_system.specs.ReservedValues.{is_reserved_value, reserved_value, reserved_values};
 
-use crate::members::{enum_values, type_name};
 use language::error::OutOfMemory;
 use schema::meta::{EnumValue, MetaTypeOf};
+use type_system_interfaces::members::{enum_values, type_name};
 use type_system_report::report::report;
 use type_system_report::{CoordinateOf, Fault, FaultKindOf};
 

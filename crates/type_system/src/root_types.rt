@@ -4,11 +4,11 @@ ghost use Rattle.meta.specs.Kinds.{name_of_meta};
 ghost use Rattle.type_system_report.specs.Fault.{reported};
 ghost use Rattle.type_system.specs.RootTypes.{root_name, shared_root, shared_roots};
 
-use crate::members::type_name;
 use language::error::OutOfMemory;
 use language::tree::OperationType;
 use schema::meta::MetaTypeOf;
 use schema::model::SchemaTypeOf;
+use type_system_interfaces::members::type_name;
 use type_system_report::report::report;
 use type_system_report::{CoordinateOf, Fault, FaultKindOf};
 

@@ -4,10 +4,10 @@ ghost use Rattle.type_system_report.specs.Fault.{reported};
 ghost use Rattle.type_system.specs.SomeFields.{are_introspections, has_no_fields, missing_fields};
 
 use crate::introspected::is_introspection_field;
-use crate::members::{fields, input_fields, type_name};
 use language::error::OutOfMemory;
 use schema::meta::{Field, MetaTypeOf};
 use schema::model::SchemaTypeOf;
+use type_system_interfaces::members::{fields, input_fields, type_name};
 use type_system_report::report::report;
 use type_system_report::{CoordinateOf, Fault, FaultKindOf};
 

@@ -3,10 +3,10 @@ ghost use Rattle.std.specs.Prelude.{◌≡◌, ◌++◌, OnOk, map, string_bytes
 ghost use Rattle.type_system_report.specs.Fault.{reported};
 ghost use Rattle.type_system.specs.UniqueMembers.{repeated_member, repeated_members};
 
-use crate::listed::is_text_among;
-use crate::members::{type_name, union_members};
 use language::error::OutOfMemory;
 use schema::meta::MetaTypeOf;
+use type_system_interfaces::listed::is_text_among;
+use type_system_interfaces::members::{type_name, union_members};
 use type_system_report::report::report;
 use type_system_report::{CoordinateOf, Fault, FaultKindOf};
 

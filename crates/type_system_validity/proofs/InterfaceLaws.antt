@@ -14,16 +14,16 @@ use Rattle.schema.specs.Catalog.{Catalog, type_in}
 use Rattle.schema_validation.specs.Names.{interfaces_of}
 use Rattle.type_system_report.specs.declared.fault.CoordinateOf.TheVariants as c
 use Rattle.type_system_report.specs.declared.fault.FaultKindOf.TheVariants as k
-use Rattle.type_system.specs.AddedArguments.{added_argument, added_arguments}
-use Rattle.type_system.specs.Ancestors.{unnamed, wrong_ancestor, wrong_ancestors, wrong_ancestors_by}
-use Rattle.type_system.specs.Arguments.{argument_named, is_required}
-use Rattle.type_system.specs.FieldTypes.{is_field_type, wrong_field_type}
-use Rattle.type_system.specs.ImplementedTypes.{implemented_again, is_interface, is_interface_named, no_interface, own_interface, wrong_interfaces}
-use Rattle.type_system.specs.InterfaceArguments.{unmet_argument, unmet_arguments, unmet_by as unmet_argument_by}
-use Rattle.type_system.specs.InterfaceFields.{unmet_by, unmet_field, unmet_interfaces, unmet_named, unmet_pair}
-use Rattle.type_system.specs.Members.{name_in}
-use Rattle.type_system.specs.Pair.{PairValue, given_argument, given_field, wanted_argument, wanted_field}
-use Rattle.type_system.specs.SameTypes.{is_same_type}
+use Rattle.type_system_interfaces.specs.AddedArguments.{added_argument, added_arguments}
+use Rattle.type_system_interfaces.specs.Ancestors.{unnamed, wrong_ancestor, wrong_ancestors, wrong_ancestors_by}
+use Rattle.type_system_interfaces.specs.Arguments.{argument_named, is_required}
+use Rattle.type_system_interfaces.specs.FieldTypes.{is_field_type, wrong_field_type}
+use Rattle.type_system_interfaces.specs.ImplementedTypes.{implemented_again, is_interface, is_interface_named, no_interface, own_interface, wrong_interfaces}
+use Rattle.type_system_interfaces.specs.InterfaceArguments.{unmet_argument, unmet_arguments, unmet_by as unmet_argument_by}
+use Rattle.type_system_interfaces.specs.InterfaceFields.{unmet_by, unmet_field, unmet_interfaces, unmet_named, unmet_pair}
+use Rattle.type_system_interfaces.specs.Members.{name_in}
+use Rattle.type_system_interfaces.specs.Pair.{PairValue, given_argument, given_field, wanted_argument, wanted_field}
+use Rattle.type_system_interfaces.specs.SameTypes.{is_same_type}
 use Rattle.type_system_validity.specs.Implementation.{HasSameType, Implements, ImplementsFields, ImplementsFieldsOf, IsImplemented}
 use Rattle.type_system_validity.specs.Interfaces.{ImplementsAncestors, ImplementsInterfaces, ImplementsThoseOf}
 use Rattle.type_system_validity.proofs.Iff.{NoneIff, iff_both, iff_both_entries, iff_distinct, iff_each, iff_entries, iff_if_both, iff_if_first, iff_last_entries, iff_nothing, iff_unless, iff_unless_skipped, some_fault}

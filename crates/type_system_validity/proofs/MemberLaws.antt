@@ -14,9 +14,9 @@ use Rattle.schema_validation.specs.Names.{members_of}
 use Rattle.type_system_report.specs.declared.fault.CoordinateOf.TheVariants as c
 use Rattle.type_system_report.specs.declared.fault.FaultKindOf.TheVariants as k
 use Rattle.type_system_report.specs.Fault.{CoordinateValue, KindValue, fault_if}
-use Rattle.type_system.specs.Arguments.{is_required}
+use Rattle.type_system_interfaces.specs.Arguments.{is_required}
 use Rattle.type_system.specs.Introspected.{is_introspection_field}
-use Rattle.type_system.specs.Members.{name_in, values_of}
+use Rattle.type_system_interfaces.specs.Members.{name_in, values_of}
 use Rattle.type_system.specs.OutputTypes.{is_input_object_named, wrong_output_type, wrong_output_types}
 use Rattle.type_system.specs.RequiredMembers.{deprecated_argument, deprecated_arguments, deprecated_input_field, deprecated_members}
 use Rattle.type_system.specs.ReservedValues.{is_reserved_value, reserved_value, reserved_values}

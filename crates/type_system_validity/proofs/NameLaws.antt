@@ -12,7 +12,7 @@ use Rattle.type_system_report.specs.declared.fault.CoordinateOf.TheVariants as c
 use Rattle.type_system_report.specs.declared.fault.FaultKindOf.TheVariants as k
 use Rattle.type_system_report.specs.Fault.{CoordinateValue, last_name}
 use Rattle.type_system.specs.Introspected.{is_introspection_field, is_introspection_type, is_reserved}
-use Rattle.type_system.specs.Members.{name_in, values_of}
+use Rattle.type_system_interfaces.specs.Members.{name_in, values_of}
 use Rattle.type_system.specs.ReservedNames.{reserved_argument, reserved_directive, reserved_directive_argument, reserved_field, reserved_input_field, reserved_name, reserved_names, reserved_type, reserved_value}
 use Rattle.type_system_validity.specs.Names.{HasUnreservedDirective, HasUnreservedField, HasUnreservedNames, IsUnreserved}
 use Rattle.type_system_validity.proofs.Iff.{NoneIff, iff_both, iff_each, iff_if, iff_unless_skipped}

@@ -13,10 +13,11 @@ use Rattle.schema_validation.specs.declared.directives.DirectiveType.{DirectiveT
 use Rattle.type_system_report.specs.declared.fault.CoordinateOf.TheVariants as c
 use Rattle.type_system_report.specs.declared.fault.FaultKindOf.TheVariants as k
 use Rattle.type_system_report.specs.Fault.{CoordinateValue, KindValue, fault_if}
-use Rattle.type_system.specs.All.{all_faults, directive_faults, interface_faults, member_faults, own_faults, type_faults}
-use Rattle.type_system.specs.Ancestors.{wrong_ancestors}
-use Rattle.type_system.specs.ImplementedTypes.{wrong_interfaces}
-use Rattle.type_system.specs.InterfaceFields.{unmet_interfaces}
+use Rattle.type_system.specs.All.{all_faults, directive_faults, member_faults, own_faults, type_faults}
+use Rattle.type_system_interfaces.specs.All.{interface_faults}
+use Rattle.type_system_interfaces.specs.Ancestors.{wrong_ancestors}
+use Rattle.type_system_interfaces.specs.ImplementedTypes.{wrong_interfaces}
+use Rattle.type_system_interfaces.specs.InterfaceFields.{unmet_interfaces}
 use Rattle.type_system.specs.OutputTypes.{wrong_output_types}
 use Rattle.type_system.specs.RequiredMembers.{deprecated_members}
 use Rattle.type_system.specs.ReservedNames.{reserved_names}

@@ -6,7 +6,7 @@ use Rattle.meta.specs.declared.kinds.MetaTypeOf.{MetaTypeOf}
 use Rattle.meta.specs.Arguments.{arguments_of}
 use Rattle.meta.specs.Deprecation.{is_deprecated_status}
 use Rattle.meta.specs.Kinds.{fields_of, input_fields_of}
-use Rattle.type_system.specs.Arguments.{is_required}
+use Rattle.type_system_interfaces.specs.Arguments.{is_required}
 
 -- where it is deprecated it is not required
 abbrev pub IsCurrentIfRequired : {S : Type 0} → Argument S → Type 0

@@ -11,9 +11,9 @@ use Rattle.meta.specs.Arguments.{arguments_of}
 use Rattle.meta.specs.Kinds.{field_named}
 use Rattle.schema.specs.Catalog.{Catalog, type_in}
 use Rattle.schema_validation.specs.Names.{interfaces_of}
-use Rattle.type_system.specs.Arguments.{argument_named, is_required}
-use Rattle.type_system.specs.FieldTypes.{is_field_type}
-use Rattle.type_system.specs.SameTypes.{is_same_type}
+use Rattle.type_system_interfaces.specs.Arguments.{argument_named, is_required}
+use Rattle.type_system_interfaces.specs.FieldTypes.{is_field_type}
+use Rattle.type_system_interfaces.specs.SameTypes.{is_same_type}
 
 -- there is an argument, and it has the type of this one
 abbrev pub HasSameType : {S : Type 0} → Argument S → Option (Argument S) → Type 0

@@ -7,8 +7,8 @@ use Rattle.meta.specs.declared.kinds.MetaTypeOf.{MetaTypeOf}
 use Rattle.meta.specs.declared.kinds.MetaTypeOf.TheVariants as m
 use Rattle.schema.specs.Catalog.{Catalog, type_in}
 use Rattle.schema_validation.specs.Names.{interfaces_of}
-use Rattle.type_system.specs.ImplementedTypes.{is_interface, is_interface_named}
-use Rattle.type_system.specs.Members.{name_in}
+use Rattle.type_system_interfaces.specs.ImplementedTypes.{is_interface, is_interface_named}
+use Rattle.type_system_interfaces.specs.Members.{name_in}
 use Rattle.type_system_validity.specs.Members.{AreDistinct}
 
 module _ {S C : Type 0} (schema : Catalog S C) (t : MetaTypeOf S C) where

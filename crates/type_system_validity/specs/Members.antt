@@ -10,7 +10,7 @@ use Rattle.schema.specs.Catalog.{Catalog}
 use Rattle.schema_validation.specs.Named.{are_distinct}
 use Rattle.schema_validation.specs.Names.{members_of}
 use Rattle.type_system.specs.Introspected.{is_introspection_field}
-use Rattle.type_system.specs.Members.{values_of}
+use Rattle.type_system_interfaces.specs.Members.{values_of}
 use Rattle.type_system.specs.OutputTypes.{is_input_object_named}
 use Rattle.type_system.specs.ReservedValues.{is_reserved_value}
 

@@ -8,7 +8,7 @@ use Rattle.meta.specs.Kinds.{fields_of, input_fields_of}
 use Rattle.schema.specs.Catalog.{Catalog}
 use Rattle.schema_validation.specs.declared.directives.DirectiveType.{DirectiveType}
 use Rattle.type_system.specs.Introspected.{is_introspection_field, is_introspection_type, is_reserved}
-use Rattle.type_system.specs.Members.{name_in, values_of}
+use Rattle.type_system_interfaces.specs.Members.{name_in, values_of}
 
 -- the name does not begin with `__`
 abbrev pub IsUnreserved : List ℕ → Type 0

@@ -1,5 +1,5 @@
 use Rattle.type_system.specs.All.{directive_faults}
-use Rattle.type_system.proofs.Reported.{reports_next_copied}
+use Rattle.type_system_report.proofs.Reported.{reports_next_copied}
 use Rattle.type_system.proofs.all.report_directives.Goals as goal
 
 pub loop-directive-preserved : goal.loop-directive-preserved

@@ -1,9 +1,10 @@
 use Rattle.std.proofs.Common.{◌++◌}
 use Rattle.std.proofs.lemmas.Result.{on_ok_weaker}
-use Rattle.type_system.specs.All.{interface_faults, member_faults, own_faults}
+use Rattle.type_system.specs.All.{member_faults, own_faults}
+use Rattle.type_system_interfaces.specs.All.{interface_faults}
 use Rattle.type_system_report.specs.Fault.{reported}
 use Rattle.type_system.specs.OutputTypes.{wrong_output_types}
-use Rattle.type_system.proofs.Reported.{reports_both}
+use Rattle.type_system_report.proofs.Reported.{reports_both}
 use Rattle.type_system.proofs.all.report_type.Goals as goal
 
 pub returns : goal.returns

@@ -1,5 +1,5 @@
 use Rattle.type_system.specs.All.{type_faults}
-use Rattle.type_system.proofs.Reported.{reports_next_copied}
+use Rattle.type_system_report.proofs.Reported.{reports_next_copied}
 use Rattle.type_system.proofs.all.report_types.Goals as goal
 
 pub loop-meta-preserved : goal.loop-meta-preserved

@@ -1,5 +1,5 @@
 use Rattle.type_system.specs.OutputTypes.{wrong_output_type}
-use Rattle.type_system.proofs.Reported.{reports_next}
+use Rattle.type_system_report.proofs.Reported.{reports_next}
 use Rattle.type_system.proofs.output_types.report_wrong_output_types.Goals as goal
 
 pub loop-field-preserved : goal.loop-field-preserved

@@ -1,5 +1,5 @@
 use Rattle.type_system.specs.RequiredMembers.{deprecated_argument}
-use Rattle.type_system.proofs.Reported.{reports_next}
+use Rattle.type_system_report.proofs.Reported.{reports_next}
 use Rattle.type_system.proofs.required_members.report_arguments.Goals as goal
 
 pub loop-argument-preserved : goal.loop-argument-preserved

@@ -1,5 +1,5 @@
 use Rattle.type_system.specs.RequiredMembers.{deprecated_input_field}
-use Rattle.type_system.proofs.Reported.{reports_next}
+use Rattle.type_system_report.proofs.Reported.{reports_next}
 use Rattle.type_system.proofs.required_members.report_input_fields.Goals as goal
 
 pub loop-field-preserved : goal.loop-field-preserved

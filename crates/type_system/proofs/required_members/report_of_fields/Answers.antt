@@ -2,7 +2,7 @@ use Rattle.std.proofs.Common.{◌++◌, ap, string_bytes, ◌∙◌}
 use Rattle.std.specs.List.{flat_map}
 use Rattle.type_system_report.specs.Fault.{reported}
 use Rattle.type_system.specs.RequiredMembers.{deprecated_argument, deprecated_arguments}
-use Rattle.type_system.proofs.Reported.{reports_next}
+use Rattle.type_system_report.proofs.Reported.{reports_next}
 use Rattle.type_system.proofs.required_members.report_of_fields.Goals as goal
 
 pub loop-field-preserved : goal.loop-field-preserved

@@ -1,5 +1,5 @@
 use Rattle.type_system.specs.ReservedNames.{reserved_field}
-use Rattle.type_system.proofs.Reported.{reports_next}
+use Rattle.type_system_report.proofs.Reported.{reports_next}
 use Rattle.type_system.proofs.reserved_names.report_fields.Goals as goal
 
 pub loop-field-preserved : goal.loop-field-preserved

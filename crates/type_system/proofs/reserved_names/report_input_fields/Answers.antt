@@ -2,7 +2,7 @@ use Rattle.std.proofs.Common.{◌++◌, ap, ◌∙◌}
 use Rattle.type_system_report.specs.declared.fault.CoordinateOf.TheVariants as k
 use Rattle.type_system_report.specs.Fault.{reported}
 use Rattle.type_system.specs.ReservedNames.{reserved_input_field, reserved_name}
-use Rattle.type_system.proofs.Reported.{reports_next}
+use Rattle.type_system_report.proofs.Reported.{reports_next}
 use Rattle.type_system.proofs.reserved_names.report_input_fields.Goals as goal
 
 pub loop-field-preserved : goal.loop-field-preserved

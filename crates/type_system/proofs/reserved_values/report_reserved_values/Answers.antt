@@ -1,5 +1,5 @@
 use Rattle.type_system.specs.ReservedValues.{reserved_value}
-use Rattle.type_system.proofs.Reported.{reports_next}
+use Rattle.type_system_report.proofs.Reported.{reports_next}
 use Rattle.type_system.proofs.reserved_values.report_reserved_values.Goals as goal
 
 pub loop-value-preserved : goal.loop-value-preserved

@@ -1,5 +1,5 @@
 use Rattle.type_system.specs.UniqueMembers.{repeated_member}
-use Rattle.type_system.proofs.Reported.{entries_next}
+use Rattle.type_system_interfaces.proofs.Reported.{entries_next}
 use Rattle.type_system.proofs.unique_members.report_repeated_members.Goals as goal
 
 pub loop-name-preserved : goal.loop-name-preserved

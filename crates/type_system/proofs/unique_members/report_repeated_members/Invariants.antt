@@ -1,6 +1,6 @@
 use Rattle.std.proofs.Common.{◌≡◌, ◌++◌, length, map, string_bytes}
 use Rattle.type_system_report.specs.Fault.{reported}
-use Rattle.type_system.specs.Entries.{each_entry}
+use Rattle.type_system_interfaces.specs.Entries.{each_entry}
 use Rattle.type_system.specs.UniqueMembers.{repeated_member, repeated_members}
 use Rattle.type_system.proofs.unique_members.report_repeated_members.Given as goal
 

@@ -1,4 +1,0 @@
-use Rattle.type_system.proofs.field_types.is_field_type.Goals as goal
-
-pub returns : goal.returns
-returns g c = cc

@@ -1,7 +1,0 @@
-use Rattle.type_system.specs.ImplementedTypes.{wrong_entry}
-use Rattle.type_system.proofs.Reported.{entries_next}
-use Rattle.type_system.proofs.implemented_types.report_wrong_interfaces.Goals as goal
-
-pub loop-name-preserved : goal.loop-name-preserved
-loop-name-preserved g c =
-    entries_next (wrong_entry c.args.schema.now c.args.meta.now) c.loop-name.rest.now c.in-Some.others.now c.in-Some.name.now c.as_str.result.now _ _ _ c.in-Some.ensures.cases.0 c.as_str.ensures.value c.loop-name.invariant c.in_ok-report_wrong_entry.ensures

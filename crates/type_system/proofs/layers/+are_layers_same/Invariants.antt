@@ -1,5 +1,0 @@
-use Rattle.std.proofs.Common.{length}
-use Rattle.type_system.proofs.layers.+are_layers_same.Given as goal
-
-abbrev pub decreases-are_layers_same : goal.decreases-are_layers_same
-decreases-are_layers_same l = length l.left.now

@@ -1,0 +1,12 @@
+pub mod AddedArguments
+pub mod All
+pub mod Ancestors
+pub mod Arguments
+pub mod Entries
+pub mod FieldTypes
+pub mod ImplementedTypes
+pub mod InterfaceArguments
+pub mod InterfaceFields
+pub mod Members
+pub mod Pair
+pub mod SameTypes
