@@ -1,7 +1,7 @@
 -- How much a search opens, in the document's words.
-use Rattle.std.proofs.Common.{◌≡◌, ◌==◌, ◌<◌, ◌≤◌, ◌+◌, ◌*◌, ◌++◌, ◌||◌, ◌∙◌, Bool, true, false, ℕ, List, [], ◌∷◌, length, get_or, Option, Some, slice_get, ap, arith, refl, subst, sym, length-append}
+use Rattle.std.proofs.Common.{◌≡◌, ◌==◌, ◌≤◌, ◌+◌, ◌*◌, ◌++◌, ◌||◌, ◌∙◌, Bool, true, false, ℕ, List, [], ◌∷◌, length, get_or, Option, Some, slice_get, ap, arith, refl, subst, sym, length-append}
 use Rattle.std.specs.Cmp.{IsEquivalence}
-use Rattle.std.specs.List.{sum_by, list_any}
+use Rattle.std.specs.List.{sum_by}
 use Rattle.std.specs.Option.{option_map_or}
 use Rattle.std.proofs.lemmas.List.Folds.{list_any-append}
 use Rattle.std.proofs.lemmas.List.Sums.{sum_by-cons}

@@ -8,7 +8,7 @@ use Rattle.std.proofs.Math.Nat.{mul-le-mul_left}
 use Rattle.std.proofs.lemmas.Bool.{cases_order}
 use Rattle.merge_search.specs.declared.state.Search.{Search}
 use Rattle.merge_sets.specs.World.{World, spreads_of}
-use Rattle.merge_search.specs.Work.{pair_in, Pair}
+use Rattle.merge_search.specs.Work.{Pair}
 use Rattle.merge_search.specs.Counts.{Compared, Distinct, Repeats, Tally, greatest}
 use Rattle.merge_sets.specs.Opening.{NoRepeats}
 use Rattle.merge_tops.specs.Tops.{SamePair, Together, Top}
