@@ -14,7 +14,7 @@ use Rattle.merge_search.specs.Questions.{sum_below}
 use Rattle.merge_search.proofs.Tallying.{lists_more}
 use Rattle.merge_search.proofs.Worth.{asked_most}
 use Rattle.merge_tops.specs.declared.counts.TopCounts.{TopCounts}
-use Rattle.merge_tops.specs.TopCounts.{AreWithin, CountsOpening, OpensAtTop, most_openings, top_lists}
+use Rattle.merge_tops.specs.TopCounts.{AreWithin, OpensAtTop, OpensCounted, most_openings, top_lists}
 use Rattle.merge_tops.proofs.Spends.{distinct_sum}
 
 module _ (w : World) where
@@ -39,7 +39,7 @@ module _ (w : World) where
     opens_list k n a b past most p = record { lists = omega (arith, p.lists, ap (sum_by f) (take_all k xs past), most); within = p.within }
 
   -- a search opens each fragment once
-  pub opening_counted : (gs hs : List ℕ) (a b : TopCounts) → Opens w gs hs → CountsOpening (length hs) (min (sum_by (spread_count w) hs) greatest) a b → OpensAtTop w 1 a b
+  pub opening_counted : (gs hs : List ℕ) (a b : TopCounts) → Opens w gs hs → OpensCounted w hs a b → OpensAtTop w 1 a b
   opening_counted gs hs a b o c =
       let all : sum_by (spread_count w) hs ≤ all_spreads w = distinct_sum (spread_count w) (length w.fragments) hs o.once o.there in
       record {

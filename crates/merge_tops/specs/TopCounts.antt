@@ -2,7 +2,7 @@
 use Rattle.std.specs.Prelude.{ℕ, ◌+◌, ◌*◌, ◌≤◌, ◌==◌, ◌≡◌, List, cond, length, min, sum_by}
 use Rattle.merge_sets.specs.declared.node.InnerSet.{InnerSet}
 use Rattle.merge_sets.specs.World.{World}
-use Rattle.merge_search.specs.Counts.{all_spreads, greatest, most_repeats}
+use Rattle.merge_search.specs.Counts.{all_spreads, greatest, most_repeats, spread_count}
 use Rattle.merge_tops.specs.declared.counts.TopCounts.{TopCounts}
 
 -- A search was counted that opened so many fragments, and looked at so many spreads.
@@ -10,6 +10,10 @@ pub record CountsOpening (n l : ℕ) (old new : TopCounts) : Type 0 where
   pub lists : new.lists ≡ min (old.lists + 1) greatest
   pub opened : new.opened ≡ min (old.opened + n) greatest
   pub looked : new.looked ≡ min (old.looked + l) greatest
+
+-- A search was counted that opened these fragments.
+abbrev pub OpensCounted : World → List ℕ → TopCounts → TopCounts → Type 0
+OpensCounted w hs = CountsOpening (length hs) (min (sum_by (spread_count w) hs) greatest)
 
 -- Each search opened each fragment once at most, and looked at each spread once at most.
 pub record AreWithin (w : World) (c : TopCounts) : Type 0 where

@@ -5,7 +5,7 @@ ghost use Rattle.merge_search.specs.Counts.{greatest};
 ghost use Rattle.merge_search.specs.State.{CountsStay, Keeps};
 ghost use Rattle.merge_sets.specs.Opening.{Opens};
 ghost use Rattle.merge_sets.specs.World.{world};
-ghost use Rattle.merge_tops.specs.TopCounts.{CountsOpening, OpensAtTop};
+ghost use Rattle.merge_tops.specs.TopCounts.{CountsOpening, OpensCounted};
 
 use merge_search::opening::spreads_of_all;
 use merge_search::state::{Search, take_opening};
@@ -59,7 +59,8 @@ pub(crate) fn open_counted<J: Judge>(
     ensures opens { let w = world J.judgement graph.now in IfOk result (λ o. Opens w starts.now o.order.items) }
     ensures keeps { IfOk result (λ o. Keeps search.old search.new) }
     ensures stay { IfOk result (λ o. CountsStay search.old search.new) }
-    ensures counts { IfOk result (λ o. OpensAtTop (world J.judgement graph.now) 1 counts.old counts.new) }
+    ensures counts { let w = world J.judgement graph.now in
+        IfOk result (λ o. OpensCounted w o.order.items counts.old counts.new) }
 {
     let mut opening = take_opening(search);
     open_reached(graph, starts, &mut opening)?;

@@ -3,7 +3,6 @@ use Rattle.std.specs.Prelude.{sum_by}
 use Rattle.merge_sets.specs.World.{world}
 use Rattle.merge_search.specs.Counts.{greatest, spread_count}
 use Rattle.merge_tops.specs.TopCounts.{CountsOpening}
-use Rattle.merge_tops.proofs.Opening.{opening_counted}
 use Rattle.merge_tops.proofs.counts.open_counted.Goals as goal
 
 pub returns-clause-counts : goal.returns-clause-counts
@@ -13,6 +12,5 @@ returns-clause-counts g c =
     let looked : c.spreads_of_all-looked.result ≡ min (sum_by (spread_count v) hs) greatest =
     c.spreads_of_all-looked.ensures ∙ ap (λ xs. min (sum_by (spread_count v) xs) greatest) c.as_slice.ensures.value in
     let is : c.len.result ≡ length hs = search rules in
-    opening_counted v c.args.starts.now hs c.args.counts.now c.count_opening.new.counts c.in_ok-open_reached.ensures
-    (subst (λ l. CountsOpening (length hs) l c.args.counts.now c.count_opening.new.counts) looked
-    (subst (λ (k : ℕ). CountsOpening k c.spreads_of_all-looked.result c.args.counts.now c.count_opening.new.counts) is c.count_opening.ensures))
+    subst (λ l. CountsOpening (length hs) l c.args.counts.now c.count_opening.new.counts) looked
+    (subst (λ (k : ℕ). CountsOpening k c.spreads_of_all-looked.result c.args.counts.now c.count_opening.new.counts) is c.count_opening.ensures)

@@ -12,6 +12,7 @@ use Rattle.merge_search.specs.Spending.{fragments_weight}
 use Rattle.merge_search.specs.Weight.{fields_weight, fragment_weight}
 use Rattle.merge_search.proofs.Costs.{on_ok_ok, spends_kept}
 use Rattle.merge_search.proofs.Steps.{did_before}
+use Rattle.merge_tops.proofs.Opening.{opening_counted}
 use Rattle.merge_tops.proofs.Spends.{fragments_cost, spends_more, times_left}
 use Rattle.merge_tops.proofs.inner.write_part.Goals as goal
 
@@ -45,5 +46,5 @@ returns g c =
           (λ k stay. spends_kept v _ _ _ _ _ c.in_ok-opening.ensures.keeps c.in_ok-opening.ensures.stay
           (spends_more v (fields_weight v c.args.part.now.own.items * sum_by (fragment_weight v) c.as_slice.result.now) _ _ _ most c.in_ok-compare_opened.ensures.spends) k stay)
           c.put_opening.ensures.keeps c.put_opening.ensures.counts;
-      counts = on_ok_weaker c.put_opening.result (λ k. c.in_ok-opening.ensures.counts) c.put_opening.ensures.keeps;
+      counts = on_ok_weaker c.put_opening.result (λ k. opening_counted v c.args.starts.now c.in_ok-opening.opening.order.items _ _ c.in_ok-opening.ensures.opens c.in_ok-opening.ensures.counts) c.put_opening.ensures.keeps;
     }

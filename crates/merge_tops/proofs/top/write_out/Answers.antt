@@ -6,6 +6,7 @@ use Rattle.merge_search.specs.Reports.{AddsAll}
 use Rattle.merge_tops.specs.Tops.{AtSpreads}
 use Rattle.merge_search.proofs.Adding.{all_from}
 use Rattle.merge_tops.proofs.Judging.{own_written}
+use Rattle.merge_tops.proofs.Opening.{opening_counted}
 use Rattle.merge_search.proofs.Work.{did_map, did_kept}
 use Rattle.merge_search.proofs.Costs.{on_ok_ok, spends_kept}
 use Rattle.merge_search.proofs.Steps.{did_before}
@@ -32,5 +33,5 @@ returns g c =
       spends = on_ok_ok c.put_opening.result
           (λ k stay. spends_kept v _ _ _ _ _ c.in_ok-opening.ensures.keeps c.in_ok-opening.ensures.stay c.in_ok-write_all.ensures.spends k stay)
           c.put_opening.ensures.keeps c.put_opening.ensures.counts;
-      counts = on_ok_weaker c.put_opening.result (λ k. c.in_ok-opening.ensures.counts) c.put_opening.ensures.keeps;
+      counts = on_ok_weaker c.put_opening.result (λ k. opening_counted v c.args.starts.now c.in_ok-opening.opening.order.items _ _ c.in_ok-opening.ensures.opens c.in_ok-opening.ensures.counts) c.put_opening.ensures.keeps;
     }
