@@ -96,10 +96,12 @@ fn limited<J>(graph: Graph<J>, limit: usize) -> Graph<J>
 /// pairs are compared, and unless it stops at least those of which some set spreads both. It opens at most `n` at a
 /// time.
 ///
-/// A document may have `s` selections, at any depth, and `d` may be the sum of their depths. Those of a definition are at
-/// depth 1. Where the type conditions of inline fragments are known, at most `24 s d + 250,000` pairs of fields are
-/// compared one by one. Then each fragment is opened at most `8 s + 4 m + 100` times, with `m` definitions of any kind, and
-/// at most `s` times as many spreads are looked at.
+/// Let the document have `s` selections, at any depth, and `m` definitions of any kind. Let `d` be the sum of the depths
+/// of its selections; those of a definition are at depth 1. Where the type conditions of inline fragments are known:
+///
+/// - at most `24 s d + 250,000` pairs of fields are compared one by one;
+/// - each fragment is opened at most `8 s + 4 m + 100` times;
+/// - at most `s (8 s + 4 m + 100)` spreads of opened fragments are looked at.
 ///
 /// # Errors
 ///

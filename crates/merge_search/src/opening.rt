@@ -26,7 +26,8 @@ fn push_open(opening: &mut Opening, f: usize) -> Result<(), AllocError>
     Ok(())
 }
 
-// Opens a fragment for the own fields of a set, unless it is open, or the two were compared and are not once more.
+// Opens a fragment for the own fields of a set. It is passed if it is open, or if the two were compared before and are
+// not compared again.
 fn open_new<J: Judge>(
     graph: &Graph<J>,
     i: usize,

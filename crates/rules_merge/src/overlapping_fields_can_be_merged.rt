@@ -31,10 +31,14 @@ use walk::{Event, Fresh, Machine, Rule, ValidatorContext, Visitor};
 /// Reports, where the document is left, fields of one response name that can't be merged. The error of a conflict has
 /// all its places.
 ///
-/// No fragment is written out: with `n` definitions of fragments at most `n (n - 1)` pairs are compared. A document may
-/// have `s` selections, at any depth, and `d` may be the sum of their depths. Where the types of inline fragments are
-/// known, at most `24 s d + 250,000` pairs of fields are compared one by one. Then each fragment is opened at most
-/// `8 s + 4 m + 100` times, with `m` definitions of any kind, and at most `s` times as many spreads are looked at.
+/// No fragment is written out: with `n` definitions of fragments at most `n (n - 1)` pairs are compared.
+///
+/// Let the document have `s` selections, at any depth, and `m` definitions of any kind. Let `d` be the sum of the depths
+/// of its selections; those of a definition are at depth 1. Where the type conditions of inline fragments are known:
+///
+/// - at most `24 s d + 250,000` pairs of fields are compared one by one;
+/// - each fragment is opened at most `8 s + 4 m + 100` times;
+/// - at most `s (8 s + 4 m + 100)` spreads of opened fragments are looked at.
 #[derive(Drop)]
 pub struct OverlappingFieldsCanBeMerged {
     alloc: Global,
